@@ -18,12 +18,10 @@ pub use Rattle.serde_json.specs.Data as JsonData
 pub use Rattle.serde_json.specs.Find as JsonFind
 pub use Rattle.serde_json.specs.View as JsonView
 pub mod Example
-pub mod ExpandedNodes
 pub mod Fits
 pub mod FitsPrimitive
 pub mod HasType
 pub mod HoldsEachSlot
-pub mod Plans
 pub mod Row
 pub mod RowFaults
 pub mod RowReading

@@ -12,22 +12,21 @@ mod member_walk;
 mod row_cache;
 mod row_leaf;
 mod row_member;
-mod row_plan;
+mod row_pass;
 mod row_reader;
+mod row_root;
 mod row_skip;
 mod row_slots;
 mod row_token;
 mod row_walk;
 mod scalar;
-mod type_plan;
 mod walk;
-mod wanted;
 
+pub use edm_row_plans::RowPlan;
 pub use entity::Entity;
 pub use fault::RowFault;
 pub use laws::{
     a_slot_holds_its_property, example_rows, one_fault_is_first, one_value_fits,
     spelled_values_lie_within, what_fits_has_its_type, what_has_a_fault_fits_nothing,
 };
-pub use row_plan::RowPlan;
 pub use row_reader::RowReader;

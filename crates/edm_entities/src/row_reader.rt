@@ -1,21 +1,21 @@
-ghost use Rattle.std.specs.Prelude.{◌≡◌, Some, Vec, IsSome, IsTrue, IfSome};
+ghost use Rattle.std.specs.Prelude.{◌≡◌, Some, Vec, IsTrue, IfSome};
 ghost use Rattle.std.specs.declared.alloc.Global.{Global as GlobalModel};
-ghost use Rattle.serde_json.specs.Data.{Data};
-ghost use Rattle.serde_json.specs.Find.{as_object};
+ghost use Rattle.serde_json.specs.Data.{Members, object};
 ghost use Rattle.serde_json.specs.Read.{read};
 ghost use Rattle.csdl_schema.specs.SchemaModel.{HasDistinctNames, properties_at};
-ghost use Rattle.edm_entities.specs.Plans.{ArePlans, IsPlanOf};
-ghost use Rattle.edm_entities.specs.RowReading.{IsLineOf};
+ghost use Rattle.edm_row_plans.specs.Plans.{ArePlans, IsPlanOf};
+ghost use Rattle.edm_entities.specs.RowReading.{IsLineBut};
+ghost use Rattle.edm_row_plans.specs.PassedNames.{names_passed, passed_names};
+ghost use Rattle.edm_entities.specs.private.Passed.{FitsRow};
 ghost use Rattle.edm_entities.specs.private.SlotsSoFar.{slots_below};
-ghost use Rattle.edm_entities.specs.private.Walk.{FitSlots};
 
 use super::entity::Entity;
 use super::kept_row::KeptRow;
 use super::row_cache::RowCache;
-use super::row_plan::RowPlan;
-use super::row_walk::{RowScene, record_in, take_members};
-use super::type_plan::plan_at;
+use super::row_root::take_row_members;
+use super::row_walk::{RowScene, record_in};
 use csdl_schema::{Schema, TypeId};
+use edm_row_plans::{RowPlan, plan_at};
 use edm_values::Value;
 use json_tokens::{TokenReader, text_of_line};
 use std::alloc::Global;
@@ -54,9 +54,10 @@ impl RowReader {
         self.cache.alloc
     }
 
-    /// Reads a line as an entity of the plan's type, in which that is expanded which the plan expands. Where it answers
-    /// none, the line may still be one: `Entity::expanded_from_json` says what is wrong with it, if anything is. The
-    /// entity is lent: the next row is read into the same memory.
+    /// Reads a line as an entity of the plan's type, in which that is expanded which the plan expands. A collection that
+    /// the plan passes is held to its type, and empty in the entity. Where it answers none, the line may still be one:
+    /// `Entity::expanded_from_json` says what is wrong with it, if anything is. The entity is borrowed: the next row is
+    /// read into the same memory.
     pub fn read<'s>(
         &'s mut self,
         schema: &'s Schema,
@@ -65,16 +66,18 @@ impl RowReader {
     ) -> Option<Entity<'s>>
         requires { IsPlanOf schema.now plan.now }
         ensures of_type { IfSome result (λ e. (e.schema ≡ schema.now) × (e.type_id ≡ plan.now.type_id)) }
-        ensures row { IfSome result (IsLineOf line.now) }
+        ensures row { IfSome result (IsLineBut line.now (names_passed schema.now plan.now)) }
         ensures expansion { IfSome result (λ e. e.expansion ≡ plan.now.expansion) }
     {
         let Some(text) = text_of_line(line) else {
             return None;
         };
+        let passed = plan.passed.as_slice();
         let scene = RowScene {
             schema,
             expansion: &plan.expansion,
             plans: plan.plans.as_slice(),
+            passed,
             depth: DEPTH - 1,
         };
         if !take_row(&mut self.cache, &scene, plan.type_id, text, &mut self.row) {
@@ -97,8 +100,10 @@ fn take_row(
     requires depth { scene.now.depth ≡ 126 }
     ensures distinct { IsTrue result → HasDistinctNames (properties_at scene.now.schema.now type_id) }
     ensures fits { IsTrue result → (values : Vec Value GlobalModel) × (place.new ≡ Value.Record values)
-        × ((json : Data) × (read text.now ≡ Some json) × IsSome (as_object json)
-        × FitSlots (slots_below scene.now (Some 0)) json (properties_at scene.now.schema.now type_id) values.items) }
+        × ((found : Members) × (read text.now ≡ Some (object found))
+        × FitsRow (slots_below scene.now (Some 0))
+        (passed_names (properties_at scene.now.schema.now type_id) scene.now.passed.now)
+        (properties_at scene.now.schema.now type_id) values.items found) }
 {
     let Some(plan) = plan_at(scene.plans, 0, type_id, Some(0)) else {
         return false;
@@ -110,7 +115,7 @@ fn take_row(
     cache.begin_record(place);
     match record_in(place) {
         Some(values) => {
-            if !take_members(cache, scene, plan, &mut reader, values) {
+            if !take_row_members(cache, scene, plan, &mut reader, values) {
                 return false;
             }
             reader.is_at_end()

@@ -1,19 +1,18 @@
 //! The slots of a type, while the members of an object are read into them.
-ghost use Rattle.std.specs.Prelude.{◌≡◌, ◌<◌, ◌≤◌, [], ℕ, List, Option, None, get_or, length, true, false, IsTrue};
+ghost use Rattle.std.specs.Prelude.{◌≡◌, ◌<◌, ◌≤◌, [], ℕ, List, Option, None, get_or, length, slice_get, true, false, IsTrue};
 ghost use Rattle.serde_json.specs.Data.{Members, object};
 ghost use Rattle.csdl_schema.specs.ExpansionView.{StepModel};
 ghost use Rattle.csdl_schema.specs.PropertyView.{property_type, target_of};
 ghost use Rattle.csdl_schema.specs.SchemaModel.{SchemaModel, Slots, properties_at};
 ghost use Rattle.edm_entities.specs.Fits.{FitsProperty};
-ghost use Rattle.edm_entities.specs.Plans.{IsPlan, IsSlotPlan};
+ghost use Rattle.edm_row_plans.specs.Plans.{IsPlan, IsSlotPlan};
 ghost use Rattle.edm_entities.specs.Row.{field_of, val_of};
-ghost use Rattle.edm_entities.specs.private.Expanded.{slots_at, target_if};
+ghost use Rattle.edm_row_plans.specs.Expanded.{slots_at, target_if};
 ghost use Rattle.edm_entities.specs.private.SlotsSoFar.{SlotsSoFar};
 ghost use Rattle.edm_entities.specs.private.Walk.{FitSlots};
 
 use super::row_cache::RowCache;
-use super::type_plan::{SlotPlan, TypePlan};
-use super::wanted::{navigates, wanted_with};
+use edm_row_plans::{SlotPlan, TypePlan, navigates, wanted_with};
 use edm_values::Value;
 use json_tokens::{KeyMarks, MARKS};
 use std::mem;
@@ -41,7 +40,7 @@ pub(crate) fn begin_slots(cache: &mut RowCache, values: &mut Vec<Value>, count: 
 }
 
 /// Whether a property may be absent. A navigation property that is expanded may not.
-fn may_be_absent(plan: &SlotPlan) -> bool
+pub(crate) fn may_be_absent(plan: &SlotPlan) -> bool
     ensures { (schema : SchemaModel) (slots : Slots)
         → plan.now.target ≡ target_if (slots.needed []) (target_of plan.now.property) → IsTrue result
         → FitsProperty slots plan.now.property.nullable (property_type schema plan.now.property) None
@@ -78,6 +77,8 @@ fn fill_absent(
     ensures long { (length filled.new ≡ length filled.old) × (length values.new.items ≡ length values.old.items) }
     ensures filled { IsTrue result → get_or filled.new slot false ≡ true }
     ensures others { (k : ℕ) → get_or filled.old k false ≡ true → get_or filled.new k false ≡ true }
+    ensures kept { (k : ℕ) → get_or filled.old k false ≡ true
+        → slice_get values.new.items k ≡ slice_get values.old.items k }
 {
     if filled.has(slot) {
         return true;
@@ -101,7 +102,9 @@ pub(crate) fn fill_slots(
     requires few { length plan.now.slots.items ≤ MARKS }
     requires marks { length plan.now.slots.items ≤ length filled.old }
     requires values { length values.old.items ≡ length plan.now.slots.items }
-    ensures { (schema : SchemaModel) (steps : List StepModel) (found : Members) → IsPlan schema steps plan.now
+    ensures kept { (k : ℕ) → get_or filled.old k false ≡ true
+        → slice_get values.new.items k ≡ slice_get values.old.items k }
+    ensures fits { (schema : SchemaModel) (steps : List StepModel) (found : Members) → IsPlan schema steps plan.now
         → IsTrue result
         → SlotsSoFar (slots_at schema steps plan.now.node) (properties_at schema plan.now.type_id) found filled.old
         values.old.items

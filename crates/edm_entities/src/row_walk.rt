@@ -14,7 +14,7 @@ ghost use Rattle.edm_values.specs.declared.value.Value.{List, Record};
 ghost use Rattle.edm_entities.specs.Fits.{FitsProperty};
 ghost use Rattle.edm_entities.specs.HoldsEachSlot.{HoldsEachSlot};
 ghost use Rattle.edm_entities.specs.Row.{field_of, val_of};
-ghost use Rattle.edm_entities.specs.Plans.{ArePlans, IsPlan, target_at};
+ghost use Rattle.edm_row_plans.specs.Plans.{ArePlans, IsPlan, target_at};
 ghost use Rattle.edm_entities.specs.private.RowTokens.{Reads, ReadsItems, ReadsMembers, FitsNullable, FitsHoweverNullable};
 ghost use Rattle.edm_entities.specs.private.Rows.{list_row};
 ghost use Rattle.edm_entities.specs.private.SlotsSoFar.{TakesMember, slots_below};
@@ -25,9 +25,8 @@ use super::row_leaf::{Leaf, leaf_put, take_enumeration, take_primitive};
 use super::row_member::{Member, find_member};
 use super::row_skip::skip_value;
 use super::row_slots::{begin_slots, fill_slots};
-use super::type_plan::{SlotPlan, TypePlan, plan_at};
-use super::wanted::{Wanted, may_hold_null, wanted_with};
 use csdl_schema::{Expansion, PropertyKind, Schema};
+use edm_row_plans::{SlotPlan, TypePlan, Wanted, may_hold_null, plan_at, wanted_with};
 use edm_values::{Prim, Value};
 use json_tokens::{KeyMarks, TokenReader};
 use std::mem;
@@ -38,17 +37,19 @@ pub(crate) struct RowScene<'w> {
     pub(crate) schema: &'w Schema,
     pub(crate) expansion: &'w Expansion,
     pub(crate) plans: &'w [TypePlan],
+    /// By slot of the row's own type, whether its value is passed if it is a collection.
+    pub(crate) passed: &'w [bool],
     pub(crate) depth: usize,
 }
 
 /// What one value is read as, alone or as an item.
 #[derive(Drop)]
-struct OneValue {
-    wanted: Wanted,
-    nullable: bool,
+pub(crate) struct OneValue {
+    pub(crate) wanted: Wanted,
+    pub(crate) nullable: bool,
     /// The node of the expansion behind it, and where the plan of its type is to be.
-    node: Option<usize>,
-    record: usize,
+    pub(crate) node: Option<usize>,
+    pub(crate) record: usize,
 }
 
 /// Fills the slots of a type, whatever stood in them, from an object's members and its closing brace.
@@ -164,7 +165,7 @@ fn take_named_member(
 /// that saves eight instructions a value.
 #[inline(always)]
 #[cycle(row)]
-fn take_property(
+pub(crate) fn take_property(
     cache: &mut RowCache,
     scene: &RowScene<'_>,
     plan: &SlotPlan,
@@ -342,6 +343,7 @@ fn take_record(
         schema: scene.schema,
         expansion: scene.expansion,
         plans: scene.plans,
+        passed: scene.passed,
         depth: scene.depth - 1,
     };
     cache.begin_record(place);
@@ -387,6 +389,7 @@ fn take_array(
         schema: scene.schema,
         expansion: scene.expansion,
         plans: scene.plans,
+        passed: scene.passed,
         depth: scene.depth - 1,
     };
     cache.begin_list(place);
@@ -399,7 +402,7 @@ fn take_array(
 /// The values of the array that stands in a place, to be filled there: to move them out and back took 27 instructions
 /// more an array.
 #[inline(always)]
-fn list_in(place: &mut Value) -> Option<&mut Vec<Value>>
+pub(crate) fn list_in(place: &mut Value) -> Option<&mut Vec<Value>>
     ensures* { sem 𝓛 (LendsIf the_row list_row place.entry result List place.old) }
 {
     if let Value::List(values) = place {

@@ -4,7 +4,6 @@ ghost use Rattle.serde_json.specs.Data.{array};
 ghost use Rattle.serde_json.specs.Find.{as_object};
 ghost use Rattle.serde_json.specs.View.{view, items_view};
 ghost use Rattle.csdl_schema.specs.ExprType.{single, collection, structured};
-ghost use Rattle.csdl_schema.specs.ExpansionView.{paths_at};
 ghost use Rattle.csdl_schema.specs.PropertyView.{property_type, target_of};
 ghost use Rattle.csdl_schema.specs.SchemaModel.{HasDistinctNames, properties_at, type_name_at};
 ghost use Rattle.edm_entities.specs.Fits.{FitsFound, FitsProperty, FitsType};
@@ -12,7 +11,7 @@ ghost use Rattle.edm_entities.specs.HoldsEachSlot.{HoldsEachSlot};
 ghost use Rattle.edm_entities.specs.Row.{field_of, val_of};
 ghost use Rattle.edm_entities.specs.RowFaults.{IsFoundFault, IsPropertyFault, IsValueFault};
 ghost use Rattle.edm_entities.specs.private.Faults.{IsFaultOf};
-ghost use Rattle.edm_entities.specs.private.Expanded.{node_behind, slots_in, target_if};
+ghost use Rattle.edm_row_plans.specs.Expanded.{node_behind, slots_in, target_if};
 ghost use Rattle.edm_entities.specs.private.Walk.{FitSlots, FitList, HoldsInSlot, HoldInItems, wanted_single};
 
 use super::flaw::{ReadFault, ReadFlaw, fault_below, fault_here, fault_in_item};
@@ -20,53 +19,11 @@ use super::leaf::{absent_value, leaf_read, null_value, read_member, read_primiti
 use super::lent_piece::first_piece;
 use super::member_walk::members_of;
 use super::scalar::scalar_of;
-use super::wanted::{Wanted, may_hold_null, navigates, wanted_with};
-use csdl_schema::{Expansion, Property, Schema, TypeId};
+use csdl_schema::{Property, TypeId};
+use edm_row_plans::{
+    WalkScene, Wanted, expanded_target, may_hold_null, navigates, node_behind, wanted_with,
+};
 use edm_values::Value;
-use std::alloc::Global;
-
-/// What a walk goes by: the schema, and what is expanded.
-#[derive(Drop)]
-pub(crate) struct WalkScene<'w> {
-    pub(crate) alloc: Global,
-    pub(crate) schema: &'w Schema,
-    pub(crate) expansion: &'w Expansion,
-}
-
-/// The node of the expansion behind a step. Nothing is asked where nothing is expanded further on.
-pub(crate) fn node_behind(scene: &WalkScene<'_>, node: Option<usize>, name: &str) -> Option<usize>
-    ensures { result ≡ node_behind scene.now.expansion.now node name.now }
-{
-    match node {
-        Some(node) => scene.expansion.next_node(node, name),
-        None => None,
-    }
-}
-
-/// Whether the path to a node is in the set.
-fn is_expanded(scene: &WalkScene<'_>, node: Option<usize>) -> bool
-    ensures { result ≡ paths_at scene.now.expansion.now node [] }
-{
-    match node {
-        Some(node) => scene.expansion.is_needed(node),
-        None => false,
-    }
-}
-
-/// The entity type of a navigation property that is expanded.
-pub(crate) fn expanded_target(
-    scene: &WalkScene<'_>,
-    property: &Property,
-    node: Option<usize>,
-) -> Option<TypeId>
-    ensures { result ≡ target_if (paths_at scene.now.expansion.now node []) (target_of property.now) }
-{
-    if is_expanded(scene, node) {
-        property.target()
-    } else {
-        None
-    }
-}
 
 /// The values of the properties of a type in slot order, from a JSON object.
 #[cycle(walk)]

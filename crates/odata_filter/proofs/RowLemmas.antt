@@ -3,9 +3,11 @@ pub mod Collections
 pub mod DeviceCalls
 pub mod LinesOpen
 pub mod RowLineJudges
+pub mod NamesAlone
 pub mod OneCollection
 pub mod OneFault
 pub mod OneJudgment
 pub mod Renamed
 pub mod RowJudges
+pub mod RowsBut
 pub mod TrueRows

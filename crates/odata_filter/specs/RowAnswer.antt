@@ -1,13 +1,15 @@
 -- What is told of a row that is judged by itself (OData JSON Format 4.01, sections 4.5 and 7; OData URL Conventions 4.01,
 -- section 5.1.1).
-use Rattle.std.specs.Prelude.{◌≡◌, ℕ, List, Option, Some, None, Result, Ok, Err, IsTrue}
+use Rattle.std.specs.Prelude.{◌≡◌, ◌≢◌, ◌⊎◌, ◌<◌, ℕ, List, [], length, slice_get, unwrap_or, IfSome, Option, Some, None, Result, Ok, Err, IsTrue}
 use Rattle.serde_json.specs.Data.{Data}
 use Rattle.edm_values.specs.MomentParts.{MomentParts}
 use Rattle.csdl_schema.specs.JsonText.{IsJsonOf}
-use Rattle.edm_entities.specs.Plans.{IsPlanOf}
-use Rattle.edm_entities.specs.declared.row_plan.RowPlan.{RowPlan}
+use Rattle.edm_row_plans.specs.Plans.{IsPlanOf}
+use Rattle.edm_row_plans.specs.PassedNames.{Names, names_passed}
+use Rattle.edm_row_plans.specs.declared.row_plan.RowPlan.{RowPlan}
 use Rattle.line_filter.specs.declared.judge.Judgment.{Judgment}
 use Rattle.odata_checked_filter.specs.Filter.{Filter}
+use Rattle.odata_checked_filter.specs.declared.checked_node.NodeKind.{NodeKind}
 use Rattle.odata_filter_operations.specs.Outcome.{gives}
 use Rattle.odata_eval.specs.VerdictView.{verdict_val}
 use Rattle.odata_eval.specs.declared.verdict.Verdict.{Verdict}
@@ -16,11 +18,22 @@ use Rattle.odata_filter.specs.RowsOnce.{AreSameJudgment}
 use Rattle.odata_filter.specs.declared.bad_row.BadRow.{BadRow}
 use Rattle.odata_filter.specs.declared.no_verdict.NoVerdict.{NoVerdict}
 
--- the plan is of the filter's schema and type, and a whole one has that expanded which the filter needs
+-- the filter's list has none of these names beside a node; where there are some, nothing stands for the whole row
+pub record PassesNone (filter : Filter) (Passed : Names) : Type 0 where
+  pub unnamed :
+      (place : ℕ) → place < length filter.list.nodes → ¬ Passed (unwrap_or (slice_get filter.list.texts place) [])
+  pub spelled : ¬ Passed []
+  pub no_row :
+      ((name : List ℕ) → ¬ Passed name)
+      ⊎ ((place : ℕ) → IfSome (slice_get filter.list.nodes place) (λ node. node.kind ≢ NodeKind.It))
+
+-- the plan is of the filter's schema and type, and a whole one has that expanded which the filter needs; it passes nothing
+-- that the filter names
 pub record IsPlanOfFilter (filter : Filter) (plan : RowPlan) : Type 0 where
   pub schema : IsPlanOf filter.schema plan
   pub type_id : plan.type_id ≡ filter.filtered
   pub whole : IsTrue plan.is_whole → plan.expansion ≡ filter.expansion
+  pub passes : PassesNone filter (names_passed filter.schema plan)
 
 -- the row is a JSON value that fits, and the verdict is the filter's one outcome on it
 pub record HasVerdict (filter : Filter) (now : MomentParts) (row : List ℕ) (verdict : Verdict) : Type 0 where

@@ -8,6 +8,8 @@ ghost use Rattle.edm_entities.specs.Fits.{Fits};
 ghost use Rattle.edm_entities.specs.Row.{slots_for, value_of};
 ghost use Rattle.odata_checked_filter.specs.Calls.{TakesMemory};
 ghost use Rattle.odata_checked_filter.specs.Filter.{tree_of_filter};
+ghost use Rattle.odata_eval.specs.MeansOn.{IsTheOutcome};
+ghost use Rattle.odata_eval.specs.VerdictView.{told_outcome};
 ghost use Rattle.odata_filter.specs.RowAnswer.{IsPlanOfFilter, TellsRow, judgment_told};
 ghost use Rattle.odata_filter.specs.private.ValueAnswer.{TellsValue, answer_told, fault_told};
 
@@ -58,6 +60,8 @@ impl RowJudge<'_, '_> {
         ensures told { (json : Data) → Fits (slots_for entity.now)
             (type_name_at entity.now.schema entity.now.type_id) json (value_of entity.now)
             → TellsValue self.now.checked.now self.now.moment.now json (answer_told result) }
+        ensures outcome { IfSome (told_outcome result)
+            (IsTheOutcome entity.now self.now.moment.now (tree_of_filter self.now.checked.now)) }
         ensures no_memory { ¬ TakesMemory (tree_of_filter self.now.checked.now) → result ≢ Err EvalFault.Memory }
     {
         evaluate(self.alloc, self.checked, entity, self.moment)

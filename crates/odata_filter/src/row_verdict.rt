@@ -1,21 +1,46 @@
-ghost use Rattle.std.specs.Prelude.{◌≡◌, ◌⊎◌, false};
+ghost use Rattle.std.specs.Prelude.{◌≡◌, ◌≢◌, ◌⊎◌, ◌<◌, ℕ, List, [], length, slice_get, unwrap_or, false, IfSome, IsTrue};
 ghost use Rattle.csdl_schema.specs.ExpansionView.{paths_in};
 ghost use Rattle.csdl_schema.specs.PathSet.{PropertyPath};
+ghost use Rattle.csdl_schema.specs.SchemaModel.{SchemaModel};
+ghost use Rattle.edm_row_plans.specs.Plans.{IsPlanOf};
+ghost use Rattle.edm_row_plans.specs.PassedNames.{names_passed};
+ghost use Rattle.odata_checked_filter.specs.declared.checked_node.NodeKind.{NodeKind as NodeKindModel};
 ghost use Rattle.odata_filter.specs.RowAnswer.{IsPlanOfFilter, TellsRow};
 
 use crate::no_verdict::NoVerdict;
 use crate::row_judge::RowJudge;
 use edm_entities::{RowPlan, RowReader};
 use edm_values::Moment;
+use odata_checked_filter::NodeKind;
 use odata_eval::Verdict;
 use odata_typing::Checked;
 use std::alloc::Global;
 
-/// What rows are read by, of the filter's schema and type, and with what it needs of navigation.
+/// What rows are read by, of the filter's schema and type, and with what it needs of navigation. Collections that the
+/// filter does not name are passed.
 pub fn row_plan_of(alloc: Global, checked: &Checked<'_>) -> RowPlan
     ensures plan { IsPlanOfFilter checked.now result }
     ensures expansion { (result.expansion ≡ checked.now.expansion)
         ⊎ ((path : PropertyPath) → paths_in result.expansion path ≡ false) }
+{
+    let mut plan = plan_of(alloc, checked);
+    if names_whole_row(checked) {
+        return plan;
+    }
+    plan.pass_collections();
+    plan.keep(checked.schema(), "");
+    keep_named(&mut plan, checked);
+    plan
+}
+
+/// The plan of the filter's schema and type, with what the filter needs of navigation.
+fn plan_of(alloc: Global, checked: &Checked<'_>) -> RowPlan
+    ensures schema { IsPlanOf checked.now.schema result }
+    ensures type_id { result.type_id ≡ checked.now.filtered }
+    ensures expansion { (result.expansion ≡ checked.now.expansion)
+        ⊎ ((path : PropertyPath) → paths_in result.expansion path ≡ false) }
+    ensures whole { IsTrue result.is_whole → result.expansion ≡ checked.now.expansion }
+    ensures keeps { (name : List ℕ) → ¬ names_passed checked.now.schema result name }
 {
     RowPlan::new(
         alloc,
@@ -23,6 +48,48 @@ pub fn row_plan_of(alloc: Global, checked: &Checked<'_>) -> RowPlan
         checked.filtered_type(),
         checked.expansion(),
     )
+}
+
+/// Whether a node of that kind is the row itself.
+fn is_row(kind: NodeKind) -> bool
+    ensures { result ≡ false → kind ≢ NodeKindModel.It }
+{
+    match kind {
+        NodeKind::It => true,
+        _ => false,
+    }
+}
+
+/// Whether the filter names the row itself.
+fn names_whole_row(checked: &Checked<'_>) -> bool
+    ensures { result ≡ false → (place : ℕ)
+        → IfSome (slice_get checked.now.list.nodes place) (λ node. node.kind ≢ NodeKindModel.It) }
+{
+    let nodes = checked.nodes();
+    for place in 0..nodes.len() {
+        let node = &nodes[place];
+        if is_row(node.kind) {
+            return true;
+        }
+    }
+    false
+}
+
+/// Keeps the properties that the filter names.
+fn keep_named(plan: &mut RowPlan, checked: &Checked<'_>)
+    ensures schema { (model : SchemaModel) → IsPlanOf model plan.old → IsPlanOf model plan.new }
+    ensures type_id { plan.new.type_id ≡ plan.old.type_id }
+    ensures expansion { plan.new.expansion ≡ plan.old.expansion }
+    ensures whole { plan.new.is_whole ≡ plan.old.is_whole }
+    ensures less { (name : List ℕ) → names_passed checked.now.schema plan.new name
+        → names_passed checked.now.schema plan.old name }
+    ensures kept { (place : ℕ) → place < length checked.now.list.nodes
+        → ¬ names_passed checked.now.schema plan.new (unwrap_or (slice_get checked.now.list.texts place) []) }
+{
+    let nodes = checked.nodes();
+    for place in 0..nodes.len() {
+        plan.keep(checked.schema(), checked.text(place));
+    }
 }
 
 /// What the filter says of a row, one JSON object as a line of [`filter_lines`](crate::filter_lines) is one.

@@ -1,5 +1,5 @@
 -- What the handle of a filter keeps together.
-use Rattle.edm_entities.specs.declared.row_plan.RowPlan.{RowPlan}
+use Rattle.edm_row_plans.specs.declared.row_plan.RowPlan.{RowPlan}
 use Rattle.odata_checked_filter.specs.Filter.{Filter, IsFilter}
 use Rattle.odata_filter.specs.RowAnswer.{IsPlanOfFilter}
 

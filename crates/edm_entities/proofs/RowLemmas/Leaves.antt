@@ -18,7 +18,7 @@ use Rattle.edm_entities.specs.private.Scalars.{IsJsonNumber}
 use Rattle.edm_entities.specs.private.Walk.{wanted_single}
 use Rattle.edm_entities.specs.declared.flaw.ReadFlaw.{ReadFlaw}
 use Rattle.edm_entities.specs.declared.scalar.JsonNumber.{JsonNumber}
-use Rattle.edm_entities.specs.declared.wanted.Wanted.{Wanted}
+use Rattle.edm_row_plans.specs.declared.wanted.Wanted.{Wanted}
 use Rattle.edm_entities.proofs.SlotLemmas.EachSlot.{primitive_holds, member_holds}
 use Rattle.edm_entities.proofs.SlotLemmas.FoundWalk.{other_fits, null_fits}
 

@@ -10,15 +10,15 @@ use Rattle.csdl_schema.specs.PropertyView.{property_type}
 use Rattle.csdl_schema.specs.SchemaModel.{SchemaModel, PropertyModel, Slots, properties_at}
 use Rattle.edm_entities.specs.Fits.{FitsProperty}
 use Rattle.edm_entities.specs.Row.{field_of, val_of}
-use Rattle.edm_entities.specs.Plans.{IsPlan, IsSlotPlan}
-use Rattle.edm_entities.specs.private.Expanded.{slots_at}
+use Rattle.edm_row_plans.specs.Plans.{IsPlan, IsSlotPlan}
+use Rattle.edm_row_plans.specs.Expanded.{slots_at}
 use Rattle.edm_entities.specs.private.NextMember.{ReadsMember}
 use Rattle.edm_entities.specs.private.RowTokens.{Reads}
 use Rattle.edm_entities.specs.private.SlotsSoFar.{FillsSlots}
 use Rattle.edm_entities.specs.private.Walk.{HoldsInSlot}
 use Rattle.edm_entities.specs.declared.row_member.Member.TheVariants.{OfSlot, Other}
-use Rattle.edm_entities.specs.declared.type_plan.SlotPlan.{SlotPlan}
-use Rattle.edm_entities.specs.declared.type_plan.TypePlan.{TypePlan}
+use Rattle.edm_row_plans.specs.declared.type_plan.SlotPlan.{SlotPlan}
+use Rattle.edm_row_plans.specs.declared.type_plan.TypePlan.{TypePlan}
 use Rattle.edm_entities.proofs.RowLemmas.Plans.{slot_slots}
 use Rattle.edm_entities.proofs.RowLemmas.SlotsRead.{behind_named, others_hold, property_fits, slot_set}
 use Rattle.edm_entities.proofs.RowLemmas.Tokens.{reads_as}

@@ -7,7 +7,7 @@ use Rattle.csdl_schema.specs.ExpansionView.{StepModel}
 use Rattle.csdl_schema.specs.SchemaModel.{SchemaModel, Slots, HasDistinctNames, type_name_at, properties_at}
 use Rattle.edm_entities.specs.Fits.{FitsType}
 use Rattle.edm_entities.specs.Row.{val_of}
-use Rattle.edm_entities.specs.private.Expanded.{slots_at}
+use Rattle.edm_row_plans.specs.Expanded.{slots_at}
 use Rattle.edm_entities.specs.private.RowTokens.{append_items, FitsNullable, FitsHoweverNullable}
 use Rattle.edm_entities.specs.private.Walk.{FitList, FitSlots}
 use Rattle.edm_entities.proofs.SlotLemmas.FoundWalk.{other_fits}

@@ -12,14 +12,14 @@ use Rattle.csdl_schema.specs.declared.property.Property.{Property}
 use Rattle.csdl_schema.specs.declared.property.PropertyKind.TheVariants as kind
 use Rattle.edm_entities.specs.Fits.{takes_null, FitsFound, FitsProperty, FitsType}
 use Rattle.edm_entities.specs.Row.{field_of, val_of}
-use Rattle.edm_entities.specs.declared.wanted.Wanted.TheVariants.{Prim}
-use Rattle.edm_entities.specs.private.Expanded.{wanted_of}
+use Rattle.edm_row_plans.specs.declared.wanted.Wanted.TheVariants.{Prim}
+use Rattle.edm_row_plans.specs.Expanded.{wanted_of}
 use Rattle.edm_entities.specs.private.RowTokens.{Reads, FitsNullable}
 use Rattle.edm_entities.proofs.RowLemmas.Tokens.{reads_as}
 use Rattle.edm_entities.proofs.SlotLemmas.EachSlot.{IsLookedAt}
 use Rattle.edm_entities.proofs.SlotLemmas.FoundWalk.{items_null, seen_as, seen_fits, type_wanted}
 
-found_by : (json : Data) (takes : Bool) (v : Val) (P Q : Data → Type 0) → ((found : Data) → P found → Q found) → FitsFound (Some json) takes v P → FitsFound (Some json) takes v Q
+pub found_by : (json : Data) (takes : Bool) (v : Val) (P Q : Data → Type 0) → ((found : Data) → P found → Q found) → FitsFound (Some json) takes v P → FitsFound (Some json) takes v Q
 found_by json_null takes v P Q by fits = fits
 found_by (json_boolean b) takes v P Q by fits = by (json_boolean b) fits
 found_by (json_number n) takes v P Q by fits = by (json_number n) fits
@@ -28,7 +28,7 @@ found_by (json_array ds) takes v P Q by fits = by (json_array ds) fits
 found_by (json_object ms) takes v P Q by fits = by (json_object ms) fits
 
 -- how nullable items are says nothing of a single value
-single_fits : (slots : Slots) (nullable other : Bool) (type : SingleType) (json : Data) (v : Val) → FitsType slots nullable (single type) json v → FitsType slots other (single type) json v
+pub single_fits : (slots : Slots) (nullable other : Bool) (type : SingleType) (json : Data) (v : Val) → FitsType slots nullable (single type) json v → FitsType slots other (single type) json v
 single_fits slots nullable other (primitive p) json v fits = fits
 single_fits slots nullable other (enumeration name) json v fits = fits
 single_fits slots nullable other (structured name) json (fields f) fits = fits

@@ -63,7 +63,7 @@ module _ (slots : Slots) (found : Members) (name : List ℕ) (json : Data) where
   others_hold (p ∷ ps) (b ∷ filled) (v ∷ values) others hold = (other_holds p b v others.0 hold.0, others_hold ps filled values others.1 hold.1)
 
   -- a name behind another is another
-  apart : (first : List ℕ) (ps : List PropertyModel) (n : ℕ) → AllByRecursion (λ q. q.name ≢ first) ps → slice_get (map (λ p. p.name) ps) n ≡ Some name → first ≢ name
+  pub apart : (first : List ℕ) (ps : List PropertyModel) (n : ℕ) → AllByRecursion (λ q. q.name ≢ first) ps → slice_get (map (λ p. p.name) ps) n ≡ Some name → first ≢ name
   apart first [] n others at = absurd (cc)
   apart first (p ∷ ps) zero others at = let named : p.name ≡ name = cc in λ same. others.0 (named ∙ sym same)
   apart first (p ∷ ps) (suc n) others at = apart first ps n others.1 at

@@ -16,12 +16,12 @@ use Rattle.edm_entities.specs.FitsPrimitive.{Flaw, missing, null_not_allowed, no
 use Rattle.edm_entities.specs.Row.{field_of, val_of}
 use Rattle.edm_entities.specs.RowFaults.{Path, IsFoundFault, IsValueFault, IsPropertyFault}
 use Rattle.edm_entities.specs.private.Faults.{OnFlaw, IsFaultOf}
-use Rattle.edm_entities.specs.private.Expanded.{may_hold_null, navigates, node_behind, slots_at, target_if, wanted_of, wanted_target}
+use Rattle.edm_row_plans.specs.Expanded.{may_hold_null, navigates, node_behind, slots_at, target_if, wanted_of, wanted_target}
 use Rattle.edm_entities.specs.private.Walk.{wanted_single}
 use Rattle.edm_entities.specs.declared.flaw.ReadFlaw.{ReadFlaw}
 use Rattle.edm_entities.specs.declared.flaw.ReadFault.{ReadFault}
-use Rattle.edm_entities.specs.declared.wanted.Wanted.{Wanted}
-use Rattle.edm_entities.specs.declared.wanted.Wanted.TheVariants.{Prim, Enum, Complex}
+use Rattle.edm_row_plans.specs.declared.wanted.Wanted.{Wanted}
+use Rattle.edm_row_plans.specs.declared.wanted.Wanted.TheVariants.{Prim, Enum, Complex}
 use Rattle.edm_entities.proofs.SlotLemmas.EachSlot.{IsLookedAt}
 use Rattle.edm_entities.proofs.SlotLemmas.FaultsBelow.{flaw_here, fault_by}
 

@@ -53,7 +53,7 @@ each_fits slots found (p ∷ ps) (v ∷ values) distinct fits = (
   fits_shifted slots found p ps v values ps distinct.0 (each_fits slots found ps values distinct.1 fits.1),
 )
 
-others_absent : (slots : Slots) (properties : List PropertyModel) (seens : List ValAtType) (name : List ℕ) → AllByRecursion (λ p. p.name ≢ name) properties
+pub others_absent : (slots : Slots) (properties : List PropertyModel) (seens : List ValAtType) (name : List ℕ) → AllByRecursion (λ p. p.name ≢ name) properties
     → field_by_name slots.properties properties seens name ≡ absent
 others_absent slots [] seens name others = refl
 others_absent slots (p ∷ ps) [] name others = refl

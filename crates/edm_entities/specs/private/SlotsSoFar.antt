@@ -6,7 +6,7 @@ use Rattle.serde_json.specs.Data.{Data, Members, put}
 use Rattle.serde_json.specs.Find.{get_member}
 use Rattle.edm_values.specs.declared.value.Value.{Value}
 use Rattle.csdl_schema.specs.SchemaModel.{Slots, PropertyModel}
-use Rattle.edm_entities.specs.private.Expanded.{slots_at}
+use Rattle.edm_row_plans.specs.Expanded.{slots_at}
 use Rattle.edm_entities.specs.private.NextMember.{ReadsMember}
 use Rattle.edm_entities.specs.private.Walk.{FitsSlot}
 use Rattle.edm_entities.specs.declared.row_member.Member.{Member}

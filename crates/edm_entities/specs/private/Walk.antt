@@ -8,8 +8,8 @@ use Rattle.csdl_schema.specs.SchemaModel.{SchemaModel, Slots, PropertyModel, Pro
 use Rattle.edm_entities.specs.Fits.{FitsProperty, FitItems}
 use Rattle.edm_entities.specs.HoldsEachSlot.{holding_of, items_hold, slot_holds}
 use Rattle.edm_entities.specs.Row.{field_of, items_of, val_of}
-use Rattle.edm_entities.specs.declared.wanted.Wanted.{Wanted}
-use Rattle.edm_entities.specs.declared.wanted.Wanted.TheVariants.{Prim, Enum, Complex}
+use Rattle.edm_row_plans.specs.declared.wanted.Wanted.{Wanted}
+use Rattle.edm_row_plans.specs.declared.wanted.Wanted.TheVariants.{Prim, Enum, Complex}
 
 -- the type that is wanted of one value
 abbrev pub wanted_single : SchemaModel → Wanted → SingleType

@@ -1,11 +1,12 @@
 use Rattle.std.proofs.Common.{◌≡◌, ◌∙◌, List, Bool, length, ap, None, true, false, get_or, slice_get, slice_set, sym, subst, arith}
+use Rattle.std.proofs.lemmas.Bool.{true≢false}
 use Rattle.edm_values.specs.declared.value.Value.{Value, Null}
 use Rattle.csdl_schema.specs.SchemaModel.{properties_at}
 use Rattle.edm_entities.specs.Fits.{FitsProperty}
 use Rattle.edm_entities.specs.Row.{field_of, val_of}
-use Rattle.edm_entities.specs.private.Expanded.{slots_at}
+use Rattle.edm_row_plans.specs.Expanded.{slots_at}
 use Rattle.edm_entities.specs.private.SlotsSoFar.{SlotsSoFar}
-use Rattle.edm_entities.proofs.RowLemmas.Plans.{long_set, slot_slots}
+use Rattle.edm_entities.proofs.RowLemmas.Plans.{long_set, other_kept, slot_slots}
 use Rattle.edm_entities.proofs.RowLemmas.SlotsRead.{behind_named, found_in, mark_kept, mark_set, property_fits, slot_filled}
 use Rattle.edm_entities.proofs.row_slots.fill_absent.Goals as goal
 
@@ -34,3 +35,8 @@ returns-clause-filled c _ = ap (λ (bs : List Bool). get_or bs c.args.slot false
 
 pub returns-clause-others : goal.returns-clause-others
 returns-clause-others c k is = ap (λ (bs : List Bool). get_or bs k false) c.pass.ensures ∙ mark_kept c.args.filled.now c.args.slot k is
+
+pub returns-clause-kept : goal.returns-clause-kept
+returns-clause-kept c k is =
+    let not : get_or c.args.filled.now c.args.slot false ≡ false = grind arith in
+    other_kept c.args.values.now.items c.args.slot k c.replace.new.dest (λ same. true≢false (sym is ∙ ap (λ n. get_or c.args.filled.now n false) same ∙ not))

@@ -1,7 +1,7 @@
 use Rattle.std.proofs.Common.{◌≡◌, length, slice_get, get_or, true, false, Some, ◌∙◌, refl, arith}
 use Rattle.std.proofs.lemmas.Option.{slice_get_read}
 use Rattle.csdl_schema.specs.SchemaModel.{properties_at}
-use Rattle.edm_entities.specs.private.Expanded.{slots_at}
+use Rattle.edm_row_plans.specs.Expanded.{slots_at}
 use Rattle.edm_entities.proofs.RowLemmas.Plans.{slot_planned, below_next}
 use Rattle.edm_entities.proofs.RowLemmas.SlotsRead.{slots_over}
 use Rattle.edm_entities.proofs.row_slots.fill_slots.Goals as goal
@@ -18,10 +18,14 @@ loop-slot-preserved c =
       λ schema steps found is so_far.
           let planned : slice_get plan.slots.items l.slot ≡ Some s = slice_get_read plan.slots.items (length plan.slots.items) l.slot s refl (omega arith) c.index.ensures in
           c.fill_absent.ensures.so_far schema steps plan.type_id plan.node found (slot_planned schema steps plan l.slot s is planned) (l.invariant.3 schema steps found is so_far),
+      λ k is. (c.fill_absent.ensures.others k (l.invariant.4 k is).0, c.fill_absent.ensures.kept k (l.invariant.4 k is).0 ∙ (l.invariant.4 k is).1),
     )
 
-pub returns : goal.returns
-returns c schema steps found is done so_far =
+pub returns-clause-kept : goal.returns-clause-kept
+returns-clause-kept c k is = (c.loop-slot.invariant.4 k is).1
+
+pub returns-clause-fits : goal.returns-clause-fits
+returns-clause-fits c schema steps found is done so_far =
     let l = c.loop-slot in
     let plan = c.args.plan.now in
     slots_over (slots_at schema steps plan.node) (properties_at schema plan.type_id) found l.filled l.values.items (λ k less. l.invariant.2 k (omega (arith, less, is.planned.count)))

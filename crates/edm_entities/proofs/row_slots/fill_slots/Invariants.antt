@@ -1,9 +1,9 @@
-use Rattle.std.proofs.Common.{◌≡◌, ◌<◌, ◌≤◌, ℕ, List, length, get_or, true, false}
+use Rattle.std.proofs.Common.{◌≡◌, ◌<◌, ◌≤◌, ℕ, List, length, get_or, slice_get, true, false}
 use Rattle.serde_json.specs.Data.{Members}
 use Rattle.csdl_schema.specs.ExpansionView.{StepModel}
 use Rattle.csdl_schema.specs.SchemaModel.{SchemaModel, properties_at}
-use Rattle.edm_entities.specs.Plans.{IsPlan}
-use Rattle.edm_entities.specs.private.Expanded.{slots_at}
+use Rattle.edm_row_plans.specs.Plans.{IsPlan}
+use Rattle.edm_row_plans.specs.Expanded.{slots_at}
 use Rattle.edm_entities.specs.private.SlotsSoFar.{SlotsSoFar}
 use Rattle.edm_entities.proofs.row_slots.fill_slots.Given as goal
 
@@ -15,3 +15,4 @@ invariant-loop-slot l =
     × ((schema : SchemaModel) (steps : List StepModel) (found : Members) → IsPlan schema steps l.plan
     → SlotsSoFar (slots_at schema steps l.plan.node) (properties_at schema l.plan.type_id) found l.initial.filled l.initial.values.items
     → SlotsSoFar (slots_at schema steps l.plan.node) (properties_at schema l.plan.type_id) found l.filled l.values.items)
+    × ((k : ℕ) → get_or l.initial.filled k false ≡ true → (get_or l.filled k false ≡ true) × (slice_get l.values.items k ≡ slice_get l.initial.values.items k))

@@ -2,7 +2,7 @@ use Rattle.std.proofs.Common.{None, refl, sym, ap, ◌∙◌}
 use Rattle.std.proofs.lemmas.Bool.{not-true}
 use Rattle.edm_values.specs.declared.value.Value.{Null}
 use Rattle.csdl_schema.specs.PropertyView.{target_of}
-use Rattle.edm_entities.specs.private.Expanded.{wanted_with}
+use Rattle.edm_row_plans.specs.Expanded.{wanted_with}
 use Rattle.edm_entities.proofs.SlotLemmas.FoundWalk.{nothing_fits, unwanted_fits}
 use Rattle.edm_entities.proofs.row_slots.may_be_absent.Goals as goal
 

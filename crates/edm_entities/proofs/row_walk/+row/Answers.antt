@@ -14,14 +14,14 @@ use Rattle.edm_entities.specs.Row.{field_of, val_of}
 use Rattle.edm_entities.specs.private.NextMember.{IsNextMember}
 use Rattle.edm_entities.specs.private.RowTokens.{Reads, ReadsItems, append_items, FitsNullable, FitsHoweverNullable}
 use Rattle.edm_entities.specs.private.SlotsSoFar.{FillsSlots, HoldsSoFar, SlotsSoFar, TakesMember, slots_below}
-use Rattle.edm_entities.specs.Plans.{IsSlotPlan}
-use Rattle.edm_entities.specs.private.Expanded.{wanted_with}
+use Rattle.edm_row_plans.specs.Plans.{IsSlotPlan}
+use Rattle.edm_row_plans.specs.Expanded.{wanted_with}
 use Rattle.edm_entities.specs.private.Walk.{FitList, FitSlots, HoldInItems, wanted_single}
 use Rattle.edm_entities.specs.declared.row_member.Member.TheVariants.{OfSlot, Other, End}
 use Rattle.edm_entities.proofs.RowLemmas.Leads.{members_start, members_over, items_start, item_more, items_over}
 use Rattle.edm_entities.proofs.RowLemmas.Leaves.{leaf_read, member_leaf_holds, null_taken, wanted_read}
-use Rattle.edm_entities.specs.declared.wanted.Wanted.{Wanted}
-use Rattle.edm_entities.specs.declared.wanted.Wanted.TheVariants.{Prim, Enum, Complex}
+use Rattle.edm_row_plans.specs.declared.wanted.Wanted.{Wanted}
+use Rattle.edm_row_plans.specs.declared.wanted.Wanted.TheVariants.{Enum, Complex}
 use Rattle.edm_entities.proofs.RowLemmas.Members.{member_of_slot, member_of_none}
 use Rattle.edm_entities.proofs.RowLemmas.Parts.{fit_push, list_held, record_held}
 use Rattle.edm_entities.proofs.RowLemmas.Plans.{long_set, member_shorter, member_taken, slot_planned, take_none, take_set}
@@ -301,7 +301,7 @@ take_members-returns-else-are_first t c done =
     let ends : TakesMember c.args.scene.now.depth slots ps l.reader c.take_member.new.reader l.values.items c.take_member.new.values.items End = rw c.in-End.is at c.in-Some.ensures in
     members_over c.args.scene.now.depth c.args.reader.now l.reader c.take_member.new.reader (λ found. SlotsSoFar slots ps found l.filled l.values.items)
     (λ found. FitSlots slots (object found) ps c.fill_slots.new.values.items) ends.0
-    (λ found so_far. c.fill_slots.ensures schema c.args.scene.now.expansion.now found c.requires.plan done (subst (λ vs. SlotsSoFar slots ps found l.filled vs) (sym ends.1) so_far)) l.invariant
+    (λ found so_far. c.fill_slots.ensures.fits schema c.args.scene.now.expansion.now found c.requires.plan done (subst (λ vs. SlotsSoFar slots ps found l.filled vs) (sym ends.1) so_far)) l.invariant
 
 pub take_record-returns-in-Some-clause-holds : goal.take_record-returns-in-Some-clause-holds
 take_record-returns-in-Some-clause-holds t c done =

@@ -13,7 +13,7 @@ use Rattle.edm_entities.specs.HoldsEachSlot.{HoldsEachSlot}
 use Rattle.edm_entities.specs.Row.{field_of, val_of}
 use Rattle.edm_entities.specs.RowFaults.{Path, IsFoundFault, IsValueFault, IsPropertyFault}
 use Rattle.edm_entities.specs.private.Faults.{IsFaultOf}
-use Rattle.edm_entities.specs.private.Expanded.{slots_at, slots_in, wanted_with}
+use Rattle.edm_row_plans.specs.Expanded.{slots_at, slots_in, wanted_with}
 use Rattle.edm_entities.specs.private.Walk.{HoldsInSlot, wanted_single}
 use Rattle.edm_entities.specs.declared.flaw.ReadFlaw.TheVariants as code
 use Rattle.edm_values.specs.declared.value.Value.{Null, Record}

@@ -3,7 +3,7 @@ use Rattle.serde_json.specs.Data.{depth, items_depth}
 use Rattle.serde_json.specs.View.{view, items_view}
 use Rattle.csdl_schema.specs.SchemaModel.{properties_at}
 use Rattle.edm_entities.specs.private.Lent.{IsLent}
-use Rattle.edm_entities.specs.private.Expanded.{slots_in}
+use Rattle.edm_row_plans.specs.Expanded.{slots_in}
 use Rattle.edm_entities.specs.private.Members.{IsWalkOf}
 use Rattle.edm_entities.specs.private.Walk.{FitSlots, FitList, HoldInItems, wanted_single}
 use Rattle.edm_entities.proofs.SlotLemmas.Depth.{found_measure}

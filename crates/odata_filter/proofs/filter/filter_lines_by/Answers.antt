@@ -2,11 +2,22 @@ use Rattle.std.proofs.Common.{IfSome}
 use Rattle.edm_values.specs.MomentParts.{MomentParts}
 use Rattle.odata_checked_filter.specs.Filter.{Filter}
 use Rattle.line_filter.specs.Growth.{Writes}
+use Rattle.line_filter.specs.Kept.{Filters}
 use Rattle.line_filter.specs.LineSource.{left_of}
 use Rattle.odata_filter.specs.DeviceFaults.{StopsLines}
+use Rattle.odata_filter.specs.RowJudgment.{rows_of}
 use Rattle.odata_filter.proofs.RowLemmas.DeviceCalls.{reads_until_fault, writes_until_fault}
 use Rattle.odata_filter.proofs.RowLemmas.RowLineJudges.{of_filter, stops_lines}
 use Rattle.odata_filter.proofs.filter.filter_lines_by.Goals as goal
+
+pub returns-in-Ok-clause-filters : goal.returns-in-Ok-clause-filters
+returns-in-Ok-clause-filters g c =
+    let judge = c.new-judge.result in
+    let left = left_of g.R.Read.remaining c.args.rows.now in
+    let old = g.W.Write.contents c.args.out.now in
+    let new = g.W.Write.contents c.filter_reader.new.out in
+    let Passed : Filter → MomentParts → Type 0 = λ f m. IfSome left (λ bytes. Writes old new (λ text. Filters (rows_of f m bytes) text c.in-Ok.tally)) in
+    of_filter Passed judge.filter c.args.checked.now judge.moment c.args.now.now c.new-judge.ensures.filter c.new-judge.ensures.moment c.in-Ok.ensures.filters
 
 pub returns-clause-stops : goal.returns-clause-stops
 returns-clause-stops g c =

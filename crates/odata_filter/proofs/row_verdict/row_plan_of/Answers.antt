@@ -1,17 +1,42 @@
-use Rattle.std.proofs.Common.{inl, inr, sym, ◌∙◌, subst, ⊎_elim}
-use Rattle.csdl_schema.specs.SchemaModel.{HoldsType}
-use Rattle.edm_entities.specs.Plans.{IsPlanOf}
+use Rattle.std.proofs.Common.{◌≡◌, ◌⊎◌, List, [], inl, inr, false, ap, ◌∙◌, subst}
+use Rattle.std.specs.Prelude.{IsTrue}
+use Rattle.csdl_schema.specs.ExpansionView.{StepModel, paths_in}
+use Rattle.csdl_schema.specs.PathSet.{PropertyPath}
+use Rattle.csdl_schema.specs.SchemaModel.{SchemaModel}
+use Rattle.edm_row_plans.specs.PassedNames.{names_passed}
 use Rattle.odata_filter.proofs.row_verdict.row_plan_of.Goals as goal
 
-pub new-requires : goal.new-requires
-new-requires c = subst (λ schema. HoldsType schema c.filtered_type.result) (sym c.schema.ensures) c.filtered_type.ensures.held
+-- the same expansion, or nothing expanded
+expansion_as : (e f g : List StepModel) → f ≡ e → (e ≡ g) ⊎ ((path : PropertyPath) → paths_in e path ≡ false) → (f ≡ g) ⊎ ((path : PropertyPath) → paths_in f path ≡ false)
+expansion_as e f g same (inl is) = inl (same ∙ is)
+expansion_as e f g same (inr none) = inr (λ path. ap (λ (steps : List StepModel). paths_in steps path) same ∙ none path)
+
+pub returns-then-names_whole_row-clause-plan : goal.returns-then-names_whole_row-clause-plan
+returns-then-names_whole_row-clause-plan c =
+    let plan = c.plan_of-plan.ensures in
+    record {
+      schema = plan.schema;
+      type_id = plan.type_id;
+      whole = plan.whole;
+      passes = record { unnamed = λ place less. plan.keeps _; spelled = plan.keeps []; no_row = inl plan.keeps };
+    }
 
 pub returns-clause-plan : goal.returns-clause-plan
-returns-clause-plan c = record {
-  schema = subst (λ schema. IsPlanOf schema c.new.result) c.schema.ensures c.new.ensures.schema;
-  type_id = c.new.ensures.type_id ∙ c.filtered_type.ensures.same;
-  whole = λ whole. c.new.ensures.whole whole ∙ c.expansion.ensures.same;
-}
+returns-clause-plan c =
+    let filter = c.args.checked.now in
+    let plan = c.plan_of-plan in
+    let there = c.schema.ensures in
+    record {
+      schema = c.keep_named.ensures.schema filter.schema (c.keep.ensures.schema filter.schema (c.pass_collections.ensures.schema filter.schema plan.ensures.schema));
+      type_id = c.keep_named.ensures.type_id ∙ c.keep.ensures.type_id ∙ c.pass_collections.ensures.type_id ∙ plan.ensures.type_id;
+      whole = λ whole. c.keep_named.ensures.expansion ∙ c.keep.ensures.expansion ∙ c.pass_collections.ensures.expansion
+          ∙ plan.ensures.whole (subst IsTrue (c.keep_named.ensures.whole ∙ c.keep.ensures.whole ∙ c.pass_collections.ensures.whole) whole);
+      passes = record {
+        unnamed = c.keep_named.ensures.kept;
+        spelled = λ passed. subst (λ (s : SchemaModel). ¬ names_passed s c.keep.new.self []) there c.keep.ensures.kept (c.keep_named.ensures.less [] passed);
+        no_row = inr (c.names_whole_row.ensures c.if-names_whole_row.false);
+      };
+    }
 
 pub returns-clause-expansion : goal.returns-clause-expansion
-returns-clause-expansion c = ⊎_elim (λ same. inl (same ∙ c.expansion.ensures.same)) (λ none. inr none) c.new.ensures.expansion
+returns-clause-expansion c = expansion_as _ _ _ (c.keep_named.ensures.expansion ∙ c.keep.ensures.expansion ∙ c.pass_collections.ensures.expansion) c.plan_of-plan.ensures.expansion

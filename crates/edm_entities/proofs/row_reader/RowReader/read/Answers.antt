@@ -1,9 +1,16 @@
-use Rattle.std.proofs.Common.{sym, ap, ◌∙◌, subst}
+use Rattle.std.proofs.Common.{List, Bool, refl, map, sym, ap, ◌∙◌, subst}
+use Rattle.serde_json.specs.Data.{object}
+use Rattle.serde_json.specs.Find.{get}
 use Rattle.serde_json.specs.Read.{read}
 use Rattle.edm_values.specs.declared.value.Value.{Value}
-use Rattle.edm_entities.specs.Row.{IsEntity}
-use Rattle.edm_entities.specs.RowReading.{IsLineOf}
-use Rattle.edm_entities.proofs.SlotLemmas.ReadEntities.{entity_fits, is_entity, lent_row}
+use Rattle.csdl_schema.specs.ExprType.{single, structured}
+use Rattle.csdl_schema.specs.SchemaModel.{properties_at, slots_of, type_name_at}
+use Rattle.edm_entities.specs.Row.{IsEntity, expanded_by, field_by_name, val_of}
+use Rattle.edm_entities.specs.RowReading.{IsLineBut}
+use Rattle.edm_row_plans.specs.PassedNames.{names_passed, passed_names}
+use Rattle.edm_entities.specs.private.Passed.{FitSlotsBut}
+use Rattle.edm_entities.proofs.RowLemmas.Passing.{record_seen, seen_record}
+use Rattle.edm_entities.proofs.SlotLemmas.ReadEntities.{is_entity, lent_row, val_of-Record}
 use Rattle.edm_entities.proofs.row_reader.RowReader.read.Goals as goal
 
 pub of_row-requires : goal.of_row-requires
@@ -12,9 +19,10 @@ of_row-requires c =
     let id = c.args.plan.now.type_id in
     let steps = c.args.plan.now.expansion in
     let done = c.if-not-take_row.false in
-    let found = c.take_row.ensures.fits done in
-    subst (λ (v : Value). IsEntity (lent_row schema id steps v)) (sym found.1)
-    (is_entity schema id steps found.2.0 found.0 c.requires.held (c.take_row.ensures.distinct done) found.2.2 found.2.3)
+    let read_as = c.take_row.ensures.fits done in
+    let fits = read_as.2.2 in
+    subst (λ (v : Value). IsEntity (lent_row schema id steps v)) (sym read_as.1)
+    (is_entity schema id steps (object fits.1) read_as.0 c.requires.held (c.take_row.ensures.distinct done) refl fits.2)
 
 pub returns-clause-row : goal.returns-clause-row
 returns-clause-row c =
@@ -22,11 +30,23 @@ returns-clause-row c =
     let id = c.args.plan.now.type_id in
     let steps = c.args.plan.now.expansion in
     let done = c.if-not-take_row.false in
-    let found = c.take_row.ensures.fits done in
-    subst (IsLineOf c.args.line.now) (sym c.of_row.ensures)
-    (subst (λ (v : Value). IsLineOf c.args.line.now (lent_row schema id steps v)) (sym found.1)
+    let read_as = c.take_row.ensures.fits done in
+    let values = read_as.0 in
+    let json = object read_as.2.0 in
+    let slots = expanded_by schema steps in
+    let ps = properties_at schema id in
+    let Passed = names_passed schema c.args.plan.now in
+    let but : FitSlotsBut slots Passed json ps values.items =
+    subst (λ (marks : List Bool). FitSlotsBut slots (passed_names ps marks) json ps values.items) c.as_slice-passed.ensures.value read_as.2.2.0 in
+    let seen = seen_record slots Passed (λ name. get name json) ps values.items (c.take_row.ensures.distinct done) but in
+    subst (IsLineBut c.args.line.now Passed) (sym c.of_row.ensures)
+    (subst (λ (v : Value). IsLineBut c.args.line.now Passed (lent_row schema id steps v)) (sym read_as.1)
     (record {
-      json = found.2.0;
-      is_json = (c.in-Some.ensures.1, ap read (sym c.in-Some.ensures.0) ∙ found.2.1);
-      fits = entity_fits schema id steps found.2.0 found.0 (c.take_row.ensures.distinct done) found.2.2 found.2.3;
+      json = json;
+      is_json = (c.in-Some.ensures.1, ap read (sym c.in-Some.ensures.0) ∙ read_as.2.1);
+      whole = field_by_name slots.properties ps seen.seens;
+      fits = record_seen slots Passed json ps values.items refl seen;
+      kept = field_by_name slots.properties ps (map val_of values.items);
+      value_is = val_of-Record (slots_of schema) (single (structured (type_name_at schema id))) values;
+      agrees = λ name not. sym (seen.agrees name not);
     }))

@@ -1,9 +1,0 @@
-use Rattle.std.proofs.Common.{◌≡◌, ℕ, length, slice_get, IfSome}
-use Rattle.edm_entities.specs.Plans.{IsSlotPlan}
-use Rattle.edm_entities.proofs.type_plan.slot_plans.Given as goal
-
--- the slots so far are planned
-abbrev pub invariant-loop-slot : goal.invariant-loop-slot
-invariant-loop-slot l =
-    (length l.slots.items ≡ l.slot)
-    × ((slot : ℕ) → IfSome (slice_get l.slots.items slot) (IsSlotPlan l.scene.schema.now l.scene.expansion.now l.type_id l.node slot))

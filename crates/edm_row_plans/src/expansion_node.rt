@@ -1,0 +1,51 @@
+//! What is expanded of a property, by the nodes of an expansion.
+ghost use Rattle.std.specs.Prelude.{◌≡◌, []};
+ghost use Rattle.csdl_schema.specs.ExpansionView.{paths_at};
+ghost use Rattle.csdl_schema.specs.PropertyView.{target_of};
+ghost use Rattle.edm_row_plans.specs.Expanded.{node_behind, target_if};
+
+use csdl_schema::{Expansion, Property, Schema, TypeId};
+use std::alloc::Global;
+
+/// What a walk goes by: the schema, and what is expanded.
+#[derive(Drop)]
+pub struct WalkScene<'w> {
+    pub alloc: Global,
+    pub schema: &'w Schema,
+    pub expansion: &'w Expansion,
+}
+
+/// The node of the expansion behind a step. Nothing is asked where nothing is expanded further on.
+pub fn node_behind(scene: &WalkScene<'_>, node: Option<usize>, name: &str) -> Option<usize>
+    ensures { result ≡ node_behind scene.now.expansion.now node name.now }
+{
+    match node {
+        Some(node) => scene.expansion.next_node(node, name),
+        None => None,
+    }
+}
+
+/// Whether the path to a node is in the set.
+fn is_expanded(scene: &WalkScene<'_>, node: Option<usize>) -> bool
+    ensures { result ≡ paths_at scene.now.expansion.now node [] }
+{
+    match node {
+        Some(node) => scene.expansion.is_needed(node),
+        None => false,
+    }
+}
+
+/// The entity type of a navigation property that is expanded.
+pub fn expanded_target(
+    scene: &WalkScene<'_>,
+    property: &Property,
+    node: Option<usize>,
+) -> Option<TypeId>
+    ensures { result ≡ target_if (paths_at scene.now.expansion.now node []) (target_of property.now) }
+{
+    if is_expanded(scene, node) {
+        property.target()
+    } else {
+        None
+    }
+}

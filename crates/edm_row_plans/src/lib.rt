@@ -1,0 +1,12 @@
+//! What rows are read by: the types that they may hold, looked up once in a schema, by what is expanded in them.
+#![tactic(auto)]
+
+mod expansion_node;
+mod row_plan;
+mod type_plan;
+mod wanted;
+
+pub use expansion_node::{WalkScene, expanded_target, node_behind};
+pub use row_plan::RowPlan;
+pub use type_plan::{SlotPlan, TypePlan, plan_at};
+pub use wanted::{Wanted, may_hold_null, navigates, wanted_with};

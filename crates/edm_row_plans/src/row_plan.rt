@@ -1,0 +1,143 @@
+ghost use Rattle.std.specs.Prelude.{◌≡◌, ◌≢◌, ◌<◌, ◌⊎◌, ℕ, List, get_or, length, map, slice_get, true, false, IsTrue, Some};
+ghost use Rattle.csdl_schema.specs.ExpansionView.{paths_in};
+ghost use Rattle.csdl_schema.specs.PathSet.{PropertyPath};
+ghost use Rattle.csdl_schema.specs.SchemaModel.{HoldsType, SchemaModel, properties_at};
+ghost use Rattle.edm_row_plans.specs.Plans.{IsPlanOf};
+ghost use Rattle.edm_row_plans.specs.PassedNames.{names_passed, passed_names};
+
+use super::type_plan::{TypePlan, type_plans};
+use csdl_schema::{Expansion, Schema, TypeId};
+use std::alloc::Global;
+
+/// What rows of a type are read by, looked up once in its schema, of which it keeps no borrow: the types that they may
+/// hold, by what is expanded in them. A whole plan has that expanded which it was made for.
+#[derive(Drop)]
+pub struct RowPlan {
+    pub type_id: TypeId,
+    pub expansion: Expansion,
+    pub is_whole: bool,
+    pub plans: Vec<TypePlan>,
+    /// By slot of the rows' own type, whether its value is passed if it is a collection.
+    pub passed: Vec<bool>,
+}
+
+impl RowPlan {
+    /// The plan of an entity type, in which that is expanded. It passes nothing. Where memory is refused it has less of the
+    /// types that a row may hold, or nothing is expanded, and rows are read by way of JSON values.
+    pub fn new(alloc: Global, schema: &Schema, type_id: TypeId, expansion: &Expansion) -> RowPlan
+        requires { HoldsType schema.now type_id }
+        ensures schema { IsPlanOf schema.now result }
+        ensures type_id { result.type_id ≡ type_id }
+        ensures expansion { (result.expansion ≡ expansion.now)
+            ⊎ ((path : PropertyPath) → paths_in result.expansion path ≡ false) }
+        ensures whole { IsTrue result.is_whole → result.expansion ≡ expansion.now }
+        ensures keeps { (model : SchemaModel) (name : List ℕ) → ¬ names_passed model result name }
+    {
+        match expansion.copy(alloc) {
+            Ok(copy) => RowPlan::with(alloc, schema, type_id, copy, true),
+            Err(_) => RowPlan::with(alloc, schema, type_id, Expansion::none(alloc), false),
+        }
+    }
+
+    /// The plan in which that is expanded, and whether it is whole.
+    fn with(
+        alloc: Global,
+        schema: &Schema,
+        type_id: TypeId,
+        expansion: Expansion,
+        is_whole: bool,
+    ) -> RowPlan
+        requires { HoldsType schema.now type_id }
+        ensures schema { IsPlanOf schema.now result }
+        ensures type_id { result.type_id ≡ type_id }
+        ensures expansion { result.expansion ≡ expansion }
+        ensures whole { result.is_whole ≡ is_whole }
+        ensures keeps { (model : SchemaModel) (name : List ℕ) → ¬ names_passed model result name }
+    {
+        let plans = type_plans(alloc, schema, type_id, &expansion);
+        let passed = Vec::new(alloc);
+        RowPlan {
+            type_id,
+            expansion,
+            is_whole,
+            plans,
+            passed,
+        }
+    }
+
+    /// From here on collections of the rows' own type are passed, but for those that are kept.
+    pub fn pass_collections(&mut self)
+        ensures schema { (model : SchemaModel) → IsPlanOf model self.old → IsPlanOf model self.new }
+        ensures type_id { self.new.type_id ≡ self.old.type_id }
+        ensures expansion { self.new.expansion ≡ self.old.expansion }
+        ensures whole { self.new.is_whole ≡ self.old.is_whole }
+    {
+        let count = root_slots(self.plans.as_slice());
+        put_marks(&mut self.passed, count);
+    }
+
+    /// Keeps the properties of that name.
+    pub fn keep(&mut self, schema: &Schema, name: &str)
+        ensures schema { (model : SchemaModel) → IsPlanOf model self.old → IsPlanOf model self.new }
+        ensures type_id { self.new.type_id ≡ self.old.type_id }
+        ensures expansion { self.new.expansion ≡ self.old.expansion }
+        ensures whole { self.new.is_whole ≡ self.old.is_whole }
+        ensures less { (other : List ℕ) → names_passed schema.now self.new other
+            → names_passed schema.now self.old other }
+        ensures kept { ¬ names_passed schema.now self.new name.now }
+    {
+        keep_named(&mut self.passed, schema, self.type_id, name);
+    }
+}
+
+/// How many slots the first plan has, which is that of the rows' own type.
+fn root_slots(plans: &[TypePlan]) -> usize {
+    match plans.first() {
+        Some(plan) => plan.slots.len(),
+        None => 0,
+    }
+}
+
+/// Puts so many marks behind the others; fewer where memory was refused.
+fn put_marks(marks: &mut Vec<bool>, count: usize) {
+    for _slot in 0..count {
+        if marks.push(true).is_err() {
+            return;
+        }
+    }
+}
+
+/// Whether the property at that slot has that name.
+fn is_named(schema: &Schema, type_id: TypeId, slot: usize, name: &str) -> bool
+    ensures { result ≡ false
+        → slice_get (map (λ p. p.name) (properties_at schema.now type_id)) slot ≢ Some name.now }
+{
+    if slot >= schema.slots(type_id) {
+        return false;
+    }
+    schema.slot_name(type_id, slot) == name
+}
+
+/// Takes the mark off a slot, if it has that name.
+fn keep_slot(passed: &mut Vec<bool>, schema: &Schema, type_id: TypeId, slot: usize, name: &str)
+    requires { slot < length passed.old.items }
+    ensures long { length passed.new.items ≡ length passed.old.items }
+    ensures less { (k : ℕ) → get_or passed.new.items k false ≡ true → get_or passed.old.items k false ≡ true }
+    ensures kept { get_or passed.new.items slot false ≡ true
+        → slice_get (map (λ p. p.name) (properties_at schema.now type_id)) slot ≢ Some name.now }
+{
+    if !is_named(schema, type_id, slot, name) {
+        return;
+    }
+    passed[slot] = false;
+}
+
+/// Takes the marks off the slots of that name.
+fn keep_named(passed: &mut Vec<bool>, schema: &Schema, type_id: TypeId, name: &str)
+    ensures less { (k : ℕ) → get_or passed.new.items k false ≡ true → get_or passed.old.items k false ≡ true }
+    ensures kept { ¬ passed_names (properties_at schema.now type_id) passed.new.items name.now }
+{
+    for slot in 0..passed.len() {
+        keep_slot(passed, schema, type_id, slot, name);
+    }
+}

@@ -1,0 +1,265 @@
+//! The types that a row may hold, looked up once for all rows: a plan has of each slot its name, as it stands in a row,
+//! its property, and what is expanded behind it.
+ghost use Rattle.std.specs.Prelude.{◌≡◌, ◌<◌, List, length, Some, IfSome, IsTrue};
+ghost use Rattle.csdl_schema.specs.ExpansionView.{StepModel};
+ghost use Rattle.csdl_schema.specs.SchemaModel.{SchemaModel, properties_at};
+ghost use Rattle.edm_row_plans.specs.Plans.{ArePlanned, ArePlans, IsPlan, IsSlotPlan, target_at};
+
+use super::expansion_node::{WalkScene, expanded_target, node_behind};
+use super::wanted::{Wanted, wanted_with};
+use csdl_schema::{Expansion, Property, Schema, TypeId};
+use json_tokens::Key;
+use std::alloc::Global;
+
+/// How many types have plans, and how many slots these have together.
+const TYPES: usize = 256;
+
+const SLOTS: usize = 8_192;
+
+/// A slot of a type.
+#[derive(Drop)]
+pub struct SlotPlan {
+    pub key: Key,
+    pub property: Property,
+    /// The node of the expansion behind it.
+    pub node: Option<usize>,
+    /// The entity type to which it navigates, if it is expanded.
+    pub target: Option<TypeId>,
+    /// Where the plan of its complex or entity type is to be. Whoever goes there looks whether it is that (`plan_at`).
+    pub record: usize,
+}
+
+/// A type behind a node of the expansion, with its slots in order.
+#[derive(Drop)]
+pub struct TypePlan {
+    pub type_id: TypeId,
+    pub node: Option<usize>,
+    pub slots: Vec<SlotPlan>,
+}
+
+/// A type that rows need, behind a node of the expansion.
+#[derive(Drop)]
+struct NeededType {
+    type_id: TypeId,
+    node: Option<usize>,
+}
+
+#[inline(always)]
+fn are_same_nodes(node: Option<usize>, other: Option<usize>) -> bool
+    ensures { IsTrue result → node ≡ other }
+{
+    match node {
+        Some(node) => match other {
+            Some(other) => node == other,
+            None => false,
+        },
+        None => match other {
+            Some(_) => false,
+            None => true,
+        },
+    }
+}
+
+/// The place of a type among others; behind them, if it is not there.
+fn place_among(types: &[NeededType], type_id: TypeId, node: Option<usize>) -> usize {
+    for place in 0..types.len() {
+        if types[place].type_id == type_id && are_same_nodes(types[place].node, node) {
+            return place;
+        }
+    }
+    types.len()
+}
+
+/// The same, and a type that is not there is put there.
+fn place_for(types: &mut Vec<NeededType>, type_id: TypeId, node: Option<usize>) -> Option<usize> {
+    let place = place_among(types.as_slice(), type_id, node);
+    if place == types.len() && types.push(NeededType { type_id, node }).is_err() {
+        return None;
+    }
+    Some(place)
+}
+
+/// Where the plan of a property's type is to be.
+fn record_of(
+    scene: &WalkScene<'_>,
+    property: &Property,
+    node: Option<usize>,
+    types: &mut Vec<NeededType>,
+) -> Option<usize> {
+    let target = expanded_target(scene, property, node);
+    let Some(wanted) = wanted_with(property, target) else {
+        return Some(0);
+    };
+    match wanted {
+        Wanted::Complex(type_id) => place_for(types, type_id, node),
+        _ => Some(0),
+    }
+}
+
+/// A slot, if it has a name and a place.
+fn slot_of(
+    key: Option<Key>,
+    property: Property,
+    node: Option<usize>,
+    target: Option<TypeId>,
+    record: Option<usize>,
+) -> Option<SlotPlan>
+    ensures { IfSome result (λ plan. (key ≡ Some plan.key) × (plan.property ≡ property) × (plan.node ≡ node)
+        × (plan.target ≡ target)) }
+{
+    let Some(key) = key else {
+        return None;
+    };
+    match record {
+        Some(record) => Some(SlotPlan {
+            key,
+            property,
+            node,
+            target,
+            record,
+        }),
+        None => None,
+    }
+}
+
+/// The slot of a property behind a node.
+fn slot_behind(
+    scene: &WalkScene<'_>,
+    key: Option<Key>,
+    property: &Property,
+    node: Option<usize>,
+    types: &mut Vec<NeededType>,
+) -> Option<SlotPlan>
+    ensures { IfSome result (λ plan. (key ≡ Some plan.key) × (plan.property ≡ property.now) × (plan.node ≡ node)
+        × (plan.target ≡ target_at scene.now.expansion.now node property.now)) }
+{
+    let record = record_of(scene, property, node, types);
+    let target = expanded_target(scene, property, node);
+    slot_of(key, *property, node, target, record)
+}
+
+fn slot_plan(
+    scene: &WalkScene<'_>,
+    type_id: TypeId,
+    node: Option<usize>,
+    slot: usize,
+    types: &mut Vec<NeededType>,
+) -> Option<SlotPlan>
+    requires { slot < length (properties_at scene.now.schema.now type_id) }
+    ensures { IfSome result (IsSlotPlan scene.now.schema.now scene.now.expansion.now type_id node slot) }
+{
+    let name = scene.schema.slot_name(type_id, slot);
+    let behind = node_behind(scene, node, name);
+    let key = Key::new(scene.alloc, name);
+    let property = scene.schema.property(type_id, slot);
+    slot_behind(scene, key, property, behind, types)
+}
+
+fn slot_plans(
+    scene: &WalkScene<'_>,
+    type_id: TypeId,
+    node: Option<usize>,
+    types: &mut Vec<NeededType>,
+) -> Option<Vec<SlotPlan>>
+    ensures { IfSome result (λ slots.
+        ArePlanned scene.now.schema.now scene.now.expansion.now type_id node slots.items) }
+{
+    let mut slots = Vec::new(scene.alloc);
+    for slot in 0..scene.schema.slots(type_id) {
+        let Some(plan) = slot_plan(scene, type_id, node, slot, types) else {
+            return None;
+        };
+        if slots.push(plan).is_err() {
+            return None;
+        }
+    }
+    Some(slots)
+}
+
+/// The plan of a type of at most that many slots.
+fn type_plan(
+    scene: &WalkScene<'_>,
+    type_id: TypeId,
+    node: Option<usize>,
+    most: usize,
+    types: &mut Vec<NeededType>,
+) -> Option<TypePlan>
+    ensures { IfSome result (IsPlan scene.now.schema.now scene.now.expansion.now) }
+{
+    if scene.schema.slots(type_id) > most {
+        return None;
+    }
+    match slot_plans(scene, type_id, node, types) {
+        Some(slots) => Some(TypePlan {
+            type_id,
+            node,
+            slots,
+        }),
+        None => None,
+    }
+}
+
+/// The plans of a type and of those that its properties need, the type's own first; fewer where they are too many, or
+/// where memory was refused.
+pub fn type_plans(
+    alloc: Global,
+    schema: &Schema,
+    type_id: TypeId,
+    expansion: &Expansion,
+) -> Vec<TypePlan>
+    ensures { ArePlans schema.now expansion.now result.items }
+{
+    let scene = WalkScene {
+        alloc,
+        schema,
+        expansion,
+    };
+    let mut plans = Vec::new(alloc);
+    let mut types = Vec::new(alloc);
+    let mut most = SLOTS;
+    let first = NeededType {
+        type_id,
+        node: Some(0),
+    };
+    if types.push(first).is_err() {
+        return plans;
+    }
+    for place in 0..TYPES {
+        if place >= types.len() {
+            return plans;
+        }
+        let (needed, node) = (types[place].type_id, types[place].node);
+        let Some(plan) = type_plan(&scene, needed, node, most, &mut types) else {
+            return plans;
+        };
+        most = most.saturating_sub(plan.slots.len());
+        if plans.push(plan).is_err() {
+            return plans;
+        }
+    }
+    plans
+}
+
+/// The plan of a type behind a node, if it is at that place.
+#[inline(always)]
+pub fn plan_at(
+    plans: &[TypePlan],
+    place: usize,
+    type_id: TypeId,
+    node: Option<usize>,
+) -> Option<&TypePlan>
+    ensures of_type { IfSome result (λ plan. plan.now.type_id ≡ type_id) }
+    ensures of_node { IfSome result (λ plan. plan.now.node ≡ node) }
+    ensures plan { (schema : SchemaModel) (steps : List StepModel)
+        → ArePlans schema steps plans.now → IfSome result (λ plan. IsPlan schema steps plan.now) }
+{
+    if place >= plans.len() {
+        return None;
+    }
+    let plan = &plans[place];
+    if plan.type_id == type_id && are_same_nodes(plan.node, node) {
+        Some(plan)
+    } else {
+        None
+    }
+}

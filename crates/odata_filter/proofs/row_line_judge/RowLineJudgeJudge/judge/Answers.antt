@@ -1,0 +1,35 @@
+use Rattle.std.proofs.Common.{Option, Result, Ok, Err, IfSome, IfOk, sym, subst}
+use Rattle.std.specs.declared.alloc.AllocError.{AllocError}
+use Rattle.line_filter.specs.declared.judge.Judgment.{Judgment}
+use Rattle.odata_filter_operations.specs.declared.fault.EvalFault.{EvalFault}
+use Rattle.odata_eval.specs.declared.verdict.Verdict.{Verdict}
+use Rattle.odata_filter.specs.RowAnswer.{TellsRow}
+use Rattle.odata_filter.specs.RowJudgment.{JudgesRow}
+use Rattle.odata_filter.specs.declared.bad_row.BadRow.{BadRow}
+use Rattle.odata_filter.specs.declared.no_verdict.NoVerdict.{NoVerdict}
+use Rattle.odata_filter.specs.private.FilterNow.{FilterNow}
+use Rattle.odata_filter.specs.private.ValueAnswer.{answer_told}
+use Rattle.odata_filter.proofs.RowLemmas.RowJudges.{line_judged}
+use Rattle.odata_filter.proofs.row_line_judge.RowLineJudgeJudge.judge.Goals.{in-Some-Ok, in-Some-Err, in-None}
+use Rattle.odata_filter.proofs.row_line_judge.RowLineJudgeJudge.judge.Goals as goal
+
+pub returns-clause-said : goal.returns-clause-said
+returns-clause-said c =
+    let filter = c.self.inside.rows.checked.now in
+    let now = c.self.inside.rows.moment.now in
+    let line = c.args.line.now in
+    let Right : (Result (Judgment BadRow) AllocError → Type 0) = λ r. IfOk r (JudgesRow filter now line) in
+    let Told : (Result Verdict EvalFault → Type 0) = λ answer. TellsRow filter now line (answer_told answer) in
+    let Read : (Option (Result Verdict EvalFault) → Type 0) = λ o. IfSome o Told in
+    let right : Right c.match-judge_read.result =
+    elim c.match-judge_read.branch [
+      | in-Some-Ok w ↦
+          let said : Result (Judgment BadRow) AllocError = Ok w.judged_by.result in
+          subst Right (sym w.result-is) (line_judged filter now line (Ok w.in-Some-Ok.verdict) said (subst Told w.in-Some-Ok.field-0-is (subst Read w.in-Some-Ok.is c.judge_read.ensures)) w.judged_by.ensures)
+      | in-Some-Err w ↦
+          subst Right (sym w.result-is)
+          (line_judged filter now line (Err w.told_fault.result) w.judgment_of.result
+          (subst (λ (n : NoVerdict). TellsRow filter now line (Err n)) (sym w.told_fault.ensures) (subst Told w.in-Some-Err.field-0-is (subst Read w.in-Some-Err.is c.judge_read.ensures))) w.judgment_of.ensures)
+      | in-None w ↦ subst Right (sym w.result-is) (line_judged filter now line w.judge_by_tree.result w.judgment_of-in-None.result w.judge_by_tree.ensures w.judgment_of-in-None.ensures)
+    ] in
+    subst (λ (f : FilterNow). IfOk c.match-judge_read.result (JudgesRow f.filter f.moment line)) c.self.view_is right
