@@ -151,15 +151,16 @@ static void chain_of(const struct chain *chain, size_t groups)
     is_answered(chain->before[0] ? chain->before : chain->behind, chain->status);
 }
 
-/* as many as the limits let in, each in the one before: groups with three levels between them, and calls */
+/* as many as the limits let in, each in the one before: groups with up to five levels between them, and calls */
 static void nested(void)
 {
     static const char *const before[] = {"not (", "true and (", "false or true and true eq (", "true in (",
-                                         "false or true and true eq true in ("};
+                                         "false or true and true eq true in (",
+                                         "false or true and true eq true ge true in ("};
     size_t number, most = limit < LIMIT ? OPEN / 4 : OPEN;
     for (number = 0; number < sizeof before / sizeof *before; number++) {
         begin("true");
-        put_often(before[number], ")", 8, 1, most);
+        put_often(before[number], ")", 12, 1, most);
         is_answered(before[number], ODFILTER_OK);
     }
     begin("1");
