@@ -6,7 +6,8 @@ MADE = "<!-- Made by docs/make from the sources of the crates: edit those, and r
 
 def plain(text):
     """A doc or a comment: without the links of Rust, and with no mark outside code that Markdown takes for its own."""
-    parts = re.split(r"(`[^`]*`)", re.sub(r"\[(`[^`]+`)\](?!\()", r"\1", text))
+    unlinked = re.sub(r"\[(`[^`]+`)\](?:\(\w+::[\w:]+\)|(?!\())", r"\1", text)
+    parts = re.split(r"(`[^`]*`)", unlinked)
     return "".join(part if part.startswith("`") else re.sub(r"([*<])", r"\\\1", part) for part in parts)
 
 
