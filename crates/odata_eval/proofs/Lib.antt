@@ -1,2 +1,4 @@
+pub mod costs
 pub mod meaning
+pub mod spending
 pub mod walking

@@ -32,6 +32,7 @@ pub use Rattle.odata_syntax.specs.Tree
 pub use Rattle.odata_checked_filter.specs.Calls
 pub use Rattle.odata_checked_filter.specs.Filter
 pub use Rattle.odata_checked_filter.specs.FlatTree
+pub use Rattle.odata_checked_filter.specs.LambdaDepth
 pub use Rattle.odata_checked_filter.specs.Levels
 pub use Rattle.odata_expression_types.specs.LiteralValue
 pub use Rattle.odata_checked_filter.specs.NameKinds
@@ -46,6 +47,9 @@ pub use Rattle.odata_expression_types.specs.Typed
 pub mod ComesTo
 pub mod ComesToMembers
 pub mod ConformsAtPaths
+pub mod Costs
+pub mod CostsOn
+pub mod CostsOnce
 pub mod EndsOnce
 pub mod EndsOnceAtPaths
 pub mod Environment
@@ -57,6 +61,7 @@ pub mod OneByOne
 pub mod OperatorGives
 pub mod ReadGives
 pub mod SameMeaning
+pub mod SomeCosts
 pub mod TypesAtPaths
 pub mod UnreadMeans
 pub mod VerdictView

@@ -1,7 +1,8 @@
 -- Verdicts of the code as values, and its answers as outcomes.
-use Rattle.std.specs.Prelude.{true, false, Option, Some, Result, Ok, Err}
+use Rattle.std.specs.Prelude.{true, false, Option, Some, None, Result, Ok, Err}
 use Rattle.edm_values.specs.Val.{Val, null, boolean}
 use Rattle.odata_filter_operations.specs.declared.fault.EvalFault.{EvalFault}
+use Rattle.odata_eval.specs.declared.stop.EvalStop.{EvalStop}
 use Rattle.odata_eval.specs.declared.verdict.Verdict.{Verdict}
 use Rattle.odata_filter_operations.specs.FaultView.{fault_outcome}
 use Rattle.odata_filter_operations.specs.Outcome.{Outcome, gives}
@@ -15,3 +16,9 @@ verdict_val Verdict.Null = null
 abbrev pub told_outcome : Result Verdict EvalFault → Option Outcome
 told_outcome (Ok verdict) = Some (gives (verdict_val verdict))
 told_outcome (Err fault) = fault_outcome fault
+
+-- so of a bounded answer; none where it says only that the bound is too low
+abbrev pub outcome_told : Result Verdict EvalStop → Option Outcome
+outcome_told (Ok verdict) = Some (gives (verdict_val verdict))
+outcome_told (Err (EvalStop.Fault fault)) = fault_outcome fault
+outcome_told (Err EvalStop.TooCostly) = None

@@ -6,5 +6,6 @@ pub mod Place
 pub mod Rest
 pub mod Scene
 pub mod SceneModel
+pub mod Spending
 pub mod WalkAnswer
 pub mod WalkClass

@@ -10,7 +10,7 @@ ghost use Rattle.odata_eval.specs.private.WalkAnswer.{AnswersTruth};
 use super::operator_classes::{decides, join};
 use super::part::right_of;
 use super::scene::Scene;
-use super::walk::side_at;
+use super::walk::term_at;
 use edm_values::Value;
 use odata_checked_filter::NodeKind;
 use odata_filter_operations::{EvalFault, compare_kept, kept_truth};
@@ -71,7 +71,7 @@ pub(crate) fn truth_of_rest(
     requires rest { IsRest scene.now rest }
     ensures { AnswersTruth scene.now 0 result }
 {
-    let mut left = match side_at(scene, rest.term) {
+    let mut left = match term_at(scene, rest.term) {
         Ok(truth) => truth,
         Err(fault) => return Err(fault),
     };
@@ -85,7 +85,7 @@ pub(crate) fn truth_of_rest(
         match kept_truth_at(scene, right_place) {
             Some(true) => {}
             Some(false) => return Ok(Some(false)),
-            None => match side_at(scene, right_place) {
+            None => match term_at(scene, right_place) {
                 Ok(right) => left = join(Connective::And, left, right),
                 Err(fault) => return Err(fault),
             },

@@ -1,12 +1,15 @@
 //! The walk of a filter's list where collections, lists and flags are asked: of `in`, and of `has`.
-ghost use Rattle.std.specs.Prelude.{◌+◌, Ok};
+ghost use Rattle.std.specs.Prelude.{◌+◌, None, Ok};
 ghost use Rattle.odata_checked_filter.specs.declared.checked_node.NodeKind.{NodeKind as Kind};
 ghost use Rattle.odata_eval.specs.private.Place.{HasKind, PartStands};
+ghost use Rattle.odata_eval.specs.private.Spending.{CountedDatum, SpendsRest, datum_stop};
 ghost use Rattle.odata_eval.specs.private.WalkAnswer.{AnswersDatum};
 
+use super::budget::{Budget, take_item};
 use super::part::{right_of, stop_of};
 use super::scene::Scene;
-use super::walk::operand_at;
+use super::stop::EvalStop;
+use super::walk::{counted_at, operand_at};
 use edm_values::Datum;
 use odata_expression_types::trees_have_one_type;
 use odata_filter_operations::{EvalFault, among, flags_of};
@@ -56,11 +59,13 @@ pub(crate) fn listed_at<'e>(
     scene: &Scene<'e, '_, '_>,
     place: usize,
     left: &Datum<'_>,
-) -> Result<Datum<'e>, EvalFault>
+    budget: &mut Budget,
+) -> Result<Datum<'e>, EvalStop>
     requires stands { PartStands scene.now place }
     requires here { HasKind scene.now.list place Kind.InList }
     requires left { AnswersDatum scene.now (place + 1) (Ok left.now) }
-    ensures { AnswersDatum scene.now place result }
+    ensures answers { CountedDatum scene.now place result }
+    ensures spent { SpendsRest scene.now place budget.old None budget.new (datum_stop result) }
 {
     scene.ends_once();
     trees_have_one_type();
@@ -68,13 +73,16 @@ pub(crate) fn listed_at<'e>(
     let own_stop = stop_of(scene, place);
     let mut at = right_of(scene, place);
     while at != own_stop {
-        match operand_at(scene, at) {
+        if !take_item(scene, budget) {
+            return Err(EvalStop::TooCostly);
+        }
+        match counted_at(scene, at, budget) {
             Ok(item) => {
                 if compare(ComparisonOperator::Eq, left, &item) {
                     return Ok(Datum::Bool(true));
                 }
             }
-            Err(fault) => return Err(fault),
+            Err(stop) => return Err(stop),
         }
         at = stop_of(scene, at);
     }

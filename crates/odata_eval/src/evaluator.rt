@@ -21,7 +21,7 @@ use odata_filter_operations::EvalFault;
 use std::alloc::Global;
 
 /// The verdict of a truth value, None standing for null.
-fn verdict_of(truth: Option<bool>) -> Verdict
+pub(crate) fn verdict_of(truth: Option<bool>) -> Verdict
     ensures { verdict_val result ≡ truth_val truth }
 {
     match truth {

@@ -1,21 +1,24 @@
 //! The walk where a lambda operator stands: its body is asked of each member, by a scene with one frame more.
-ghost use Rattle.std.specs.Prelude.{◌≡◌, ◌+◌, ◌↔◌, IsTrue, Ok};
+ghost use Rattle.std.specs.Prelude.{◌≡◌, ◌+◌, ◌↔◌, IsTrue, None, Ok};
 ghost use Rattle.std.specs.List.{AllByRecursion};
 ghost use Rattle.edm_values.specs.Val.{boolean};
 ghost use Rattle.odata_checked_filter.specs.declared.checked_node.NodeKind.{NodeKind as Kind};
 ghost use Rattle.odata_filter_operations.specs.QuantifierGives.{IsUndecided, undecided_val};
 ghost use Rattle.odata_filter_operations.specs.TruthGives.{truth_val};
-ghost use Rattle.odata_eval.specs.private.Lambda.{AnswersMembers, BodyIsThere, Suits};
+ghost use Rattle.odata_eval.specs.private.Lambda.{BodyIsThere, Suits};
 ghost use Rattle.odata_eval.specs.private.Place.{HasKind, PartStands};
+ghost use Rattle.odata_eval.specs.private.Spending.{CountedDatum, CountedMembers, SpendsMembers, SpendsRest, datum_stop, stopped_by};
 ghost use Rattle.odata_eval.specs.private.WalkAnswer.{AnswersDatum};
 
+use super::budget::{Budget, take_one};
 use super::frames::RangeVariable;
 use super::part::right_of;
 use super::scene::Scene;
+use super::stop::EvalStop;
 use super::walk::side_at;
 use edm_values::{Datum, Value};
 use odata_expression_types::trees_have_one_type;
-use odata_filter_operations::{EvalFault, datum_of_truth};
+use odata_filter_operations::datum_of_truth;
 use odata_syntax::Quantifier;
 
 /// Whether the body's value at one member leaves the operator undecided.
@@ -36,6 +39,13 @@ fn undecided(quantifier: Quantifier) -> bool
     matches!(quantifier, Quantifier::All)
 }
 
+/// The body of a lambda operator: which one it is of, and where it stands.
+#[derive(Clone, Copy)]
+struct Body {
+    quantifier: Quantifier,
+    place: usize,
+}
+
 /// What a lambda operator comes to, whose base has been answered. Over null it is null.
 #[cycle(evaluate)]
 pub(crate) fn lambda_at<'e>(
@@ -43,11 +53,13 @@ pub(crate) fn lambda_at<'e>(
     place: usize,
     quantifier: Quantifier,
     base: Datum<'e>,
-) -> Result<Datum<'e>, EvalFault>
+    budget: &mut Budget,
+) -> Result<Datum<'e>, EvalStop>
     requires stands { PartStands scene.now place }
     requires here { HasKind scene.now.list place (Kind.Lambda quantifier) }
     requires first { AnswersDatum scene.now (place + 1) (Ok base) }
-    ensures { AnswersDatum scene.now place result }
+    ensures answers { CountedDatum scene.now place result }
+    ensures spent { SpendsRest scene.now place budget.old None budget.new (datum_stop result) }
 {
     scene.ends_once();
     trees_have_one_type();
@@ -56,42 +68,45 @@ pub(crate) fn lambda_at<'e>(
         _ => return Ok(Datum::Null),
     };
     let variable = scene.variable_bound(place);
-    match members_at(
-        &*scene,
-        right_of(scene, place),
+    let body = Body {
         quantifier,
-        &variable,
-        members,
-    ) {
+        place: right_of(scene, place),
+    };
+    match members_at(&*scene, body, &variable, members, budget) {
         Ok(truth) => Ok(datum_of_truth(truth)),
-        Err(fault) => Err(fault),
+        Err(stop) => Err(stop),
     }
 }
 
-/// What it comes to over members, where the body stands in the place. Members behind the one that decides, or has a fault,
-/// are left out.
+/// What it comes to over members. Members behind the one that decides, or has a fault, are left out.
 #[cycle(evaluate)]
 fn members_at<'f>(
     scene: &'f Scene<'f, '_, '_>,
-    place: usize,
-    quantifier: Quantifier,
+    body: Body,
     variable: &'f RangeVariable<'f>,
     members: &'f [Value],
-) -> Result<Option<bool>, EvalFault>
-    requires body { BodyIsThere scene.now variable.now place }
+    budget: &mut Budget,
+) -> Result<Option<bool>, EvalStop>
+    requires body { BodyIsThere scene.now variable.now body.place }
     requires suit { AllByRecursion (Suits scene.now variable.now) members.now }
-    ensures { AnswersMembers scene.now place quantifier variable.now members.now result }
+    ensures answers { CountedMembers scene.now body.place body.quantifier variable.now members.now result }
+    ensures spent { SpendsMembers scene.now body.place body.quantifier variable.now members.now budget.old budget.new
+        (stopped_by result) }
 {
     for at in 0..members.len() {
+        if !take_one(budget) {
+            return Err(EvalStop::TooCostly);
+        }
         let bound = scene.with(variable, &members[at]);
-        match side_at(&bound, place) {
+        bound.ends_once();
+        match side_at(&bound, body.place, budget) {
             Ok(truth) => {
-                if !is_undecided(quantifier, truth) {
-                    return Ok(Some(!undecided(quantifier)));
+                if !is_undecided(body.quantifier, truth) {
+                    return Ok(Some(!undecided(body.quantifier)));
                 }
             }
-            Err(fault) => return Err(fault),
+            Err(stop) => return Err(stop),
         }
     }
-    Ok(Some(undecided(quantifier)))
+    Ok(Some(undecided(body.quantifier)))
 }

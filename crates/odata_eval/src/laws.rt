@@ -5,6 +5,7 @@ ghost use Rattle.odata_syntax.specs.FirstRun.{first_run_tree};
 ghost use Rattle.odata_syntax.specs.Tree.{Tree, any_item, count, in_list, in_path, trees_of_list};
 ghost use Rattle.odata_syntax.specs.declared.node.Quantifier.{Quantifier};
 ghost use Rattle.odata_syntax.specs.declared.node.Quantifier.TheVariants.{All, Any};
+ghost use Rattle.odata_eval.specs.CostsOnce.{CostsNothingWithoutLambdas, CostsOnceOnEntities};
 ghost use Rattle.odata_eval.specs.EndsOnce.{EndsOnceOnEntities, TypedEndsOnce};
 ghost use Rattle.odata_eval.specs.EndsOnceAtPaths.{TypedEndsOnceAtPaths};
 ghost use Rattle.odata_eval.specs.ConformsAtPaths.{AreAllNeededAlike, ConformAtPaths, EndsOnceAtPathsOnEntities};
@@ -15,6 +16,7 @@ ghost use Rattle.odata_eval.specs.ComesToMembers.{ComesToOn, all_alike, is_null,
 ghost use Rattle.odata_eval.specs.ComesToMembers.{over_tags, text_and_null};
 ghost use Rattle.odata_eval.specs.OneByOne.{ComparedOneByOne, ItemsOneByOne, MembersOneByOne};
 ghost use Rattle.odata_filter_operations.specs.Outcome.{gives, divides_by_zero};
+ghost use Rattle.odata_eval.specs.SomeCosts.{CostsOnTags, fault_first, is_listed};
 ghost use Rattle.odata_eval.specs.UnreadMeans.{FlagsAlone, ItemsAlone, OperandsAlone};
 ghost use Rattle.odata_eval.specs.SameMeaning.{NormalFormsKeepOutcomes, CanonicalTextsKeepOutcomes};
 
@@ -67,6 +69,28 @@ pub fn typed_trees_end_once_on_entities()
 {
     typed_trees_end_once();
     what_fits_has_its_type();
+}
+
+/// A law: an expression that has a type has exactly one cost on every entity, which is none where no lambda operator
+/// stands in it.
+pub fn typed_trees_cost_once_on_entities()
+    ensures once { CostsOnceOnEntities }
+    ensures nothing { CostsNothingWithoutLambdas }
+{
+    typed_trees_end_once();
+    what_fits_has_its_type();
+    literals_have_one_value();
+    trees_have_one_type();
+    arithmetic_has_one_answer();
+    comparisons_are_decided();
+    bits_are_decided();
+    spelled_values_lie_within();
+    calls_have_one_type();
+    texts_have_one_answer();
+    day_numbers_have_one_date();
+    quoted_texts_have_one_number();
+    quoting_trees_are_texts();
+    unread_operands_go_by_types();
 }
 
 /// A law: a value of a type has that type at every path, whatever is needed, and no other value has it where all is
@@ -165,3 +189,16 @@ pub fn members_come_to()
     day_numbers_have_one_date();
     quoted_texts_have_one_number();
 }
+
+/// What the definitions say that filters on the same members cost: `any` asks for the second member's body, `all` for the
+/// first one's alone; an operator in another one for its own each time; a list within a body for its items; nothing is
+/// asked for over null, over none, and after a fault.
+pub fn members_cost()
+    ensures some { CostsOnTags text_and_null (over_tags Any is_null) 2 }
+    ensures not_all { CostsOnTags text_and_null (over_tags All is_null) 1 }
+    ensures within { CostsOnTags text_and_null (over_tags Any all_alike) 5 }
+    ensures listed { CostsOnTags text_and_null (over_tags All is_listed) 3 }
+    ensures of_none { (quantifier : Quantifier) (body : Tree) → CostsOnTags (items no_items) (over_tags quantifier body) 0 }
+    ensures of_null { (quantifier : Quantifier) (body : Tree) → CostsOnTags null (over_tags quantifier body) 0 }
+    ensures fault_first { CostsOnTags text_and_null fault_first 0 }
+{}

@@ -2,6 +2,8 @@
 #![tactic(auto)]
 
 mod and_chain;
+mod bounded_evaluator;
+mod budget;
 mod collection_walk;
 mod evaluator;
 mod frames;
@@ -12,14 +14,18 @@ mod operator_classes;
 mod paired_walk;
 mod part;
 mod scene;
+mod stop;
 mod verdict;
 mod walk;
 
+pub use bounded_evaluator::evaluate_within;
 pub use evaluator::evaluate;
 pub use laws::{
     canonical_texts_keep_outcomes, entities_end_once_at_paths, first_run_comes_to, members_come_to,
-    one_by_one, typed_trees_end_once, typed_trees_end_once_at_paths,
-    typed_trees_end_once_on_entities, unread_operands_stand_alone, values_have_types_at_paths,
+    members_cost, one_by_one, typed_trees_cost_once_on_entities, typed_trees_end_once,
+    typed_trees_end_once_at_paths, typed_trees_end_once_on_entities, unread_operands_stand_alone,
+    values_have_types_at_paths,
 };
 pub use odata_filter_operations::EvalFault;
+pub use stop::EvalStop;
 pub use verdict::Verdict;

@@ -1,18 +1,17 @@
 //! The walk where String literals are read beside an enumeration. The checker has read their numbers, which stand among the
 //! values of the filter's literals.
-ghost use Rattle.std.specs.Prelude.{◌<◌, ◌+◌, ℕ, Ok, Some, length};
-ghost use Rattle.csdl_schema.specs.SchemaModel.{slots_of};
+ghost use Rattle.std.specs.Prelude.{◌<◌, ◌+◌, ℕ, None, Ok, Some, length};
 ghost use Rattle.odata_checked_filter.specs.declared.checked_node.NodeKind.{NodeKind as Kind};
-ghost use Rattle.odata_functions.specs.DatumVal.{datum_val};
-ghost use Rattle.odata_filter_operations.specs.DatumView.{answer_outcome, reading_at};
-ghost use Rattle.odata_eval.specs.private.ItemMarks.{AnswersItem};
 ghost use Rattle.odata_eval.specs.private.Place.{HasKind, IsRightOf, PartStands, TruthStands};
+ghost use Rattle.odata_eval.specs.private.Spending.{CountedDatum, CountedItem, CountedTruth, SpendsAt, SpendsItem, SpendsRest, datum_stop, stopped_by};
 ghost use Rattle.odata_eval.specs.private.WalkAnswer.{AnswersDatum, AnswersKept, AnswersTruth};
 
+use super::budget::{Budget, take_item};
 use super::operator_classes::comparison_of;
 use super::part::{Part, part_at, right_of, stop_of};
 use super::scene::Scene;
-use super::walk::{made_truth_at, operand_at};
+use super::stop::EvalStop;
+use super::walk::{counted_at, made_truth_at, operand_at};
 use edm_values::{Datum, Value};
 use odata_expression_types::trees_have_one_type;
 use odata_filter_operations::{EvalFault, compare_kept, datum_of, flags_of};
@@ -72,15 +71,17 @@ pub(crate) fn right_read_truth_at(
     place: usize,
     operator: BinaryOperator,
     number: usize,
-) -> Result<Option<bool>, EvalFault>
+    budget: &mut Budget,
+) -> Result<Option<bool>, EvalStop>
     requires stands { TruthStands scene.now place }
     requires here { HasKind scene.now.list place (Kind.PairedRight operator number) }
-    ensures { AnswersTruth scene.now place result }
+    ensures answers { CountedTruth scene.now place result }
+    ensures spent { SpendsAt scene.now place budget.old budget.new (stopped_by result) }
 {
     let _nodes = scene.nodes();
     match part_at(scene, place + 1) {
         Part::Leaf(left) => Ok(Some(compared_kept_right(scene, place, operator, number, left))),
-        _ => made_truth_at(scene, place),
+        _ => made_truth_at(scene, place, budget),
     }
 }
 
@@ -92,14 +93,16 @@ pub(crate) fn left_read_truth_at(
     place: usize,
     operator: BinaryOperator,
     number: usize,
-) -> Result<Option<bool>, EvalFault>
+    budget: &mut Budget,
+) -> Result<Option<bool>, EvalStop>
     requires stands { TruthStands scene.now place }
     requires here { HasKind scene.now.list place (Kind.PairedLeft operator number) }
-    ensures { AnswersTruth scene.now place result }
+    ensures answers { CountedTruth scene.now place result }
+    ensures spent { SpendsAt scene.now place budget.old budget.new (stopped_by result) }
 {
     match part_at(scene, right_of(scene, place)) {
         Part::Leaf(right) => Ok(Some(compared_kept_left(scene, place, operator, number, right))),
-        _ => made_truth_at(scene, place),
+        _ => made_truth_at(scene, place, budget),
     }
 }
 
@@ -169,11 +172,13 @@ pub(crate) fn numbered_at<'e>(
     place: usize,
     numbers: usize,
     left: &Datum<'_>,
-) -> Result<Datum<'e>, EvalFault>
+    budget: &mut Budget,
+) -> Result<Datum<'e>, EvalStop>
     requires stands { PartStands scene.now place }
     requires here { HasKind scene.now.list place (Kind.PairedList numbers) }
     requires left { AnswersDatum scene.now (place + 1) (Ok left.now) }
-    ensures { AnswersDatum scene.now place result }
+    ensures answers { CountedDatum scene.now place result }
+    ensures spent { SpendsRest scene.now place budget.old None budget.new (datum_stop result) }
 {
     scene.ends_once();
     trees_have_one_type();
@@ -183,13 +188,16 @@ pub(crate) fn numbered_at<'e>(
     let mut at = right_of(scene, place);
     let mut number = numbers;
     while at != own_stop {
-        match numbered_item_at(scene, at, number) {
+        if !take_item(scene, budget) {
+            return Err(EvalStop::TooCostly);
+        }
+        match numbered_item_at(scene, at, number, budget) {
             Ok(item) => {
                 if compare(ComparisonOperator::Eq, left, &item) {
                     return Ok(Datum::Bool(true));
                 }
             }
-            Err(fault) => return Err(fault),
+            Err(stop) => return Err(stop),
         }
         at = stop_of(scene, at);
         number += 1;
@@ -203,14 +211,15 @@ fn numbered_item_at<'e>(
     scene: &Scene<'e, '_, '_>,
     place: usize,
     number: usize,
-) -> Result<Datum<'e>, EvalFault>
+    budget: &mut Budget,
+) -> Result<Datum<'e>, EvalStop>
     requires stands { PartStands scene.now place }
     requires number { number < length scene.now.list.values }
-    ensures { AnswersItem scene.now place (Some number)
-        (λ type. answer_outcome (datum_val (reading_at (slots_of scene.now.row.schema) type)) result) }
+    ensures answers { CountedItem scene.now place (Some number) result }
+    ensures spent { SpendsItem scene.now place (Some number) budget.old budget.new (datum_stop result) }
 {
     match scene.literal(number) {
         Value::Enum(n) => Ok(Datum::Enum(*n)),
-        _ => operand_at(scene, place),
+        _ => counted_at(scene, place, budget),
     }
 }

@@ -1,5 +1,5 @@
 //! What a walk of a filter's list goes by.
-ghost use Rattle.std.specs.Prelude.{◌≡◌, ◌<◌, [], Some, Vec, length, slice_get};
+ghost use Rattle.std.specs.Prelude.{◌≡◌, ◌<◌, [], Some, Vec, cond, length, slice_get};
 ghost use Rattle.std.specs.declared.alloc.Global.{Global};
 ghost use Rattle.edm_values.specs.declared.value.Value.{Value, Record, Moment as MomentValue};
 ghost use Rattle.csdl_schema.specs.SchemaModel.{properties_at, slots_of};
@@ -9,9 +9,11 @@ ghost use Rattle.odata_eval.specs.private.Frames.{StandsAtLevel, frame_of, names
 ghost use Rattle.odata_eval.specs.private.Lambda.{IsOverMembers, IsVariableOf, Suits};
 ghost use Rattle.odata_eval.specs.private.Scene.{EndsOnceHere, HoldsAt};
 ghost use Rattle.odata_eval.specs.private.SceneModel.{environment_of, with_frame};
+ghost use Rattle.odata_eval.specs.Costs.{item_cost};
+ghost use Rattle.odata_eval.specs.private.Spending.{CostsOnceHere};
 
 use super::frames::{AtLevel, Frames, RangeVariable, at_level};
-use super::laws::typed_trees_end_once_on_entities;
+use super::laws::{typed_trees_cost_once_on_entities, typed_trees_end_once_on_entities};
 use edm_entities::Entity;
 use edm_values::{Moment, Value};
 use odata_checked_filter::{Checked, CheckedNode};
@@ -129,6 +131,23 @@ impl<'e, 'c, 'r> Scene<'e, 'c, 'r> {
         let _entity = &self.entity;
         // The moment is one that a literal can spell.
         let (_civil, _offset) = (self.moment.civil(), self.moment.offset_minutes());
+    }
+
+    /// A law: an expression that has a type has exactly one cost here.
+    pub(crate) fn costs_once(&self)
+        ensures { CostsOnceHere self.now }
+    {
+        typed_trees_cost_once_on_entities();
+        let _entity = &self.entity;
+        // The moment is one that a literal can spell.
+        let (_civil, _offset) = (self.moment.civil(), self.moment.offset_minutes());
+    }
+
+    /// Whether a range variable is around.
+    pub(crate) fn is_within_body(&self) -> bool
+        ensures { item_cost (environment_of self.now) ≡ cond result 1 0 }
+    {
+        matches!(self.frames, Frames::Bound(_, _, _))
     }
 
     /// The nodes of the filter's list.

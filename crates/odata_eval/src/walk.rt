@@ -3,12 +3,14 @@
 //! by counting, and long chains take no stack.
 //!
 //! What is asked at each node is marked to be inlined, so that an answer is not passed on through memory.
-ghost use Rattle.std.specs.Prelude.{◌≡◌, ◌+◌, Ok};
+ghost use Rattle.std.specs.Prelude.{◌≡◌, ◌+◌, None, Ok};
 ghost use Rattle.odata_signatures.specs.OperatorClass.{class_of};
 ghost use Rattle.odata_eval.specs.private.Place.{HasCall, HasOperator, HasOperatorOf, IsClassAt, PartStands, TruthStands};
+ghost use Rattle.odata_eval.specs.private.Spending.{CountedDatum, CountedTruth, SpendsAt, SpendsRest, datum_stop, stopped_by};
 ghost use Rattle.odata_eval.specs.private.WalkClass.{walk_of_operator};
 ghost use Rattle.odata_eval.specs.private.WalkAnswer.{AnswersDatum, AnswersTruth};
 
+use super::budget::{Budget, as_stop, fault_of};
 use super::collection_walk::{among_at, flags_at, listed_at};
 use super::lambda_walk::lambda_at;
 use super::number_walk::{number_at, number_chain_at};
@@ -19,6 +21,7 @@ use super::paired_walk::{
 };
 use super::part::{Part, WalkClass, class_at, part_at, right_of, spine_bottom, stop_of};
 use super::scene::Scene;
+use super::stop::EvalStop;
 use edm_values::{Datum, Value};
 use odata_checked_filter::NodeKind;
 use odata_expression_types::trees_have_one_type;
@@ -35,16 +38,21 @@ use odata_syntax::BinaryOperator;
 
 /// What a node of type Boolean or Null comes to on an entity of the filtered type.
 #[cycle(evaluate)]
-pub(crate) fn truth_at(scene: &Scene<'_, '_, '_>, place: usize) -> Result<Option<bool>, EvalFault>
+pub(crate) fn truth_at(
+    scene: &Scene<'_, '_, '_>,
+    place: usize,
+    budget: &mut Budget,
+) -> Result<Option<bool>, EvalStop>
     requires stands { TruthStands scene.now place }
-    ensures { AnswersTruth scene.now place result }
+    ensures answers { CountedTruth scene.now place result }
+    ensures spent { SpendsAt scene.now place budget.old budget.new (stopped_by result) }
 {
     let bottom = spine_bottom(scene, place, WalkClass::Logical);
-    let mut answer = plain_truth_at(scene, bottom);
+    let mut answer = plain_truth_at(scene, bottom, budget);
     let mut at = bottom;
     while place < at {
         at -= 1;
-        answer = logical_at(scene, at, answer);
+        answer = logical_at(scene, at, answer, budget);
     }
     answer
 }
@@ -52,31 +60,39 @@ pub(crate) fn truth_at(scene: &Scene<'_, '_, '_>, place: usize) -> Result<Option
 /// The same, of a node that is none of truth values.
 #[cycle(evaluate)]
 #[inline(always)]
-fn plain_truth_at(scene: &Scene<'_, '_, '_>, place: usize) -> Result<Option<bool>, EvalFault>
+fn plain_truth_at(
+    scene: &Scene<'_, '_, '_>,
+    place: usize,
+    budget: &mut Budget,
+) -> Result<Option<bool>, EvalStop>
     requires stands { TruthStands scene.now place }
     requires plain { ¬ IsClassAt scene.now.list WalkClass.Logical place }
-    ensures { AnswersTruth scene.now place result }
+    ensures answers { CountedTruth scene.now place result }
+    ensures spent { SpendsAt scene.now place budget.old budget.new (stopped_by result) }
 {
     scene.ends_once();
     if let NodeKind::Binary { operator } = scene.node(place).kind {
         if let OperatorClass::Comparison(_) = class_of(operator) {
-            return compared_truth_at(scene, place, operator);
+            return compared_truth_at(scene, place, operator, budget);
         }
     }
     if let NodeKind::Call { function } = scene.node(place).kind {
-        return called_truth_at(scene, place, function);
+        return called_truth_at(scene, place, function, budget);
     }
     if let NodeKind::PairedRight { operator, number } = scene.node(place).kind {
-        return right_read_truth_at(scene, place, operator, number);
+        return right_read_truth_at(scene, place, operator, number, budget);
     }
     if let NodeKind::PairedLeft { operator, number } = scene.node(place).kind {
-        return left_read_truth_at(scene, place, operator, number);
+        return left_read_truth_at(scene, place, operator, number, budget);
     }
     match part_at(scene, place) {
         Part::Leaf(value) => Ok(kept_truth(value)),
         Part::Logical => unreachable!(),
-        Part::Numeric => numeric_truth_at(scene, place),
-        Part::Eager => made_truth_at(scene, place),
+        Part::Numeric => match numeric_truth_at(scene, place) {
+            Ok(truth) => Ok(truth),
+            Err(fault) => Err(EvalStop::Fault(fault)),
+        },
+        Part::Eager => made_truth_at(scene, place, budget),
     }
 }
 
@@ -87,11 +103,13 @@ fn compared_truth_at(
     scene: &Scene<'_, '_, '_>,
     place: usize,
     operator: BinaryOperator,
-) -> Result<Option<bool>, EvalFault>
+    budget: &mut Budget,
+) -> Result<Option<bool>, EvalStop>
     requires stands { TruthStands scene.now place }
     requires here { HasOperator scene.now.list place operator }
     requires comparison { walk_of_operator (class_of operator) ≡ WalkClass.Eager }
-    ensures { AnswersTruth scene.now place result }
+    ensures answers { CountedTruth scene.now place result }
+    ensures spent { SpendsAt scene.now place budget.old budget.new (stopped_by result) }
 {
     scene.ends_once();
     comparisons_are_decided();
@@ -99,10 +117,10 @@ fn compared_truth_at(
     match part_at(scene, place + 1) {
         Part::Leaf(left) => match part_at(scene, right_place) {
             Part::Leaf(right) => Ok(Some(compare_kept(comparison_of(operator), left, right))),
-            _ => made_truth_at(scene, place),
+            _ => made_truth_at(scene, place, budget),
         },
-        Part::Numeric => numbers_truth_at(scene, place, operator),
-        _ => made_truth_at(scene, place),
+        Part::Numeric => numbers_truth_at(scene, place, operator, budget),
+        _ => made_truth_at(scene, place, budget),
     }
 }
 
@@ -113,30 +131,33 @@ fn numbers_truth_at(
     scene: &Scene<'_, '_, '_>,
     place: usize,
     operator: BinaryOperator,
-) -> Result<Option<bool>, EvalFault>
+    budget: &mut Budget,
+) -> Result<Option<bool>, EvalStop>
     requires stands { TruthStands scene.now place }
     requires here { HasOperator scene.now.list place operator }
     requires comparison { walk_of_operator (class_of operator) ≡ WalkClass.Eager }
     requires numeric { IsClassAt scene.now.list WalkClass.Numeric (place + 1) }
-    ensures { AnswersTruth scene.now place result }
+    ensures answers { CountedTruth scene.now place result }
+    ensures spent { SpendsAt scene.now place budget.old budget.new (stopped_by result) }
 {
+    scene.ends_once();
     let right_place = right_of(scene, place);
     let left = match number_chain_at(scene, place + 1) {
         Ok(left) => left,
-        Err(fault) => return Err(fault),
+        Err(fault) => return Err(EvalStop::Fault(fault)),
     };
     match part_at(scene, right_place) {
         Part::Leaf(value) => match value {
             Value::Int(right) => {
                 Ok(Some(compare_numbers(comparison_of(operator), left, Some(*right))))
             }
-            _ => made_truth_at(scene, place),
+            _ => made_truth_at(scene, place, budget),
         },
         Part::Numeric => match number_at(scene, right_place) {
             Ok(right) => Ok(Some(compare_numbers(comparison_of(operator), left, right))),
-            Err(fault) => Err(fault),
+            Err(fault) => Err(EvalStop::Fault(fault)),
         },
-        _ => made_truth_at(scene, place),
+        _ => made_truth_at(scene, place, budget),
     }
 }
 
@@ -147,10 +168,12 @@ fn called_truth_at(
     scene: &Scene<'_, '_, '_>,
     place: usize,
     function: Function,
-) -> Result<Option<bool>, EvalFault>
+    budget: &mut Budget,
+) -> Result<Option<bool>, EvalStop>
     requires stands { TruthStands scene.now place }
     requires here { HasCall scene.now.list place function }
-    ensures { AnswersTruth scene.now place result }
+    ensures answers { CountedTruth scene.now place result }
+    ensures spent { SpendsAt scene.now place budget.old budget.new (stopped_by result) }
 {
     scene.ends_once();
     calls_have_one_type();
@@ -158,22 +181,22 @@ fn called_truth_at(
     let own_stop = stop_of(scene, place);
     let first = match part_at(scene, place + 1) {
         Part::Leaf(value) => datum_of(value),
-        _ => return made_truth_at(scene, place),
+        _ => return made_truth_at(scene, place, budget),
     };
     let second_place = stop_of(scene, place + 1);
     if second_place == own_stop {
-        return made_truth_at(scene, place);
+        return made_truth_at(scene, place, budget);
     }
     if stop_of(scene, second_place) != own_stop {
-        return made_truth_at(scene, place);
+        return made_truth_at(scene, place, budget);
     }
     let second = match part_at(scene, second_place) {
         Part::Leaf(value) => datum_of(value),
-        _ => return made_truth_at(scene, place),
+        _ => return made_truth_at(scene, place, budget),
     };
     match called_on_two(scene.alloc(), function, first, second) {
         Ok(value) => Ok(truth_of(&value)),
-        Err(fault) => Err(fault),
+        Err(fault) => Err(EvalStop::Fault(fault)),
     }
 }
 
@@ -196,15 +219,17 @@ fn numeric_truth_at(scene: &Scene<'_, '_, '_>, place: usize) -> Result<Option<bo
 pub(crate) fn made_truth_at(
     scene: &Scene<'_, '_, '_>,
     place: usize,
-) -> Result<Option<bool>, EvalFault>
+    budget: &mut Budget,
+) -> Result<Option<bool>, EvalStop>
     requires stands { TruthStands scene.now place }
     requires eager { IsClassAt scene.now.list WalkClass.Eager place }
-    ensures { AnswersTruth scene.now place result }
+    ensures answers { CountedTruth scene.now place result }
+    ensures spent { SpendsAt scene.now place budget.old budget.new (stopped_by result) }
 {
     scene.ends_once();
-    match eager_at(scene, place) {
+    match eager_at(scene, place, budget) {
         Ok(value) => Ok(truth_of(&value)),
-        Err(fault) => Err(fault),
+        Err(stop) => Err(stop),
     }
 }
 
@@ -213,19 +238,22 @@ pub(crate) fn made_truth_at(
 fn logical_at(
     scene: &Scene<'_, '_, '_>,
     place: usize,
-    first: Result<Option<bool>, EvalFault>,
-) -> Result<Option<bool>, EvalFault>
+    first: Result<Option<bool>, EvalStop>,
+    budget: &mut Budget,
+) -> Result<Option<bool>, EvalStop>
     requires stands { PartStands scene.now place }
     requires logical { IsClassAt scene.now.list WalkClass.Logical place }
-    requires first { AnswersTruth scene.now (place + 1) first }
-    ensures { AnswersTruth scene.now place result }
+    requires first { CountedTruth scene.now (place + 1) first }
+    ensures answers { CountedTruth scene.now place result }
+    ensures spent { SpendsRest scene.now place budget.old (stopped_by first) budget.new (stopped_by result) }
 {
+    scene.ends_once();
     let first = match first {
         Ok(first) => first,
-        Err(fault) => return Err(fault),
+        Err(stop) => return Err(stop),
     };
     match scene.node(place).kind {
-        NodeKind::Binary { operator } => { connected_at(scene, place, operator, first) }
+        NodeKind::Binary { operator } => { connected_at(scene, place, operator, first, budget) }
         _ => Ok(not3(first)),
     }
 }
@@ -233,13 +261,33 @@ fn logical_at(
 /// The same as `truth_at`, where no chain is likely: a node that is none of truth values is taken at once.
 #[cycle(evaluate)]
 #[inline(always)]
-pub(crate) fn side_at(scene: &Scene<'_, '_, '_>, place: usize) -> Result<Option<bool>, EvalFault>
+pub(crate) fn side_at(
+    scene: &Scene<'_, '_, '_>,
+    place: usize,
+    budget: &mut Budget,
+) -> Result<Option<bool>, EvalStop>
+    requires stands { TruthStands scene.now place }
+    ensures answers { CountedTruth scene.now place result }
+    ensures spent { SpendsAt scene.now place budget.old budget.new (stopped_by result) }
+{
+    match class_at(scene, place) {
+        WalkClass::Logical => truth_at(scene, place, budget),
+        _ => plain_truth_at(scene, place, budget),
+    }
+}
+
+/// The same, where nothing is counted: a term of a chain, of a filter that is evaluated without a bound.
+#[tactic(auto, using(crate::proofs::spending::Stops::unbounded_truth, crate::proofs::spending::Stops::unbounded_datum))]
+#[inline(always)]
+pub(crate) fn term_at(scene: &Scene<'_, '_, '_>, place: usize) -> Result<Option<bool>, EvalFault>
     requires stands { TruthStands scene.now place }
     ensures { AnswersTruth scene.now place result }
 {
-    match class_at(scene, place) {
-        WalkClass::Logical => truth_at(scene, place),
-        _ => plain_truth_at(scene, place),
+    scene.costs_once();
+    let mut unbounded = Budget::Unbounded;
+    match side_at(scene, place, &mut unbounded) {
+        Ok(truth) => Ok(truth),
+        Err(stop) => Err(fault_of(stop)),
     }
 }
 
@@ -250,24 +298,53 @@ fn connected_at(
     place: usize,
     operator: BinaryOperator,
     left: Option<bool>,
-) -> Result<Option<bool>, EvalFault>
+    budget: &mut Budget,
+) -> Result<Option<bool>, EvalStop>
     requires stands { PartStands scene.now place }
     requires here { HasOperator scene.now.list place operator }
     requires connective { walk_of_operator (class_of operator) ≡ WalkClass.Logical }
     requires left { AnswersTruth scene.now (place + 1) (Ok left) }
-    ensures { AnswersTruth scene.now place result }
+    ensures answers { CountedTruth scene.now place result }
+    ensures spent { SpendsRest scene.now place budget.old None budget.new (stopped_by result) }
 {
+    scene.ends_once();
     let connective = connective_of(operator);
     if decides(connective, left) {
         return Ok(left);
     }
-    match side_at(scene, right_of(scene, place)) {
+    match side_at(scene, right_of(scene, place), budget) {
         Ok(right) => Ok(join(connective, left, right)),
-        Err(fault) => Err(fault),
+        Err(stop) => Err(stop),
     }
 }
 
 /// What a node comes to: a value that is kept where it is, or one that is made.
+#[cycle(evaluate)]
+pub(crate) fn counted_at<'e>(
+    scene: &Scene<'e, '_, '_>,
+    place: usize,
+    budget: &mut Budget,
+) -> Result<Datum<'e>, EvalStop>
+    requires stands { PartStands scene.now place }
+    ensures answers { CountedDatum scene.now place result }
+    ensures spent { SpendsAt scene.now place budget.old budget.new (datum_stop result) }
+{
+    match part_at(scene, place) {
+        Part::Leaf(value) => Ok(datum_of(value)),
+        Part::Logical => match truth_at(scene, place, budget) {
+            Ok(truth) => Ok(datum_of_truth(truth)),
+            Err(stop) => Err(stop),
+        },
+        Part::Numeric => match number_at(scene, place) {
+            Ok(number) => Ok(datum_of_number(number)),
+            Err(fault) => Err(EvalStop::Fault(fault)),
+        },
+        Part::Eager => eager_at(scene, place, budget),
+    }
+}
+
+/// The same, where nothing is counted: an operand that holds no lambda operator, since it is none of truth values.
+#[tactic(auto, using(crate::proofs::spending::Stops::unbounded_truth, crate::proofs::spending::Stops::unbounded_datum))]
 #[cycle(evaluate)]
 pub(crate) fn operand_at<'e>(
     scene: &Scene<'e, '_, '_>,
@@ -276,33 +353,32 @@ pub(crate) fn operand_at<'e>(
     requires stands { PartStands scene.now place }
     ensures { AnswersDatum scene.now place result }
 {
-    match part_at(scene, place) {
-        Part::Leaf(value) => Ok(datum_of(value)),
-        Part::Logical => match truth_at(scene, place) {
-            Ok(truth) => Ok(datum_of_truth(truth)),
-            Err(fault) => Err(fault),
-        },
-        Part::Numeric => match number_at(scene, place) {
-            Ok(number) => Ok(datum_of_number(number)),
-            Err(fault) => Err(fault),
-        },
-        Part::Eager => eager_at(scene, place),
+    scene.costs_once();
+    let mut unbounded = Budget::Unbounded;
+    match counted_at(scene, place, &mut unbounded) {
+        Ok(value) => Ok(value),
+        Err(stop) => Err(fault_of(stop)),
     }
 }
 
 /// What a node comes to that takes the values of all its operands.
 #[cycle(evaluate)]
-fn eager_at<'e>(scene: &Scene<'e, '_, '_>, place: usize) -> Result<Datum<'e>, EvalFault>
+fn eager_at<'e>(
+    scene: &Scene<'e, '_, '_>,
+    place: usize,
+    budget: &mut Budget,
+) -> Result<Datum<'e>, EvalStop>
     requires stands { PartStands scene.now place }
     requires eager { IsClassAt scene.now.list WalkClass.Eager place }
-    ensures { AnswersDatum scene.now place result }
+    ensures answers { CountedDatum scene.now place result }
+    ensures spent { SpendsAt scene.now place budget.old budget.new (datum_stop result) }
 {
     let bottom = spine_bottom(scene, place, WalkClass::Eager);
-    let mut answer = operand_at(scene, bottom);
+    let mut answer = counted_at(scene, bottom, budget);
     let mut at = bottom;
     while place < at {
         at -= 1;
-        answer = made_at(scene, at, answer);
+        answer = made_at(scene, at, answer, budget);
     }
     answer
 }
@@ -312,12 +388,14 @@ fn eager_at<'e>(scene: &Scene<'e, '_, '_>, place: usize) -> Result<Datum<'e>, Ev
 fn made_at<'e>(
     scene: &Scene<'e, '_, '_>,
     place: usize,
-    first: Result<Datum<'e>, EvalFault>,
-) -> Result<Datum<'e>, EvalFault>
+    first: Result<Datum<'e>, EvalStop>,
+    budget: &mut Budget,
+) -> Result<Datum<'e>, EvalStop>
     requires stands { PartStands scene.now place }
     requires eager { IsClassAt scene.now.list WalkClass.Eager place }
-    requires first { AnswersDatum scene.now (place + 1) first }
-    ensures { AnswersDatum scene.now place result }
+    requires first { CountedDatum scene.now (place + 1) first }
+    ensures answers { CountedDatum scene.now place result }
+    ensures spent { SpendsRest scene.now place budget.old (datum_stop first.entry) budget.new (datum_stop result) }
 {
     scene.ends_once();
     trees_have_one_type();
@@ -327,24 +405,24 @@ fn made_at<'e>(
     };
     match scene.node(place).kind {
         NodeKind::Member { slot } => Ok(step(first, slot)),
-        NodeKind::Call { function } => called_at(scene, place, function, first),
-        NodeKind::Count => count_of(first),
+        NodeKind::Call { function } => as_stop(called_at(scene, place, function, first)),
+        NodeKind::Count => as_stop(count_of(first)),
         NodeKind::AnyItem => Ok(any_item_of(first)),
         NodeKind::PairedRight { operator, number } => {
             Ok(compared_right(scene, place, operator, number, &first))
         }
         NodeKind::PairedLeft { operator, number } => {
-            compared_left_at(scene, place, operator, number)
+            as_stop(compared_left_at(scene, place, operator, number))
         }
-        NodeKind::Has => flags_at(scene, place, &first),
+        NodeKind::Has => as_stop(flags_at(scene, place, &first)),
         NodeKind::PairedHas { number } => Ok(flags_right(scene, place, number, &first)),
-        NodeKind::InPath => among_at(scene, place, &first),
-        NodeKind::InList => listed_at(scene, place, &first),
-        NodeKind::PairedList { numbers } => numbered_at(scene, place, numbers, &first),
-        NodeKind::Lambda { quantifier } => lambda_at(scene, place, quantifier, first),
+        NodeKind::InPath => as_stop(among_at(scene, place, &first)),
+        NodeKind::InList => listed_at(scene, place, &first, budget),
+        NodeKind::PairedList { numbers } => numbered_at(scene, place, numbers, &first, budget),
+        NodeKind::Lambda { quantifier } => lambda_at(scene, place, quantifier, first, budget),
         NodeKind::Binary { operator } => match class_of(operator) {
             OperatorClass::Comparison(comparison) => {
-                compared_at(scene, place, comparison, first)
+                compared_at(scene, place, comparison, first, budget)
             }
             _ => unreachable!(),
         },
@@ -359,11 +437,13 @@ fn compared_at<'e>(
     place: usize,
     comparison: ComparisonOperator,
     left: Datum<'_>,
-) -> Result<Datum<'e>, EvalFault>
+    budget: &mut Budget,
+) -> Result<Datum<'e>, EvalStop>
     requires stands { PartStands scene.now place }
     requires comparison { HasOperatorOf scene.now.list place (OperatorClass.Comparison comparison) }
     requires left { AnswersDatum scene.now (place + 1) (Ok left) }
-    ensures { AnswersDatum scene.now place result }
+    ensures answers { CountedDatum scene.now place result }
+    ensures spent { SpendsRest scene.now place budget.old None budget.new (datum_stop result) }
 {
     scene.ends_once();
     operands_lie_within_promotion();
@@ -372,7 +452,7 @@ fn compared_at<'e>(
     if let Part::Leaf(value) = part_at(scene, right_place) {
         return Ok(Datum::Bool(compare(comparison, &left, &datum_of(value))));
     }
-    match operand_at(scene, right_place) {
+    match counted_at(scene, right_place, budget) {
         Ok(right) => Ok(Datum::Bool(compare(comparison, &left, &right))),
         Err(behind) => Err(behind),
     }

@@ -26,18 +26,33 @@ use Rattle.odata_filter_operations.specs.Outcome.{gives}
 use Rattle.odata_filter_operations.specs.TruthGives.{truth_val}
 use Rattle.odata_filter_operations.specs.FaultView.{fault_outcome}
 use Rattle.odata_filter_operations.specs.DatumView.{reading_at}
+use Rattle.odata_eval.specs.declared.stop.EvalStop.{EvalStop}
 use Rattle.odata_eval.specs.private.ItemMarks.{AnswersItem}
+use Rattle.odata_eval.specs.Costs.{item_cost}
+use Rattle.odata_eval.specs.private.Scene.{EndsOnceHere}
+use Rattle.odata_eval.specs.private.Spending.{CountedDatum, CountedItem, CountedMembers, CountedTruth, SpendsAt, IsTaken, Takes, datum_stop, stopped_by}
+use Rattle.odata_eval.specs.declared.budget.Budget.{Budget}
+use Rattle.odata_eval.proofs.spending.Bound.{never_costly}
+use Rattle.odata_eval.proofs.spending.Budgets.{takes_nothing}
+use Rattle.odata_eval.proofs.spending.Free.{called_free, leaf_free, numeric_free}
+use Rattle.odata_eval.proofs.spending.ItemStops.{datum_item_faults, item_ends, item_faults_of, item_pays, item_spends, item_stops, list_ends, list_is_costly, number_spends, other_counted}
+use Rattle.odata_eval.proofs.spending.Lambdas.{members_spend, null_spends}
+use Rattle.odata_eval.proofs.spending.Rests.{free_spends, nothing_more, right_asked, right_compared, right_left_out}
+use Rattle.odata_eval.proofs.spending.Splits.{first_stops}
+use Rattle.odata_eval.proofs.spending.Stops.{after_stop, after_value, as_counted, as_spent, by_stop, datum_faults, fault_nothing, next_spent, truth_faults}
+use Rattle.odata_eval.proofs.spending.Wholes.{both_free, left_free, right_free}
+use Rattle.odata_eval.proofs.spending.Members.{all_paid, body_decides, body_passes, body_stops, none_left, none_paid}
 use Rattle.odata_eval.specs.private.Place.{HasCall, HasKind, IsClassAt, IsStopOf, NumberStands, PartStands, TruthStands}
 use Rattle.odata_eval.specs.private.WalkClass.{walk_of_kind}
 use Rattle.odata_eval.specs.private.WalkAnswer.{AllAnswered, AnswersDatum, AnswersNumber, AnswersTruth}
 use Rattle.odata_eval.specs.private.Frames.{frame_of}
 use Rattle.odata_eval.specs.private.Lambda.{Suits}
-use Rattle.odata_eval.specs.private.SceneModel.{SceneModel, with_frame}
+use Rattle.odata_eval.specs.private.SceneModel.{SceneModel, environment_of, with_frame}
 use Rattle.odata_eval.proofs.walking.Parts.{found_there, part_inside, there_found}
 use Rattle.odata_eval.proofs.walking.CallSteps.{OneName, argument_behind, argument_faults, argument_stands, call_answers, call_applies, first_argument, third_is_last}
 use Rattle.odata_eval.proofs.meaning.LawsBelow.{Promotes}
 use Rattle.odata_eval.proofs.walking.BaseSteps.{any_item_base, base_answers, base_members, count_base}
-use Rattle.odata_eval.proofs.walking.ItemSteps.{alone_answers, item_differs, item_equals, item_faults, items_there, list_begins, may_compare_item, next_item, no_item, number_item, number_within, numbered_lists, other_item, plain_lists, stop_further}
+use Rattle.odata_eval.proofs.walking.ItemSteps.{alone_answers, equal_due, item_differs, item_equals, item_faults, items_there, list_begins, may_compare_item, next_item, no_item, number_item, number_within, numbered_lists, plain_lists, stop_further}
 use Rattle.odata_eval.proofs.walking.Lambdas.{body_behind, body_place, body_there, fault_answers, members_suit, null_answers, over_members, truth_answers}
 use Rattle.odata_eval.proofs.walking.MembersAsked.{all_undecided, body_truth, decided_at, each_is, fault_at, none_yet, undecided_at}
 use Rattle.odata_eval.proofs.walking.MemberValues.{flags_are, path_gives, some_compared}
@@ -52,28 +67,28 @@ use Rattle.odata_eval.proofs.walking.WalkSteps.{TakesBoth, both_faults, calculat
 use Rattle.odata_eval.proofs.walking.WalkValues.{kept_datum, made_value, read_value, value_there}
 use Rattle.odata_eval.proofs.+evaluate.Goals as goal
 
-pub walk::truth_at-returns : goal.walk::truth_at-returns
-walk::truth_at-returns t c = at_top (λ k. AnswersTruth c.args.scene.now k c.loop-at.answer) c.loop-at.at c.args.place c.loop-at.invariant.above (omega arith) c.loop-at.invariant.answers
+pub walk::truth_at-returns-clause-answers : goal.walk::truth_at-returns-clause-answers
+walk::truth_at-returns-clause-answers t c = at_top (λ k. CountedTruth c.args.scene.now k c.loop-at.answer) c.loop-at.at c.args.place c.loop-at.invariant.above (omega arith) c.loop-at.invariant.answers
 
-pub walk::eager_at-returns : goal.walk::eager_at-returns
-walk::eager_at-returns t c = at_top (λ k. AnswersDatum c.args.scene.now k c.loop-at.answer) c.loop-at.at c.args.place c.loop-at.invariant.above (omega arith) c.loop-at.invariant.answers
+pub walk::eager_at-returns-clause-answers : goal.walk::eager_at-returns-clause-answers
+walk::eager_at-returns-clause-answers t c = at_top (λ k. CountedDatum c.args.scene.now k c.loop-at.answer) c.loop-at.at c.args.place c.loop-at.invariant.above (omega arith) c.loop-at.invariant.answers
 
 pub walk::made_truth_at-truth_of-requires : goal.walk::made_truth_at-truth_of-requires
 walk::made_truth_at-truth_of-requires t c = λ reading.
-    value_there c.args.scene.now c.args.place truth_values c.ends_once.ensures c.in-Ok.value c.requires.stands c.in-Ok.ensures reading
+    value_there c.args.scene.now c.args.place truth_values c.ends_once.ensures c.in-Ok.value c.requires.stands c.in-Ok.ensures.answers reading
 
-pub walk::made_truth_at-returns-in-Ok : goal.walk::made_truth_at-returns-in-Ok
-walk::made_truth_at-returns-in-Ok t c =
-    read_value c.args.scene.now c.args.place c.in-Ok.value (truth_val c.truth_of.result) c.in-Ok.ensures c.truth_of.ensures
+pub walk::made_truth_at-returns-in-Ok-clause-answers : goal.walk::made_truth_at-returns-in-Ok-clause-answers
+walk::made_truth_at-returns-in-Ok-clause-answers t c =
+    read_value c.args.scene.now c.args.place c.in-Ok.value (truth_val c.truth_of.result) c.in-Ok.ensures.answers c.truth_of.ensures
 
-pub walk::operand_at-returns-in-Leaf : goal.walk::operand_at-returns-in-Leaf
-walk::operand_at-returns-in-Leaf t c = kept_datum c.args.scene.now c.args.place c.in-Leaf.value.now c.datum_of.result c.in-Leaf.ensures c.datum_of.ensures
+pub walk::counted_at-returns-in-Leaf-clause-answers : goal.walk::counted_at-returns-in-Leaf-clause-answers
+walk::counted_at-returns-in-Leaf-clause-answers t c = kept_datum c.args.scene.now c.args.place c.in-Leaf.value.now c.datum_of.result c.in-Leaf.ensures.0 c.datum_of.ensures
 
-pub walk::operand_at-returns-in-Ok : goal.walk::operand_at-returns-in-Ok
-walk::operand_at-returns-in-Ok t c = made_value c.args.scene.now c.args.place c.datum_of_truth.result (truth_val c.in-Ok.truth) c.in-Ok.ensures c.datum_of_truth.ensures
+pub walk::counted_at-returns-in-Ok-clause-answers : goal.walk::counted_at-returns-in-Ok-clause-answers
+walk::counted_at-returns-in-Ok-clause-answers t c = made_value c.args.scene.now c.args.place c.datum_of_truth.result (truth_val c.in-Ok.truth) c.in-Ok.ensures.answers c.datum_of_truth.ensures
 
-pub walk::operand_at-returns-in-Ok-number_at : goal.walk::operand_at-returns-in-Ok-number_at
-walk::operand_at-returns-in-Ok-number_at t c = made_value c.args.scene.now c.args.place c.datum_of_number.result (number_val c.in-Ok-number_at.number) c.in-Ok-number_at.ensures c.datum_of_number.ensures
+pub walk::counted_at-returns-in-Ok-number_at-clause-answers : goal.walk::counted_at-returns-in-Ok-number_at-clause-answers
+walk::counted_at-returns-in-Ok-number_at-clause-answers t c = made_value c.args.scene.now c.args.place c.datum_of_number.result (number_val c.in-Ok-number_at.number) c.in-Ok-number_at.ensures c.datum_of_number.ensures
 
 pub walk::truth_at-plain_truth_at-answer-requires : goal.walk::truth_at-plain_truth_at-answer-requires
 walk::truth_at-plain_truth_at-answer-requires t c =
@@ -87,7 +102,7 @@ walk::truth_at-logical_at-answer-requires t c =
     let l = c.loop-at in
     let above : c.args.place < l.at = omega arith in
     let smaller : 16 * (length c.args.scene.now.list.nodes - (l.at - 1)) + 4 < 16 * (length c.args.scene.now.list.nodes - c.args.place) + 11 = omega arith in
-    let up : StepUp c.args.scene.now WalkClass.Logical (λ k. AnswersTruth c.args.scene.now k l.answer) l.at = step_up c.args.scene.now WalkClass.Logical (λ leaf. cc) (λ k. AnswersTruth c.args.scene.now k l.answer) c.args.place l.at c.spine_bottom-bottom.result above l.invariant.within (typed_part c.args.scene.now c.args.place IsBooleanOrNull c.requires.stands) c.spine_bottom-bottom.ensures.spine l.invariant.answers in
+    let up : StepUp c.args.scene.now WalkClass.Logical (λ k. CountedTruth c.args.scene.now k l.answer) l.at = step_up c.args.scene.now WalkClass.Logical (λ leaf. cc) (λ k. CountedTruth c.args.scene.now k l.answer) c.args.place l.at c.spine_bottom-bottom.result above l.invariant.within (typed_part c.args.scene.now c.args.place IsBooleanOrNull c.requires.stands) c.spine_bottom-bottom.ensures.spine l.invariant.answers in
     search rules
 
 pub walk::eager_at-made_at-answer-requires : goal.walk::eager_at-made_at-answer-requires
@@ -95,11 +110,11 @@ walk::eager_at-made_at-answer-requires t c =
     let l = c.loop-at in
     let above : c.args.place < l.at = omega arith in
     let smaller : 16 * (length c.args.scene.now.list.nodes - (l.at - 1)) + 4 < 16 * (length c.args.scene.now.list.nodes - c.args.place) + 5 = omega arith in
-    let up : StepUp c.args.scene.now WalkClass.Eager (λ k. AnswersDatum c.args.scene.now k l.answer) l.at = step_up c.args.scene.now WalkClass.Eager (λ leaf. cc) (λ k. AnswersDatum c.args.scene.now k l.answer) c.args.place l.at c.spine_bottom-bottom.result above l.invariant.within c.requires.stands c.spine_bottom-bottom.ensures.spine l.invariant.answers in
+    let up : StepUp c.args.scene.now WalkClass.Eager (λ k. CountedDatum c.args.scene.now k l.answer) l.at = step_up c.args.scene.now WalkClass.Eager (λ leaf. cc) (λ k. CountedDatum c.args.scene.now k l.answer) c.args.place l.at c.spine_bottom-bottom.result above l.invariant.within c.requires.stands c.spine_bottom-bottom.ensures.spine l.invariant.answers in
     search rules
 
-pub walk::eager_at-operand_at-answer-requires : goal.walk::eager_at-operand_at-answer-requires
-walk::eager_at-operand_at-answer-requires t c =
+pub walk::eager_at-counted_at-answer-requires : goal.walk::eager_at-counted_at-answer-requires
+walk::eager_at-counted_at-answer-requires t c =
     let inside : c.args.place < length c.args.scene.now.list.nodes = part_inside c.args.scene.now c.args.place c.requires.stands in
     let behind : c.args.place < c.spine_bottom-bottom.result = below_bottom c.args.scene.now.list WalkClass.Eager c.args.place c.spine_bottom-bottom.result c.spine_bottom-bottom.ensures.below c.requires.eager c.spine_bottom-bottom.ensures.bottom in
     let smaller : 16 * (length c.args.scene.now.list.nodes - c.spine_bottom-bottom.result) + 12 < 16 * (length c.args.scene.now.list.nodes - c.args.place) + 5 = omega arith in
@@ -108,14 +123,15 @@ walk::eager_at-operand_at-answer-requires t c =
 
 -- ---- a node of truth values
 
-pub walk::logical_at-returns-in-Err : goal.walk::logical_at-returns-in-Err
-walk::logical_at-returns-in-Err t c = first_faults c.args.scene.now c.args.place WalkClass.Logical c.in-Err.fault (λ leaf. cc) c.requires.logical (subst (λ (r : Result (Option Bool) EvalFault). AnswersTruth c.args.scene.now (c.args.place + 1) r) c.in-Err.is c.requires.first)
+pub walk::logical_at-returns-in-Err-clause-answers : goal.walk::logical_at-returns-in-Err-clause-answers
+walk::logical_at-returns-in-Err-clause-answers t c = by_stop (λ s. CountedTruth c.args.scene.now (c.args.place + 1) (Err s)) (λ s. CountedTruth c.args.scene.now c.args.place (Err s)) (λ fault. first_faults c.args.scene.now c.args.place WalkClass.Logical fault (λ leaf. cc) c.requires.logical) (λ is. tt) c.in-Err.stop
+    (subst (λ (r : Result (Option Bool) EvalStop). CountedTruth c.args.scene.now (c.args.place + 1) r) c.in-Err.is c.requires.first)
 
 pub walk::logical_at-node-requires : goal.walk::logical_at-node-requires
 walk::logical_at-node-requires t c = part_inside c.args.scene.now c.args.place c.requires.stands
 
-pub walk::connected_at-returns-then-decides : goal.walk::connected_at-returns-then-decides
-walk::connected_at-returns-then-decides t c = decided_answers c.args.scene.now c.args.place c.args.operator c.requires.here c.connective_of-connective.result c.args.left c.connective_of-connective.ensures (c.decides.ensures.0 c.if-decides.true) c.requires.left
+pub walk::connected_at-returns-then-decides-clause-answers : goal.walk::connected_at-returns-then-decides-clause-answers
+walk::connected_at-returns-then-decides-clause-answers t c = decided_answers c.args.scene.now c.args.place c.args.operator c.requires.here c.connective_of-connective.result c.args.left c.connective_of-connective.ensures (c.decides.ensures.0 c.if-decides.true) c.requires.left
 
 pub walk::connected_at-right_of-requires : goal.walk::connected_at-right_of-requires
 walk::connected_at-right_of-requires t c = right_there c.args.scene.now c.args.place c.args.operator c.requires.here c.requires.stands
@@ -128,31 +144,35 @@ walk::connected_at-side_at-requires t c =
     let stands : TruthStands c.args.scene.now c.right_of.result = right_typed c.args.scene.now c.args.place c.args.operator c.requires.here c.requires.stands c.right_of.result c.right_of.ensures WalkClass.Logical c.requires.connective in
     search rules
 
-pub walk::connected_at-returns-in-Ok : goal.walk::connected_at-returns-in-Ok
-walk::connected_at-returns-in-Ok t c =
+pub walk::connected_at-returns-in-Ok-clause-answers : goal.walk::connected_at-returns-in-Ok-clause-answers
+walk::connected_at-returns-in-Ok-clause-answers t c =
     subst (λ (r : Option Bool). AnswersTruth c.args.scene.now c.args.place (Ok r)) (sym c.join.ensures) (joined_answers c.args.scene.now c.args.place c.args.operator c.requires.here c.right_of.result c.right_of.ensures c.connective_of-connective.result c.args.left
-    c.connective_of-connective.ensures (λ decided. let e = c.decides.ensures.1 decided in cc) c.requires.left c.in-Ok.right c.in-Ok.ensures)
+    c.connective_of-connective.ensures (λ decided. let e = c.decides.ensures.1 decided in cc) c.requires.left c.in-Ok.right c.in-Ok.ensures.answers)
 
-pub walk::connected_at-returns-in-Err : goal.walk::connected_at-returns-in-Err
-walk::connected_at-returns-in-Err t c = joined_faults c.args.scene.now c.args.place c.args.operator c.requires.here c.right_of.result c.right_of.ensures c.connective_of-connective.result c.args.left c.connective_of-connective.ensures (λ decided. let e = c.decides.ensures.1 decided in cc) c.requires.left c.in-Err.fault c.in-Err.ensures
+pub walk::connected_at-returns-in-Err-clause-answers : goal.walk::connected_at-returns-in-Err-clause-answers
+walk::connected_at-returns-in-Err-clause-answers t c =
+    by_stop (λ s. CountedTruth c.args.scene.now c.right_of.result (Err s)) (λ s. CountedTruth c.args.scene.now c.args.place (Err s))
+    (λ fault. joined_faults c.args.scene.now c.args.place c.args.operator c.requires.here c.right_of.result c.right_of.ensures c.connective_of-connective.result c.args.left c.connective_of-connective.ensures (λ decided. let e = c.decides.ensures.1 decided in cc) c.requires.left fault)
+    (λ is. tt) c.in-Err.stop c.in-Err.ensures.answers
 
 -- ---- another node with operands
 
-pub walk::made_at-returns-in-Err : goal.walk::made_at-returns-in-Err
-walk::made_at-returns-in-Err t c = first_faults c.args.scene.now c.args.place WalkClass.Eager c.in-Err.before (λ leaf. cc) c.requires.eager (subst (λ (r : Result Datum EvalFault). AnswersDatum c.args.scene.now (c.args.place + 1) r) c.in-Err.is c.requires.first)
+pub walk::made_at-returns-in-Err-clause-answers : goal.walk::made_at-returns-in-Err-clause-answers
+walk::made_at-returns-in-Err-clause-answers t c = by_stop (λ s. CountedDatum c.args.scene.now (c.args.place + 1) (Err s)) (λ s. CountedDatum c.args.scene.now c.args.place (Err s)) (λ fault. first_faults c.args.scene.now c.args.place WalkClass.Eager fault (λ leaf. cc) c.requires.eager) (λ is. tt) c.in-Err.before
+    (subst (λ (r : Result Datum EvalStop). CountedDatum c.args.scene.now (c.args.place + 1) r) c.in-Err.is c.requires.first)
 
 pub walk::made_at-node-requires : goal.walk::made_at-node-requires
 walk::made_at-node-requires t c = part_inside c.args.scene.now c.args.place c.requires.stands
 
 pub walk::made_at-step-requires : goal.walk::made_at-step-requires
 walk::made_at-step-requires t c =
-    let first = subst (λ (r : Result Datum EvalFault). AnswersDatum c.args.scene.now (c.args.place + 1) r) c.in-Ok.is c.requires.first in
+    let first = subst (λ (r : Result Datum EvalStop). CountedDatum c.args.scene.now (c.args.place + 1) r) c.in-Ok.is c.requires.first in
     let here = there_found (λ (f : CheckedNode). f.kind ≡ NodeKind.Member c.in-Member.slot) (slice_get c.args.scene.now.list.nodes c.args.place) c.node.result.now c.node.ensures c.in-Member.is in
     step_slot c.trees_have_one_type.ensures c.args.scene.now c.ends_once.ensures c.args.place c.in-Member.slot here c.in-Ok.first c.requires.stands first
 
-pub walk::made_at-returns-in-Member : goal.walk::made_at-returns-in-Member
-walk::made_at-returns-in-Member t c =
-    let first = subst (λ (r : Result Datum EvalFault). AnswersDatum c.args.scene.now (c.args.place + 1) r) c.in-Ok.is c.requires.first in
+pub walk::made_at-returns-in-Member-clause-answers : goal.walk::made_at-returns-in-Member-clause-answers
+walk::made_at-returns-in-Member-clause-answers t c =
+    let first = subst (λ (r : Result Datum EvalStop). CountedDatum c.args.scene.now (c.args.place + 1) r) c.in-Ok.is c.requires.first in
     let here = there_found (λ (f : CheckedNode). f.kind ≡ NodeKind.Member c.in-Member.slot) (slice_get c.args.scene.now.list.nodes c.args.place) c.node.result.now c.node.ensures c.in-Member.is in
     step_answers c.trees_have_one_type.ensures c.args.scene.now c.ends_once.ensures c.args.place c.in-Member.slot here c.in-Ok.first c.step.result first c.step.ensures
 
@@ -177,7 +197,7 @@ pub number_walk::calculated_at-number_operand_at-requires : goal.number_walk::ca
 number_walk::calculated_at-number_operand_at-requires t c =
     let inside : c.args.place < length c.args.scene.now.list.nodes = part_inside c.args.scene.now c.args.place c.requires.stands in
     let behind : c.args.place < c.right_of.result = right_further c.args.scene.now c.args.place c.args.operator c.requires.here c.requires.stands c.right_of.result c.right_of.ensures in
-    let smaller : 16 * (length c.args.scene.now.list.nodes - c.right_of.result) + 14 < 16 * (length c.args.scene.now.list.nodes - c.args.place) + 3 = omega arith in
+    let smaller : 16 * (length c.args.scene.now.list.nodes - c.right_of.result) + 15 < 16 * (length c.args.scene.now.list.nodes - c.args.place) + 3 = omega arith in
     let stands : NumberStands c.args.scene.now c.right_of.result = right_typed c.args.scene.now c.args.place c.args.operator c.requires.here c.requires.stands c.right_of.result c.right_of.ensures WalkClass.Numeric c.requires.arithmetic in
     search rules
 
@@ -202,15 +222,15 @@ walk::compared_at-right_of-right_place-requires t c =
 pub walk::compared_at-compare-requires : goal.walk::compared_at-compare-requires
 walk::compared_at-compare-requires t c =
     may_compare c.args.scene.now c.args.place c.args.comparison c.requires.comparison c.right_of-right_place.result c.right_of-right_place.ensures c.args.left c.datum_of.result c.requires.left
-    (kept_datum c.args.scene.now c.right_of-right_place.result c.in-Leaf.value.now c.datum_of.result c.in-Leaf.ensures c.datum_of.ensures) c.ends_once.ensures c.comparisons_are_decided.ensures.any_reading c.requires.stands
+    (kept_datum c.args.scene.now c.right_of-right_place.result c.in-Leaf.value.now c.datum_of.result c.in-Leaf.ensures.0 c.datum_of.ensures) c.ends_once.ensures c.comparisons_are_decided.ensures.any_reading c.requires.stands
 
-pub walk::compared_at-returns-in-Leaf : goal.walk::compared_at-returns-in-Leaf
-walk::compared_at-returns-in-Leaf t c =
+pub walk::compared_at-returns-in-Leaf-clause-answers : goal.walk::compared_at-returns-in-Leaf-clause-answers
+walk::compared_at-returns-in-Leaf-clause-answers t c =
     truth_compared c.args.scene.now c.args.place c.args.comparison c.requires.comparison c.right_of-right_place.result c.right_of-right_place.ensures c.args.left c.datum_of.result c.requires.left
-    (kept_datum c.args.scene.now c.right_of-right_place.result c.in-Leaf.value.now c.datum_of.result c.in-Leaf.ensures c.datum_of.ensures) c.ends_once.ensures c.comparisons_are_decided.ensures.any_reading c.requires.stands c.compare.result c.compare.ensures
+    (kept_datum c.args.scene.now c.right_of-right_place.result c.in-Leaf.value.now c.datum_of.result c.in-Leaf.ensures.0 c.datum_of.ensures) c.ends_once.ensures c.comparisons_are_decided.ensures.any_reading c.requires.stands c.compare.result c.compare.ensures
 
-pub walk::compared_at-operand_at-requires : goal.walk::compared_at-operand_at-requires
-walk::compared_at-operand_at-requires t c =
+pub walk::compared_at-counted_at-requires : goal.walk::compared_at-counted_at-requires
+walk::compared_at-counted_at-requires t c =
     let there = operator_of_class c.args.scene.now.list c.args.place (OperatorClass.Comparison c.args.comparison) c.requires.comparison in
     let inside : c.args.place < length c.args.scene.now.list.nodes = part_inside c.args.scene.now c.args.place c.requires.stands in
     let behind : c.args.place < c.right_of-right_place.result = right_further c.args.scene.now c.args.place there.operator there.here c.requires.stands c.right_of-right_place.result c.right_of-right_place.ensures in
@@ -221,26 +241,27 @@ walk::compared_at-operand_at-requires t c =
 pub walk::compared_at-compare-requires-in-Ok : goal.walk::compared_at-compare-requires-in-Ok
 walk::compared_at-compare-requires-in-Ok t c =
     may_compare c.args.scene.now c.args.place c.args.comparison c.requires.comparison c.right_of-right_place.result c.right_of-right_place.ensures c.args.left c.in-Ok.right c.requires.left
-    c.in-Ok.ensures c.ends_once.ensures c.comparisons_are_decided.ensures.any_reading c.requires.stands
+    c.in-Ok.ensures.answers c.ends_once.ensures c.comparisons_are_decided.ensures.any_reading c.requires.stands
 
-pub walk::compared_at-returns-in-Ok : goal.walk::compared_at-returns-in-Ok
-walk::compared_at-returns-in-Ok t c =
+pub walk::compared_at-returns-in-Ok-clause-answers : goal.walk::compared_at-returns-in-Ok-clause-answers
+walk::compared_at-returns-in-Ok-clause-answers t c =
     truth_compared c.args.scene.now c.args.place c.args.comparison c.requires.comparison c.right_of-right_place.result c.right_of-right_place.ensures c.args.left c.in-Ok.right c.requires.left
-    c.in-Ok.ensures c.ends_once.ensures c.comparisons_are_decided.ensures.any_reading c.requires.stands c.compare-in-Ok.result c.compare-in-Ok.ensures
+    c.in-Ok.ensures.answers c.ends_once.ensures c.comparisons_are_decided.ensures.any_reading c.requires.stands c.compare-in-Ok.result c.compare-in-Ok.ensures
 
-pub walk::compared_at-returns : goal.walk::compared_at-returns
-walk::compared_at-returns t c =
+pub walk::compared_at-returns-clause-answers : goal.walk::compared_at-returns-clause-answers
+walk::compared_at-returns-clause-answers t c =
     let there = operator_of_class c.args.scene.now.list c.args.place (OperatorClass.Comparison c.args.comparison) c.requires.comparison in
-    both_faults c.args.scene.now c.args.place there.operator there.here c.right_of-right_place.result c.right_of-right_place.ensures (λ type. datum_val (reading_at (slots_of c.args.scene.now.row.schema) type) c.args.left) c.in-Err.behind (subst TakesBoth (sym there.class_is) tt) c.requires.left
-    c.in-Err.ensures
+    by_stop (λ s. CountedDatum c.args.scene.now c.right_of-right_place.result (Err s)) (λ s. CountedDatum c.args.scene.now c.args.place (Err s))
+    (λ fault. both_faults c.args.scene.now c.args.place there.operator there.here c.right_of-right_place.result c.right_of-right_place.ensures (λ type. datum_val (reading_at (slots_of c.args.scene.now.row.schema) type) c.args.left) fault (subst TakesBoth (sym there.class_is) tt) c.requires.left)
+    (λ is. tt) c.in-Err.behind c.in-Err.ensures.answers
 
 -- ---- a node that is none of truth values
 
 pub walk::plain_truth_at-kept_truth-requires : goal.walk::plain_truth_at-kept_truth-requires
-walk::plain_truth_at-kept_truth-requires t c = value_kept c.args.scene.now c.args.place c.in-Leaf.value.now c.in-Leaf.ensures truth_values c.ends_once.ensures c.requires.stands
+walk::plain_truth_at-kept_truth-requires t c = value_kept c.args.scene.now c.args.place c.in-Leaf.value.now c.in-Leaf.ensures.0 truth_values c.ends_once.ensures c.requires.stands
 
-pub walk::plain_truth_at-returns-in-Leaf : goal.walk::plain_truth_at-returns-in-Leaf
-walk::plain_truth_at-returns-in-Leaf t c = kept_value c.args.scene.now c.args.place c.in-Leaf.value.now c.in-Leaf.ensures (truth_val c.kept_truth.result) c.kept_truth.ensures
+pub walk::plain_truth_at-returns-in-Leaf-clause-answers : goal.walk::plain_truth_at-returns-in-Leaf-clause-answers
+walk::plain_truth_at-returns-in-Leaf-clause-answers t c = kept_value c.args.scene.now c.args.place c.in-Leaf.value.now c.in-Leaf.ensures.0 (truth_val c.kept_truth.result) c.kept_truth.ensures
 
 pub walk::numeric_truth_at-truth_of-requires : goal.walk::numeric_truth_at-truth_of-requires
 walk::numeric_truth_at-truth_of-requires t c = λ reading. value_there c.args.scene.now c.args.place truth_values c.ends_once.ensures c.datum_of_number.result c.requires.stands (made_value c.args.scene.now c.args.place c.datum_of_number.result (number_val c.in-Ok.number) c.in-Ok.ensures c.datum_of_number.ensures) reading
@@ -261,12 +282,12 @@ walk::compared_truth_at-overflow_add-place t c =
 pub walk::compared_truth_at-compare_kept-requires : goal.walk::compared_truth_at-compare_kept-requires
 walk::compared_truth_at-compare_kept-requires t c =
     let here = class_of_operator c.args.scene.now.list c.args.place c.args.operator (OperatorClass.Comparison c.comparison_of.result) c.requires.here c.comparison_of.ensures in
-    may_compare_kept c.args.scene.now c.args.place c.comparison_of.result here c.right_of-right_place.result c.right_of-right_place.ensures c.in-Leaf.left.now c.in-Leaf-part_at.right.now c.in-Leaf.ensures c.in-Leaf-part_at.ensures c.ends_once.ensures c.comparisons_are_decided.ensures.any_contents (typed_part c.args.scene.now c.args.place IsBooleanOrNull c.requires.stands)
+    may_compare_kept c.args.scene.now c.args.place c.comparison_of.result here c.right_of-right_place.result c.right_of-right_place.ensures c.in-Leaf.left.now c.in-Leaf-part_at.right.now c.in-Leaf.ensures.0 c.in-Leaf-part_at.ensures.0 c.ends_once.ensures c.comparisons_are_decided.ensures.any_contents (typed_part c.args.scene.now c.args.place IsBooleanOrNull c.requires.stands)
 
-pub walk::compared_truth_at-returns-in-Leaf-part_at : goal.walk::compared_truth_at-returns-in-Leaf-part_at
-walk::compared_truth_at-returns-in-Leaf-part_at t c =
+pub walk::compared_truth_at-returns-in-Leaf-part_at-clause-answers : goal.walk::compared_truth_at-returns-in-Leaf-part_at-clause-answers
+walk::compared_truth_at-returns-in-Leaf-part_at-clause-answers t c =
     let here = class_of_operator c.args.scene.now.list c.args.place c.args.operator (OperatorClass.Comparison c.comparison_of.result) c.requires.here c.comparison_of.ensures in
-    kept_compared c.args.scene.now c.args.place c.comparison_of.result here c.right_of-right_place.result c.right_of-right_place.ensures c.in-Leaf.left.now c.in-Leaf-part_at.right.now c.in-Leaf.ensures c.in-Leaf-part_at.ensures c.ends_once.ensures c.comparisons_are_decided.ensures.any_contents (typed_part c.args.scene.now c.args.place IsBooleanOrNull c.requires.stands) c.compare_kept.result c.compare_kept.ensures
+    kept_compared c.args.scene.now c.args.place c.comparison_of.result here c.right_of-right_place.result c.right_of-right_place.ensures c.in-Leaf.left.now c.in-Leaf-part_at.right.now c.in-Leaf.ensures.0 c.in-Leaf-part_at.ensures.0 c.ends_once.ensures c.comparisons_are_decided.ensures.any_contents (typed_part c.args.scene.now c.args.place IsBooleanOrNull c.requires.stands) c.compare_kept.result c.compare_kept.ensures
 
 pub walk::numbers_truth_at-right_of-right_place-requires : goal.walk::numbers_truth_at-right_of-right_place-requires
 walk::numbers_truth_at-right_of-right_place-requires t c = right_there c.args.scene.now c.args.place c.args.operator c.requires.here (typed_part c.args.scene.now c.args.place IsBooleanOrNull c.requires.stands)
@@ -284,8 +305,14 @@ walk::numbers_truth_at-number_chain_at-requires t c =
     let left : PartStands c.args.scene.now (c.args.place + 1) = first_part c.args.scene.now c.args.place WalkClass.Eager (λ leaf. cc) (walks_by c.args.scene.now.list c.args.place c.args.operator WalkClass.Eager c.requires.here c.requires.comparison) part in
     search rules
 
-pub walk::numbers_truth_at-returns-in-Err : goal.walk::numbers_truth_at-returns-in-Err
-walk::numbers_truth_at-returns-in-Err t c = first_faults c.args.scene.now c.args.place WalkClass.Eager c.in-Err.fault (λ leaf. cc) (walks_by c.args.scene.now.list c.args.place c.args.operator WalkClass.Eager c.requires.here c.requires.comparison) c.in-Err.ensures
+pub walk::numbers_truth_at-part_at-requires : goal.walk::numbers_truth_at-part_at-requires
+walk::numbers_truth_at-part_at-requires t c = record {
+  stands = right_part c.args.scene.now c.args.place c.args.operator c.requires.here (typed_part c.args.scene.now c.args.place IsBooleanOrNull c.requires.stands) c.right_of-right_place.result
+      c.right_of-right_place.ensures;
+}
+
+pub walk::numbers_truth_at-returns-in-Err-clause-answers : goal.walk::numbers_truth_at-returns-in-Err-clause-answers
+walk::numbers_truth_at-returns-in-Err-clause-answers t c = first_faults c.args.scene.now c.args.place WalkClass.Eager c.in-Err.fault (λ leaf. cc) (walks_by c.args.scene.now.list c.args.place c.args.operator WalkClass.Eager c.requires.here c.requires.comparison) c.in-Err.ensures
 
 pub walk::numbers_truth_at-number_at-requires : goal.walk::numbers_truth_at-number_at-requires
 walk::numbers_truth_at-number_at-requires t c =
@@ -296,14 +323,14 @@ walk::numbers_truth_at-number_at-requires t c =
     let right : PartStands c.args.scene.now c.right_of-right_place.result = right_part c.args.scene.now c.args.place c.args.operator c.requires.here part c.right_of-right_place.result c.right_of-right_place.ensures in
     search rules
 
-pub walk::numbers_truth_at-returns-in-Err-number_at : goal.walk::numbers_truth_at-returns-in-Err-number_at
-walk::numbers_truth_at-returns-in-Err-number_at t c = both_faults c.args.scene.now c.args.place c.args.operator c.requires.here c.right_of-right_place.result c.right_of-right_place.ensures (λ type. number_val c.in-Ok.left) c.in-Err-number_at.fault (values_taken (class_of c.args.operator) c.requires.comparison) c.in-Ok.ensures c.in-Err-number_at.ensures
+pub walk::numbers_truth_at-returns-in-Err-number_at-clause-answers : goal.walk::numbers_truth_at-returns-in-Err-number_at-clause-answers
+walk::numbers_truth_at-returns-in-Err-number_at-clause-answers t c = both_faults c.args.scene.now c.args.place c.args.operator c.requires.here c.right_of-right_place.result c.right_of-right_place.ensures (λ type. number_val c.in-Ok.left) c.in-Err-number_at.fault (values_taken (class_of c.args.operator) c.requires.comparison) c.in-Ok.ensures c.in-Err-number_at.ensures
 
 -- ---- `not`, and `-`
 
-pub walk::logical_at-returns-in_default : goal.walk::logical_at-returns-in_default
-walk::logical_at-returns-in_default t c =
-    let first = subst (λ (r : Result (Option Bool) EvalFault). AnswersTruth c.args.scene.now (c.args.place + 1) r) c.in-Ok.is c.requires.first in
+pub walk::logical_at-returns-in_default-clause-answers : goal.walk::logical_at-returns-in_default-clause-answers
+walk::logical_at-returns-in_default-clause-answers t c =
+    let first = subst (λ (r : Result (Option Bool) EvalStop). CountedTruth c.args.scene.now (c.args.place + 1) r) c.in-Ok.is c.requires.first in
     let walk = found_there (λ (f : CheckedNode). walk_of_kind f.kind ≡ WalkClass.Logical) (slice_get c.args.scene.now.list.nodes c.args.place) c.node.result.now c.node.ensures c.requires.logical in
     let here = there_found (λ (f : CheckedNode). f.kind ≡ NodeKind.Not) (slice_get c.args.scene.now.list.nodes c.args.place) c.node.result.now c.node.ensures (only_not c.node.result.now.kind walk c.in_default.not-Binary) in
     subst (λ (r : Option Bool). AnswersTruth c.args.scene.now c.args.place (Ok r)) (sym c.not3.ensures) (not_answers c.args.scene.now c.args.place c.in-Ok.first here first)
@@ -332,7 +359,7 @@ pub number_walk::number_at-number_operand_at-answer-requires : goal.number_walk:
 number_walk::number_at-number_operand_at-answer-requires t c =
     let inside : c.args.place < length c.args.scene.now.list.nodes = part_inside c.args.scene.now c.args.place c.requires.stands in
     let behind : c.args.place < c.spine_bottom-bottom.result = below_bottom c.args.scene.now.list WalkClass.Numeric c.args.place c.spine_bottom-bottom.result c.spine_bottom-bottom.ensures.below c.requires.numeric c.spine_bottom-bottom.ensures.bottom in
-    let smaller : 16 * (length c.args.scene.now.list.nodes - c.spine_bottom-bottom.result) + 14 < 16 * (length c.args.scene.now.list.nodes - c.args.place) + 8 = omega arith in
+    let smaller : 16 * (length c.args.scene.now.list.nodes - c.spine_bottom-bottom.result) + 15 < 16 * (length c.args.scene.now.list.nodes - c.args.place) + 8 = omega arith in
     let stands : NumberStands c.args.scene.now c.spine_bottom-bottom.result = bottom_down c.args.scene.now WalkClass.Numeric (λ leaf. cc) c.args.place c.spine_bottom-bottom.result behind c.requires.stands c.spine_bottom-bottom.ensures.spine in
     search rules
 
@@ -345,31 +372,31 @@ number_walk::number_at-numeric_at-answer-requires t c =
     search rules
 
 pub number_walk::number_on_leaf_at-kept_number-requires : goal.number_walk::number_on_leaf_at-kept_number-requires
-number_walk::number_on_leaf_at-kept_number-requires t c = value_kept c.args.scene.now (c.args.place + 1) c.in-Leaf.first.now c.in-Leaf.ensures number_values c.ends_once.ensures (first_step c.args.scene.now c.args.place WalkClass.Numeric (λ leaf. cc) c.requires.numeric c.requires.stands)
+number_walk::number_on_leaf_at-kept_number-requires t c = value_kept c.args.scene.now (c.args.place + 1) c.in-Leaf.first.now c.in-Leaf.ensures.0 number_values c.ends_once.ensures (first_step c.args.scene.now c.args.place WalkClass.Numeric (λ leaf. cc) c.requires.numeric c.requires.stands)
 
 pub number_walk::number_on_leaf_at-numeric_at-requires : goal.number_walk::number_on_leaf_at-numeric_at-requires
 number_walk::number_on_leaf_at-numeric_at-requires t c =
     let smaller : 16 * (length c.args.scene.now.list.nodes - c.args.place) + 4 < 16 * (length c.args.scene.now.list.nodes - c.args.place) + 9 = omega arith in
-    let first : AnswersNumber c.args.scene.now (c.args.place + 1) (Ok c.kept_number.result) = kept_value c.args.scene.now (c.args.place + 1) c.in-Leaf.first.now c.in-Leaf.ensures (number_val c.kept_number.result) c.kept_number.ensures in
+    let first : AnswersNumber c.args.scene.now (c.args.place + 1) (Ok c.kept_number.result) = kept_value c.args.scene.now (c.args.place + 1) c.in-Leaf.first.now c.in-Leaf.ensures.0 (number_val c.kept_number.result) c.kept_number.ensures in
     search rules
 
 pub number_walk::number_operand_at-kept_number-requires : goal.number_walk::number_operand_at-kept_number-requires
-number_walk::number_operand_at-kept_number-requires t c = value_kept c.args.scene.now c.args.place c.in-Leaf.value.now c.in-Leaf.ensures number_values c.ends_once.ensures c.requires.stands
+number_walk::number_operand_at-kept_number-requires t c = value_kept c.args.scene.now c.args.place c.in-Leaf.value.now c.in-Leaf.ensures.0 number_values c.ends_once.ensures c.requires.stands
 
 pub number_walk::number_operand_at-returns-in-Leaf : goal.number_walk::number_operand_at-returns-in-Leaf
-number_walk::number_operand_at-returns-in-Leaf t c = kept_value c.args.scene.now c.args.place c.in-Leaf.value.now c.in-Leaf.ensures (number_val c.kept_number.result) c.kept_number.ensures
+number_walk::number_operand_at-returns-in-Leaf t c = kept_value c.args.scene.now c.args.place c.in-Leaf.value.now c.in-Leaf.ensures.0 (number_val c.kept_number.result) c.kept_number.ensures
 
-pub walk::numbers_truth_at-returns-in-Int : goal.walk::numbers_truth_at-returns-in-Int
-walk::numbers_truth_at-returns-in-Int t c =
+pub walk::numbers_truth_at-returns-in-Int-clause-answers : goal.walk::numbers_truth_at-returns-in-Int-clause-answers
+walk::numbers_truth_at-returns-in-Int-clause-answers t c =
     let here = class_of_operator c.args.scene.now.list c.args.place c.args.operator (OperatorClass.Comparison c.comparison_of.result) c.requires.here c.comparison_of.ensures in
-    let right = kept_value c.args.scene.now c.right_of-right_place.result c.in-Leaf.value.now c.in-Leaf.ensures (number_val (Some c.in-Int.right)) (ap plain_val c.in-Int.is) in
+    let right = kept_value c.args.scene.now c.right_of-right_place.result c.in-Leaf.value.now c.in-Leaf.ensures.0 (number_val (Some c.in-Int.right)) (ap plain_val c.in-Int.is) in
     let fits : SFits w64 c.in-Int.right = search rules in
     let compared : IsTrue c.compare_numbers.result ↔ ComparesTrue c.comparison_of.result (number_val c.in-Ok.left) (number_val (Some c.in-Int.right)) =
     subst (λ (n : ℤ). IsTrue c.compare_numbers.result ↔ ComparesTrue c.comparison_of.result (number_val c.in-Ok.left) (number_val (Some n))) (to_z-of_z w64 c.in-Int.right fits) c.compare_numbers.ensures in
     numbers_compared c.args.scene.now c.args.place c.comparison_of.result here c.right_of-right_place.result c.right_of-right_place.ensures c.in-Ok.left (Some c.in-Int.right) c.compare_numbers.result c.in-Ok.ensures right compared
 
-pub walk::numbers_truth_at-returns-in-Ok-number_at : goal.walk::numbers_truth_at-returns-in-Ok-number_at
-walk::numbers_truth_at-returns-in-Ok-number_at t c =
+pub walk::numbers_truth_at-returns-in-Ok-number_at-clause-answers : goal.walk::numbers_truth_at-returns-in-Ok-number_at-clause-answers
+walk::numbers_truth_at-returns-in-Ok-number_at-clause-answers t c =
     let here = class_of_operator c.args.scene.now.list c.args.place c.args.operator (OperatorClass.Comparison c.comparison_of-in-Ok-number_at.result) c.requires.here c.comparison_of-in-Ok-number_at.ensures in
     numbers_compared c.args.scene.now c.args.place c.comparison_of-in-Ok-number_at.result here c.right_of-right_place.result c.right_of-right_place.ensures c.in-Ok.left c.in-Ok-number_at.right c.compare_numbers-in-Ok-number_at.result c.in-Ok.ensures c.in-Ok-number_at.ensures c.compare_numbers-in-Ok-number_at.ensures
 
@@ -389,7 +416,7 @@ walk::compared_truth_at-part_at-requires-in-Leaf t c = record {
 
 pub walk::made_at-called_at-requires : goal.walk::made_at-called_at-requires
 walk::made_at-called_at-requires t c =
-    let first : AnswersDatum c.args.scene.now (c.args.place + 1) (Ok c.in-Ok.first) = subst (λ (r : Result Datum EvalFault). AnswersDatum c.args.scene.now (c.args.place + 1) r) c.in-Ok.is c.requires.first in
+    let first : AnswersDatum c.args.scene.now (c.args.place + 1) (Ok c.in-Ok.first) = subst (λ (r : Result Datum EvalStop). CountedDatum c.args.scene.now (c.args.place + 1) r) c.in-Ok.is c.requires.first in
     let here : HasCall c.args.scene.now.list c.args.place c.in-Call.function = there_found (λ (f : CheckedNode). f.kind ≡ NodeKind.Call c.in-Call.function) (slice_get c.args.scene.now.list.nodes c.args.place) c.node.result.now c.node.ensures c.in-Call.is in
     let smaller : 16 * (length c.args.scene.now.list.nodes - c.args.place) + 3 < 16 * (length c.args.scene.now.list.nodes - c.args.place) + 4 = omega arith in
     search rules
@@ -444,7 +471,7 @@ pub walk::called_at-operand_at-requires : goal.walk::called_at-operand_at-requir
 walk::called_at-operand_at-requires t c =
     let inside : c.args.place < length c.args.scene.now.list.nodes = part_inside c.args.scene.now c.args.place c.requires.stands in
     let behind : c.args.place < c.stop_of-second_place.result = argument_behind c.args.scene.now c.calls_have_one_type.ensures.named c.args.place c.args.function c.requires.here c.stop_of-own_stop.result c.stop_of-own_stop.ensures c.stop_of-second_place.result (c.args.first ∷ []) c.requires.stands (one_answered c.args.scene.now c.calls_have_one_type.ensures.named c.args.place c.args.function c.requires.here c.stop_of-own_stop.result c.stop_of-own_stop.ensures c.requires.stands c.stop_of-second_place.result c.stop_of-second_place.ensures c.args.first c.requires.first) in
-    let smaller : 16 * (length c.args.scene.now.list.nodes - c.stop_of-second_place.result) + 12 < 16 * (length c.args.scene.now.list.nodes - c.args.place) + 3 = omega arith in
+    let smaller : 16 * (length c.args.scene.now.list.nodes - c.stop_of-second_place.result) + 13 < 16 * (length c.args.scene.now.list.nodes - c.args.place) + 3 = omega arith in
     let stands : PartStands c.args.scene.now c.stop_of-second_place.result = argument_stands c.args.scene.now c.calls_have_one_type.ensures.named c.args.place c.args.function c.requires.here c.stop_of-own_stop.result c.stop_of-own_stop.ensures c.stop_of-second_place.result (c.args.first ∷ []) c.requires.stands (one_answered c.args.scene.now c.calls_have_one_type.ensures.named c.args.place c.args.function c.requires.here c.stop_of-own_stop.result c.stop_of-own_stop.ensures c.requires.stands c.stop_of-second_place.result c.stop_of-second_place.ensures c.args.first c.requires.first) c.if-second_place-own_stop.false in
     search rules
 
@@ -472,7 +499,7 @@ pub walk::called_at-operand_at-requires-2 : goal.walk::called_at-operand_at-requ
 walk::called_at-operand_at-requires-2 t c =
     let inside : c.args.place < length c.args.scene.now.list.nodes = part_inside c.args.scene.now c.args.place c.requires.stands in
     let behind : c.args.place < c.stop_of-third_place.result = argument_behind c.args.scene.now c.calls_have_one_type.ensures.named c.args.place c.args.function c.requires.here c.stop_of-own_stop.result c.stop_of-own_stop.ensures c.stop_of-third_place.result (c.args.first ∷ c.in-Ok.second ∷ []) c.requires.stands (two_answered c.args.scene.now c.calls_have_one_type.ensures.named c.args.place c.args.function c.requires.here c.stop_of-own_stop.result c.stop_of-own_stop.ensures c.requires.stands c.stop_of-second_place.result c.stop_of-second_place.ensures c.args.first c.requires.first c.if-second_place-own_stop.false c.stop_of-third_place.result c.stop_of-third_place.ensures c.in-Ok.second c.in-Ok.ensures) in
-    let smaller : 16 * (length c.args.scene.now.list.nodes - c.stop_of-third_place.result) + 12 < 16 * (length c.args.scene.now.list.nodes - c.args.place) + 3 = omega arith in
+    let smaller : 16 * (length c.args.scene.now.list.nodes - c.stop_of-third_place.result) + 13 < 16 * (length c.args.scene.now.list.nodes - c.args.place) + 3 = omega arith in
     let stands : PartStands c.args.scene.now c.stop_of-third_place.result = argument_stands c.args.scene.now c.calls_have_one_type.ensures.named c.args.place c.args.function c.requires.here c.stop_of-own_stop.result c.stop_of-own_stop.ensures c.stop_of-third_place.result (c.args.first ∷ c.in-Ok.second ∷ []) c.requires.stands (two_answered c.args.scene.now c.calls_have_one_type.ensures.named c.args.place c.args.function c.requires.here c.stop_of-own_stop.result c.stop_of-own_stop.ensures c.requires.stands c.stop_of-second_place.result c.stop_of-second_place.ensures c.args.first c.requires.first c.if-second_place-own_stop.false c.stop_of-third_place.result c.stop_of-third_place.ensures c.in-Ok.second c.in-Ok.ensures) c.if-third_place-own_stop.false in
     search rules
 
@@ -517,43 +544,43 @@ walk::called_truth_at-stop_of-second_place-requires t c = part_inside c.args.sce
 
 pub walk::called_truth_at-stop_of-requires : goal.walk::called_truth_at-stop_of-requires
 walk::called_truth_at-stop_of-requires t c =
-    let first : AnswersDatum c.args.scene.now (c.args.place + 1) (Ok c.datum_of-first.result) = kept_datum c.args.scene.now (c.args.place + 1) c.in-Leaf.value.now c.datum_of-first.result c.in-Leaf.ensures c.datum_of-first.ensures in
+    let first : AnswersDatum c.args.scene.now (c.args.place + 1) (Ok c.datum_of-first.result) = kept_datum c.args.scene.now (c.args.place + 1) c.in-Leaf.value.now c.datum_of-first.result c.in-Leaf.ensures.0 c.datum_of-first.ensures in
     part_inside c.args.scene.now c.stop_of-second_place.result (second_there c.args.scene.now c.calls_have_one_type.ensures.named c.args.place c.args.function c.requires.here c.stop_of-own_stop.result c.stop_of-own_stop.ensures (typed_part c.args.scene.now c.args.place IsBooleanOrNull c.requires.stands) c.stop_of-second_place.result c.stop_of-second_place.ensures c.datum_of-first.result first c.if-second_place-own_stop.false)
 
 pub walk::called_truth_at-part_at-requires-2 : goal.walk::called_truth_at-part_at-requires-2
 walk::called_truth_at-part_at-requires-2 t c =
-    let first : AnswersDatum c.args.scene.now (c.args.place + 1) (Ok c.datum_of-first.result) = kept_datum c.args.scene.now (c.args.place + 1) c.in-Leaf.value.now c.datum_of-first.result c.in-Leaf.ensures c.datum_of-first.ensures in
+    let first : AnswersDatum c.args.scene.now (c.args.place + 1) (Ok c.datum_of-first.result) = kept_datum c.args.scene.now (c.args.place + 1) c.in-Leaf.value.now c.datum_of-first.result c.in-Leaf.ensures.0 c.datum_of-first.ensures in
     record { stands = second_there c.args.scene.now c.calls_have_one_type.ensures.named c.args.place c.args.function c.requires.here c.stop_of-own_stop.result c.stop_of-own_stop.ensures (typed_part c.args.scene.now c.args.place IsBooleanOrNull c.requires.stands) c.stop_of-second_place.result c.stop_of-second_place.ensures c.datum_of-first.result first c.if-second_place-own_stop.false }
 
 pub walk::called_truth_at-called_on_two-requires : goal.walk::called_truth_at-called_on_two-requires
 walk::called_truth_at-called_on_two-requires t c =
-    let first : AnswersDatum c.args.scene.now (c.args.place + 1) (Ok c.datum_of-first.result) = kept_datum c.args.scene.now (c.args.place + 1) c.in-Leaf.value.now c.datum_of-first.result c.in-Leaf.ensures c.datum_of-first.ensures in
-    let next : AnswersDatum c.args.scene.now c.stop_of-second_place.result (Ok c.datum_of-second.result) = kept_datum c.args.scene.now c.stop_of-second_place.result c.in-Leaf-part_at.value.now c.datum_of-second.result c.in-Leaf-part_at.ensures c.datum_of-second.ensures in
+    let first : AnswersDatum c.args.scene.now (c.args.place + 1) (Ok c.datum_of-first.result) = kept_datum c.args.scene.now (c.args.place + 1) c.in-Leaf.value.now c.datum_of-first.result c.in-Leaf.ensures.0 c.datum_of-first.ensures in
+    let next : AnswersDatum c.args.scene.now c.stop_of-second_place.result (Ok c.datum_of-second.result) = kept_datum c.args.scene.now c.stop_of-second_place.result c.in-Leaf-part_at.value.now c.datum_of-second.result c.in-Leaf-part_at.ensures.0 c.datum_of-second.ensures in
     let all = two_are_all c.args.scene.now c.calls_have_one_type.ensures.named c.args.place c.args.function c.requires.here c.stop_of-own_stop.result c.stop_of-own_stop.ensures (typed_part c.args.scene.now c.args.place IsBooleanOrNull c.requires.stands) c.stop_of-second_place.result c.stop_of-second_place.ensures c.datum_of-first.result first c.if-second_place-own_stop.false c.stop_of.result c.stop_of.ensures c.if-stop_of-own_stop.false c.datum_of-second.result next in
     call_applies c.args.scene.now c.calls_have_one_type.ensures.named c.args.place c.args.function c.requires.here c.stop_of-own_stop.result c.stop_of-own_stop.ensures c.ends_once.ensures (c.datum_of-first.result ∷ c.datum_of-second.result ∷ []) all (typed_part c.args.scene.now c.args.place IsBooleanOrNull c.requires.stands)
 
 pub walk::called_truth_at-truth_of-requires : goal.walk::called_truth_at-truth_of-requires
 walk::called_truth_at-truth_of-requires t c =
-    let first : AnswersDatum c.args.scene.now (c.args.place + 1) (Ok c.datum_of-first.result) = kept_datum c.args.scene.now (c.args.place + 1) c.in-Leaf.value.now c.datum_of-first.result c.in-Leaf.ensures c.datum_of-first.ensures in
-    let next : AnswersDatum c.args.scene.now c.stop_of-second_place.result (Ok c.datum_of-second.result) = kept_datum c.args.scene.now c.stop_of-second_place.result c.in-Leaf-part_at.value.now c.datum_of-second.result c.in-Leaf-part_at.ensures c.datum_of-second.ensures in
+    let first : AnswersDatum c.args.scene.now (c.args.place + 1) (Ok c.datum_of-first.result) = kept_datum c.args.scene.now (c.args.place + 1) c.in-Leaf.value.now c.datum_of-first.result c.in-Leaf.ensures.0 c.datum_of-first.ensures in
+    let next : AnswersDatum c.args.scene.now c.stop_of-second_place.result (Ok c.datum_of-second.result) = kept_datum c.args.scene.now c.stop_of-second_place.result c.in-Leaf-part_at.value.now c.datum_of-second.result c.in-Leaf-part_at.ensures.0 c.datum_of-second.ensures in
     let all = two_are_all c.args.scene.now c.calls_have_one_type.ensures.named c.args.place c.args.function c.requires.here c.stop_of-own_stop.result c.stop_of-own_stop.ensures (typed_part c.args.scene.now c.args.place IsBooleanOrNull c.requires.stands) c.stop_of-second_place.result c.stop_of-second_place.ensures c.datum_of-first.result first c.if-second_place-own_stop.false c.stop_of.result c.stop_of.ensures c.if-stop_of-own_stop.false c.datum_of-second.result next in
     let given : AnswersDatum c.args.scene.now c.args.place c.called_on_two.result = call_answers c.args.scene.now c.calls_have_one_type.ensures.named c.args.place c.args.function c.requires.here c.stop_of-own_stop.result c.stop_of-own_stop.ensures c.ends_once.ensures (c.datum_of-first.result ∷ c.datum_of-second.result ∷ []) all c.called_on_two.result (λ r s. c.called_on_two.ensures c.args.scene.now.moment r s) in
     let made : AnswersDatum c.args.scene.now c.args.place (Ok c.in-Ok.value) = subst (λ (r : Result Datum EvalFault). AnswersDatum c.args.scene.now c.args.place r) c.in-Ok.is given in
     λ reading. value_there c.args.scene.now c.args.place truth_values c.ends_once.ensures c.in-Ok.value c.requires.stands made reading
 
-pub walk::called_truth_at-returns-in-Ok : goal.walk::called_truth_at-returns-in-Ok
-walk::called_truth_at-returns-in-Ok t c =
-    let first : AnswersDatum c.args.scene.now (c.args.place + 1) (Ok c.datum_of-first.result) = kept_datum c.args.scene.now (c.args.place + 1) c.in-Leaf.value.now c.datum_of-first.result c.in-Leaf.ensures c.datum_of-first.ensures in
-    let next : AnswersDatum c.args.scene.now c.stop_of-second_place.result (Ok c.datum_of-second.result) = kept_datum c.args.scene.now c.stop_of-second_place.result c.in-Leaf-part_at.value.now c.datum_of-second.result c.in-Leaf-part_at.ensures c.datum_of-second.ensures in
+pub walk::called_truth_at-returns-in-Ok-clause-answers : goal.walk::called_truth_at-returns-in-Ok-clause-answers
+walk::called_truth_at-returns-in-Ok-clause-answers t c =
+    let first : AnswersDatum c.args.scene.now (c.args.place + 1) (Ok c.datum_of-first.result) = kept_datum c.args.scene.now (c.args.place + 1) c.in-Leaf.value.now c.datum_of-first.result c.in-Leaf.ensures.0 c.datum_of-first.ensures in
+    let next : AnswersDatum c.args.scene.now c.stop_of-second_place.result (Ok c.datum_of-second.result) = kept_datum c.args.scene.now c.stop_of-second_place.result c.in-Leaf-part_at.value.now c.datum_of-second.result c.in-Leaf-part_at.ensures.0 c.datum_of-second.ensures in
     let all = two_are_all c.args.scene.now c.calls_have_one_type.ensures.named c.args.place c.args.function c.requires.here c.stop_of-own_stop.result c.stop_of-own_stop.ensures (typed_part c.args.scene.now c.args.place IsBooleanOrNull c.requires.stands) c.stop_of-second_place.result c.stop_of-second_place.ensures c.datum_of-first.result first c.if-second_place-own_stop.false c.stop_of.result c.stop_of.ensures c.if-stop_of-own_stop.false c.datum_of-second.result next in
     let given : AnswersDatum c.args.scene.now c.args.place c.called_on_two.result = call_answers c.args.scene.now c.calls_have_one_type.ensures.named c.args.place c.args.function c.requires.here c.stop_of-own_stop.result c.stop_of-own_stop.ensures c.ends_once.ensures (c.datum_of-first.result ∷ c.datum_of-second.result ∷ []) all c.called_on_two.result (λ r s. c.called_on_two.ensures c.args.scene.now.moment r s) in
     let made : AnswersDatum c.args.scene.now c.args.place (Ok c.in-Ok.value) = subst (λ (r : Result Datum EvalFault). AnswersDatum c.args.scene.now c.args.place r) c.in-Ok.is given in
     read_value c.args.scene.now c.args.place c.in-Ok.value (truth_val c.truth_of.result) made c.truth_of.ensures
 
-pub walk::called_truth_at-returns-in-Err : goal.walk::called_truth_at-returns-in-Err
-walk::called_truth_at-returns-in-Err t c =
-    let first : AnswersDatum c.args.scene.now (c.args.place + 1) (Ok c.datum_of-first.result) = kept_datum c.args.scene.now (c.args.place + 1) c.in-Leaf.value.now c.datum_of-first.result c.in-Leaf.ensures c.datum_of-first.ensures in
-    let next : AnswersDatum c.args.scene.now c.stop_of-second_place.result (Ok c.datum_of-second.result) = kept_datum c.args.scene.now c.stop_of-second_place.result c.in-Leaf-part_at.value.now c.datum_of-second.result c.in-Leaf-part_at.ensures c.datum_of-second.ensures in
+pub walk::called_truth_at-returns-in-Err-clause-answers : goal.walk::called_truth_at-returns-in-Err-clause-answers
+walk::called_truth_at-returns-in-Err-clause-answers t c =
+    let first : AnswersDatum c.args.scene.now (c.args.place + 1) (Ok c.datum_of-first.result) = kept_datum c.args.scene.now (c.args.place + 1) c.in-Leaf.value.now c.datum_of-first.result c.in-Leaf.ensures.0 c.datum_of-first.ensures in
+    let next : AnswersDatum c.args.scene.now c.stop_of-second_place.result (Ok c.datum_of-second.result) = kept_datum c.args.scene.now c.stop_of-second_place.result c.in-Leaf-part_at.value.now c.datum_of-second.result c.in-Leaf-part_at.ensures.0 c.datum_of-second.ensures in
     let all = two_are_all c.args.scene.now c.calls_have_one_type.ensures.named c.args.place c.args.function c.requires.here c.stop_of-own_stop.result c.stop_of-own_stop.ensures (typed_part c.args.scene.now c.args.place IsBooleanOrNull c.requires.stands) c.stop_of-second_place.result c.stop_of-second_place.ensures c.datum_of-first.result first c.if-second_place-own_stop.false c.stop_of.result c.stop_of.ensures c.if-stop_of-own_stop.false c.datum_of-second.result next in
     let given : AnswersDatum c.args.scene.now c.args.place c.called_on_two.result = call_answers c.args.scene.now c.calls_have_one_type.ensures.named c.args.place c.args.function c.requires.here c.stop_of-own_stop.result c.stop_of-own_stop.ensures c.ends_once.ensures (c.datum_of-first.result ∷ c.datum_of-second.result ∷ []) all c.called_on_two.result (λ r s. c.called_on_two.ensures c.args.scene.now.moment r s) in
     subst (λ (r : Result Datum EvalFault). AnswersDatum c.args.scene.now c.args.place r) c.in-Err.is given
@@ -562,45 +589,45 @@ walk::called_truth_at-returns-in-Err t c =
 
 pub walk::made_at-count_of-requires : goal.walk::made_at-count_of-requires
 walk::made_at-count_of-requires t c =
-    let first : AnswersDatum c.args.scene.now (c.args.place + 1) (Ok c.in-Ok.first) = subst (λ (r : Result Datum EvalFault). AnswersDatum c.args.scene.now (c.args.place + 1) r) c.in-Ok.is c.requires.first in
+    let first : AnswersDatum c.args.scene.now (c.args.place + 1) (Ok c.in-Ok.first) = subst (λ (r : Result Datum EvalStop). CountedDatum c.args.scene.now (c.args.place + 1) r) c.in-Ok.is c.requires.first in
     let here : HasKind c.args.scene.now.list c.args.place NodeKind.Count = there_found (λ (f : CheckedNode). f.kind ≡ NodeKind.Count) (slice_get c.args.scene.now.list.nodes c.args.place) c.node.result.now c.node.ensures c.in-Count.is in
     base_members c.args.scene.now c.args.place CountGives (count_base c.args.scene.now c.args.place here) c.in-Ok.first first c.ends_once.ensures c.requires.stands
 
-pub walk::made_at-returns-in-Count : goal.walk::made_at-returns-in-Count
-walk::made_at-returns-in-Count t c =
-    let first : AnswersDatum c.args.scene.now (c.args.place + 1) (Ok c.in-Ok.first) = subst (λ (r : Result Datum EvalFault). AnswersDatum c.args.scene.now (c.args.place + 1) r) c.in-Ok.is c.requires.first in
+pub walk::made_at-returns-in-Count-clause-answers : goal.walk::made_at-returns-in-Count-clause-answers
+walk::made_at-returns-in-Count-clause-answers t c =
+    let first : AnswersDatum c.args.scene.now (c.args.place + 1) (Ok c.in-Ok.first) = subst (λ (r : Result Datum EvalStop). CountedDatum c.args.scene.now (c.args.place + 1) r) c.in-Ok.is c.requires.first in
     let here : HasKind c.args.scene.now.list c.args.place NodeKind.Count = there_found (λ (f : CheckedNode). f.kind ≡ NodeKind.Count) (slice_get c.args.scene.now.list.nodes c.args.place) c.node.result.now c.node.ensures c.in-Count.is in
-    base_answers c.args.scene.now c.args.place CountGives (count_base c.args.scene.now c.args.place here) c.in-Ok.first first c.count_of.result c.count_of.ensures
+    as_counted c.args.scene.now c.args.place c.count_of.result c.as_stop-in-Count.result c.as_stop-in-Count.ensures (base_answers c.args.scene.now c.args.place CountGives (count_base c.args.scene.now c.args.place here) c.in-Ok.first first c.count_of.result c.count_of.ensures)
 
 pub walk::made_at-any_item_of-requires : goal.walk::made_at-any_item_of-requires
 walk::made_at-any_item_of-requires t c =
-    let first : AnswersDatum c.args.scene.now (c.args.place + 1) (Ok c.in-Ok.first) = subst (λ (r : Result Datum EvalFault). AnswersDatum c.args.scene.now (c.args.place + 1) r) c.in-Ok.is c.requires.first in
+    let first : AnswersDatum c.args.scene.now (c.args.place + 1) (Ok c.in-Ok.first) = subst (λ (r : Result Datum EvalStop). CountedDatum c.args.scene.now (c.args.place + 1) r) c.in-Ok.is c.requires.first in
     let here : HasKind c.args.scene.now.list c.args.place NodeKind.AnyItem = there_found (λ (f : CheckedNode). f.kind ≡ NodeKind.AnyItem) (slice_get c.args.scene.now.list.nodes c.args.place) c.node.result.now c.node.ensures c.in-AnyItem.is in
     base_members c.args.scene.now c.args.place AnyItemGives (any_item_base c.args.scene.now c.args.place here) c.in-Ok.first first c.ends_once.ensures c.requires.stands
 
-pub walk::made_at-returns-in-AnyItem : goal.walk::made_at-returns-in-AnyItem
-walk::made_at-returns-in-AnyItem t c =
-    let first : AnswersDatum c.args.scene.now (c.args.place + 1) (Ok c.in-Ok.first) = subst (λ (r : Result Datum EvalFault). AnswersDatum c.args.scene.now (c.args.place + 1) r) c.in-Ok.is c.requires.first in
+pub walk::made_at-returns-in-AnyItem-clause-answers : goal.walk::made_at-returns-in-AnyItem-clause-answers
+walk::made_at-returns-in-AnyItem-clause-answers t c =
+    let first : AnswersDatum c.args.scene.now (c.args.place + 1) (Ok c.in-Ok.first) = subst (λ (r : Result Datum EvalStop). CountedDatum c.args.scene.now (c.args.place + 1) r) c.in-Ok.is c.requires.first in
     let here : HasKind c.args.scene.now.list c.args.place NodeKind.AnyItem = there_found (λ (f : CheckedNode). f.kind ≡ NodeKind.AnyItem) (slice_get c.args.scene.now.list.nodes c.args.place) c.node.result.now c.node.ensures c.in-AnyItem.is in
     base_answers c.args.scene.now c.args.place AnyItemGives (any_item_base c.args.scene.now c.args.place here) c.in-Ok.first first (Ok c.any_item_of.result) c.any_item_of.ensures
 
 pub walk::made_at-flags_at-requires : goal.walk::made_at-flags_at-requires
 walk::made_at-flags_at-requires t c =
-    let first : AnswersDatum c.args.scene.now (c.args.place + 1) (Ok c.in-Ok.first) = subst (λ (r : Result Datum EvalFault). AnswersDatum c.args.scene.now (c.args.place + 1) r) c.in-Ok.is c.requires.first in
+    let first : AnswersDatum c.args.scene.now (c.args.place + 1) (Ok c.in-Ok.first) = subst (λ (r : Result Datum EvalStop). CountedDatum c.args.scene.now (c.args.place + 1) r) c.in-Ok.is c.requires.first in
     let here : HasKind c.args.scene.now.list c.args.place NodeKind.Has = there_found (λ (f : CheckedNode). f.kind ≡ NodeKind.Has) (slice_get c.args.scene.now.list.nodes c.args.place) c.node.result.now c.node.ensures c.in-Has.is in
     let smaller : 16 * (length c.args.scene.now.list.nodes - c.args.place) + 3 < 16 * (length c.args.scene.now.list.nodes - c.args.place) + 4 = omega arith in
     search rules
 
 pub walk::made_at-among_at-requires : goal.walk::made_at-among_at-requires
 walk::made_at-among_at-requires t c =
-    let first : AnswersDatum c.args.scene.now (c.args.place + 1) (Ok c.in-Ok.first) = subst (λ (r : Result Datum EvalFault). AnswersDatum c.args.scene.now (c.args.place + 1) r) c.in-Ok.is c.requires.first in
+    let first : AnswersDatum c.args.scene.now (c.args.place + 1) (Ok c.in-Ok.first) = subst (λ (r : Result Datum EvalStop). CountedDatum c.args.scene.now (c.args.place + 1) r) c.in-Ok.is c.requires.first in
     let here : HasKind c.args.scene.now.list c.args.place NodeKind.InPath = there_found (λ (f : CheckedNode). f.kind ≡ NodeKind.InPath) (slice_get c.args.scene.now.list.nodes c.args.place) c.node.result.now c.node.ensures c.in-InPath.is in
     let smaller : 16 * (length c.args.scene.now.list.nodes - c.args.place) + 3 < 16 * (length c.args.scene.now.list.nodes - c.args.place) + 4 = omega arith in
     search rules
 
 pub walk::made_at-listed_at-requires : goal.walk::made_at-listed_at-requires
 walk::made_at-listed_at-requires t c =
-    let first : AnswersDatum c.args.scene.now (c.args.place + 1) (Ok c.in-Ok.first) = subst (λ (r : Result Datum EvalFault). AnswersDatum c.args.scene.now (c.args.place + 1) r) c.in-Ok.is c.requires.first in
+    let first : AnswersDatum c.args.scene.now (c.args.place + 1) (Ok c.in-Ok.first) = subst (λ (r : Result Datum EvalStop). CountedDatum c.args.scene.now (c.args.place + 1) r) c.in-Ok.is c.requires.first in
     let here : HasKind c.args.scene.now.list c.args.place NodeKind.InList = there_found (λ (f : CheckedNode). f.kind ≡ NodeKind.InList) (slice_get c.args.scene.now.list.nodes c.args.place) c.node.result.now c.node.ensures c.in-InList.is in
     let smaller : 16 * (length c.args.scene.now.list.nodes - c.args.place) + 3 < 16 * (length c.args.scene.now.list.nodes - c.args.place) + 4 = omega arith in
     search rules
@@ -612,7 +639,7 @@ pub collection_walk::flags_at-operand_at-requires : goal.collection_walk::flags_
 collection_walk::flags_at-operand_at-requires t c =
     let inside : c.args.place < length c.args.scene.now.list.nodes = part_inside c.args.scene.now c.args.place c.requires.stands in
     let behind : c.args.place < c.right_of.result = next_further c.args.scene.now c.args.place AreFlags HasGives (flags_sides c.args.scene.now c.args.place c.requires.here) c.right_of.result c.right_of.ensures c.requires.stands in
-    let smaller : 16 * (length c.args.scene.now.list.nodes - c.right_of.result) + 12 < 16 * (length c.args.scene.now.list.nodes - c.args.place) + 3 = omega arith in
+    let smaller : 16 * (length c.args.scene.now.list.nodes - c.right_of.result) + 13 < 16 * (length c.args.scene.now.list.nodes - c.args.place) + 3 = omega arith in
     let stands : PartStands c.args.scene.now c.right_of.result = next_part c.args.scene.now c.args.place AreFlags HasGives (flags_sides c.args.scene.now c.args.place c.requires.here) c.right_of.result c.right_of.ensures c.requires.stands in
     search rules
 
@@ -638,7 +665,7 @@ pub collection_walk::among_at-operand_at-requires : goal.collection_walk::among_
 collection_walk::among_at-operand_at-requires t c =
     let inside : c.args.place < length c.args.scene.now.list.nodes = part_inside c.args.scene.now c.args.place c.requires.stands in
     let behind : c.args.place < c.right_of.result = next_further c.args.scene.now c.args.place IsComparableWithMembers InGives (path_sides c.args.scene.now c.args.place c.requires.here) c.right_of.result c.right_of.ensures c.requires.stands in
-    let smaller : 16 * (length c.args.scene.now.list.nodes - c.right_of.result) + 12 < 16 * (length c.args.scene.now.list.nodes - c.args.place) + 3 = omega arith in
+    let smaller : 16 * (length c.args.scene.now.list.nodes - c.right_of.result) + 13 < 16 * (length c.args.scene.now.list.nodes - c.args.place) + 3 = omega arith in
     let stands : PartStands c.args.scene.now c.right_of.result = next_part c.args.scene.now c.args.place IsComparableWithMembers InGives (path_sides c.args.scene.now c.args.place c.requires.here) c.right_of.result c.right_of.ensures c.requires.stands in
     search rules
 
@@ -666,39 +693,44 @@ collection_walk::listed_at-right_of-at-requires t c = items_there c.args.scene.n
 pub collection_walk::listed_at-loop-at-init : goal.collection_walk::listed_at-loop-at-init
 collection_walk::listed_at-loop-at-init t c =
     list_begins c.args.scene.now c.args.place None (plain_lists c.args.scene.now c.args.place c.requires.here) c.stop_of-own_stop.result c.stop_of-own_stop.ensures c.right_of-at.result c.right_of-at.ensures c.args.left.now c.requires.left c.ends_once.ensures c.requires.stands
+    (Takes c.args.budget.now c.args.budget.now) (takes_nothing c.args.budget.now)
 
-pub collection_walk::listed_at-operand_at-requires : goal.collection_walk::listed_at-operand_at-requires
-collection_walk::listed_at-operand_at-requires t c =
+pub collection_walk::listed_at-counted_at-requires : goal.collection_walk::listed_at-counted_at-requires
+collection_walk::listed_at-counted_at-requires t c =
     let inside : c.args.place < length c.args.scene.now.list.nodes = part_inside c.args.scene.now c.args.place c.requires.stands in
     let behind : c.args.place < c.loop-at.at = c.loop-at.invariant.behind in
     let smaller : 16 * (length c.args.scene.now.list.nodes - c.loop-at.at) + 12 < 16 * (length c.args.scene.now.list.nodes - c.args.place) + 3 = omega arith in
-    let stands : PartStands c.args.scene.now c.loop-at.at = next_item c.args.scene.now c.args.place c.stop_of-own_stop.result c.loop-at.at None c.args.left.now c.loop-at.invariant c.requires.stands c.loop-at-test.true in
+    let stands : PartStands c.args.scene.now c.loop-at.at = next_item c.args.scene.now c.args.place c.stop_of-own_stop.result c.loop-at.at (Takes c.args.budget.now c.loop-at.budget) None c.args.left.now c.loop-at.invariant c.requires.stands c.loop-at-test.true in
     search rules
 
 pub collection_walk::listed_at-compare-requires : goal.collection_walk::listed_at-compare-requires
-collection_walk::listed_at-compare-requires t c = may_compare_item c.args.scene.now c.args.place c.stop_of-own_stop.result c.loop-at.at None c.args.left.now c.loop-at.invariant c.trees_have_one_type.ensures c.in-Ok.item (alone_answers c.args.scene.now c.loop-at.at (λ type. Some (gives (datum_val (reading_at (slots_of c.args.scene.now.row.schema) type) c.in-Ok.item))) c.in-Ok.ensures) c.loop-at-test.true c.ends_once.ensures c.comparisons_are_decided.ensures.any_reading c.requires.stands
+collection_walk::listed_at-compare-requires t c = may_compare_item c.args.scene.now c.args.place c.stop_of-own_stop.result c.loop-at.at (Takes c.args.budget.now c.loop-at.budget) None c.args.left.now c.loop-at.invariant c.trees_have_one_type.ensures c.in-Ok.item (alone_answers c.args.scene.now c.loop-at.at (λ type. Some (gives (datum_val (reading_at (slots_of c.args.scene.now.row.schema) type) c.in-Ok.item))) c.in-Ok.ensures.answers) c.loop-at-test.true c.ends_once.ensures c.comparisons_are_decided.ensures.any_reading c.requires.stands
 
-pub collection_walk::listed_at-returns-then-compare : goal.collection_walk::listed_at-returns-then-compare
-collection_walk::listed_at-returns-then-compare t c = item_equals c.args.scene.now c.args.place c.stop_of-own_stop.result c.loop-at.at None c.args.left.now c.loop-at.invariant c.trees_have_one_type.ensures c.in-Ok.item (alone_answers c.args.scene.now c.loop-at.at (λ type. Some (gives (datum_val (reading_at (slots_of c.args.scene.now.row.schema) type) c.in-Ok.item))) c.in-Ok.ensures) c.loop-at-test.true c.ends_once.ensures c.compare.result c.compare.ensures c.if-compare.true
+pub collection_walk::listed_at-returns-then-compare-clause-answers : goal.collection_walk::listed_at-returns-then-compare-clause-answers
+collection_walk::listed_at-returns-then-compare-clause-answers t c = item_equals c.args.scene.now c.args.place c.stop_of-own_stop.result c.loop-at.at (Takes c.args.budget.now c.loop-at.budget) None c.args.left.now c.loop-at.invariant c.trees_have_one_type.ensures c.in-Ok.item (alone_answers c.args.scene.now c.loop-at.at (λ type. Some (gives (datum_val (reading_at (slots_of c.args.scene.now.row.schema) type) c.in-Ok.item))) c.in-Ok.ensures.answers) c.loop-at-test.true c.ends_once.ensures c.compare.result c.compare.ensures c.if-compare.true
 
-pub collection_walk::listed_at-returns-in-Err : goal.collection_walk::listed_at-returns-in-Err
-collection_walk::listed_at-returns-in-Err t c = item_faults c.args.scene.now c.args.place c.stop_of-own_stop.result c.loop-at.at None c.args.left.now c.loop-at.invariant c.loop-at-test.true c.in-Err.fault (alone_answers c.args.scene.now c.loop-at.at (λ type. fault_outcome c.in-Err.fault) c.in-Err.ensures)
+pub collection_walk::listed_at-returns-in-Err-clause-answers : goal.collection_walk::listed_at-returns-in-Err-clause-answers
+collection_walk::listed_at-returns-in-Err-clause-answers t c =
+    by_stop (λ s. CountedDatum c.args.scene.now c.loop-at.at (Err s)) (λ s. CountedDatum c.args.scene.now c.args.place (Err s))
+    (λ fault is. item_faults c.args.scene.now c.args.place c.stop_of-own_stop.result c.loop-at.at (Takes c.args.budget.now c.loop-at.budget) None c.args.left.now c.loop-at.invariant c.loop-at-test.true fault (alone_answers c.args.scene.now c.loop-at.at (λ type. fault_outcome fault) is))
+    (λ is. tt) c.in-Err.stop c.in-Err.ensures.answers
 
 pub collection_walk::listed_at-stop_of-at-requires : goal.collection_walk::listed_at-stop_of-at-requires
-collection_walk::listed_at-stop_of-at-requires t c = part_inside c.args.scene.now c.loop-at.at (next_item c.args.scene.now c.args.place c.stop_of-own_stop.result c.loop-at.at None c.args.left.now c.loop-at.invariant c.requires.stands c.loop-at-test.true)
+collection_walk::listed_at-stop_of-at-requires t c = part_inside c.args.scene.now c.loop-at.at (next_item c.args.scene.now c.args.place c.stop_of-own_stop.result c.loop-at.at (Takes c.args.budget.now c.loop-at.budget) None c.args.left.now c.loop-at.invariant c.requires.stands c.loop-at-test.true)
 
 pub collection_walk::listed_at-loop-at-preserved : goal.collection_walk::listed_at-loop-at-preserved
-collection_walk::listed_at-loop-at-preserved t c = item_differs c.args.scene.now c.args.place c.stop_of-own_stop.result c.loop-at.at None c.args.left.now c.loop-at.invariant c.trees_have_one_type.ensures c.in-Ok.item (alone_answers c.args.scene.now c.loop-at.at (λ type. Some (gives (datum_val (reading_at (slots_of c.args.scene.now.row.schema) type) c.in-Ok.item))) c.in-Ok.ensures) c.loop-at-test.true c.ends_once.ensures c.compare.result c.compare.ensures c.if-compare.false c.requires.stands c.stop_of-at.result c.stop_of-at.ensures
+collection_walk::listed_at-loop-at-preserved t c = item_differs c.args.scene.now c.args.place c.stop_of-own_stop.result c.loop-at.at (Takes c.args.budget.now c.loop-at.budget) None c.args.left.now c.loop-at.invariant c.trees_have_one_type.ensures c.in-Ok.item (alone_answers c.args.scene.now c.loop-at.at (λ type. Some (gives (datum_val (reading_at (slots_of c.args.scene.now.row.schema) type) c.in-Ok.item))) c.in-Ok.ensures.answers) c.loop-at-test.true c.ends_once.ensures c.compare.result c.compare.ensures c.if-compare.false c.requires.stands c.stop_of-at.result c.stop_of-at.ensures
+    (Takes c.args.budget.now c.counted_at.new.budget) (item_pays c.args.scene.now c.args.place c.stop_of-own_stop.result c.loop-at.at None c.args.left.now c.args.budget.now c.loop-at.budget c.loop-at.invariant c.take_item.new.budget c.counted_at.new.budget (subst (λ (b : Bool). IsTaken b c.loop-at.budget c.take_item.new.budget (item_cost (environment_of c.args.scene.now))) c.if-not-take_item.false c.take_item.ensures) (item_spends c.args.scene.now c.loop-at.at c.take_item.new.budget c.counted_at.new.budget None None c.in-Ok.ensures.spent))
 
 pub collection_walk::listed_at-loop-at-smaller : goal.collection_walk::listed_at-loop-at-smaller
 collection_walk::listed_at-loop-at-smaller t c =
-    let later : c.loop-at.at < c.stop_of-at.result = stop_further c.args.scene.now c.loop-at.at c.stop_of-at.result (next_item c.args.scene.now c.args.place c.stop_of-own_stop.result c.loop-at.at None c.args.left.now c.loop-at.invariant c.requires.stands c.loop-at-test.true) c.stop_of-at.ensures in
+    let later : c.loop-at.at < c.stop_of-at.result = stop_further c.args.scene.now c.loop-at.at c.stop_of-at.result (next_item c.args.scene.now c.args.place c.stop_of-own_stop.result c.loop-at.at (Takes c.args.budget.now c.loop-at.budget) None c.args.left.now c.loop-at.invariant c.requires.stands c.loop-at-test.true) c.stop_of-at.ensures in
     let within : c.loop-at.at ≤ c.stop_of-own_stop.result = c.loop-at.invariant.within in
     let remains = c.loop-at-test.true in
     omega (arith, remains)
 
-pub collection_walk::listed_at-returns : goal.collection_walk::listed_at-returns
-collection_walk::listed_at-returns t c = no_item c.args.scene.now c.args.place c.stop_of-own_stop.result c.loop-at.at None c.args.left.now c.loop-at.invariant c.loop-at-test.false
+pub collection_walk::listed_at-returns-clause-answers : goal.collection_walk::listed_at-returns-clause-answers
+collection_walk::listed_at-returns-clause-answers t c = no_item c.args.scene.now c.args.place c.stop_of-own_stop.result c.loop-at.at (Takes c.args.budget.now c.loop-at.budget) None c.args.left.now c.loop-at.invariant c.loop-at-test.false
 
 -- ---- the left operand read as a number
 
@@ -709,7 +741,7 @@ pub paired_walk::compared_left_at-operand_at-requires : goal.paired_walk::compar
 paired_walk::compared_left_at-operand_at-requires t c =
     let inside : c.args.place < length c.args.scene.now.list.nodes = part_inside c.args.scene.now c.args.place c.requires.stands in
     let behind : c.args.place < c.right_of.result = left_further c.args.scene.now c.args.place c.args.operator c.args.number c.requires.stands c.requires.here c.right_of.result c.right_of.ensures in
-    let smaller : 16 * (length c.args.scene.now.list.nodes - c.right_of.result) + 12 < 16 * (length c.args.scene.now.list.nodes - c.args.place) + 3 = omega arith in
+    let smaller : 16 * (length c.args.scene.now.list.nodes - c.right_of.result) + 13 < 16 * (length c.args.scene.now.list.nodes - c.args.place) + 3 = omega arith in
     let stands : PartStands c.args.scene.now c.right_of.result = left_part c.args.scene.now c.args.place c.args.operator c.args.number c.requires.stands c.requires.here c.right_of.result c.right_of.ensures in
     search rules
 
@@ -745,7 +777,7 @@ pub paired_walk::right_read_truth_at-part_at-requires : goal.paired_walk::right_
 paired_walk::right_read_truth_at-part_at-requires t c = record { stands = first_part c.args.scene.now c.args.place WalkClass.Eager (λ leaf. cc) (kind_walks c.args.scene.now.list c.args.place (NodeKind.PairedRight c.args.operator c.args.number) WalkClass.Eager refl c.requires.here) (typed_part c.args.scene.now c.args.place IsBooleanOrNull c.requires.stands) }
 
 pub paired_walk::right_read_truth_at-compared_kept_right-requires : goal.paired_walk::right_read_truth_at-compared_kept_right-requires
-paired_walk::right_read_truth_at-compared_kept_right-requires t c = record { stands = typed_part c.args.scene.now c.args.place IsBooleanOrNull c.requires.stands; here = c.requires.here; left = c.in-Leaf.ensures }
+paired_walk::right_read_truth_at-compared_kept_right-requires t c = record { stands = typed_part c.args.scene.now c.args.place IsBooleanOrNull c.requires.stands; here = c.requires.here; left = c.in-Leaf.ensures.0 }
 
 pub paired_walk::right_read_truth_at-made_truth_at-requires : goal.paired_walk::right_read_truth_at-made_truth_at-requires
 paired_walk::right_read_truth_at-made_truth_at-requires t c =
@@ -763,7 +795,7 @@ pub paired_walk::left_read_truth_at-compared_kept_left-requires : goal.paired_wa
 paired_walk::left_read_truth_at-compared_kept_left-requires t c = record {
   stands = typed_part c.args.scene.now c.args.place IsBooleanOrNull c.requires.stands;
   here = c.requires.here;
-  right = kept_everywhere c.args.scene.now c.args.place c.right_of.result c.in-Leaf.right.now c.right_of.ensures c.in-Leaf.ensures;
+  right = kept_everywhere c.args.scene.now c.args.place c.right_of.result c.in-Leaf.right.now c.right_of.ensures c.in-Leaf.ensures.0;
 }
 
 pub paired_walk::left_read_truth_at-made_truth_at-requires : goal.paired_walk::left_read_truth_at-made_truth_at-requires
@@ -774,19 +806,19 @@ paired_walk::left_read_truth_at-made_truth_at-requires t c =
 
 -- ---- items read as numbers
 
-pub paired_walk::numbered_item_at-returns-in-Enum : goal.paired_walk::numbered_item_at-returns-in-Enum
-paired_walk::numbered_item_at-returns-in-Enum t c =
+pub paired_walk::numbered_item_at-returns-in-Enum-clause-answers : goal.paired_walk::numbered_item_at-returns-in-Enum-clause-answers
+paired_walk::numbered_item_at-returns-in-Enum-clause-answers t c =
     let slots = slots_of c.args.scene.now.row.schema in
     let fits : SFits w64 c.in-Enum.n = search rules in
     let told = number_item c.args.scene.now c.args.place c.args.number c.literal.result.now c.literal.ensures c.in-Enum.n c.in-Enum.is in
     subst (λ (n : ℤ). AnswersItem c.args.scene.now c.args.place (Some c.args.number) (λ type. Some (gives (datum_val (reading_at slots type) (datum.Enum n)))))
     (sym (to_z-of_z w64 c.in-Enum.n fits)) told
 
-pub paired_walk::numbered_item_at-returns-in_default : goal.paired_walk::numbered_item_at-returns-in_default
-paired_walk::numbered_item_at-returns-in_default t c = other_item c.args.scene.now c.args.place c.args.number c.literal.result.now c.literal.ensures c.in_default.not-Enum c.operand_at.result c.operand_at.ensures
+pub paired_walk::numbered_item_at-returns-in_default-clause-answers : goal.paired_walk::numbered_item_at-returns-in_default-clause-answers
+paired_walk::numbered_item_at-returns-in_default-clause-answers t c = other_counted c.args.scene.now c.args.place c.args.number c.literal.result.now c.literal.ensures c.in_default.not-Enum c.counted_at.result c.counted_at.ensures.answers
 
-pub paired_walk::numbered_item_at-operand_at-requires : goal.paired_walk::numbered_item_at-operand_at-requires
-paired_walk::numbered_item_at-operand_at-requires t c =
+pub paired_walk::numbered_item_at-counted_at-requires : goal.paired_walk::numbered_item_at-counted_at-requires
+paired_walk::numbered_item_at-counted_at-requires t c =
     let smaller : 16 * (length c.args.scene.now.list.nodes - c.args.place) + 12 < 16 * (length c.args.scene.now.list.nodes - c.args.place) + 13 = omega arith in
     search rules
 
@@ -799,69 +831,74 @@ paired_walk::numbered_at-right_of-at-requires t c = items_there c.args.scene.now
 pub paired_walk::numbered_at-loop-at-init : goal.paired_walk::numbered_at-loop-at-init
 paired_walk::numbered_at-loop-at-init t c =
     list_begins c.args.scene.now c.args.place (Some c.args.numbers) (numbered_lists c.args.scene.now c.args.place c.args.numbers c.requires.here) c.stop_of-own_stop.result c.stop_of-own_stop.ensures c.right_of-at.result c.right_of-at.ensures c.args.left.now c.requires.left c.ends_once.ensures c.requires.stands
+    (Takes c.args.budget.now c.args.budget.now) (takes_nothing c.args.budget.now)
 
 pub paired_walk::numbered_at-numbered_item_at-requires : goal.paired_walk::numbered_at-numbered_item_at-requires
 paired_walk::numbered_at-numbered_item_at-requires t c =
     let inside : c.args.place < length c.args.scene.now.list.nodes = part_inside c.args.scene.now c.args.place c.requires.stands in
     let behind : c.args.place < c.loop-at.at = c.loop-at.invariant.behind in
     let smaller : 16 * (length c.args.scene.now.list.nodes - c.loop-at.at) + 13 < 16 * (length c.args.scene.now.list.nodes - c.args.place) + 3 = omega arith in
-    let stands : PartStands c.args.scene.now c.loop-at.at = next_item c.args.scene.now c.args.place c.stop_of-own_stop.result c.loop-at.at (Some c.loop-at.number) c.args.left.now c.loop-at.invariant c.requires.stands c.loop-at-test.true in
-    let within : c.loop-at.number < length c.args.scene.now.list.values = number_within c.args.scene.now c.args.place c.stop_of-own_stop.result c.loop-at.at c.loop-at.number c.args.left.now c.loop-at.invariant c.requires.stands c.loop-at-test.true in
+    let stands : PartStands c.args.scene.now c.loop-at.at = next_item c.args.scene.now c.args.place c.stop_of-own_stop.result c.loop-at.at (Takes c.args.budget.now c.loop-at.budget) (Some c.loop-at.number) c.args.left.now c.loop-at.invariant c.requires.stands c.loop-at-test.true in
+    let within : c.loop-at.number < length c.args.scene.now.list.values = number_within c.args.scene.now c.args.place c.stop_of-own_stop.result c.loop-at.at c.loop-at.number (Takes c.args.budget.now c.loop-at.budget) c.args.left.now c.loop-at.invariant c.requires.stands c.loop-at-test.true in
     search rules
 
 pub paired_walk::numbered_at-compare-requires : goal.paired_walk::numbered_at-compare-requires
-paired_walk::numbered_at-compare-requires t c = may_compare_item c.args.scene.now c.args.place c.stop_of-own_stop.result c.loop-at.at (Some c.loop-at.number) c.args.left.now c.loop-at.invariant c.trees_have_one_type.ensures c.in-Ok.item c.in-Ok.ensures c.loop-at-test.true c.ends_once.ensures c.comparisons_are_decided.ensures.any_reading c.requires.stands
+paired_walk::numbered_at-compare-requires t c = may_compare_item c.args.scene.now c.args.place c.stop_of-own_stop.result c.loop-at.at (Takes c.args.budget.now c.loop-at.budget) (Some c.loop-at.number) c.args.left.now c.loop-at.invariant c.trees_have_one_type.ensures c.in-Ok.item c.in-Ok.ensures.answers c.loop-at-test.true c.ends_once.ensures c.comparisons_are_decided.ensures.any_reading c.requires.stands
 
-pub paired_walk::numbered_at-returns-then-compare : goal.paired_walk::numbered_at-returns-then-compare
-paired_walk::numbered_at-returns-then-compare t c = item_equals c.args.scene.now c.args.place c.stop_of-own_stop.result c.loop-at.at (Some c.loop-at.number) c.args.left.now c.loop-at.invariant c.trees_have_one_type.ensures c.in-Ok.item c.in-Ok.ensures c.loop-at-test.true c.ends_once.ensures c.compare.result c.compare.ensures c.if-compare.true
+pub paired_walk::numbered_at-returns-then-compare-clause-answers : goal.paired_walk::numbered_at-returns-then-compare-clause-answers
+paired_walk::numbered_at-returns-then-compare-clause-answers t c = item_equals c.args.scene.now c.args.place c.stop_of-own_stop.result c.loop-at.at (Takes c.args.budget.now c.loop-at.budget) (Some c.loop-at.number) c.args.left.now c.loop-at.invariant c.trees_have_one_type.ensures c.in-Ok.item c.in-Ok.ensures.answers c.loop-at-test.true c.ends_once.ensures c.compare.result c.compare.ensures c.if-compare.true
 
-pub paired_walk::numbered_at-returns-in-Err : goal.paired_walk::numbered_at-returns-in-Err
-paired_walk::numbered_at-returns-in-Err t c = item_faults c.args.scene.now c.args.place c.stop_of-own_stop.result c.loop-at.at (Some c.loop-at.number) c.args.left.now c.loop-at.invariant c.loop-at-test.true c.in-Err.fault c.in-Err.ensures
+pub paired_walk::numbered_at-returns-in-Err-clause-answers : goal.paired_walk::numbered_at-returns-in-Err-clause-answers
+paired_walk::numbered_at-returns-in-Err-clause-answers t c =
+    by_stop (λ s. CountedItem c.args.scene.now c.loop-at.at (Some c.loop-at.number) (Err s)) (λ s. CountedDatum c.args.scene.now c.args.place (Err s))
+    (λ fault. item_faults c.args.scene.now c.args.place c.stop_of-own_stop.result c.loop-at.at (Takes c.args.budget.now c.loop-at.budget) (Some c.loop-at.number) c.args.left.now c.loop-at.invariant c.loop-at-test.true fault)
+    (λ is. tt) c.in-Err.stop c.in-Err.ensures.answers
 
 pub paired_walk::numbered_at-stop_of-at-requires : goal.paired_walk::numbered_at-stop_of-at-requires
-paired_walk::numbered_at-stop_of-at-requires t c = part_inside c.args.scene.now c.loop-at.at (next_item c.args.scene.now c.args.place c.stop_of-own_stop.result c.loop-at.at (Some c.loop-at.number) c.args.left.now c.loop-at.invariant c.requires.stands c.loop-at-test.true)
+paired_walk::numbered_at-stop_of-at-requires t c = part_inside c.args.scene.now c.loop-at.at (next_item c.args.scene.now c.args.place c.stop_of-own_stop.result c.loop-at.at (Takes c.args.budget.now c.loop-at.budget) (Some c.loop-at.number) c.args.left.now c.loop-at.invariant c.requires.stands c.loop-at-test.true)
 
 pub paired_walk::numbered_at-loop-at-preserved : goal.paired_walk::numbered_at-loop-at-preserved
-paired_walk::numbered_at-loop-at-preserved t c = item_differs c.args.scene.now c.args.place c.stop_of-own_stop.result c.loop-at.at (Some c.loop-at.number) c.args.left.now c.loop-at.invariant c.trees_have_one_type.ensures c.in-Ok.item c.in-Ok.ensures c.loop-at-test.true c.ends_once.ensures c.compare.result c.compare.ensures c.if-compare.false c.requires.stands c.stop_of-at.result c.stop_of-at.ensures
+paired_walk::numbered_at-loop-at-preserved t c = item_differs c.args.scene.now c.args.place c.stop_of-own_stop.result c.loop-at.at (Takes c.args.budget.now c.loop-at.budget) (Some c.loop-at.number) c.args.left.now c.loop-at.invariant c.trees_have_one_type.ensures c.in-Ok.item c.in-Ok.ensures.answers c.loop-at-test.true c.ends_once.ensures c.compare.result c.compare.ensures c.if-compare.false c.requires.stands c.stop_of-at.result c.stop_of-at.ensures
+    (Takes c.args.budget.now c.numbered_item_at.new.budget) (item_pays c.args.scene.now c.args.place c.stop_of-own_stop.result c.loop-at.at (Some c.loop-at.number) c.args.left.now c.args.budget.now c.loop-at.budget c.loop-at.invariant c.take_item.new.budget c.numbered_item_at.new.budget (subst (λ (b : Bool). IsTaken b c.loop-at.budget c.take_item.new.budget (item_cost (environment_of c.args.scene.now))) c.if-not-take_item.false c.take_item.ensures) c.in-Ok.ensures.spent)
 
 pub paired_walk::numbered_at-overflow_add-number : goal.paired_walk::numbered_at-overflow_add-number
 paired_walk::numbered_at-overflow_add-number t c =
-    let within : c.loop-at.number < length c.args.scene.now.list.values = number_within c.args.scene.now c.args.place c.stop_of-own_stop.result c.loop-at.at c.loop-at.number c.args.left.now c.loop-at.invariant c.requires.stands c.loop-at-test.true in
+    let within : c.loop-at.number < length c.args.scene.now.list.values = number_within c.args.scene.now c.args.place c.stop_of-own_stop.result c.loop-at.at c.loop-at.number (Takes c.args.budget.now c.loop-at.budget) c.args.left.now c.loop-at.invariant c.requires.stands c.loop-at-test.true in
     let same = c.values-values.ensures in
     search rules
 
 pub paired_walk::numbered_at-loop-at-smaller : goal.paired_walk::numbered_at-loop-at-smaller
 paired_walk::numbered_at-loop-at-smaller t c =
-    let later : c.loop-at.at < c.stop_of-at.result = stop_further c.args.scene.now c.loop-at.at c.stop_of-at.result (next_item c.args.scene.now c.args.place c.stop_of-own_stop.result c.loop-at.at (Some c.loop-at.number) c.args.left.now c.loop-at.invariant c.requires.stands c.loop-at-test.true) c.stop_of-at.ensures in
+    let later : c.loop-at.at < c.stop_of-at.result = stop_further c.args.scene.now c.loop-at.at c.stop_of-at.result (next_item c.args.scene.now c.args.place c.stop_of-own_stop.result c.loop-at.at (Takes c.args.budget.now c.loop-at.budget) (Some c.loop-at.number) c.args.left.now c.loop-at.invariant c.requires.stands c.loop-at-test.true) c.stop_of-at.ensures in
     let within : c.loop-at.at ≤ c.stop_of-own_stop.result = c.loop-at.invariant.within in
     let remains = c.loop-at-test.true in
     omega (arith, remains)
 
-pub paired_walk::numbered_at-returns : goal.paired_walk::numbered_at-returns
-paired_walk::numbered_at-returns t c = no_item c.args.scene.now c.args.place c.stop_of-own_stop.result c.loop-at.at (Some c.loop-at.number) c.args.left.now c.loop-at.invariant c.loop-at-test.false
+pub paired_walk::numbered_at-returns-clause-answers : goal.paired_walk::numbered_at-returns-clause-answers
+paired_walk::numbered_at-returns-clause-answers t c = no_item c.args.scene.now c.args.place c.stop_of-own_stop.result c.loop-at.at (Takes c.args.budget.now c.loop-at.budget) (Some c.loop-at.number) c.args.left.now c.loop-at.invariant c.loop-at-test.false
 
 pub walk::made_at-compared_right-requires : goal.walk::made_at-compared_right-requires
 walk::made_at-compared_right-requires t c =
-    let first : AnswersDatum c.args.scene.now (c.args.place + 1) (Ok c.in-Ok.first) = subst (λ (r : Result Datum EvalFault). AnswersDatum c.args.scene.now (c.args.place + 1) r) c.in-Ok.is c.requires.first in
+    let first : AnswersDatum c.args.scene.now (c.args.place + 1) (Ok c.in-Ok.first) = subst (λ (r : Result Datum EvalStop). CountedDatum c.args.scene.now (c.args.place + 1) r) c.in-Ok.is c.requires.first in
     let here : HasKind c.args.scene.now.list c.args.place (NodeKind.PairedRight c.in-PairedRight.operator c.in-PairedRight.number) = there_found (λ (f : CheckedNode). f.kind ≡ NodeKind.PairedRight c.in-PairedRight.operator c.in-PairedRight.number) (slice_get c.args.scene.now.list.nodes c.args.place) c.node.result.now c.node.ensures c.in-PairedRight.is in
     search rules
 
 pub walk::made_at-compared_left_at-requires : goal.walk::made_at-compared_left_at-requires
 walk::made_at-compared_left_at-requires t c =
-    let first : AnswersDatum c.args.scene.now (c.args.place + 1) (Ok c.in-Ok.first) = subst (λ (r : Result Datum EvalFault). AnswersDatum c.args.scene.now (c.args.place + 1) r) c.in-Ok.is c.requires.first in
+    let first : AnswersDatum c.args.scene.now (c.args.place + 1) (Ok c.in-Ok.first) = subst (λ (r : Result Datum EvalStop). CountedDatum c.args.scene.now (c.args.place + 1) r) c.in-Ok.is c.requires.first in
     let here : HasKind c.args.scene.now.list c.args.place (NodeKind.PairedLeft c.in-PairedLeft.operator c.in-PairedLeft.number) = there_found (λ (f : CheckedNode). f.kind ≡ NodeKind.PairedLeft c.in-PairedLeft.operator c.in-PairedLeft.number) (slice_get c.args.scene.now.list.nodes c.args.place) c.node.result.now c.node.ensures c.in-PairedLeft.is in
     let smaller : 16 * (length c.args.scene.now.list.nodes - c.args.place) + 3 < 16 * (length c.args.scene.now.list.nodes - c.args.place) + 4 = omega arith in
     search rules
 
 pub walk::made_at-flags_right-requires : goal.walk::made_at-flags_right-requires
 walk::made_at-flags_right-requires t c =
-    let first : AnswersDatum c.args.scene.now (c.args.place + 1) (Ok c.in-Ok.first) = subst (λ (r : Result Datum EvalFault). AnswersDatum c.args.scene.now (c.args.place + 1) r) c.in-Ok.is c.requires.first in
+    let first : AnswersDatum c.args.scene.now (c.args.place + 1) (Ok c.in-Ok.first) = subst (λ (r : Result Datum EvalStop). CountedDatum c.args.scene.now (c.args.place + 1) r) c.in-Ok.is c.requires.first in
     let here : HasKind c.args.scene.now.list c.args.place (NodeKind.PairedHas c.in-PairedHas.number) = there_found (λ (f : CheckedNode). f.kind ≡ NodeKind.PairedHas c.in-PairedHas.number) (slice_get c.args.scene.now.list.nodes c.args.place) c.node.result.now c.node.ensures c.in-PairedHas.is in
     search rules
 
 pub walk::made_at-numbered_at-requires : goal.walk::made_at-numbered_at-requires
 walk::made_at-numbered_at-requires t c =
-    let first : AnswersDatum c.args.scene.now (c.args.place + 1) (Ok c.in-Ok.first) = subst (λ (r : Result Datum EvalFault). AnswersDatum c.args.scene.now (c.args.place + 1) r) c.in-Ok.is c.requires.first in
+    let first : AnswersDatum c.args.scene.now (c.args.place + 1) (Ok c.in-Ok.first) = subst (λ (r : Result Datum EvalStop). CountedDatum c.args.scene.now (c.args.place + 1) r) c.in-Ok.is c.requires.first in
     let here : HasKind c.args.scene.now.list c.args.place (NodeKind.PairedList c.in-PairedList.numbers) = there_found (λ (f : CheckedNode). f.kind ≡ NodeKind.PairedList c.in-PairedList.numbers) (slice_get c.args.scene.now.list.nodes c.args.place) c.node.result.now c.node.ensures c.in-PairedList.is in
     let smaller : 16 * (length c.args.scene.now.list.nodes - c.args.place) + 3 < 16 * (length c.args.scene.now.list.nodes - c.args.place) + 4 = omega arith in
     search rules
@@ -870,13 +907,13 @@ walk::made_at-numbered_at-requires t c =
 
 pub walk::made_at-lambda_at-requires : goal.walk::made_at-lambda_at-requires
 walk::made_at-lambda_at-requires t c =
-    let first : AnswersDatum c.args.scene.now (c.args.place + 1) (Ok c.in-Ok.first) = subst (λ (r : Result Datum EvalFault). AnswersDatum c.args.scene.now (c.args.place + 1) r) c.in-Ok.is c.requires.first in
+    let first : AnswersDatum c.args.scene.now (c.args.place + 1) (Ok c.in-Ok.first) = subst (λ (r : Result Datum EvalStop). CountedDatum c.args.scene.now (c.args.place + 1) r) c.in-Ok.is c.requires.first in
     let here : HasKind c.args.scene.now.list c.args.place (NodeKind.Lambda c.in-Lambda.quantifier) = there_found (λ (f : CheckedNode). f.kind ≡ NodeKind.Lambda c.in-Lambda.quantifier) (slice_get c.args.scene.now.list.nodes c.args.place) c.node.result.now c.node.ensures c.in-Lambda.is in
     let smaller : 16 * (length c.args.scene.now.list.nodes - c.args.place) + 3 < 16 * (length c.args.scene.now.list.nodes - c.args.place) + 4 = omega arith in
     search rules
 
-pub lambda_walk::lambda_at-returns-in_default : goal.lambda_walk::lambda_at-returns-in_default
-lambda_walk::lambda_at-returns-in_default t c = null_answers c.trees_have_one_type.ensures c.args.scene.now c.args.place c.args.quantifier c.requires.here c.ends_once.ensures c.args.base c.requires.first c.in_default.not-List
+pub lambda_walk::lambda_at-returns-in_default-clause-answers : goal.lambda_walk::lambda_at-returns-in_default-clause-answers
+lambda_walk::lambda_at-returns-in_default-clause-answers t c = null_answers c.trees_have_one_type.ensures c.args.scene.now c.args.place c.args.quantifier c.requires.here c.ends_once.ensures c.args.base c.requires.first c.in_default.not-List
 
 pub lambda_walk::lambda_at-variable_bound-variable-requires : goal.lambda_walk::lambda_at-variable_bound-variable-requires
 lambda_walk::lambda_at-variable_bound-variable-requires t c = over_members c.trees_have_one_type.ensures c.args.scene.now c.args.place c.args.quantifier c.requires.here c.requires.stands
@@ -893,15 +930,21 @@ lambda_walk::lambda_at-members_at-requires t c =
     let suit = members_suit c.trees_have_one_type.ensures c.args.scene.now c.args.place c.args.quantifier c.requires.here c.variable_bound-variable.result c.variable_bound-variable.ensures c.right_of.result c.right_of.ensures c.ends_once.ensures c.in-List.members (subst (λ (d : Datum). AnswersDatum c.args.scene.now (c.args.place + 1) (Ok d)) c.in-List.is c.requires.first) c.requires.stands in
     search rules
 
-pub lambda_walk::lambda_at-returns-in-Ok : goal.lambda_walk::lambda_at-returns-in-Ok
-lambda_walk::lambda_at-returns-in-Ok t c =
-    made_value c.args.scene.now c.args.place c.datum_of_truth.result (truth_val c.in-Ok.truth) (truth_answers c.trees_have_one_type.ensures c.args.scene.now c.args.place c.args.quantifier c.requires.here c.variable_bound-variable.result c.variable_bound-variable.ensures c.right_of.result c.right_of.ensures c.in-List.members (subst (λ (d : Datum). AnswersDatum c.args.scene.now (c.args.place + 1) (Ok d)) c.in-List.is c.requires.first) c.in-Ok.truth c.in-Ok.ensures) c.datum_of_truth.ensures
+pub lambda_walk::lambda_at-returns-in-Ok-clause-answers : goal.lambda_walk::lambda_at-returns-in-Ok-clause-answers
+lambda_walk::lambda_at-returns-in-Ok-clause-answers t c =
+    made_value c.args.scene.now c.args.place c.datum_of_truth.result (truth_val c.in-Ok.truth) (truth_answers c.trees_have_one_type.ensures c.args.scene.now c.args.place c.args.quantifier c.requires.here c.variable_bound-variable.result c.variable_bound-variable.ensures c.right_of.result c.right_of.ensures c.in-List.members (subst (λ (d : Datum). AnswersDatum c.args.scene.now (c.args.place + 1) (Ok d)) c.in-List.is c.requires.first) c.in-Ok.truth c.in-Ok.ensures.answers) c.datum_of_truth.ensures
 
-pub lambda_walk::lambda_at-returns-in-Err : goal.lambda_walk::lambda_at-returns-in-Err
-lambda_walk::lambda_at-returns-in-Err t c = fault_answers c.trees_have_one_type.ensures c.args.scene.now c.args.place c.args.quantifier c.requires.here c.variable_bound-variable.result c.variable_bound-variable.ensures c.right_of.result c.right_of.ensures c.in-List.members (subst (λ (d : Datum). AnswersDatum c.args.scene.now (c.args.place + 1) (Ok d)) c.in-List.is c.requires.first) c.in-Err.fault c.in-Err.ensures
+pub lambda_walk::lambda_at-returns-in-Err-clause-answers : goal.lambda_walk::lambda_at-returns-in-Err-clause-answers
+lambda_walk::lambda_at-returns-in-Err-clause-answers t c =
+    by_stop (λ s. CountedMembers c.args.scene.now c.right_of.result c.args.quantifier c.variable_bound-variable.result c.in-List.members.now (Err s)) (λ s. CountedDatum c.args.scene.now c.args.place (Err s))
+    (λ fault. fault_answers c.trees_have_one_type.ensures c.args.scene.now c.args.place c.args.quantifier c.requires.here c.variable_bound-variable.result c.variable_bound-variable.ensures c.right_of.result c.right_of.ensures c.in-List.members (subst (λ (d : Datum). AnswersDatum c.args.scene.now (c.args.place + 1) (Ok d)) c.in-List.is c.requires.first) fault)
+    (λ is. tt) c.in-Err.stop c.in-Err.ensures.answers
 
 pub lambda_walk::members_at-loop-at-init : goal.lambda_walk::members_at-loop-at-init
-lambda_walk::members_at-loop-at-init t c = record { left = none_yet c.args.scene.now c.args.place c.args.quantifier c.args.variable.now c.args.members.now }
+lambda_walk::members_at-loop-at-init t c = record {
+  left = none_yet c.args.scene.now c.args.body.place c.args.body.quantifier c.args.variable.now c.args.members.now;
+  paid = none_paid c.args.scene.now c.args.body.place c.args.body.quantifier c.args.variable.now c.args.members.now c.args.budget.now;
+}
 
 pub lambda_walk::members_at-with-bound-requires : goal.lambda_walk::members_at-with-bound-requires
 lambda_walk::members_at-with-bound-requires t c =
@@ -912,28 +955,33 @@ pub lambda_walk::members_at-side_at-requires : goal.lambda_walk::members_at-side
 lambda_walk::members_at-side_at-requires t c =
     let bound = c.with-bound.result in
     let same : bound ≡ with_frame c.args.scene.now (frame_of c.args.variable.now c.index-members-at.result) = c.with-bound.ensures in
-    let stands : TruthStands bound c.args.place = subst (λ (s : SceneModel). TruthStands s c.args.place) (sym same) (body_truth c.args.scene.now c.args.variable.now c.args.place c.index-members-at.result c.requires.body) in
-    let smaller : 16 * (length bound.list.nodes - c.args.place) + 12 < 16 * (length c.args.scene.now.list.nodes - c.args.place) + 13 =
-    subst (λ (s : SceneModel). 16 * (length s.list.nodes - c.args.place) + 12 < 16 * (length c.args.scene.now.list.nodes - c.args.place) + 13) (sym same) (omega arith) in
+    let stands : TruthStands bound c.args.body.place = subst (λ (s : SceneModel). TruthStands s c.args.body.place) (sym same) (body_truth c.args.scene.now c.args.variable.now c.args.body.place c.index-members-at.result c.requires.body) in
+    let smaller : 16 * (length bound.list.nodes - c.args.body.place) + 12 < 16 * (length c.args.scene.now.list.nodes - c.args.body.place) + 13 =
+    subst (λ (s : SceneModel). 16 * (length s.list.nodes - c.args.body.place) + 12 < 16 * (length c.args.scene.now.list.nodes - c.args.body.place) + 13) (sym same) (omega arith) in
     search rules
 
-pub lambda_walk::members_at-returns-then-not-is_undecided : goal.lambda_walk::members_at-returns-then-not-is_undecided
-lambda_walk::members_at-returns-then-not-is_undecided t c =
-    decided_at c.args.scene.now c.args.place c.args.quantifier c.args.variable.now c.args.members.now c.loop-at.at c.loop-at.invariant.left c.loop-at-test.true c.index-members-at.result (sym c.index-members-at.is) c.in-Ok.truth c.undecided.result (subst (λ (s : SceneModel). AnswersTruth s c.args.place (Ok c.in-Ok.truth)) c.with-bound.ensures c.in-Ok.ensures) c.undecided.ensures
+pub lambda_walk::members_at-returns-then-not-is_undecided-clause-answers : goal.lambda_walk::members_at-returns-then-not-is_undecided-clause-answers
+lambda_walk::members_at-returns-then-not-is_undecided-clause-answers t c =
+    decided_at c.args.scene.now c.args.body.place c.args.body.quantifier c.args.variable.now c.args.members.now c.loop-at.at c.loop-at.invariant.left c.loop-at-test.true c.index-members-at.result (sym c.index-members-at.is) c.in-Ok.truth c.undecided.result (subst (λ (s : SceneModel). AnswersTruth s c.args.body.place (Ok c.in-Ok.truth)) c.with-bound.ensures c.in-Ok.ensures.answers) c.undecided.ensures
     (λ passes. let e = c.is_undecided.ensures.1 passes in cc)
 
 pub lambda_walk::members_at-loop-at-preserved : goal.lambda_walk::members_at-loop-at-preserved
 lambda_walk::members_at-loop-at-preserved t c = record {
-  left = undecided_at c.args.scene.now c.args.place c.args.quantifier c.args.variable.now c.args.members.now c.loop-at.at c.loop-at.invariant.left c.loop-at-test.true c.index-members-at.result (sym c.index-members-at.is) c.in-Ok.truth (subst (λ (s : SceneModel). AnswersTruth s c.args.place (Ok c.in-Ok.truth)) c.with-bound.ensures c.in-Ok.ensures)
+  left = undecided_at c.args.scene.now c.args.body.place c.args.body.quantifier c.args.variable.now c.args.members.now c.loop-at.at c.loop-at.invariant.left c.loop-at-test.true c.index-members-at.result (sym c.index-members-at.is) c.in-Ok.truth (subst (λ (s : SceneModel). AnswersTruth s c.args.body.place (Ok c.in-Ok.truth)) c.with-bound.ensures c.in-Ok.ensures.answers)
       (c.is_undecided.ensures.0 c.if-not-is_undecided.false);
+  paid = body_passes c.args.scene.now c.args.body.place c.args.body.quantifier c.args.variable.now c.args.members.now c.loop-at.at c.args.budget.now c.loop-at.budget c.loop-at.invariant.paid c.loop-at-test.true c.index-members-at.result (sym c.index-members-at.is) c.take_one.new.budget (subst (λ (b : Bool). IsTaken b c.loop-at.budget c.take_one.new.budget 1) c.if-not-take_one.false c.take_one.ensures) c.side_at.new.budget (subst (λ (s : SceneModel). EndsOnceHere s) c.with-bound.ensures c.ends_once.ensures) c.in-Ok.truth
+      (subst (λ (s : SceneModel). AnswersTruth s c.args.body.place (Ok c.in-Ok.truth)) c.with-bound.ensures c.in-Ok.ensures.answers)
+      (subst (λ (s : SceneModel). SpendsAt s c.args.body.place c.take_one.new.budget c.side_at.new.budget None) c.with-bound.ensures c.in-Ok.ensures.spent) (c.is_undecided.ensures.0 c.if-not-is_undecided.false);
 }
 
-pub lambda_walk::members_at-returns-in-Err : goal.lambda_walk::members_at-returns-in-Err
-lambda_walk::members_at-returns-in-Err t c =
-    fault_at c.args.scene.now c.args.place c.args.quantifier c.args.variable.now c.args.members.now c.loop-at.at c.loop-at.invariant.left c.loop-at-test.true c.index-members-at.result (sym c.index-members-at.is) c.in-Err.fault (subst (λ (s : SceneModel). AnswersTruth s c.args.place (Err c.in-Err.fault)) c.with-bound.ensures c.in-Err.ensures)
+pub lambda_walk::members_at-returns-in-Err-clause-answers : goal.lambda_walk::members_at-returns-in-Err-clause-answers
+lambda_walk::members_at-returns-in-Err-clause-answers t c =
+    by_stop (λ s. CountedTruth (with_frame c.args.scene.now (frame_of c.args.variable.now c.index-members-at.result)) c.args.body.place (Err s)) (λ s. CountedMembers c.args.scene.now c.args.body.place c.args.body.quantifier c.args.variable.now c.args.members.now (Err s))
+    (λ fault. fault_at c.args.scene.now c.args.body.place c.args.body.quantifier c.args.variable.now c.args.members.now c.loop-at.at c.loop-at.invariant.left c.loop-at-test.true c.index-members-at.result (sym c.index-members-at.is) fault)
+    (λ is. tt) c.in-Err.stop (subst (λ (s : SceneModel). CountedTruth s c.args.body.place (Err c.in-Err.stop)) c.with-bound.ensures c.in-Err.ensures.answers)
 
-pub lambda_walk::members_at-returns : goal.lambda_walk::members_at-returns
-lambda_walk::members_at-returns t c = all_undecided c.args.scene.now c.args.place c.args.quantifier c.args.variable.now c.args.members.now c.loop-at.at c.loop-at.invariant.left c.loop-at-test.false c.undecided-2.result c.undecided-2.ensures
+pub lambda_walk::members_at-returns-clause-answers : goal.lambda_walk::members_at-returns-clause-answers
+lambda_walk::members_at-returns-clause-answers t c = all_undecided c.args.scene.now c.args.body.place c.args.body.quantifier c.args.variable.now c.args.members.now c.loop-at.at c.loop-at.invariant.left c.loop-at-test.false c.undecided-2.result c.undecided-2.ensures
 
 -- ---- what search does not find any more with so many kinds
 
@@ -961,8 +1009,321 @@ walk::compared_at-part_at-requires t c =
     let there = operator_of_class c.args.scene.now.list c.args.place (OperatorClass.Comparison c.args.comparison) c.requires.comparison in
     record { stands = right_part c.args.scene.now c.args.place there.operator there.here c.requires.stands c.right_of-right_place.result c.right_of-right_place.ensures }
 
-pub walk::operand_at-truth_at-requires : goal.walk::operand_at-truth_at-requires
-walk::operand_at-truth_at-requires t c =
+pub walk::counted_at-truth_at-requires : goal.walk::counted_at-truth_at-requires
+walk::counted_at-truth_at-requires t c =
     let stands : TruthStands c.args.scene.now c.args.place = logical_stands c.args.scene.now c.args.place c.in-Logical.ensures c.requires.stands in
     let smaller : 16 * (length c.args.scene.now.list.nodes - c.args.place) + 11 < 16 * (length c.args.scene.now.list.nodes - c.args.place) + 12 = omega arith in
     search rules
+
+pub walk::made_at-returns-in-Call-clause-answers : goal.walk::made_at-returns-in-Call-clause-answers
+walk::made_at-returns-in-Call-clause-answers t c = as_counted c.args.scene.now c.args.place c.called_at.result c.as_stop.result c.as_stop.ensures c.called_at.ensures
+
+pub walk::made_at-returns-in-PairedLeft-clause-answers : goal.walk::made_at-returns-in-PairedLeft-clause-answers
+walk::made_at-returns-in-PairedLeft-clause-answers t c = as_counted c.args.scene.now c.args.place c.compared_left_at.result c.as_stop-in-PairedLeft.result c.as_stop-in-PairedLeft.ensures c.compared_left_at.ensures
+
+pub walk::made_at-returns-in-Has-clause-answers : goal.walk::made_at-returns-in-Has-clause-answers
+walk::made_at-returns-in-Has-clause-answers t c = as_counted c.args.scene.now c.args.place c.flags_at.result c.as_stop-in-Has.result c.as_stop-in-Has.ensures c.flags_at.ensures
+
+pub walk::made_at-returns-in-InPath-clause-answers : goal.walk::made_at-returns-in-InPath-clause-answers
+walk::made_at-returns-in-InPath-clause-answers t c = as_counted c.args.scene.now c.args.place c.among_at.result c.as_stop-in-InPath.result c.as_stop-in-InPath.ensures c.among_at.ensures
+
+-- ---- what is taken from the budget
+
+pub walk::truth_at-returns-clause-spent : goal.walk::truth_at-returns-clause-spent
+walk::truth_at-returns-clause-spent t c =
+    at_top (λ k. SpendsAt c.args.scene.now k c.args.budget.now c.loop-at.budget (stopped_by c.loop-at.answer)) c.loop-at.at c.args.place c.loop-at.invariant.above (omega arith) c.loop-at.invariant.spent
+
+pub walk::eager_at-returns-clause-spent : goal.walk::eager_at-returns-clause-spent
+walk::eager_at-returns-clause-spent t c =
+    at_top (λ k. SpendsAt c.args.scene.now k c.args.budget.now c.loop-at.budget (datum_stop c.loop-at.answer)) c.loop-at.at c.args.place c.loop-at.invariant.above (omega arith) c.loop-at.invariant.spent
+
+pub walk::truth_at-loop-at-preserved : goal.walk::truth_at-loop-at-preserved
+walk::truth_at-loop-at-preserved t c =
+    let l = c.loop-at in
+    let above : c.args.place < l.at = omega arith in
+    let within : l.at ≤ c.spine_bottom-bottom.result = l.invariant.within in
+    record {
+      above = omega arith;
+      within = omega arith;
+      answers = c.logical_at-answer.ensures.answers;
+      spent = c.logical_at-answer.ensures.spent c.args.budget.now (next_spent c.args.scene.now l.at c.args.place c.args.budget.now l.budget (stopped_by l.answer) above l.invariant.spent);
+    }
+
+pub walk::eager_at-loop-at-preserved : goal.walk::eager_at-loop-at-preserved
+walk::eager_at-loop-at-preserved t c =
+    let l = c.loop-at in
+    let above : c.args.place < l.at = omega arith in
+    let within : l.at ≤ c.spine_bottom-bottom.result = l.invariant.within in
+    record {
+      above = omega arith;
+      within = omega arith;
+      answers = c.made_at-answer.ensures.answers;
+      spent = c.made_at-answer.ensures.spent c.args.budget.now (next_spent c.args.scene.now l.at c.args.place c.args.budget.now l.budget (datum_stop l.answer) above l.invariant.spent);
+    }
+
+pub walk::plain_truth_at-returns-in-Leaf-clause-spent : goal.walk::plain_truth_at-returns-in-Leaf-clause-spent
+walk::plain_truth_at-returns-in-Leaf-clause-spent t c =
+    free_spends c.args.scene.now c.args.place None c.args.budget.now (leaf_free c.args.scene.now c.args.place c.in-Leaf.ensures.1) (takes_nothing c.args.budget.now)
+
+pub walk::plain_truth_at-returns-in-Ok-clause-spent : goal.walk::plain_truth_at-returns-in-Ok-clause-spent
+walk::plain_truth_at-returns-in-Ok-clause-spent t c =
+    free_spends c.args.scene.now c.args.place None c.args.budget.now (numeric_free c.args.scene.now c.args.place c.in-Numeric.ensures) (takes_nothing c.args.budget.now)
+
+pub walk::plain_truth_at-returns-in-Err-clause-spent : goal.walk::plain_truth_at-returns-in-Err-clause-spent
+walk::plain_truth_at-returns-in-Err-clause-spent t c =
+    free_spends c.args.scene.now c.args.place (Some (EvalStop.Fault c.in-Err.fault)) c.args.budget.now (numeric_free c.args.scene.now c.args.place c.in-Numeric.ensures) (fault_nothing c.in-Err.fault c.args.budget.now)
+
+pub walk::compared_truth_at-returns-in-Leaf-part_at-clause-spent : goal.walk::compared_truth_at-returns-in-Leaf-part_at-clause-spent
+walk::compared_truth_at-returns-in-Leaf-part_at-clause-spent t c =
+    free_spends c.args.scene.now c.args.place None c.args.budget.now
+    (both_free c.args.scene.now c.args.place c.args.operator c.requires.here c.right_of-right_place.result c.right_of-right_place.ensures (leaf_free c.args.scene.now (c.args.place + 1) c.in-Leaf.ensures.1) (leaf_free c.args.scene.now c.right_of-right_place.result c.in-Leaf-part_at.ensures.1))
+    (takes_nothing c.args.budget.now)
+
+pub walk::numbers_truth_at-returns-in-Err-clause-spent : goal.walk::numbers_truth_at-returns-in-Err-clause-spent
+walk::numbers_truth_at-returns-in-Err-clause-spent t c =
+    first_stops c.args.scene.now c.ends_once.ensures c.args.place WalkClass.Eager (λ leaf. cc) (walks_by c.args.scene.now.list c.args.place c.args.operator WalkClass.Eager c.requires.here c.requires.comparison) (EvalStop.Fault c.in-Err.fault) c.in-Err.ensures c.args.budget.now c.args.budget.now
+    (free_spends c.args.scene.now (c.args.place + 1) (Some (EvalStop.Fault c.in-Err.fault)) c.args.budget.now (numeric_free c.args.scene.now (c.args.place + 1) c.requires.numeric) (fault_nothing c.in-Err.fault c.args.budget.now))
+
+pub walk::numbers_truth_at-returns-in-Int-clause-spent : goal.walk::numbers_truth_at-returns-in-Int-clause-spent
+walk::numbers_truth_at-returns-in-Int-clause-spent t c =
+    free_spends c.args.scene.now c.args.place None c.args.budget.now
+    (both_free c.args.scene.now c.args.place c.args.operator c.requires.here c.right_of-right_place.result c.right_of-right_place.ensures (numeric_free c.args.scene.now (c.args.place + 1) c.requires.numeric) (leaf_free c.args.scene.now c.right_of-right_place.result c.in-Leaf.ensures.1))
+    (takes_nothing c.args.budget.now)
+
+pub walk::numbers_truth_at-returns-in-Ok-number_at-clause-spent : goal.walk::numbers_truth_at-returns-in-Ok-number_at-clause-spent
+walk::numbers_truth_at-returns-in-Ok-number_at-clause-spent t c =
+    free_spends c.args.scene.now c.args.place None c.args.budget.now
+    (both_free c.args.scene.now c.args.place c.args.operator c.requires.here c.right_of-right_place.result c.right_of-right_place.ensures (numeric_free c.args.scene.now (c.args.place + 1) c.requires.numeric) (numeric_free c.args.scene.now c.right_of-right_place.result c.in-Numeric.ensures))
+    (takes_nothing c.args.budget.now)
+
+pub walk::numbers_truth_at-returns-in-Err-number_at-clause-spent : goal.walk::numbers_truth_at-returns-in-Err-number_at-clause-spent
+walk::numbers_truth_at-returns-in-Err-number_at-clause-spent t c =
+    free_spends c.args.scene.now c.args.place (Some (EvalStop.Fault c.in-Err-number_at.fault)) c.args.budget.now
+    (both_free c.args.scene.now c.args.place c.args.operator c.requires.here c.right_of-right_place.result c.right_of-right_place.ensures (numeric_free c.args.scene.now (c.args.place + 1) c.requires.numeric) (numeric_free c.args.scene.now c.right_of-right_place.result c.in-Numeric.ensures))
+    (fault_nothing c.in-Err-number_at.fault c.args.budget.now)
+
+pub walk::called_truth_at-returns-in-Ok-clause-spent : goal.walk::called_truth_at-returns-in-Ok-clause-spent
+walk::called_truth_at-returns-in-Ok-clause-spent t c =
+    free_spends c.args.scene.now c.args.place None c.args.budget.now (called_free c.args.scene.now c.args.place c.args.function c.requires.here) (takes_nothing c.args.budget.now)
+
+pub walk::called_truth_at-returns-in-Err-clause-spent : goal.walk::called_truth_at-returns-in-Err-clause-spent
+walk::called_truth_at-returns-in-Err-clause-spent t c =
+    free_spends c.args.scene.now c.args.place (Some (EvalStop.Fault c.in-Err.fault)) c.args.budget.now (called_free c.args.scene.now c.args.place c.args.function c.requires.here) (fault_nothing c.in-Err.fault c.args.budget.now)
+
+pub walk::logical_at-returns-in-Err-clause-spent : goal.walk::logical_at-returns-in-Err-clause-spent
+walk::logical_at-returns-in-Err-clause-spent t c =
+    after_stop (Option Bool) c.args.scene.now c.args.place c.args.first c.in-Err.stop c.args.budget.now c.args.budget.now (Some c.in-Err.stop) c.in-Err.is
+    (first_stops c.args.scene.now c.ends_once.ensures c.args.place WalkClass.Logical (λ leaf. cc) c.requires.logical c.in-Err.stop
+    (truth_faults c.args.scene.now (c.args.place + 1) c.in-Err.stop (subst (λ (r : Result (Option Bool) EvalStop). CountedTruth c.args.scene.now (c.args.place + 1) r) c.in-Err.is c.requires.first)) c.args.budget.now)
+
+pub walk::logical_at-returns-in-Binary-clause-spent : goal.walk::logical_at-returns-in-Binary-clause-spent
+walk::logical_at-returns-in-Binary-clause-spent t c =
+    after_value (Option Bool) c.args.scene.now c.args.place c.args.first c.in-Ok.first c.args.budget.now c.connected_at.new.budget (stopped_by c.connected_at.result) c.in-Ok.is c.connected_at.ensures.spent
+
+pub walk::logical_at-returns-in_default-clause-spent : goal.walk::logical_at-returns-in_default-clause-spent
+walk::logical_at-returns-in_default-clause-spent t c =
+    let walk = found_there (λ (f : CheckedNode). walk_of_kind f.kind ≡ WalkClass.Logical) (slice_get c.args.scene.now.list.nodes c.args.place) c.node.result.now c.node.ensures c.requires.logical in
+    let here = there_found (λ (f : CheckedNode). f.kind ≡ NodeKind.Not) (slice_get c.args.scene.now.list.nodes c.args.place) c.node.result.now c.node.ensures (only_not c.node.result.now.kind walk c.in_default.not-Binary) in
+    after_value (Option Bool) c.args.scene.now c.args.place c.args.first c.in-Ok.first c.args.budget.now c.args.budget.now None c.in-Ok.is (nothing_more c.args.scene.now c.args.place NodeKind.Not tt here c.args.budget.now None (takes_nothing c.args.budget.now))
+
+pub walk::connected_at-returns-then-decides-clause-spent : goal.walk::connected_at-returns-then-decides-clause-spent
+walk::connected_at-returns-then-decides-clause-spent t c =
+    right_left_out c.args.scene.now c.args.place c.args.operator c.requires.here c.ends_once.ensures c.connective_of-connective.result c.connective_of-connective.ensures c.args.left c.requires.left (c.decides.ensures.0 c.if-decides.true) c.args.budget.now
+
+pub walk::connected_at-returns-in-Ok-clause-spent : goal.walk::connected_at-returns-in-Ok-clause-spent
+walk::connected_at-returns-in-Ok-clause-spent t c =
+    right_asked c.args.scene.now c.args.place c.args.operator c.requires.here c.ends_once.ensures c.connective_of-connective.result c.connective_of-connective.ensures c.args.left c.requires.left (λ decided. let e = c.decides.ensures.1 decided in cc) c.right_of.result c.right_of.ensures c.args.budget.now c.side_at.new.budget None c.in-Ok.ensures.spent
+
+pub walk::connected_at-returns-in-Err-clause-spent : goal.walk::connected_at-returns-in-Err-clause-spent
+walk::connected_at-returns-in-Err-clause-spent t c =
+    right_asked c.args.scene.now c.args.place c.args.operator c.requires.here c.ends_once.ensures c.connective_of-connective.result c.connective_of-connective.ensures c.args.left c.requires.left (λ decided. let e = c.decides.ensures.1 decided in cc) c.right_of.result c.right_of.ensures c.args.budget.now c.side_at.new.budget (Some c.in-Err.stop) c.in-Err.ensures.spent
+
+pub walk::counted_at-returns-in-Leaf-clause-spent : goal.walk::counted_at-returns-in-Leaf-clause-spent
+walk::counted_at-returns-in-Leaf-clause-spent t c =
+    free_spends c.args.scene.now c.args.place None c.args.budget.now (leaf_free c.args.scene.now c.args.place c.in-Leaf.ensures.1) (takes_nothing c.args.budget.now)
+
+pub walk::counted_at-returns-in-Ok-number_at-clause-spent : goal.walk::counted_at-returns-in-Ok-number_at-clause-spent
+walk::counted_at-returns-in-Ok-number_at-clause-spent t c =
+    free_spends c.args.scene.now c.args.place None c.args.budget.now (numeric_free c.args.scene.now c.args.place c.in-Numeric.ensures) (takes_nothing c.args.budget.now)
+
+pub walk::counted_at-returns-in-Err-number_at-clause-spent : goal.walk::counted_at-returns-in-Err-number_at-clause-spent
+walk::counted_at-returns-in-Err-number_at-clause-spent t c =
+    free_spends c.args.scene.now c.args.place (Some (EvalStop.Fault c.in-Err-number_at.fault)) c.args.budget.now (numeric_free c.args.scene.now c.args.place c.in-Numeric.ensures) (fault_nothing c.in-Err-number_at.fault c.args.budget.now)
+
+pub walk::made_at-returns-in-Err-clause-spent : goal.walk::made_at-returns-in-Err-clause-spent
+walk::made_at-returns-in-Err-clause-spent t c =
+    after_stop Datum c.args.scene.now c.args.place c.args.first c.in-Err.before c.args.budget.now c.args.budget.now (Some c.in-Err.before) c.in-Err.is
+    (first_stops c.args.scene.now c.ends_once.ensures c.args.place WalkClass.Eager (λ leaf. cc) c.requires.eager c.in-Err.before
+    (datum_faults c.args.scene.now (c.args.place + 1) c.in-Err.before (subst (λ (r : Result Datum EvalStop). CountedDatum c.args.scene.now (c.args.place + 1) r) c.in-Err.is c.requires.first)) c.args.budget.now)
+
+pub walk::made_at-returns-in-Member-clause-spent : goal.walk::made_at-returns-in-Member-clause-spent
+walk::made_at-returns-in-Member-clause-spent t c =
+    let here : HasKind c.args.scene.now.list c.args.place (NodeKind.Member c.in-Member.slot) = there_found (λ (f : CheckedNode). f.kind ≡ (NodeKind.Member c.in-Member.slot)) (slice_get c.args.scene.now.list.nodes c.args.place) c.node.result.now c.node.ensures c.in-Member.is in
+    after_value Datum c.args.scene.now c.args.place c.args.first c.in-Ok.first c.args.budget.now c.args.budget.now None c.in-Ok.is (nothing_more c.args.scene.now c.args.place (NodeKind.Member c.in-Member.slot) tt here c.args.budget.now None (takes_nothing c.args.budget.now))
+
+pub walk::made_at-returns-in-AnyItem-clause-spent : goal.walk::made_at-returns-in-AnyItem-clause-spent
+walk::made_at-returns-in-AnyItem-clause-spent t c =
+    let here : HasKind c.args.scene.now.list c.args.place (NodeKind.AnyItem) = there_found (λ (f : CheckedNode). f.kind ≡ (NodeKind.AnyItem)) (slice_get c.args.scene.now.list.nodes c.args.place) c.node.result.now c.node.ensures c.in-AnyItem.is in
+    after_value Datum c.args.scene.now c.args.place c.args.first c.in-Ok.first c.args.budget.now c.args.budget.now None c.in-Ok.is (nothing_more c.args.scene.now c.args.place (NodeKind.AnyItem) tt here c.args.budget.now None (takes_nothing c.args.budget.now))
+
+pub walk::made_at-returns-in-PairedRight-clause-spent : goal.walk::made_at-returns-in-PairedRight-clause-spent
+walk::made_at-returns-in-PairedRight-clause-spent t c =
+    let here : HasKind c.args.scene.now.list c.args.place (NodeKind.PairedRight c.in-PairedRight.operator c.in-PairedRight.number) = there_found (λ (f : CheckedNode). f.kind ≡ (NodeKind.PairedRight c.in-PairedRight.operator c.in-PairedRight.number)) (slice_get c.args.scene.now.list.nodes c.args.place) c.node.result.now c.node.ensures c.in-PairedRight.is in
+    after_value Datum c.args.scene.now c.args.place c.args.first c.in-Ok.first c.args.budget.now c.args.budget.now None c.in-Ok.is (nothing_more c.args.scene.now c.args.place (NodeKind.PairedRight c.in-PairedRight.operator c.in-PairedRight.number) tt here c.args.budget.now None (takes_nothing c.args.budget.now))
+
+pub walk::made_at-returns-in-PairedHas-clause-spent : goal.walk::made_at-returns-in-PairedHas-clause-spent
+walk::made_at-returns-in-PairedHas-clause-spent t c =
+    let here : HasKind c.args.scene.now.list c.args.place (NodeKind.PairedHas c.in-PairedHas.number) = there_found (λ (f : CheckedNode). f.kind ≡ (NodeKind.PairedHas c.in-PairedHas.number)) (slice_get c.args.scene.now.list.nodes c.args.place) c.node.result.now c.node.ensures c.in-PairedHas.is in
+    after_value Datum c.args.scene.now c.args.place c.args.first c.in-Ok.first c.args.budget.now c.args.budget.now None c.in-Ok.is (nothing_more c.args.scene.now c.args.place (NodeKind.PairedHas c.in-PairedHas.number) tt here c.args.budget.now None (takes_nothing c.args.budget.now))
+
+pub walk::made_at-returns-in-Call-clause-spent : goal.walk::made_at-returns-in-Call-clause-spent
+walk::made_at-returns-in-Call-clause-spent t c =
+    let here : HasKind c.args.scene.now.list c.args.place (NodeKind.Call c.in-Call.function) = there_found (λ (f : CheckedNode). f.kind ≡ (NodeKind.Call c.in-Call.function)) (slice_get c.args.scene.now.list.nodes c.args.place) c.node.result.now c.node.ensures c.in-Call.is in
+    after_value Datum c.args.scene.now c.args.place c.args.first c.in-Ok.first c.args.budget.now c.args.budget.now (datum_stop c.as_stop.result) c.in-Ok.is
+    (nothing_more c.args.scene.now c.args.place (NodeKind.Call c.in-Call.function) tt here c.args.budget.now (datum_stop c.as_stop.result) (as_spent c.called_at.result c.as_stop.result c.args.budget.now c.as_stop.ensures))
+
+pub walk::made_at-returns-in-Count-clause-spent : goal.walk::made_at-returns-in-Count-clause-spent
+walk::made_at-returns-in-Count-clause-spent t c =
+    let here : HasKind c.args.scene.now.list c.args.place (NodeKind.Count) = there_found (λ (f : CheckedNode). f.kind ≡ (NodeKind.Count)) (slice_get c.args.scene.now.list.nodes c.args.place) c.node.result.now c.node.ensures c.in-Count.is in
+    after_value Datum c.args.scene.now c.args.place c.args.first c.in-Ok.first c.args.budget.now c.args.budget.now (datum_stop c.as_stop-in-Count.result) c.in-Ok.is
+    (nothing_more c.args.scene.now c.args.place (NodeKind.Count) tt here c.args.budget.now (datum_stop c.as_stop-in-Count.result) (as_spent c.count_of.result c.as_stop-in-Count.result c.args.budget.now c.as_stop-in-Count.ensures))
+
+pub walk::made_at-returns-in-PairedLeft-clause-spent : goal.walk::made_at-returns-in-PairedLeft-clause-spent
+walk::made_at-returns-in-PairedLeft-clause-spent t c =
+    let here : HasKind c.args.scene.now.list c.args.place (NodeKind.PairedLeft c.in-PairedLeft.operator c.in-PairedLeft.number) = there_found (λ (f : CheckedNode). f.kind ≡ (NodeKind.PairedLeft c.in-PairedLeft.operator c.in-PairedLeft.number)) (slice_get c.args.scene.now.list.nodes c.args.place) c.node.result.now c.node.ensures c.in-PairedLeft.is in
+    after_value Datum c.args.scene.now c.args.place c.args.first c.in-Ok.first c.args.budget.now c.args.budget.now (datum_stop c.as_stop-in-PairedLeft.result) c.in-Ok.is
+    (nothing_more c.args.scene.now c.args.place (NodeKind.PairedLeft c.in-PairedLeft.operator c.in-PairedLeft.number) tt here c.args.budget.now (datum_stop c.as_stop-in-PairedLeft.result) (as_spent c.compared_left_at.result c.as_stop-in-PairedLeft.result c.args.budget.now c.as_stop-in-PairedLeft.ensures))
+
+pub walk::made_at-returns-in-Has-clause-spent : goal.walk::made_at-returns-in-Has-clause-spent
+walk::made_at-returns-in-Has-clause-spent t c =
+    let here : HasKind c.args.scene.now.list c.args.place (NodeKind.Has) = there_found (λ (f : CheckedNode). f.kind ≡ (NodeKind.Has)) (slice_get c.args.scene.now.list.nodes c.args.place) c.node.result.now c.node.ensures c.in-Has.is in
+    after_value Datum c.args.scene.now c.args.place c.args.first c.in-Ok.first c.args.budget.now c.args.budget.now (datum_stop c.as_stop-in-Has.result) c.in-Ok.is
+    (nothing_more c.args.scene.now c.args.place (NodeKind.Has) tt here c.args.budget.now (datum_stop c.as_stop-in-Has.result) (as_spent c.flags_at.result c.as_stop-in-Has.result c.args.budget.now c.as_stop-in-Has.ensures))
+
+pub walk::made_at-returns-in-InPath-clause-spent : goal.walk::made_at-returns-in-InPath-clause-spent
+walk::made_at-returns-in-InPath-clause-spent t c =
+    let here : HasKind c.args.scene.now.list c.args.place (NodeKind.InPath) = there_found (λ (f : CheckedNode). f.kind ≡ (NodeKind.InPath)) (slice_get c.args.scene.now.list.nodes c.args.place) c.node.result.now c.node.ensures c.in-InPath.is in
+    after_value Datum c.args.scene.now c.args.place c.args.first c.in-Ok.first c.args.budget.now c.args.budget.now (datum_stop c.as_stop-in-InPath.result) c.in-Ok.is
+    (nothing_more c.args.scene.now c.args.place (NodeKind.InPath) tt here c.args.budget.now (datum_stop c.as_stop-in-InPath.result) (as_spent c.among_at.result c.as_stop-in-InPath.result c.args.budget.now c.as_stop-in-InPath.ensures))
+
+pub walk::made_at-returns-in-InList-clause-spent : goal.walk::made_at-returns-in-InList-clause-spent
+walk::made_at-returns-in-InList-clause-spent t c =
+    after_value Datum c.args.scene.now c.args.place c.args.first c.in-Ok.first c.args.budget.now c.listed_at.new.budget (datum_stop c.listed_at.result) c.in-Ok.is c.listed_at.ensures.spent
+
+pub walk::made_at-returns-in-PairedList-clause-spent : goal.walk::made_at-returns-in-PairedList-clause-spent
+walk::made_at-returns-in-PairedList-clause-spent t c =
+    after_value Datum c.args.scene.now c.args.place c.args.first c.in-Ok.first c.args.budget.now c.numbered_at.new.budget (datum_stop c.numbered_at.result) c.in-Ok.is c.numbered_at.ensures.spent
+
+pub walk::made_at-returns-in-Lambda-clause-spent : goal.walk::made_at-returns-in-Lambda-clause-spent
+walk::made_at-returns-in-Lambda-clause-spent t c =
+    after_value Datum c.args.scene.now c.args.place c.args.first c.in-Ok.first c.args.budget.now c.lambda_at.new.budget (datum_stop c.lambda_at.result) c.in-Ok.is c.lambda_at.ensures.spent
+
+pub walk::made_at-returns-in-Comparison-clause-spent : goal.walk::made_at-returns-in-Comparison-clause-spent
+walk::made_at-returns-in-Comparison-clause-spent t c =
+    after_value Datum c.args.scene.now c.args.place c.args.first c.in-Ok.first c.args.budget.now c.compared_at.new.budget (datum_stop c.compared_at.result) c.in-Ok.is c.compared_at.ensures.spent
+
+pub walk::compared_at-returns-in-Leaf-clause-spent : goal.walk::compared_at-returns-in-Leaf-clause-spent
+walk::compared_at-returns-in-Leaf-clause-spent t c =
+    let there = operator_of_class c.args.scene.now.list c.args.place (OperatorClass.Comparison c.args.comparison) c.requires.comparison in
+    right_compared c.args.scene.now c.args.place there.operator there.here c.ends_once.ensures (λ type. datum_val (reading_at (slots_of c.args.scene.now.row.schema) type) c.args.left) c.requires.left c.args.comparison there.class_is c.right_of-right_place.result c.right_of-right_place.ensures c.args.budget.now c.args.budget.now None
+    (free_spends c.args.scene.now c.right_of-right_place.result None c.args.budget.now (leaf_free c.args.scene.now c.right_of-right_place.result c.in-Leaf.ensures.1) (takes_nothing c.args.budget.now))
+
+pub walk::compared_at-returns-in-Ok-clause-spent : goal.walk::compared_at-returns-in-Ok-clause-spent
+walk::compared_at-returns-in-Ok-clause-spent t c =
+    let there = operator_of_class c.args.scene.now.list c.args.place (OperatorClass.Comparison c.args.comparison) c.requires.comparison in
+    right_compared c.args.scene.now c.args.place there.operator there.here c.ends_once.ensures (λ type. datum_val (reading_at (slots_of c.args.scene.now.row.schema) type) c.args.left) c.requires.left c.args.comparison there.class_is c.right_of-right_place.result c.right_of-right_place.ensures c.args.budget.now c.counted_at.new.budget None c.in-Ok.ensures.spent
+
+pub walk::compared_at-returns-clause-spent : goal.walk::compared_at-returns-clause-spent
+walk::compared_at-returns-clause-spent t c =
+    let there = operator_of_class c.args.scene.now.list c.args.place (OperatorClass.Comparison c.args.comparison) c.requires.comparison in
+    right_compared c.args.scene.now c.args.place there.operator there.here c.ends_once.ensures (λ type. datum_val (reading_at (slots_of c.args.scene.now.row.schema) type) c.args.left) c.requires.left c.args.comparison there.class_is c.right_of-right_place.result c.right_of-right_place.ensures c.args.budget.now c.counted_at.new.budget (Some c.in-Err.behind) c.in-Err.ensures.spent
+
+pub paired_walk::right_read_truth_at-returns-in-Leaf-clause-spent : goal.paired_walk::right_read_truth_at-returns-in-Leaf-clause-spent
+paired_walk::right_read_truth_at-returns-in-Leaf-clause-spent t c =
+    free_spends c.args.scene.now c.args.place None c.args.budget.now (left_free c.args.scene.now c.args.place c.args.operator c.args.number c.requires.here (leaf_free c.args.scene.now (c.args.place + 1) c.in-Leaf.ensures.1)) (takes_nothing c.args.budget.now)
+
+pub paired_walk::left_read_truth_at-returns-in-Leaf-clause-spent : goal.paired_walk::left_read_truth_at-returns-in-Leaf-clause-spent
+paired_walk::left_read_truth_at-returns-in-Leaf-clause-spent t c =
+    free_spends c.args.scene.now c.args.place None c.args.budget.now (right_free c.args.scene.now c.args.place c.args.operator c.args.number c.requires.here c.right_of.result c.right_of.ensures (leaf_free c.args.scene.now c.right_of.result c.in-Leaf.ensures.1)) (takes_nothing c.args.budget.now)
+
+pub walk::operand_at-fault_of-requires : goal.walk::operand_at-fault_of-requires
+walk::operand_at-fault_of-requires t c =
+    λ same. never_costly c.args.scene.now c.args.place c.requires.stands c.costs_once.ensures c.counted_at.new.budget
+    (subst (λ (s : EvalStop). SpendsAt c.args.scene.now c.args.place Budget.Unbounded c.counted_at.new.budget (Some s)) same c.in-Err.ensures.spent)
+
+pub lambda_walk::lambda_at-returns-in_default-clause-spent : goal.lambda_walk::lambda_at-returns-in_default-clause-spent
+lambda_walk::lambda_at-returns-in_default-clause-spent t c =
+    null_spends c.trees_have_one_type.ensures c.args.scene.now c.args.place c.args.quantifier c.requires.here c.ends_once.ensures c.args.base c.requires.first c.in_default.not-List c.args.budget.now
+
+pub lambda_walk::lambda_at-returns-in-Ok-clause-spent : goal.lambda_walk::lambda_at-returns-in-Ok-clause-spent
+lambda_walk::lambda_at-returns-in-Ok-clause-spent t c =
+    members_spend c.trees_have_one_type.ensures c.args.scene.now c.args.place c.args.quantifier c.requires.here c.ends_once.ensures c.variable_bound-variable.result c.variable_bound-variable.ensures c.right_of.result c.right_of.ensures c.in-List.members
+    (subst (λ (d : Datum). AnswersDatum c.args.scene.now (c.args.place + 1) (Ok d)) c.in-List.is c.requires.first) c.args.budget.now c.members_at.new.budget None c.in-Ok.ensures.spent
+
+pub lambda_walk::lambda_at-returns-in-Err-clause-spent : goal.lambda_walk::lambda_at-returns-in-Err-clause-spent
+lambda_walk::lambda_at-returns-in-Err-clause-spent t c =
+    members_spend c.trees_have_one_type.ensures c.args.scene.now c.args.place c.args.quantifier c.requires.here c.ends_once.ensures c.variable_bound-variable.result c.variable_bound-variable.ensures c.right_of.result c.right_of.ensures c.in-List.members
+    (subst (λ (d : Datum). AnswersDatum c.args.scene.now (c.args.place + 1) (Ok d)) c.in-List.is c.requires.first) c.args.budget.now c.members_at.new.budget (Some c.in-Err.stop) c.in-Err.ensures.spent
+
+pub lambda_walk::members_at-returns-clause-spent : goal.lambda_walk::members_at-returns-clause-spent
+lambda_walk::members_at-returns-clause-spent t c =
+    all_paid c.args.scene.now c.args.body.place c.args.body.quantifier c.args.variable.now c.args.members.now c.loop-at.at c.args.budget.now c.loop-at.budget c.loop-at.invariant.paid c.loop-at-test.false
+
+pub lambda_walk::members_at-returns-then-not-take_one-clause-spent : goal.lambda_walk::members_at-returns-then-not-take_one-clause-spent
+lambda_walk::members_at-returns-then-not-take_one-clause-spent t c =
+    none_left c.args.scene.now c.args.body.place c.args.body.quantifier c.args.variable.now c.args.members.now c.loop-at.at c.args.budget.now c.loop-at.budget c.loop-at.invariant.paid c.loop-at-test.true
+    (subst (λ (b : Bool). IsTaken b c.loop-at.budget c.take_one.new.budget 1) c.if-not-take_one.true c.take_one.ensures) c.take_one.new.budget
+
+pub lambda_walk::members_at-returns-in-Err-clause-spent : goal.lambda_walk::members_at-returns-in-Err-clause-spent
+lambda_walk::members_at-returns-in-Err-clause-spent t c =
+    body_stops c.args.scene.now c.args.body.place c.args.body.quantifier c.args.variable.now c.args.members.now c.loop-at.at c.args.budget.now c.loop-at.budget c.loop-at.invariant.paid c.loop-at-test.true c.index-members-at.result (sym c.index-members-at.is) c.take_one.new.budget (subst (λ (b : Bool). IsTaken b c.loop-at.budget c.take_one.new.budget 1) c.if-not-take_one.false c.take_one.ensures) c.side_at.new.budget (subst (λ (s : SceneModel). EndsOnceHere s) c.with-bound.ensures c.ends_once.ensures) c.in-Err.stop
+    (truth_faults (with_frame c.args.scene.now (frame_of c.args.variable.now c.index-members-at.result)) c.args.body.place c.in-Err.stop (subst (λ (s : SceneModel). CountedTruth s c.args.body.place (Err c.in-Err.stop)) c.with-bound.ensures c.in-Err.ensures.answers)) (subst (λ (s : SceneModel). SpendsAt s c.args.body.place c.take_one.new.budget c.side_at.new.budget (Some c.in-Err.stop)) c.with-bound.ensures c.in-Err.ensures.spent)
+
+pub lambda_walk::members_at-returns-then-not-is_undecided-clause-spent : goal.lambda_walk::members_at-returns-then-not-is_undecided-clause-spent
+lambda_walk::members_at-returns-then-not-is_undecided-clause-spent t c =
+    body_decides c.args.scene.now c.args.body.place c.args.body.quantifier c.args.variable.now c.args.members.now c.loop-at.at c.args.budget.now c.loop-at.budget c.loop-at.invariant.paid c.loop-at-test.true c.index-members-at.result (sym c.index-members-at.is) c.take_one.new.budget (subst (λ (b : Bool). IsTaken b c.loop-at.budget c.take_one.new.budget 1) c.if-not-take_one.false c.take_one.ensures) c.side_at.new.budget (subst (λ (s : SceneModel). EndsOnceHere s) c.with-bound.ensures c.ends_once.ensures) c.in-Ok.truth
+    (subst (λ (s : SceneModel). AnswersTruth s c.args.body.place (Ok c.in-Ok.truth)) c.with-bound.ensures c.in-Ok.ensures.answers) (subst (λ (s : SceneModel). SpendsAt s c.args.body.place c.take_one.new.budget c.side_at.new.budget None) c.with-bound.ensures c.in-Ok.ensures.spent) (λ passes. let e = c.is_undecided.ensures.1 passes in cc)
+
+pub paired_walk::numbered_item_at-returns-in-Enum-clause-spent : goal.paired_walk::numbered_item_at-returns-in-Enum-clause-spent
+paired_walk::numbered_item_at-returns-in-Enum-clause-spent t c =
+    number_spends c.args.scene.now c.args.place c.args.number c.literal.result.now c.literal.ensures c.in-Enum.n c.in-Enum.is c.args.budget.now
+
+pub paired_walk::numbered_item_at-returns-in_default-clause-spent : goal.paired_walk::numbered_item_at-returns-in_default-clause-spent
+paired_walk::numbered_item_at-returns-in_default-clause-spent t c =
+    item_spends c.args.scene.now c.args.place c.args.budget.now c.counted_at.new.budget (datum_stop c.counted_at.result) (Some c.args.number) c.counted_at.ensures.spent
+
+pub collection_walk::listed_at-returns-clause-spent : goal.collection_walk::listed_at-returns-clause-spent
+collection_walk::listed_at-returns-clause-spent t c =
+    list_ends c.args.scene.now c.args.place c.stop_of-own_stop.result c.loop-at.at None c.args.left.now c.args.budget.now c.loop-at.budget c.loop-at.invariant c.loop-at-test.false
+
+pub collection_walk::listed_at-returns-then-not-take_item-clause-spent : goal.collection_walk::listed_at-returns-then-not-take_item-clause-spent
+collection_walk::listed_at-returns-then-not-take_item-clause-spent t c =
+    list_is_costly c.args.scene.now c.args.place c.stop_of-own_stop.result c.loop-at.at None c.args.left.now c.args.budget.now c.loop-at.budget c.loop-at.invariant c.loop-at-test.true (subst (λ (b : Bool). IsTaken b c.loop-at.budget c.take_item.new.budget (item_cost (environment_of c.args.scene.now))) c.if-not-take_item.true c.take_item.ensures) c.take_item.new.budget
+
+pub collection_walk::listed_at-returns-in-Err-clause-spent : goal.collection_walk::listed_at-returns-in-Err-clause-spent
+collection_walk::listed_at-returns-in-Err-clause-spent t c =
+    item_stops c.args.scene.now c.args.place c.stop_of-own_stop.result c.loop-at.at None c.args.left.now c.args.budget.now c.loop-at.budget c.loop-at.invariant c.take_item.new.budget c.counted_at.new.budget (subst (λ (b : Bool). IsTaken b c.loop-at.budget c.take_item.new.budget (item_cost (environment_of c.args.scene.now))) c.if-not-take_item.false c.take_item.ensures) c.ends_once.ensures c.loop-at-test.true c.in-Err.stop (datum_item_faults c.args.scene.now c.loop-at.at c.in-Err.stop c.in-Err.ensures.answers) (item_spends c.args.scene.now c.loop-at.at c.take_item.new.budget c.counted_at.new.budget (Some c.in-Err.stop) None c.in-Err.ensures.spent)
+
+pub collection_walk::listed_at-returns-then-compare-clause-spent : goal.collection_walk::listed_at-returns-then-compare-clause-spent
+collection_walk::listed_at-returns-then-compare-clause-spent t c =
+    item_ends c.args.scene.now c.args.place c.stop_of-own_stop.result c.loop-at.at None c.args.left.now c.args.budget.now c.loop-at.budget c.loop-at.invariant c.take_item.new.budget c.counted_at.new.budget (subst (λ (b : Bool). IsTaken b c.loop-at.budget c.take_item.new.budget (item_cost (environment_of c.args.scene.now))) c.if-not-take_item.false c.take_item.ensures)
+    (equal_due c.args.scene.now c.args.place c.stop_of-own_stop.result c.loop-at.at (Takes c.args.budget.now c.loop-at.budget) None c.args.left.now c.loop-at.invariant c.trees_have_one_type.ensures c.in-Ok.item (alone_answers c.args.scene.now c.loop-at.at (λ type. Some (gives (datum_val (reading_at (slots_of c.args.scene.now.row.schema) type) c.in-Ok.item))) c.in-Ok.ensures.answers) c.loop-at-test.true c.ends_once.ensures c.compare.result c.compare.ensures c.if-compare.true)
+    (item_spends c.args.scene.now c.loop-at.at c.take_item.new.budget c.counted_at.new.budget None None c.in-Ok.ensures.spent)
+
+pub paired_walk::numbered_at-returns-clause-spent : goal.paired_walk::numbered_at-returns-clause-spent
+paired_walk::numbered_at-returns-clause-spent t c =
+    list_ends c.args.scene.now c.args.place c.stop_of-own_stop.result c.loop-at.at (Some c.loop-at.number) c.args.left.now c.args.budget.now c.loop-at.budget c.loop-at.invariant c.loop-at-test.false
+
+pub paired_walk::numbered_at-returns-then-not-take_item-clause-spent : goal.paired_walk::numbered_at-returns-then-not-take_item-clause-spent
+paired_walk::numbered_at-returns-then-not-take_item-clause-spent t c =
+    list_is_costly c.args.scene.now c.args.place c.stop_of-own_stop.result c.loop-at.at (Some c.loop-at.number) c.args.left.now c.args.budget.now c.loop-at.budget c.loop-at.invariant c.loop-at-test.true (subst (λ (b : Bool). IsTaken b c.loop-at.budget c.take_item.new.budget (item_cost (environment_of c.args.scene.now))) c.if-not-take_item.true c.take_item.ensures) c.take_item.new.budget
+
+pub paired_walk::numbered_at-returns-in-Err-clause-spent : goal.paired_walk::numbered_at-returns-in-Err-clause-spent
+paired_walk::numbered_at-returns-in-Err-clause-spent t c =
+    item_stops c.args.scene.now c.args.place c.stop_of-own_stop.result c.loop-at.at (Some c.loop-at.number) c.args.left.now c.args.budget.now c.loop-at.budget c.loop-at.invariant c.take_item.new.budget c.numbered_item_at.new.budget (subst (λ (b : Bool). IsTaken b c.loop-at.budget c.take_item.new.budget (item_cost (environment_of c.args.scene.now))) c.if-not-take_item.false c.take_item.ensures) c.ends_once.ensures c.loop-at-test.true c.in-Err.stop (item_faults_of c.args.scene.now c.loop-at.at (Some c.loop-at.number) c.in-Err.stop c.in-Err.ensures.answers) c.in-Err.ensures.spent
+
+pub paired_walk::numbered_at-returns-then-compare-clause-spent : goal.paired_walk::numbered_at-returns-then-compare-clause-spent
+paired_walk::numbered_at-returns-then-compare-clause-spent t c =
+    item_ends c.args.scene.now c.args.place c.stop_of-own_stop.result c.loop-at.at (Some c.loop-at.number) c.args.left.now c.args.budget.now c.loop-at.budget c.loop-at.invariant c.take_item.new.budget c.numbered_item_at.new.budget (subst (λ (b : Bool). IsTaken b c.loop-at.budget c.take_item.new.budget (item_cost (environment_of c.args.scene.now))) c.if-not-take_item.false c.take_item.ensures)
+    (equal_due c.args.scene.now c.args.place c.stop_of-own_stop.result c.loop-at.at (Takes c.args.budget.now c.loop-at.budget) (Some c.loop-at.number) c.args.left.now c.loop-at.invariant c.trees_have_one_type.ensures c.in-Ok.item c.in-Ok.ensures.answers c.loop-at-test.true c.ends_once.ensures c.compare.result c.compare.ensures c.if-compare.true)
+    c.in-Ok.ensures.spent

@@ -1,18 +1,23 @@
 use Rattle.std.proofs.Common.{◌≤◌, ◌+◌, ◌-◌, ◌*◌, None, Some, length}
-use Rattle.odata_eval.specs.private.WalkAnswer.{AnswersDatum, AnswersNumber, AnswersTruth}
+use Rattle.odata_eval.specs.private.Spending.{CountedDatum, CountedTruth, SpendsAt, Takes, datum_stop, stopped_by}
+use Rattle.odata_eval.specs.private.WalkAnswer.{AnswersNumber}
+use Rattle.odata_eval.proofs.spending.Members.{MembersPaid}
 use Rattle.odata_eval.proofs.walking.ItemSteps.{ListLeft}
 use Rattle.odata_eval.proofs.walking.MembersAsked.{MembersLeft}
 use Rattle.odata_eval.proofs.+evaluate.Given as goal
 
 -- what is left of the list counts first, and in one place the order of the calls
 abbrev pub decreases-number_walk::number_operand_at : goal.decreases-number_walk::number_operand_at
-decreases-number_walk::number_operand_at l = 16 * (length l.scene.now.list.nodes - l.place) + 14
+decreases-number_walk::number_operand_at l = 16 * (length l.scene.now.list.nodes - l.place) + 15
 
 abbrev pub decreases-number_walk::made_number_at : goal.decreases-number_walk::made_number_at
-decreases-number_walk::made_number_at l = 16 * (length l.scene.now.list.nodes - l.place) + 13
+decreases-number_walk::made_number_at l = 16 * (length l.scene.now.list.nodes - l.place) + 14
 
 abbrev pub decreases-walk::operand_at : goal.decreases-walk::operand_at
-decreases-walk::operand_at l = 16 * (length l.scene.now.list.nodes - l.place) + 12
+decreases-walk::operand_at l = 16 * (length l.scene.now.list.nodes - l.place) + 13
+
+abbrev pub decreases-walk::counted_at : goal.decreases-walk::counted_at
+decreases-walk::counted_at l = 16 * (length l.scene.now.list.nodes - l.place) + 12
 
 abbrev pub decreases-walk::side_at : goal.decreases-walk::side_at
 decreases-walk::side_at l = 16 * (length l.scene.now.list.nodes - l.place) + 12
@@ -84,13 +89,14 @@ abbrev pub decreases-lambda_walk::lambda_at : goal.decreases-lambda_walk::lambda
 decreases-lambda_walk::lambda_at l = 16 * (length l.scene.now.list.nodes - l.place) + 3
 
 abbrev pub decreases-lambda_walk::members_at : goal.decreases-lambda_walk::members_at
-decreases-lambda_walk::members_at l = 16 * (length l.scene.now.list.nodes - l.place) + 13
+decreases-lambda_walk::members_at l = 16 * (length l.scene.now.list.nodes - l.body.place) + 13
 
 abbrev pub invariant-walk::truth_at-loop-at : goal.invariant-walk::truth_at-loop-at
 invariant-walk::truth_at-loop-at l = record {
   above : l.place ≤ l.at;
   within : l.at ≤ l.bottom;
-  answers : AnswersTruth l.scene l.at l.answer;
+  answers : CountedTruth l.scene l.at l.answer;
+  spent : SpendsAt l.scene l.at l.fn.budget l.budget (stopped_by l.answer);
 }
 
 abbrev pub decreases-walk::truth_at-loop-at : goal.decreases-walk::truth_at-loop-at
@@ -110,7 +116,8 @@ abbrev pub invariant-walk::eager_at-loop-at : goal.invariant-walk::eager_at-loop
 invariant-walk::eager_at-loop-at l = record {
   above : l.place ≤ l.at;
   within : l.at ≤ l.bottom;
-  answers : AnswersDatum l.scene l.at l.answer;
+  answers : CountedDatum l.scene l.at l.answer;
+  spent : SpendsAt l.scene l.at l.fn.budget l.budget (datum_stop l.answer);
 }
 
 abbrev pub decreases-walk::eager_at-loop-at : goal.decreases-walk::eager_at-loop-at
@@ -118,7 +125,7 @@ decreases-walk::eager_at-loop-at l = l.at
 
 -- the items before the place are none that is equal
 abbrev pub invariant-collection_walk::listed_at-loop-at : goal.invariant-collection_walk::listed_at-loop-at
-invariant-collection_walk::listed_at-loop-at l = ListLeft l.scene l.place l.own_stop l.at None l.left
+invariant-collection_walk::listed_at-loop-at l = ListLeft l.scene l.place l.own_stop l.at (Takes l.fn.budget l.budget) None l.left
 
 abbrev pub decreases-collection_walk::listed_at-loop-at : goal.decreases-collection_walk::listed_at-loop-at
 decreases-collection_walk::listed_at-loop-at l = l.own_stop - l.at
@@ -139,7 +146,7 @@ abbrev pub decreases-paired_walk::numbered_item_at : goal.decreases-paired_walk:
 decreases-paired_walk::numbered_item_at l = 16 * (length l.scene.now.list.nodes - l.place) + 13
 
 abbrev pub invariant-paired_walk::numbered_at-loop-at : goal.invariant-paired_walk::numbered_at-loop-at
-invariant-paired_walk::numbered_at-loop-at l = ListLeft l.scene l.place l.own_stop l.at (Some l.number) l.left
+invariant-paired_walk::numbered_at-loop-at l = ListLeft l.scene l.place l.own_stop l.at (Takes l.fn.budget l.budget) (Some l.number) l.left
 
 abbrev pub decreases-paired_walk::numbered_at-loop-at : goal.decreases-paired_walk::numbered_at-loop-at
 decreases-paired_walk::numbered_at-loop-at l = l.own_stop - l.at
@@ -147,5 +154,6 @@ decreases-paired_walk::numbered_at-loop-at l = l.own_stop - l.at
 -- the members before the place are all undecided
 abbrev pub invariant-lambda_walk::members_at-loop-at : goal.invariant-lambda_walk::members_at-loop-at
 invariant-lambda_walk::members_at-loop-at l = record {
-  left : MembersLeft l.scene l.place l.quantifier l.variable l.members l.at;
+  left : MembersLeft l.scene l.body.place l.body.quantifier l.variable l.members l.at;
+  paid : MembersPaid l.scene l.body.place l.body.quantifier l.variable l.members l.at l.fn.budget l.budget;
 }

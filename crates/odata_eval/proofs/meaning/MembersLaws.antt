@@ -35,11 +35,11 @@ comes_to_on known tags shape outcome related = λ root now o. (
 )
 
 -- nothing is read there
-free : (Beside : ExprType → Type 0) (tree : Tree) (n : ℤ) → ¬ ReadsNumber tagged_slots Beside tree n
+pub free : (Beside : ExprType → Type 0) (tree : Tree) (n : ℤ) → ¬ ReadsNumber tagged_slots Beside tree n
 free = unread tagged_slots (λ name. refl)
 
 -- what a body comes to with a member for its variable
-abbrev Body : List ℕ → MomentParts → Val → Environment → List ℕ → Tree → Val → Outcome → Type 0
+abbrev pub Body : List ℕ → MomentParts → Val → Environment → List ℕ → Tree → Val → Outcome → Type 0
 Body root now tags environment variable body v =
     Means tagged_slots root now (tagged tags) (bound_over environment variable (single (primitive PrimitiveType.String)) v) body
 
@@ -62,10 +62,10 @@ over_list known quantifier body values outcome go =
 
 -- ---- with `t eq null` for a body
 
-text_is_null : (root : List ℕ) (now : MomentParts) (tags : Val) → Body root now tags [] (codes "t") is_null (text (codes "a")) (gives (boolean false))
+pub text_is_null : (root : List ℕ) (now : MomentParts) (tags : Val) → Body root now tags [] (codes "t") is_null (text (codes "a")) (gives (boolean false))
 text_is_null root now tags = inr (free _ _, inr (free _ _, (gives (text (codes "a")), (refl, (gives null, (tt, (tt, (λ no. cc, λ no. absurd no))))))))
 
-null_is_null : (root : List ℕ) (now : MomentParts) (tags : Val) → Body root now tags [] (codes "t") is_null null (gives (boolean true))
+pub null_is_null : (root : List ℕ) (now : MomentParts) (tags : Val) → Body root now tags [] (codes "t") is_null null (gives (boolean true))
 null_is_null root now tags = inr (free _ _, inr (free _ _, (gives null, (refl, (gives null, (tt, (tt, (λ is. tt, λ is. refl))))))))
 
 -- the second member decides `any`, the first one `all`
@@ -118,13 +118,13 @@ small_one = fits_signed_from_abs w32 (pos 1) (lit< tt)
 small_zero : FitsSigned w32 (pos 0)
 small_zero = fits_signed_from_abs w32 (pos 0) (lit< tt)
 
-one : IntValue (codes "1") (pos 1)
+pub one : IntValue (codes "1") (pos 1)
 one = (inr (inr (numeral_one, refl)), fits_one)
 
 none : IntValue (codes "0") (pos 0)
 none = (inr (inr (numeral_zero, refl)), fits_zero)
 
-divides : (root : List ℕ) (now : MomentParts) (tags : Val) (environment : Environment) → Means tagged_slots root now (tagged tags) environment one_div_zero divides_by_zero
+pub divides : (root : List ℕ) (now : MomentParts) (tags : Val) (environment : Environment) → Means tagged_slots root now (tagged tags) environment one_div_zero divides_by_zero
 divides root now tags environment =
     let int32 : ExprType = single (primitive PrimitiveType.Int32) in
     inr (
@@ -207,7 +207,7 @@ within root now v go = (
 )
 
 -- the text is like itself and unlike null, and null is unlike the text
-within_text : (root : List ℕ) (now : MomentParts) → Body root now text_and_null [] (codes "t") all_alike (text (codes "a")) (gives (boolean false))
+pub within_text : (root : List ℕ) (now : MomentParts) → Body root now text_and_null [] (codes "t") all_alike (text (codes "a")) (gives (boolean false))
 within_text root now =
     within root now (text (codes "a")) (
       gives (boolean true),
@@ -217,7 +217,7 @@ within_text root now =
       ),
     )
 
-within_null : (root : List ℕ) (now : MomentParts) → Body root now text_and_null [] (codes "t") all_alike null (gives (boolean false))
+pub within_null : (root : List ℕ) (now : MomentParts) → Body root now text_and_null [] (codes "t") all_alike null (gives (boolean false))
 within_null root now =
     within root now null
     (gives (boolean false), (inr (free _ _, inr (free _ _, (gives (text (codes "a")), (refl, (gives null, (refl, (tt, (λ no. cc, λ no. absurd no)))))))), refl))

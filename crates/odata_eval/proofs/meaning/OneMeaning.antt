@@ -146,7 +146,7 @@ module _ (known : OneEach) (slots : Slots) (root : List ℕ) (now : MomentParts)
     all_one environment (more_trees tree more) = (Means-one environment tree, all_one environment more)
 
     -- each item beside the operand on the left
-    items_one : (environment : Environment) (left : Tree) (items : Trees)
+    pub items_one : (environment : Environment) (left : Tree) (items : Trees)
         → AllTrees (λ tree. AtMostOne (ItemAlone slots root now entity environment (Typed slots root (scope_of environment) left) tree)) items
     items_one environment left no_trees = tt
     items_one environment left (more_trees tree more) = (

@@ -45,6 +45,9 @@ use Rattle.odata_eval.proofs.meaning.Kinds.{comparable_values}
 use Rattle.odata_eval.proofs.meaning.Reads.{number_comparable, read_has}
 use Rattle.odata_eval.proofs.walking.CallSteps.{behind_first, no_more, rest_stands}
 use Rattle.odata_eval.proofs.walking.Compared.{ComparedAnyhow}
+use Rattle.odata_eval.specs.Costs.{CostAfter, CostThen, OthersCost, item_cost}
+use Rattle.odata_eval.specs.private.Spending.{CostsHere}
+use Rattle.odata_eval.proofs.spending.Items.{ComparedHere, ItemDue, ItemsCostHere, ItemsDue, SideItem, due_first, item_due, one_compared}
 use Rattle.odata_eval.proofs.walking.Parts.{by_kind, tells_there}
 use Rattle.odata_eval.proofs.walking.ReadSides.{list_numbers}
 use Rattle.odata_eval.proofs.walking.Unread.{list_plain}
@@ -66,6 +69,9 @@ later_places count At o first (inl decides) = inl (record {
   earlier = λ k before. earlier_passes At decides.place first decides.earlier k before;
 })
 later_places count At o first (inr passes) = inr (record { each = earlier_passes At count first passes.each; is = passes.is })
+
+paid_sum : (n own paid first item_own later : ℕ) → n ≡ own + (paid + (first + (item_own + later))) → n ≡ own + (paid + (first + item_own) + later)
+paid_sum n own paid first item_own later sum = omega (arith, sum)
 
 module _ (scene : SceneModel) where
   -- the outcomes of the items beside an operand, by their places
@@ -94,6 +100,7 @@ module _ (scene : SceneModel) where
     pub marked : MarkedHere left mark items
     pub takes : (child : Tree) → Contains (list_of_trees items) child → TakesMemory child → TakesMemory tree
     pub means : (o : Outcome) → After (MeansHere scene left) (λ l. ItemsHere (TypedHere scene left) l items) o → MeansHere scene tree o
+    pub costs : (n : ℕ) → CostsHere scene tree n → CostAfter (MeansHere scene left) (CostsHere scene left) (λ l. ItemsCostHere scene (TypedHere scene left) l items) n
 
   -- each tree that stands there is one
   abbrev pub AreLists : ℕ → Option ℕ → Type 0
@@ -109,6 +116,7 @@ module _ (scene : SceneModel) where
         marked = list_plain scene place stop from to a items here stands;
         takes = λ child among. child_takes (node from to (in_list a items)) child (behind_first a child (list_of_trees items) among);
         means = λ o given. given;
+        costs = λ n costs. costs;
       })
 
   pub numbered_lists : (place numbers : ℕ) → HasKind scene.list place (NodeKind.PairedList numbers) → AreLists place (Some numbers)
@@ -121,10 +129,12 @@ module _ (scene : SceneModel) where
         marked = list_numbers scene place numbers here stop from to a items stands;
         takes = λ child among. child_takes (node from to (in_list a items)) child (behind_first a child (list_of_trees items) among);
         means = λ o given. given;
+        costs = λ n costs. costs;
       })
 
-  -- of a tree, the items from a place on: the left side has been answered, and no earlier item is equal to it
-  pub record ItemsLeft (own at : ℕ) (mark : Option ℕ) (left : Datum) (tree : Tree) : Type 0 where
+  -- of a tree, the items from a place on: the left side has been answered, and no earlier item is equal to it; so many as
+  -- IsPaid says have been paid for these
+  pub record ItemsLeft (place own at : ℕ) (IsPaid : ℕ → Type 0) (mark : Option ℕ) (left : Datum) (tree : Tree) : Type 0 where
     pub left_tree : Tree
     pub left_type : ExprType
     pub left_typed : TypedHere scene left_tree left_type
@@ -137,12 +147,14 @@ module _ (scene : SceneModel) where
     pub marked : MarkedHere left_tree mark items
     pub takes : (child : Tree) → Contains (list_of_trees items) child → TakesMemory child → TakesMemory tree
     pub goes : (o : Outcome) → ItemsHere (TypedHere scene left_tree) (left_at left left_type) items o → MeansHere scene tree o
+    pub left_means : MeansHere scene left_tree (gives (left_at left left_type))
+    pub due : (n : ℕ) → CostsHere scene tree n → ItemsDue scene place n IsPaid left_tree (left_at left left_type) items
 
   -- whatever tree stands there
-  pub record ListLeft (place own at : ℕ) (mark : Option ℕ) (left : Datum) : Type 0 where
+  pub record ListLeft (place own at : ℕ) (IsPaid : ℕ → Type 0) (mark : Option ℕ) (left : Datum) : Type 0 where
     pub behind : place < at
     pub within : at ≤ own
-    pub of_tree : (stop : ℕ) (tree : Tree) (type : ExprType) → StandsHere scene place stop tree → TypedHere scene tree type → ItemsLeft own at mark left tree
+    pub of_tree : (stop : ℕ) (tree : Tree) (type : ExprType) → StandsHere scene place stop tree → TypedHere scene tree type → ItemsLeft place own at IsPaid mark left tree
 
   -- what stands in a place stops behind it
   pub stop_further : (at stop : ℕ) → PartStands scene at → IsStopOf scene.list at stop → at < stop
@@ -158,9 +170,9 @@ module _ (scene : SceneModel) where
         (it.sides.middle, stops_here scene (place + 1) it.sides.middle it.left it.sides.left)
 
     module _ (own : ℕ) (is_own : IsStopOf scene.list place own) (at : ℕ) (is_at : IsRightOf scene.list place at) (left : Datum)
-        (first : AnswersDatum scene (place + 1) (Ok left)) (ends : EndsOnceHere scene) (part : PartStands scene place) where
+        (first : AnswersDatum scene (place + 1) (Ok left)) (ends : EndsOnceHere scene) (part : PartStands scene place) (IsPaid : ℕ → Type 0) (none_paid : IsPaid 0) where
       -- at the beginning these are all items
-      all_items : (stop : ℕ) (tree : Tree) (type : ExprType) → StandsHere scene place stop tree → TypedHere scene tree type → ItemsLeft own at mark left tree
+      all_items : (stop : ℕ) (tree : Tree) (type : ExprType) → StandsHere scene place stop tree → TypedHere scene tree type → ItemsLeft place own at IsPaid mark left tree
       all_items stop tree type stands typed =
           let it = are stop tree stands in
           let sides = it.typed type typed in
@@ -181,9 +193,13 @@ module _ (scene : SceneModel) where
             marked = it.marked;
             takes = it.takes;
             goes = λ o given. it.means o (gives l, (first_is, given));
+            left_means = first_is;
+            due = λ n costs.
+                due_first scene place it.sides.middle n IsPaid it.left l it.items it.sides.left none_paid
+                (λ o of_o. let once = ends it.left sides.0 sides.2.0 in once.only o of_o ∙ sym (once.only (gives l) first_is)) (it.costs n costs);
           }
 
-      pub list_begins : ListLeft place own at mark left
+      pub list_begins : ListLeft place own at IsPaid mark left
       list_begins =
           let typed = has_type scene place part.stop part.tree part.stands in
           let all = all_items part.stop part.tree typed.0 part.stands typed.1 in
@@ -197,7 +213,7 @@ module _ (scene : SceneModel) where
           }
 
   -- the mark of the first one, and those of the others
-  first_marked : (left tree : Tree) (more : Trees) (mark : Option ℕ) → MarkedHere left mark (more_trees tree more)
+  pub first_marked : (left tree : Tree) (more : Trees) (mark : Option ℕ) → MarkedHere left mark (more_trees tree more)
       → IsMarked scene.list.values (slots_of scene.row.schema) (TypedHere scene left) mark tree × MarkedHere left (next_mark mark) more
   first_marked left tree more (Some place) are = are
   first_marked left tree more None are = are
@@ -252,13 +268,13 @@ module _ (scene : SceneModel) where
   one_within Beside own at number no_trees stand remains are = absurd (remains stand)
   one_within Beside own at number (more_trees item more) stand remains are = item_within Beside item number are.0
 
-  pub number_within : (place own at number : ℕ) (left : Datum) → ListLeft place own at (Some number) left → PartStands scene place → ¬ (at ≡ own) → number < length scene.list.values
-  number_within place own at number left rest part remains =
+  pub number_within : (place own at number : ℕ) (IsPaid : ℕ → Type 0) (left : Datum) → ListLeft place own at IsPaid (Some number) left → PartStands scene place → ¬ (at ≡ own) → number < length scene.list.values
+  number_within place own at number IsPaid left rest part remains =
       let typed = has_type scene place part.stop part.tree part.stands in
       let it = rest.of_tree part.stop part.tree typed.0 part.stands typed.1 in
       one_within (TypedHere scene it.left_tree) own at number it.items it.stand remains it.marked
 
-  module _ (place own at : ℕ) (mark : Option ℕ) (left : Datum) (rest : ListLeft place own at mark left) where
+  module _ (place own at : ℕ) (IsPaid : ℕ → Type 0) (mark : Option ℕ) (left : Datum) (rest : ListLeft place own at IsPaid mark left) where
     item_stands : (tree : Tree) (items : Trees) → StandsAll scene at own items → ¬ (at ≡ own) → PartStands scene at
     item_stands tree no_trees stand further = absurd (further stand)
     item_stands tree (more_trees item more) stand further = record { stop = stand.middle; tree = item; stands = stand.left }
@@ -309,6 +325,17 @@ module _ (scene : SceneModel) where
           faults_of fault it.left_tree it.left_type tree it.items it.types it.stand it.typed it.marked further it.takes it.goes faults;
     }
 
+    -- what is due where the next item is equal
+    pub record EqualDue (n : ℕ) : Type 0 where
+      pub left_tree : Tree
+      pub left_val : Val
+      pub tree : Tree
+      pub more : Trees
+      pub last : ℕ
+      pub stands : StandsHere scene at last tree
+      pub mark_is : IsMarked scene.list.values (slots_of scene.row.schema) (TypedHere scene left_tree) mark tree
+      pub due : ItemDue scene place n IsPaid left_tree left_val tree more (gives (boolean true))
+
     module _ (types_one : OneType) (item : Datum) (answers : AnswersItem scene at mark (λ type. Some (gives (left_at item type)))) (remains : ¬ (at ≡ own)) where
       -- the next item, with its type and its value
       record NextItem (left_tree : Tree) (left_type : ExprType) (whole : Tree) : Type 0 where
@@ -324,6 +351,9 @@ module _ (scene : SceneModel) where
         marked : MarkedHere left_tree (next_mark mark) more
         takes : (child : Tree) → Contains (list_of_trees more) child → TakesMemory child → TakesMemory whole
         goes : (o : Outcome) → ItemsHere (TypedHere scene left_tree) (left_at left left_type) (more_trees tree more) o → MeansHere scene whole o
+        mark_is : IsMarked scene.list.values (slots_of scene.row.schema) (TypedHere scene left_tree) mark tree
+        side : SideItem scene left_tree (left_at left left_type) tree
+        due : (n : ℕ) → CostsHere scene whole n → ItemsDue scene place n IsPaid left_tree (left_at left left_type) (more_trees tree more)
 
       -- by its number, or by its type, it is compared with the left value
       item_equality : EndsOnceHere scene → (left_tree : Tree) (s : ExprType) (l : Val) (tree : Tree) (t : ExprType) (v : Val) → TypedHere scene left_tree s
@@ -348,10 +378,11 @@ module _ (scene : SceneModel) where
           → HasType (slots_of scene.row.schema) left_type (left_at left left_type)
           → StandsAll scene at own items → TypedAll scene items types → AllBeside left_type items types → MarkedHere left_tree mark items
           → ((child : Tree) → Contains (list_of_trees items) child → TakesMemory child → TakesMemory whole)
-          → ((o : Outcome) → ItemsHere (TypedHere scene left_tree) (left_at left left_type) items o → MeansHere scene whole o) → NextItem left_tree left_type whole
-      next_of ends left_tree left_type whole no_trees types left_typed has stand typed beside marked takes goes = absurd (remains stand)
-      next_of ends left_tree left_type whole (more_trees tree more) [] left_typed has stand typed beside marked takes goes = absurd typed
-      next_of ends left_tree left_type whole (more_trees tree more) (t ∷ types) left_typed has stand typed beside marked takes goes =
+          → ((o : Outcome) → ItemsHere (TypedHere scene left_tree) (left_at left left_type) items o → MeansHere scene whole o)
+          → MeansHere scene left_tree (gives (left_at left left_type)) → ((n : ℕ) → CostsHere scene whole n → ItemsDue scene place n IsPaid left_tree (left_at left left_type) items) → NextItem left_tree left_type whole
+      next_of ends left_tree left_type whole no_trees types left_typed has stand typed beside marked takes goes left_means due = absurd (remains stand)
+      next_of ends left_tree left_type whole (more_trees tree more) [] left_typed has stand typed beside marked takes goes left_means due = absurd typed
+      next_of ends left_tree left_type whole (more_trees tree more) (t ∷ types) left_typed has stand typed beside marked takes goes left_means due =
           let marks = first_marked left_tree tree more mark marked in
           let is : AloneHere scene (TypedHere scene left_tree) tree (gives (left_at item t)) =
           answers.of_item left_tree stand.middle tree t stand.left typed.0 marks.0 in
@@ -368,10 +399,13 @@ module _ (scene : SceneModel) where
             marked = marks.1;
             takes = λ child among. takes child (behind_first tree child (list_of_trees more) among);
             goes = goes;
+            mark_is = marks.0;
+            side = record { left_type = left_type; left_typed = left_typed; left_means = left_means; item_type = t; item_typed = typed.0; beside = beside.0 };
+            due = due;
           }
 
-      next_in : EndsOnceHere scene → (whole : Tree) (it : ItemsLeft own at mark left whole) → NextItem it.left_tree it.left_type whole
-      next_in ends whole it = next_of ends it.left_tree it.left_type whole it.items it.types it.left_typed it.left_has it.stand it.typed it.beside it.marked it.takes it.goes
+      next_in : EndsOnceHere scene → (whole : Tree) (it : ItemsLeft place own at IsPaid mark left whole) → NextItem it.left_tree it.left_type whole
+      next_in ends whole it = next_of ends it.left_tree it.left_type whole it.items it.types it.left_typed it.left_has it.stand it.typed it.beside it.marked it.takes it.goes it.left_means it.due
 
       -- it may be compared with the left value
       pub may_compare_item : EndsOnceHere scene → ComparedAnyhow → PartStands scene place → (l r : Reading) → HaveEquality (datum_val l left) (datum_val r item)
@@ -403,13 +437,50 @@ module _ (scene : SceneModel) where
         }
 
         -- one that differs does not, and the others are left
+        differs_here : (Beside : ExprType → Type 0) (l v : Val) (tree : Tree) (more : Trees) → AloneHere scene Beside tree (gives v) → HaveEquality l v → ¬ (AreEqual l v)
+            → After (ItemHere Beside (more_trees tree more) 0) (CompareGives ComparisonOperator.Eq l) (gives (boolean false))
+        differs_here Beside l v tree more means equality differs = (gives v, (means, (equality, ((λ no. absurd (cc)), (λ same. absurd (differs same))))))
+
         passes_item : (Beside : ExprType → Type 0) (l v : Val) (tree : Tree) (more : Trees) → AloneHere scene Beside tree (gives v) → HaveEquality l v → ¬ (AreEqual l v)
             → Passes Quantifier.Any (After (ItemHere Beside (more_trees tree more) 0) (CompareGives ComparisonOperator.Eq l))
-        passes_item Beside l v tree more means equality differs =
-            (boolean false, (gives v, (means, (equality, ((λ no. absurd (cc)), (λ same. absurd (differs same)))))), tt)
+        passes_item Beside l v tree more means equality differs = (boolean false, differs_here Beside l v tree more means equality differs, tt)
 
-        pub item_differs : answer ≡ false → PartStands scene place → (stop : ℕ) → IsStopOf scene.list at stop → ListLeft place own stop (next_mark mark) left
-        item_differs so part stop is_stop =
+        -- what is due of the next item, whose outcome as compared is known
+        next_due : (whole left_tree : Tree) (left_type : ExprType) (next : NextItem left_tree left_type whole) (o : Outcome)
+            → ComparedHere scene (TypedHere scene left_tree) (left_at left left_type) next.tree o → (n : ℕ) → CostsHere scene whole n
+            → ItemDue scene place n IsPaid left_tree (left_at left left_type) next.tree next.more o
+        next_due whole left_tree left_type next o is n costs =
+            item_due scene place n IsPaid left_tree (left_at left left_type) next.tree next.more o
+            (λ p of_p. one_compared scene ends left_tree (left_at left left_type) next.tree next.side p o of_p is) (next.due n costs)
+
+        module _ (IsPaidNow : ℕ → Type 0)
+            (pays : (left_tree : Tree) (last : ℕ) (tree : Tree) (paid cost : ℕ) → StandsHere scene at last tree → IsMarked scene.list.values (slots_of scene.row.schema) (TypedHere scene left_tree) mark tree
+            → CostsHere scene tree cost → IsPaid paid → IsPaidNow (paid + (item_cost (environment_of scene) + cost))) where
+          -- so it has been paid for
+          whole_due : (o : Outcome) → (whole : Tree) (left_tree : Tree) (left_type : ExprType) (next : NextItem left_tree left_type whole)
+              → ComparedHere scene (TypedHere scene left_tree) (left_at left left_type) next.tree o
+              → ((later : ℕ) → CostThen o (OthersCost Quantifier.Any (ItemsCostHere scene (TypedHere scene left_tree) (left_at left left_type) next.more)) later
+              → ItemsCostHere scene (TypedHere scene left_tree) (left_at left left_type) next.more later)
+              → (n : ℕ) → CostsHere scene whole n → ItemsDue scene place n IsPaidNow left_tree (left_at left left_type) next.more
+          whole_due o whole left_tree left_type next is goes n costs =
+              let it = next_due whole left_tree left_type next o is n costs in
+              record {
+                stop = it.stop;
+                stands = it.stands;
+                own = it.own;
+                costs = it.costs;
+                paid = it.paid + (item_cost (environment_of scene) + it.item_own);
+                due = it.later;
+                sum = paid_sum n it.own it.paid (item_cost (environment_of scene)) it.item_own it.later it.sum;
+                is_paid = pays left_tree next.stand.middle next.tree it.paid it.item_own next.stand.left next.mark_is it.item_costs it.is_paid;
+                asked = goes it.later it.follows_item;
+              }
+
+        pub item_differs : answer ≡ false → PartStands scene place → (stop : ℕ) → IsStopOf scene.list at stop → (IsPaidNow : ℕ → Type 0)
+            → ((left_tree : Tree) (last : ℕ) (tree : Tree) (paid cost : ℕ) → StandsHere scene at last tree → IsMarked scene.list.values (slots_of scene.row.schema) (TypedHere scene left_tree) mark tree
+            → CostsHere scene tree cost → IsPaid paid → IsPaidNow (paid + (item_cost (environment_of scene) + cost)))
+            → ListLeft place own stop IsPaidNow (next_mark mark) left
+        item_differs so part stop is_stop IsPaidNow pays =
             let has = has_type scene place part.stop part.tree part.stands in
             let there = rest.of_tree part.stop part.tree has.0 part.stands has.1 in
             let found = next_in ends part.tree there in
@@ -437,7 +508,29 @@ module _ (scene : SceneModel) where
                     beside = next.beside;
                     marked = next.marked;
                     takes = next.takes;
+                    left_means = it.left_means;
+                    due = whole_due IsPaidNow pays (gives (boolean false)) tree it.left_tree it.left_type next (differs_here (TypedHere scene it.left_tree) l v next.tree next.more next.means next.equality differs) (λ later costs. costs);
                     goes = λ o given. next.goes o (later_places (length (list_of_trees next.more)) (λ k. After (ItemHere (TypedHere scene it.left_tree) (more_trees next.tree next.more) k) (CompareGives ComparisonOperator.Eq l)) o
                         (passes_item (TypedHere scene it.left_tree) l v next.tree next.more next.means next.equality differs) given);
                   };
+            }
+
+        -- what is due where the next item is equal
+        pub equal_due : answer ≡ true → (last : ℕ) (whole : Tree) (n : ℕ) → StandsHere scene place last whole → CostsHere scene whole n → EqualDue n
+        equal_due so last whole n stands costs =
+            let has = has_type scene place last whole stands in
+            let it = rest.of_tree last whole has.0 stands has.1 in
+            let next = next_in ends whole it in
+            let l = left_at left it.left_type in
+            let v = left_at item next.type_of in
+            let equal : AreEqual l v = (compared_at it.left_type next.type_of).0 so in
+            record {
+              left_tree = it.left_tree;
+              left_val = l;
+              tree = next.tree;
+              more = next.more;
+              last = next.stand.middle;
+              stands = next.stand.left;
+              mark_is = next.mark_is;
+              due = next_due whole it.left_tree it.left_type next (gives (boolean true)) (gives v, (next.means, (next.equality, ((λ yes. equal), (λ same. refl))))) n costs;
             }

@@ -56,7 +56,7 @@ collection_is schema (EdmType.Single member) type is = absurd (cc)
 collection_is schema EdmType.Null type is = absurd (cc)
 
 -- the members of a value that has a collection's type
-vals_same : (slots : Slots) (type : SingleType) (members : List Value) → vals_of slots (single type) members ≡ items_of slots.properties type (map val_of members)
+pub vals_same : (slots : Slots) (type : SingleType) (members : List Value) → vals_of slots (single type) members ≡ items_of slots.properties type (map val_of members)
 vals_same slots type [] = refl
 vals_same slots type (value ∷ more) = ap (λ (rest : Vals). item (val_of value slots.properties (single type)) rest) (vals_same slots type more)
 
@@ -66,7 +66,7 @@ all_suit slots type [] all = tt
 all_suit slots type (value ∷ more) all = (all.0, all_suit slots type more all.1)
 
 -- a value of a collection's type that is no list is null
-null_otherwise : (slots : Slots) (type : SingleType) (base : Datum) → HasType slots (collection type) (datum_val (reading_at slots (collection type)) base)
+pub null_otherwise : (slots : Slots) (type : SingleType) (base : Datum) → HasType slots (collection type) (datum_val (reading_at slots (collection type)) base)
     → ((held : Bor (List Value)) → base ≡ datum.List held → ⊥) → base ≡ datum.Null
 null_otherwise slots type datum.Null has other = refl
 null_otherwise slots type (datum.List held) has other = absurd (other held refl)
@@ -117,7 +117,7 @@ module _ (types : OneType) (scene : SceneModel) (place : ℕ) (quantifier : Quan
       pub name_same : variable.name.now ≡ asked
       pub type_same : type_of_variable scene variable ≡ single type
 
-    is_named : (stop from to : ℕ) (base : Tree) (asked : List ℕ) (body : Tree) → StandsHere scene place stop (node from to (lambda quantifier base asked body))
+    pub is_named : (stop from to : ℕ) (base : Tree) (asked : List ℕ) (body : Tree) → StandsHere scene place stop (node from to (lambda quantifier base asked body))
         → (type : SingleType) → TypedHere scene base (collection type) → IsNamed asked type
     is_named stop from to base asked body stands type typed =
         let named : Some asked ≡ Some variable.name.now = sym stands.top.text_at ∙ is_variable.name_is in
@@ -149,7 +149,7 @@ module _ (types : OneType) (scene : SceneModel) (place : ℕ) (quantifier : Quan
 
     module _ (right : ℕ) (is_right : IsRightOf scene.list place right) where
       -- the body stands behind the base, in the scope with the variable
-      in_scope : (P : Scope → Type 0) (asked : List ℕ) (type : SingleType) → IsNamed asked type
+      pub in_scope : (P : Scope → Type 0) (asked : List ℕ) (type : SingleType) → IsNamed asked type
           → P (with_variable (scope_of (environment_of scene)) asked (single type)) → P (body_scope scene variable)
       in_scope P asked type named holds =
           subst (λ (n : List ℕ). P (with_variable (scope_of (environment_of scene)) n (type_of_variable scene variable))) (sym named.name_same)

@@ -246,7 +246,7 @@ module _ (schema : SchemaModel) (n : ℕ) (list : FlatTree) where
         omega arith
 
 module _ (scene : SceneModel) where
-  no_empty_call : (asked : List ℕ) (types : List ExprType) (type : ExprType) → ¬ (IsNamed Function.Now asked) → TypedAll scene no_trees types → CallTyped asked types type → ⊥
+  pub no_empty_call : (asked : List ℕ) (types : List ExprType) (type : ExprType) → ¬ (IsNamed Function.Now asked) → TypedAll scene no_trees types → CallTyped asked types type → ⊥
   no_empty_call asked [] type later typed called =
       let some : 1 ≤ (row_of called.function).least = some_taken called.function (λ is. later (subst (λ (f : Function). IsNamed f asked) is called.named)) in
       let least : (row_of called.function).least ≤ 0 = called.typed.count.least in

@@ -26,10 +26,10 @@ use Rattle.odata_eval.specs.private.WalkAnswer.{AnswersTruth}
 
 module _ (filter : Filter) (row : Row) (moment : MomentParts) (scene : SceneModel) (right : IsFilter filter) (one_schema : filter.schema ≡ row.schema)
     (one_type : filter.filtered ≡ row.type_id) (is_row : scene.row ≡ row) (is_moment : scene.moment ≡ moment) (is_list : scene.list ≡ filter.list) (is_empty : scene.frames ≡ []) where
-  no_variables : environment_of scene ≡ []
+  pub no_variables : environment_of scene ≡ []
   no_variables = ap (environment_in scene.row.schema) is_empty
 
-  whole_stands : StandsHere scene 0 (length filter.list.nodes) (tree_of_filter filter)
+  pub whole_stands : StandsHere scene 0 (length filter.list.nodes) (tree_of_filter filter)
   whole_stands =
       subst (λ (e : Environment). Stands scene.row.schema scene.row.type_id (scope_of e) scene.list 0 (length filter.list.nodes) (tree_of_filter filter)) (sym no_variables)
       (subst (λ (r : Row). Stands r.schema r.type_id [] scene.list 0 (length filter.list.nodes) (tree_of_filter filter)) (sym is_row)
@@ -37,7 +37,7 @@ module _ (filter : Filter) (row : Row) (moment : MomentParts) (scene : SceneMode
       (subst (λ (s : SchemaModel). Stands s row.type_id [] filter.list 0 (length filter.list.nodes) (tree_of_filter filter)) one_schema
       (subst (λ (n : ℕ). Stands filter.schema n [] filter.list 0 (length filter.list.nodes) (tree_of_filter filter)) one_type right.stands))))
 
-  whole_typed : TypedHere scene (tree_of_filter filter) right.type_of
+  pub whole_typed : TypedHere scene (tree_of_filter filter) right.type_of
   whole_typed =
       subst (λ (e : Environment). Typed (slots_of scene.row.schema) (type_name_at scene.row.schema scene.row.type_id) (scope_of e) (tree_of_filter filter) right.type_of) (sym no_variables)
       (subst (λ (r : Row). Typed (slots_of r.schema) (type_name_at r.schema r.type_id) [] (tree_of_filter filter) right.type_of) (sym is_row)

@@ -53,7 +53,7 @@ AnswersKept scene place value =
 
 -- what stands in the place: a value, a node of truth values, one of numbers, or another one with operands
 abbrev pub IsPart : SceneModel → ℕ → Part → Type 0
-IsPart scene place (Part.Leaf value) = AnswersKept scene place value.now
+IsPart scene place (Part.Leaf value) = AnswersKept scene place value.now × IsClassAt scene.list WalkClass.Leaf place
 IsPart scene place Part.Logical = IsClassAt scene.list WalkClass.Logical place
 IsPart scene place Part.Numeric = IsClassAt scene.list WalkClass.Numeric place
 IsPart scene place Part.Eager = IsClassAt scene.list WalkClass.Eager place

@@ -28,8 +28,8 @@ kept_truth_at-requires c =
       stands = term_stands c.args.scene.now c.args.rest.ands c.requires.rest.ands c.requires.stands l.at above l.invariant.within c.right_of-right_place.result c.right_of-right_place.ensures;
     }
 
-pub side_at-requires-in-None : goal.side_at-requires-in-None
-side_at-requires-in-None c =
+pub term_at-requires-in-None : goal.term_at-requires-in-None
+term_at-requires-in-None c =
     let l = c.loop-at in
     let above : 0 < l.at = omega arith in
     record {
@@ -66,11 +66,11 @@ loop-at-preserved c =
     record {
       within = omega arith;
       answers = subst (λ (r : Option Bool). AnswersTruth c.args.scene.now (l.at - 1) (Ok r)) (sym c.join-left.ensures)
-          (next_answers c.args.scene.now c.args.rest.ands c.requires.rest.ands c.requires.stands l.at above l.invariant.within c.right_of-right_place.result c.right_of-right_place.ensures l.left (told_not c.decides.result (IsDecided Connective.And (truth_val l.left)) c.decides.ensures c.if-decides.false) l.invariant.answers c.in-Ok-side_at.right c.in-Ok-side_at.ensures);
+          (next_answers c.args.scene.now c.args.rest.ands c.requires.rest.ands c.requires.stands l.at above l.invariant.within c.right_of-right_place.result c.right_of-right_place.ensures l.left (told_not c.decides.result (IsDecided Connective.And (truth_val l.left)) c.decides.ensures c.if-decides.false) l.invariant.answers c.in-Ok-term_at.right c.in-Ok-term_at.ensures);
     }
 
-pub returns-in-Err-side_at : goal.returns-in-Err-side_at
-returns-in-Err-side_at c =
+pub returns-in-Err-term_at : goal.returns-in-Err-term_at
+returns-in-Err-term_at c =
     let l = c.loop-at in
     let above : 0 < l.at = omega arith in
-    fault_answers c.args.scene.now c.args.rest.ands c.requires.rest.ands c.requires.stands l.at above l.invariant.within c.right_of-right_place.result c.right_of-right_place.ensures l.left (told_not c.decides.result (IsDecided Connective.And (truth_val l.left)) c.decides.ensures c.if-decides.false) l.invariant.answers c.in-Err-side_at.fault c.in-Err-side_at.ensures
+    fault_answers c.args.scene.now c.args.rest.ands c.requires.rest.ands c.requires.stands l.at above l.invariant.within c.right_of-right_place.result c.right_of-right_place.ensures l.left (told_not c.decides.result (IsDecided Connective.And (truth_val l.left)) c.decides.ensures c.if-decides.false) l.invariant.answers c.in-Err-term_at.fault c.in-Err-term_at.ensures

@@ -1,0 +1,12 @@
+-- What a walk takes from a budget.
+pub mod Bound
+pub mod Budgets
+pub mod Free
+pub mod ItemStops
+pub mod Items
+pub mod Lambdas
+pub mod Members
+pub mod Rests
+pub mod Splits
+pub mod Stops
+pub mod Wholes

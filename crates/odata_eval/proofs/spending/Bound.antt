@@ -1,0 +1,80 @@
+-- What a bound allows of a whole filter, and that nothing is too costly without one.
+use Rattle.std.proofs.Common.{◌≡◌, ◌≤◌, ℕ, [], Option, Some, Result, Ok, Err, length, sym, subst, arith}
+use Rattle.edm_values.specs.MomentParts.{MomentParts}
+use Rattle.csdl_schema.specs.SchemaModel.{slots_of, type_name_at}
+use Rattle.edm_entities.specs.Row.{Row, value_of}
+use Rattle.odata_checked_filter.specs.Filter.{Filter, IsFilter, tree_of_filter}
+use Rattle.odata_filter_operations.specs.declared.fault.EvalFault.{EvalFault}
+use Rattle.odata_eval.specs.Costs.{Costs}
+use Rattle.odata_eval.specs.CostsOn.{CostsOn, IsWithin, KeepsBound}
+use Rattle.odata_eval.specs.Environment.{Environment}
+use Rattle.odata_eval.specs.declared.budget.Budget.{Budget}
+use Rattle.odata_eval.specs.declared.stop.EvalStop.{EvalStop}
+use Rattle.odata_eval.specs.declared.verdict.Verdict.{Verdict}
+use Rattle.std.specs.Prelude.{IfSome}
+use Rattle.odata_checked_filter.specs.Calls.{TakesMemory}
+use Rattle.odata_eval.specs.MeansOn.{IsTheOutcome}
+use Rattle.odata_eval.specs.VerdictView.{outcome_told}
+use Rattle.odata_eval.specs.private.Place.{PartStands}
+use Rattle.odata_eval.specs.private.Scene.{EndsOnceHere}
+use Rattle.odata_eval.specs.private.SceneModel.{SceneModel}
+use Rattle.odata_eval.specs.private.Spending.{CostsHere, CostsOnceHere, CountedTruth, SpendsAt, Spent, Takes, stopped_by}
+use Rattle.odata_eval.proofs.walking.Spines.{has_type}
+use Rattle.odata_eval.proofs.walking.TopNode.{no_variables, top_memory, top_outcome, whole_stands, whole_typed}
+
+-- without a bound nothing is too costly
+pub never_costly : (scene : SceneModel) (place : ℕ) → PartStands scene place → CostsOnceHere scene → (new : Budget) → SpendsAt scene place Budget.Unbounded new (Some EvalStop.TooCostly) → ⊥
+never_costly scene place part once new spends =
+    let typed = has_type scene place part.stop part.tree part.stands in
+    let cost = once part.tree typed.0 typed.1 in
+    spends.of_tree part.stop part.tree cost.cost part.stands cost.related
+
+-- what was taken lies within the bound
+taken_within : (most n : ℕ) (new : Budget) → Takes (Budget.Left most) new n → n ≤ most
+taken_within most n (Budget.Left left) takes = omega (arith, takes)
+taken_within most n Budget.Unbounded takes = absurd takes
+
+answer_within : (most n : ℕ) (new : Budget) (answer : Result Verdict EvalStop) → Spent (stopped_by answer) (Budget.Left most) new n → IsWithin most n answer
+answer_within most n new (Ok verdict) spent = taken_within most n new spent
+answer_within most n new (Err EvalStop.TooCostly) spent = spent
+answer_within most n new (Err (EvalStop.Fault EvalFault.Overflow)) spent = taken_within most n new spent
+answer_within most n new (Err (EvalStop.Fault EvalFault.DivideByZero)) spent = taken_within most n new spent
+answer_within most n new (Err (EvalStop.Fault EvalFault.Memory)) spent = tt
+
+module _ (filter : Filter) (row : Row) (moment : MomentParts) (scene : SceneModel) (right : IsFilter filter) (one_schema : filter.schema ≡ row.schema)
+    (one_type : filter.filtered ≡ row.type_id) (is_row : scene.row ≡ row) (is_moment : scene.moment ≡ moment) (is_list : scene.list ≡ filter.list) (is_empty : scene.frames ≡ []) where
+  -- what it costs there is what it costs by itself
+  costs_alone : (n : ℕ) → CostsHere scene (tree_of_filter filter) n → CostsOn scene.row scene.moment (tree_of_filter filter) n
+  costs_alone n =
+      subst (λ (e : Environment). Costs (slots_of scene.row.schema) (type_name_at scene.row.schema scene.row.type_id) scene.moment (value_of scene.row) e (tree_of_filter filter) n)
+      (no_variables filter row moment scene right one_schema one_type is_row is_moment is_list is_empty)
+
+  costs_here : (n : ℕ) → CostsOn scene.row scene.moment (tree_of_filter filter) n → CostsHere scene (tree_of_filter filter) n
+  costs_here n =
+      subst (λ (e : Environment). Costs (slots_of scene.row.schema) (type_name_at scene.row.schema scene.row.type_id) scene.moment (value_of scene.row) e (tree_of_filter filter) n)
+      (sym (no_variables filter row moment scene right one_schema one_type is_row is_moment is_list is_empty))
+
+  pub top_bound : CostsOnceHere scene → (most : ℕ) (new : Budget) (answer : Result Verdict EvalStop) (stop : Option EvalStop) → stopped_by answer ≡ stop → SpendsAt scene 0 (Budget.Left most) new stop
+      → KeepsBound row moment (tree_of_filter filter) most answer
+  top_bound once most new answer stop same spends =
+      let cost = once (tree_of_filter filter) right.type_of (whole_typed filter row moment scene right one_schema one_type is_row is_moment is_list is_empty) in
+      let spent = spends.of_tree (length filter.list.nodes) (tree_of_filter filter) cost.cost (whole_stands filter row moment scene right one_schema one_type is_row is_moment is_list is_empty) cost.related in
+      subst (λ (r : Row). KeepsBound r moment (tree_of_filter filter) most answer) is_row
+      (subst (λ (m : MomentParts). KeepsBound scene.row m (tree_of_filter filter) most answer) is_moment
+      (record {
+        cost = cost.cost;
+        related = costs_alone cost.cost cost.related;
+        only = λ other of_other. cost.only other (costs_here other of_other);
+        within = answer_within most cost.cost new answer (subst (λ (s : Option EvalStop). Spent s (Budget.Left most) new cost.cost) (sym same) spent);
+      }))
+
+  -- a stop, as an outcome, and where memory ran out
+  pub top_stop_outcome : EndsOnceHere scene → (stop : EvalStop) → CountedTruth scene 0 (Err stop) → IfSome (outcome_told (Err stop)) (IsTheOutcome row moment (tree_of_filter filter))
+  top_stop_outcome ends (EvalStop.Fault fault) answers = top_outcome filter row moment scene right one_schema one_type is_row is_moment is_list is_empty ends (Err fault) answers
+  top_stop_outcome ends EvalStop.TooCostly answers = tt
+
+  pub top_stop_memory : (stop : EvalStop) → CountedTruth scene 0 (Err stop) → stop ≡ EvalStop.Fault EvalFault.Memory → TakesMemory (tree_of_filter filter)
+  top_stop_memory (EvalStop.Fault fault) answers same =
+      let memory : fault ≡ EvalFault.Memory = cc in
+      top_memory filter row moment scene right one_schema one_type is_row is_moment is_list is_empty fault answers memory
+  top_stop_memory EvalStop.TooCostly answers same = absurd (cc)

@@ -1,0 +1,125 @@
+-- What costs nothing: leaves, nodes of numbers, calls, and literals that are read beside an enumeration.
+use Rattle.std.proofs.Common.{◌≡◌, ℕ, ℤ, List, Option, refl, slice_get}
+use Rattle.csdl_schema.specs.ExprType.{ExprType, collection, enumeration, null_type, single}
+use Rattle.csdl_schema.specs.SchemaModel.{Slots, slots_of, type_name_at}
+use Rattle.edm_entities.specs.Row.{value_of}
+use Rattle.odata_checked_filter.specs.declared.checked_node.CheckedNode.{CheckedNode}
+use Rattle.odata_checked_filter.specs.declared.checked_node.NodeKind.{NodeKind}
+use Rattle.odata_signatures.specs.CollectionTyped.{IsComparableWithMembers}
+use Rattle.odata_signatures.specs.HasTyped.{AreFlags}
+use Rattle.odata_signatures.specs.OperatorClass.{class_of}
+use Rattle.odata_signatures.specs.OperatorTyped.{ClassTyped}
+use Rattle.odata_signatures.specs.QuotedNumber.{NumberBeside}
+use Rattle.odata_signatures.specs.declared.operator_class.OperatorClass.{OperatorClass}
+use Rattle.odata_expression_types.specs.Sides.{quoted_text}
+use Rattle.odata_syntax.specs.Tree.{Tree, binary, node, literal}
+use Rattle.odata_syntax.specs.declared.node.BinaryOperator.{BinaryOperator}
+use Rattle.odata_signatures.specs.declared.function.Function.{Function}
+use Rattle.odata_eval.specs.Costs.{RightCosts}
+use Rattle.odata_eval.specs.declared.part.WalkClass.{WalkClass}
+use Rattle.odata_eval.specs.private.Place.{HasKind, IsClassAt}
+use Rattle.odata_eval.specs.private.Scene.{MeansHere, StandsHere, TypedHere}
+use Rattle.odata_eval.specs.private.SceneModel.{SceneModel, environment_of}
+use Rattle.odata_eval.specs.private.Spending.{CostsHere}
+use Rattle.odata_eval.specs.private.WalkClass.{walk_of_kind, walk_of_operator}
+use Rattle.odata_eval.proofs.costs.PlainTypes.{IsPlainType, call_free, number_plain, plain_free}
+use Rattle.odata_eval.proofs.costs.Zero.{IsFree, after_free, right_free}
+use Rattle.odata_eval.proofs.walking.Parts.{by_kind, some_there, there_found}
+use Rattle.odata_eval.proofs.walking.Unread.{operator_plain}
+
+-- no operator is taken as a leaf
+operator_inner : (class : OperatorClass) → walk_of_operator class ≡ WalkClass.Leaf → ⊥
+operator_inner (OperatorClass.Connective connective) leaf = cc
+operator_inner (OperatorClass.Comparison comparison) leaf = cc
+operator_inner (OperatorClass.Arithmetic arithmetic) leaf = cc
+
+-- operands of arithmetic
+numbers_plain : (class : OperatorClass) (left right type : ExprType) → walk_of_operator class ≡ WalkClass.Numeric → ClassTyped class left right type → IsPlainType left × IsPlainType right
+numbers_plain (OperatorClass.Arithmetic arithmetic) left right type numeric typed = (number_plain left typed.left_number typed.left_is, number_plain right typed.right_number typed.right_is)
+numbers_plain (OperatorClass.Connective connective) left right type numeric typed = absurd (cc)
+numbers_plain (OperatorClass.Comparison comparison) left right type numeric typed = absurd (cc)
+
+-- of `has`, and of `in` before a path
+pub flags_plain_type : (left right : ExprType) → AreFlags left right → IsPlainType right
+flags_plain_type null_type null_type are = tt
+flags_plain_type null_type (single (enumeration of)) are = tt
+flags_plain_type (single (enumeration by)) null_type are = tt
+flags_plain_type (single (enumeration by)) (single (enumeration of)) are = tt
+flags_plain_type _ _ are = absurd are
+
+pub path_plain_type : (left path : ExprType) → IsComparableWithMembers left path → IsPlainType path
+path_plain_type left (collection member) is = tt
+path_plain_type left _ is = absurd is
+
+-- beside a literal that is read
+pub beside_plain : (slots : Slots) (type : ExprType) (quoted : Option (List ℕ)) (n : ℤ) → NumberBeside slots type quoted n → IsPlainType type
+beside_plain slots (single (enumeration of)) quoted n is = tt
+beside_plain slots _ quoted n is = absurd is
+
+module _ (scene : SceneModel) where
+  abbrev pub FreeThere : ℕ → Type 0
+  FreeThere place = (stop : ℕ) (tree : Tree) → StandsHere scene place stop tree → IsFree (CostsHere scene tree)
+
+  -- a tree of a plain type, where the walk is
+  pub plain_here : (tree : Tree) (type : ExprType) → TypedHere scene tree type → IsPlainType type → IsFree (CostsHere scene tree)
+  plain_here = plain_free (slots_of scene.row.schema) (type_name_at scene.row.schema scene.row.type_id) scene.moment (value_of scene.row) (environment_of scene)
+
+  -- a literal that is read
+  pub read_free : (slots : Slots) (type : ExprType) (tree : Tree) (n : ℤ) → NumberBeside slots type (quoted_text tree) n → IsFree (CostsHere scene tree)
+  read_free slots (single (enumeration of)) (node start stop (literal kind spelling)) n is = λ m costs. costs
+  read_free slots (single (enumeration of)) _ n is = absurd is
+  read_free slots _ tree n is = absurd is
+
+  -- ---- nodes by their class
+
+  kind_at : (place : ℕ) (class : WalkClass) (P : NodeKind → Type 0) → IsClassAt scene.list class place
+      → ((kind : NodeKind) → walk_of_kind kind ≡ class → HasKind scene.list place kind → P kind) → (kind : NodeKind) × P kind
+  kind_at place class P is goes =
+      let found = some_there (λ (f : CheckedNode). walk_of_kind f.kind ≡ class) (slice_get scene.list.nodes place) is in
+      let kind = found.0.kind in
+      (kind, goes kind found.1.1 (there_found (λ (f : CheckedNode). f.kind ≡ kind) (slice_get scene.list.nodes place) found.0 found.1.0 refl))
+
+  leaf_of_kind : (place : ℕ) (kind : NodeKind) → walk_of_kind kind ≡ WalkClass.Leaf → HasKind scene.list place kind → FreeThere place
+  leaf_of_kind place (NodeKind.Literal kind value) leaf here = by_kind scene place (NodeKind.Literal kind value) here (λ stop tree. IsFree (CostsHere scene tree))
+      (λ k spelling stop from to stands n costs. costs)
+  leaf_of_kind place NodeKind.It leaf here = by_kind scene place NodeKind.It here (λ stop tree. IsFree (CostsHere scene tree)) (λ stop from to stands n costs. costs)
+  leaf_of_kind place (NodeKind.Property slot) leaf here = by_kind scene place (NodeKind.Property slot) here (λ stop tree. IsFree (CostsHere scene tree))
+      (λ asked stop from to stands n costs. costs)
+  leaf_of_kind place (NodeKind.Variable level) leaf here = by_kind scene place (NodeKind.Variable level) here (λ stop tree. IsFree (CostsHere scene tree))
+      (λ asked stop from to stands n costs. costs)
+  leaf_of_kind place NodeKind.Now leaf here = by_kind scene place NodeKind.Now here (λ stop tree. IsFree (CostsHere scene tree))
+      (λ asked arguments named stop from to stands.
+      call_free (slots_of scene.row.schema) (type_name_at scene.row.schema scene.row.type_id) scene.moment (value_of scene.row) (environment_of scene) from to asked arguments _ stands.top.typed)
+  leaf_of_kind place (NodeKind.Binary operator) leaf here = absurd (operator_inner (class_of operator) leaf)
+  leaf_of_kind place _ leaf here = absurd (cc)
+
+  pub leaf_free : (place : ℕ) → IsClassAt scene.list WalkClass.Leaf place → FreeThere place
+  leaf_free place is = (kind_at place WalkClass.Leaf (λ kind. FreeThere place) is (leaf_of_kind place)).1
+
+  numeric_of_kind : (place : ℕ) (kind : NodeKind) → walk_of_kind kind ≡ WalkClass.Numeric → HasKind scene.list place kind → FreeThere place
+  numeric_of_kind place NodeKind.Neg numeric here = by_kind scene place NodeKind.Neg here (λ stop tree. IsFree (CostsHere scene tree))
+      (λ operand stop from to stands.
+      let typed = stands.top.typed in
+      plain_here operand typed.operand typed.operand_typed (number_plain typed.operand typed.makes.number typed.makes.operand_is))
+  numeric_of_kind place (NodeKind.Binary operator) numeric here = by_kind scene place (NodeKind.Binary operator) here (λ stop tree. IsFree (CostsHere scene tree))
+      (λ left right stop from to stands.
+      let typed = stands.top.typed in
+      let plain = numbers_plain (class_of operator) typed.left typed.right _ numeric (operator_plain scene place stop from to left right operator here stands _ typed) in
+      after_free (MeansHere scene left) (CostsHere scene left) (λ l. RightCosts (class_of operator) l (CostsHere scene right)) (plain_here left typed.left typed.left_typed plain.0)
+      (λ l. right_free (class_of operator) l (CostsHere scene right) (plain_here right typed.right typed.right_typed plain.1)))
+  numeric_of_kind place _ numeric here = absurd (cc)
+
+  pub numeric_free : (place : ℕ) → IsClassAt scene.list WalkClass.Numeric place → FreeThere place
+  numeric_free place is = (kind_at place WalkClass.Numeric (λ kind. FreeThere place) is (numeric_of_kind place)).1
+
+  pub called_free : (place : ℕ) (function : Function) → HasKind scene.list place (NodeKind.Call function) → FreeThere place
+  called_free place function here = by_kind scene place (NodeKind.Call function) here (λ stop tree. IsFree (CostsHere scene tree))
+      (λ asked arguments named later stop from to stands.
+      call_free (slots_of scene.row.schema) (type_name_at scene.row.schema scene.row.type_id) scene.moment (value_of scene.row) (environment_of scene) from to asked arguments _ stands.top.typed)
+
+  -- an operator between two such sides
+  pub sides_free : (operator : BinaryOperator) (left right : Tree) → IsFree (CostsHere scene left) → IsFree (CostsHere scene right) → (from to : ℕ)
+      → IsFree (CostsHere scene (node from to (binary operator left right)))
+  sides_free operator left right of_left of_right from to =
+      after_free (MeansHere scene left) (CostsHere scene left) (λ l. RightCosts (class_of operator) l (CostsHere scene right)) of_left
+      (λ l. right_free (class_of operator) l (CostsHere scene right) of_right)

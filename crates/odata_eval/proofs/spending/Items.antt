@@ -1,0 +1,163 @@
+-- What the items of a list cost that have been asked for, and what is due for the others.
+use Rattle.std.proofs.Common.{◌≡◌, ◌<◌, ◌+◌, ◌∙◌, ℕ, zero, suc, [], ◌∷◌, true, false, refl, sym, subst, inl, inr, arith}
+use Rattle.edm_values.specs.Val.{Val, boolean}
+use Rattle.csdl_schema.specs.ExprType.{ExprType, collection}
+use Rattle.csdl_schema.specs.SchemaModel.{slots_of, type_name_at}
+use Rattle.edm_entities.specs.Row.{value_of}
+use Rattle.odata_functions.specs.declared.comparison.ComparisonOperator.{ComparisonOperator}
+use Rattle.odata_filter_operations.specs.CompareGives.{CompareGives}
+use Rattle.odata_filter_operations.specs.LambdaGives.{ItemsGive}
+use Rattle.odata_filter_operations.specs.LeftFirst.{After}
+use Rattle.odata_filter_operations.specs.Outcome.{Outcome, gives, overflow, divides_by_zero}
+use Rattle.odata_filter_operations.specs.QuantifierGives.{Passes}
+use Rattle.odata_signatures.specs.CollectionTyped.{IsCollection, IsItemBeside}
+use Rattle.odata_signatures.specs.ExprTypes.{boolean_type}
+use Rattle.odata_syntax.specs.Tree.{Tree, Trees, in_list, more_trees, no_trees, node}
+use Rattle.odata_syntax.specs.declared.node.Quantifier.{Quantifier}
+use Rattle.odata_expression_types.specs.Sides.{side_of}
+use Rattle.odata_eval.specs.Costs.{CostAfter, CostThen, ItemsCost, OthersCost, item_cost}
+use Rattle.odata_eval.specs.Means.{ItemMeans}
+use Rattle.odata_eval.specs.private.ItemMarks.{AloneHere}
+use Rattle.odata_eval.specs.private.Scene.{EndsOnceHere, MeansHere, StandsHere, TypedHere}
+use Rattle.odata_eval.specs.private.SceneModel.{SceneModel, environment_of}
+use Rattle.odata_eval.specs.private.Spending.{CostsHere}
+use Rattle.odata_eval.proofs.spending.Splits.{follows}
+
+module _ (scene : SceneModel) where
+  -- what items cost from the first on, after a left value
+  abbrev pub ItemsCostHere : (ExprType → Type 0) → Val → Trees → ℕ → Type 0
+  ItemsCostHere = ItemsCost (slots_of scene.row.schema) (type_name_at scene.row.schema scene.row.type_id) scene.moment (value_of scene.row) (environment_of scene)
+
+  -- what an item comes to, compared with it
+  abbrev pub ComparedHere : (ExprType → Type 0) → Val → Tree → Outcome → Type 0
+  ComparedHere Beside l item = After (AloneHere scene Beside item) (CompareGives ComparisonOperator.Eq l)
+
+  -- ---- an item compared comes to one outcome: that of a list of it alone
+
+  abbrev ItemAt : (ExprType → Type 0) → Tree → ℕ → Outcome → Type 0
+  ItemAt Beside item =
+      ItemMeans (slots_of scene.row.schema) (type_name_at scene.row.schema scene.row.type_id) scene.moment (value_of scene.row) (environment_of scene) Beside (more_trees item no_trees)
+
+  abbrev AloneGives : (ExprType → Type 0) → Val → Tree → Outcome → Type 0
+  AloneGives Beside l item = ItemsGive l 1 (ItemAt Beside item)
+
+  decides_alone : (Beside : ExprType → Type 0) (l : Val) (item : Tree) → ComparedHere Beside l item (gives (boolean true)) → AloneGives Beside l item (gives (boolean true))
+  decides_alone Beside l item compared = inl (record { place = 0; here = (gives (boolean true), (compared, refl)); earlier = λ k before. absurd (omega (arith, before)) })
+
+  passes_at : (Beside : ExprType → Type 0) (l : Val) (item : Tree) → ComparedHere Beside l item (gives (boolean false)) → (k : ℕ) → k < 1
+      → Passes Quantifier.Any (After (ItemAt Beside item k) (CompareGives ComparisonOperator.Eq l))
+  passes_at Beside l item compared zero within = (boolean false, compared, tt)
+  passes_at Beside l item compared (suc k) within = absurd (omega (arith, within))
+
+  passes_alone : (Beside : ExprType → Type 0) (l : Val) (item : Tree) → ComparedHere Beside l item (gives (boolean false)) → AloneGives Beside l item (gives (boolean false))
+  passes_alone Beside l item compared = inr (record { each = passes_at Beside l item compared; is = refl })
+
+  value_alone : (Beside : ExprType → Type 0) (l w : Val) (item : Tree) (o : Outcome) → AloneHere scene Beside item (gives w) → CompareGives ComparisonOperator.Eq l w o → AloneGives Beside l item o
+  value_alone Beside l w item (gives (boolean true)) alone compares = decides_alone Beside l item (gives w, (alone, compares))
+  value_alone Beside l w item (gives (boolean false)) alone compares = passes_alone Beside l item (gives w, (alone, compares))
+  value_alone Beside l w item (gives _) alone compares = absurd compares.1
+  value_alone Beside l w item overflow alone compares = absurd compares.1
+  value_alone Beside l w item divides_by_zero alone compares = absurd compares.1
+
+  alone_gives : (Beside : ExprType → Type 0) (l : Val) (item : Tree) (o : Outcome) → ComparedHere Beside l item o → AloneGives Beside l item o
+  alone_gives Beside l item o (gives w, (alone, compares)) = value_alone Beside l w item o alone compares
+  alone_gives Beside l item o (overflow, (alone, same)) =
+      subst (λ (p : Outcome). AloneGives Beside l item p) (sym same)
+      (inl (record { place = 0; here = (overflow, ((overflow, (alone, refl)), refl)); earlier = λ k before. absurd (omega (arith, before)) }))
+  alone_gives Beside l item o (divides_by_zero, (alone, same)) =
+      subst (λ (p : Outcome). AloneGives Beside l item p) (sym same)
+      (inl (record { place = 0; here = (divides_by_zero, ((divides_by_zero, (alone, refl)), refl)); earlier = λ k before. absurd (omega (arith, before)) }))
+
+  -- a value beside which an item may stand is none of a collection
+  beside_single : (left : ExprType) (item : Tree) (type : ExprType) → IsItemBeside (slots_of scene.row.schema) left (side_of item type) → ¬ (IsCollection left)
+  beside_single (collection of) item type (inl comparable) is = comparable
+  beside_single (collection of) item type (inr number) is = number.1
+  beside_single _ item type beside is = is
+
+  -- a left side, its value, and an item of a type that may stand beside it
+  pub record SideItem (left : Tree) (l : Val) (item : Tree) : Type 0 where
+    pub left_type : ExprType
+    pub left_typed : TypedHere scene left left_type
+    pub left_means : MeansHere scene left (gives l)
+    pub item_type : ExprType
+    pub item_typed : TypedHere scene item item_type
+    pub beside : IsItemBeside (slots_of scene.row.schema) left_type (side_of item item_type)
+
+  pub one_compared : EndsOnceHere scene → (left : Tree) (l : Val) (item : Tree) → SideItem left l item → (o p : Outcome)
+      → ComparedHere (TypedHere scene left) l item o → ComparedHere (TypedHere scene left) l item p → o ≡ p
+  one_compared ends left l item side o p of_o of_p =
+      let alone = node 0 0 (in_list left (more_trees item no_trees)) in
+      let once = ends alone boolean_type (record {
+        left = side.left_type;
+        items = side.item_type ∷ [];
+        left_typed = side.left_typed;
+        items_typed = (side.item_typed, tt);
+        makes = (beside_single side.left_type item side.item_type side.beside, (side.beside, tt), refl);
+      }) in
+      let first : MeansHere scene alone o = (gives l, (side.left_means, alone_gives (TypedHere scene left) l item o of_o)) in
+      let second : MeansHere scene alone p = (gives l, (side.left_means, alone_gives (TypedHere scene left) l item p of_p)) in
+      once.only o first ∙ sym (once.only p second)
+
+  -- ---- what is due
+
+  -- the left side's cost, what items have cost so far, and what the others are asked for
+  pub record ItemsDue (place n : ℕ) (IsPaid : ℕ → Type 0) (left : Tree) (l : Val) (items : Trees) : Type 0 where
+    pub stop : ℕ
+    pub stands : StandsHere scene (place + 1) stop left
+    pub own : ℕ
+    pub costs : CostsHere scene left own
+    pub paid : ℕ
+    pub due : ℕ
+    pub sum : n ≡ own + (paid + due)
+    pub is_paid : IsPaid paid
+    pub asked : ItemsCostHere (TypedHere scene left) l items due
+
+  pub due_first : (place stop n : ℕ) (IsPaid : ℕ → Type 0) (left : Tree) (l : Val) (items : Trees) → StandsHere scene (place + 1) stop left → IsPaid 0
+      → ((o : Outcome) → MeansHere scene left o → o ≡ gives l)
+      → CostAfter (MeansHere scene left) (CostsHere scene left) (λ v. ItemsCostHere (TypedHere scene left) v items) n → ItemsDue place n IsPaid left l items
+  due_first place stop n IsPaid left l items stands none_paid only after = record {
+    stop = stop;
+    stands = stands;
+    own = after.own;
+    costs = after.costs;
+    paid = 0;
+    due = after.rest;
+    sum = let sum = after.sum in omega (arith, sum);
+    is_paid = none_paid;
+    asked = follows after.outcome (gives l) (λ v. ItemsCostHere (TypedHere scene left) v items) after.rest (only after.outcome after.is) after.follows;
+  }
+
+  -- what is due of one item, and of the others
+  pub record ItemDue (place n : ℕ) (IsPaid : ℕ → Type 0) (left : Tree) (l : Val) (item : Tree) (more : Trees) (o : Outcome) : Type 0 where
+    pub stop : ℕ
+    pub stands : StandsHere scene (place + 1) stop left
+    pub own : ℕ
+    pub costs : CostsHere scene left own
+    pub paid : ℕ
+    pub is_paid : IsPaid paid
+    pub item_own : ℕ
+    pub item_costs : CostsHere scene item item_own
+    pub later : ℕ
+    pub sum : n ≡ own + (paid + (item_cost (environment_of scene) + (item_own + later)))
+    pub follows_item : CostThen o (OthersCost Quantifier.Any (ItemsCostHere (TypedHere scene left) l more)) later
+
+  due_sum : (n own paid due first more item_own later : ℕ) → n ≡ own + (paid + due) → due ≡ first + more → more ≡ item_own + later → n ≡ own + (paid + (first + (item_own + later)))
+  due_sum n own paid due first more item_own later a b c = omega (arith, a, b, c)
+
+  pub item_due : (place n : ℕ) (IsPaid : ℕ → Type 0) (left : Tree) (l : Val) (item : Tree) (more : Trees) (o : Outcome)
+      → ((p : Outcome) → ComparedHere (TypedHere scene left) l item p → p ≡ o) → ItemsDue place n IsPaid left l (more_trees item more) → ItemDue place n IsPaid left l item more o
+  item_due place n IsPaid left l item more o only it =
+      let after = it.asked.1 in
+      record {
+        stop = it.stop;
+        stands = it.stands;
+        own = it.own;
+        costs = it.costs;
+        paid = it.paid;
+        is_paid = it.is_paid;
+        item_own = after.own;
+        item_costs = after.costs;
+        later = after.rest;
+        sum = due_sum n it.own it.paid it.due (item_cost (environment_of scene)) it.asked.0 after.own after.rest it.sum it.asked.2 after.sum;
+        follows_item = follows after.outcome o (OthersCost Quantifier.Any (ItemsCostHere (TypedHere scene left) l more)) after.rest (only after.outcome after.is) after.follows;
+      }

@@ -1,0 +1,225 @@
+-- What the rest of a node takes from a budget, once its first operand has been answered.
+use Rattle.std.proofs.Common.{◌≡◌, ◌+◌, ◌∙◌, ℕ, List, [], ◌∷◌, Bool, true, false, Option, Some, None, Ok, refl, sym, subst}
+use Rattle.edm_values.specs.Val.{Val}
+use Rattle.csdl_schema.specs.ExprType.{ExprType}
+use Rattle.csdl_schema.specs.SchemaModel.{slots_of, type_name_at}
+use Rattle.edm_entities.specs.Row.{value_of}
+use Rattle.odata_checked_filter.specs.declared.checked_node.NodeKind.{NodeKind}
+use Rattle.odata_filter_operations.specs.Outcome.{gives}
+use Rattle.odata_filter_operations.specs.TruthGives.{truth_val}
+use Rattle.odata_signatures.specs.ArgumentTypes.{AreArgumentTypes}
+use Rattle.odata_signatures.specs.OperatorClass.{class_of}
+use Rattle.odata_signatures.specs.declared.argument_kind.ArgumentKind.{ArgumentKind}
+use Rattle.odata_signatures.specs.declared.function.Function.{Function}
+use Rattle.odata_signatures.specs.declared.operator_class.Connective.{Connective}
+use Rattle.odata_signatures.specs.declared.operator_class.OperatorClass.{OperatorClass}
+use Rattle.odata_functions.specs.declared.comparison.ComparisonOperator.{ComparisonOperator}
+use Rattle.odata_syntax.specs.Tree.{Tree, Trees, node, call, more_trees, no_trees}
+use Rattle.odata_syntax.specs.declared.node.BinaryOperator.{BinaryOperator}
+use Rattle.odata_signatures.specs.Functions.{IsNamed}
+use Rattle.odata_eval.specs.Costs.{ArgumentsCost, CostAfter, RightCosts}
+use Rattle.odata_eval.specs.declared.budget.Budget.{Budget}
+use Rattle.odata_eval.specs.declared.stop.EvalStop.{EvalStop}
+use Rattle.odata_eval.specs.private.Place.{HasKind, IsRightOf}
+use Rattle.odata_eval.specs.private.Scene.{EndsOnceHere, MeansHere, StandsHere}
+use Rattle.odata_eval.specs.private.SceneModel.{SceneModel, environment_of}
+use Rattle.odata_eval.specs.private.Spending.{CostsHere, SpendsAt, SpendsRest, Spent}
+use Rattle.odata_eval.specs.private.WalkAnswer.{AnswersAtPlace, AnswersTruth}
+use Rattle.odata_eval.specs.private.WalkClass.{IsDecided}
+use Rattle.odata_eval.proofs.costs.PlainTypes.{arguments_free}
+use Rattle.odata_eval.proofs.costs.Zero.{IsFree, right_free, then_free}
+use Rattle.odata_eval.proofs.spending.Budgets.{spent_same, takes_nothing}
+use Rattle.odata_eval.proofs.spending.Free.{FreeThere, beside_plain, flags_plain_type, path_plain_type, plain_here, read_free}
+use Rattle.odata_eval.proofs.spending.Splits.{SplitWith, follows, no_more, rest_spends}
+use Rattle.odata_eval.proofs.walking.Children.{only_child}
+use Rattle.odata_eval.proofs.walking.Parts.{by_kind}
+use Rattle.odata_eval.proofs.walking.ReadSides.{flags_read, left_read, right_read}
+use Rattle.odata_eval.proofs.walking.Spines.{TypedAll, no_empty_call, only_now, stops_there}
+use Rattle.odata_eval.proofs.walking.Unread.{flags_plain}
+
+-- ---- a tree that costs nothing
+
+pub free_spends : (scene : SceneModel) (place : ℕ) (stop : Option EvalStop) (budget : Budget) → FreeThere scene place → Spent stop budget budget 0 → SpendsAt scene place budget budget stop
+free_spends scene place stop budget free spent = record { of_tree = λ last tree n stands costs. spent_same stop budget budget 0 n (free last tree stands n costs) spent }
+
+-- ---- nodes whose other operands cost nothing
+
+abbrev pub HasNoRest : NodeKind → Type 0
+HasNoRest (NodeKind.Member slot) = Unit {0}
+HasNoRest NodeKind.Count = Unit {0}
+HasNoRest NodeKind.AnyItem = Unit {0}
+HasNoRest NodeKind.Not = Unit {0}
+HasNoRest (NodeKind.Call function) = Unit {0}
+HasNoRest (NodeKind.PairedRight operator number) = Unit {0}
+HasNoRest (NodeKind.PairedLeft operator number) = Unit {0}
+HasNoRest NodeKind.Has = Unit {0}
+HasNoRest (NodeKind.PairedHas number) = Unit {0}
+HasNoRest NodeKind.InPath = Unit {0}
+HasNoRest _ = ⊥
+
+module _ (scene : SceneModel) where
+  abbrev NoRest : ℕ → ℕ → Tree → Type 0
+  NoRest place stop tree = (n : ℕ) → CostsHere scene tree n → SplitWith scene place n (λ rest. rest ≡ 0)
+
+  no_rest_one : (place stop : ℕ) (operand : Tree) → StandsHere scene (place + 1) stop operand → (n : ℕ) → CostsHere scene operand n → SplitWith scene place n (λ rest. rest ≡ 0)
+  no_rest_one place stop operand stands n costs =
+      record { stop = stop; operand = operand; stands = stands; own = n; costs = costs; rest = 0; sum = no_more n; holds = refl }
+
+  no_rest_after : (place stop : ℕ) (operand : Tree) → StandsHere scene (place + 1) stop operand → (GoesOn : Val → ℕ → Type 0) → ((v : Val) → IsFree (GoesOn v)) → (n : ℕ)
+      → CostAfter (MeansHere scene operand) (CostsHere scene operand) GoesOn n → SplitWith scene place n (λ rest. rest ≡ 0)
+  no_rest_after place stop operand stands GoesOn free n after = record {
+    stop = stop;
+    operand = operand;
+    stands = stands;
+    own = after.own;
+    costs = after.costs;
+    rest = after.rest;
+    sum = after.sum;
+    holds = then_free after.outcome GoesOn free after.rest after.follows;
+  }
+
+  others_free : (kinds : List ArgumentKind) (argument : Tree) (more : Trees) (types : List ExprType) → TypedAll scene (more_trees argument more) types → AreArgumentTypes kinds types
+      → IsFree (ArgumentsCost (slots_of scene.row.schema) (type_name_at scene.row.schema scene.row.type_id) scene.moment (value_of scene.row) (environment_of scene) more)
+  others_free kinds argument more [] typed are = absurd typed
+  others_free [] argument more (type ∷ types) typed are = absurd are
+  others_free (kind ∷ kinds) argument more (type ∷ types) typed are =
+      arguments_free (slots_of scene.row.schema) (type_name_at scene.row.schema scene.row.type_id) scene.moment (value_of scene.row) (environment_of scene) kinds more types typed.1 are.1
+
+  call_no_rest : (place : ℕ) (asked : List ℕ) (arguments : Trees) (stop from to : ℕ) → ¬ (IsNamed Function.Now asked) → StandsHere scene place stop (node from to (call asked arguments))
+      → NoRest place stop (node from to (call asked arguments))
+  call_no_rest place asked no_trees stop from to later stands n costs = absurd (no_empty_call scene asked stands.top.typed.types _ later stands.top.typed.arguments_typed stands.top.typed.call_typed)
+  call_no_rest place asked (more_trees argument more) stop from to later stands n costs =
+      let typed = stands.top.typed in
+      let free = others_free _ argument more typed.types typed.arguments_typed typed.call_typed.typed.arguments in
+      no_rest_after place stands.children.middle argument stands.children.left _ (λ v. free) n costs
+
+  no_rest : (place : ℕ) (kind : NodeKind) → HasNoRest kind → HasKind scene.list place kind → (stop : ℕ) (tree : Tree) → StandsHere scene place stop tree → NoRest place stop tree
+  no_rest place (NodeKind.Member slot) none here = by_kind scene place (NodeKind.Member slot) here (NoRest place)
+      (λ base asked stop from to stands. no_rest_one place stop base (only_child scene (place + 1) stop base stands.children))
+  no_rest place NodeKind.Count none here = by_kind scene place NodeKind.Count here (NoRest place)
+      (λ base stop from to stands. no_rest_one place stop base (only_child scene (place + 1) stop base stands.children))
+  no_rest place NodeKind.AnyItem none here = by_kind scene place NodeKind.AnyItem here (NoRest place)
+      (λ base stop from to stands. no_rest_one place stop base (only_child scene (place + 1) stop base stands.children))
+  no_rest place NodeKind.Not none here = by_kind scene place NodeKind.Not here (NoRest place)
+      (λ operand stop from to stands. no_rest_one place stop operand (only_child scene (place + 1) stop operand stands.children))
+  no_rest place (NodeKind.Call function) none here = by_kind scene place (NodeKind.Call function) here (NoRest place)
+      (λ asked arguments named later stop from to stands. call_no_rest place asked arguments stop from to (λ of_now. later (only_now function (named ∙ sym of_now))) stands)
+  no_rest place (NodeKind.PairedRight operator number) none here = by_kind scene place (NodeKind.PairedRight operator number) here (NoRest place)
+      (λ left right stop from to stands n costs.
+      let reads = (right_read scene place operator number here stop from to left right stands).reads in
+      let free = read_free scene (slots_of scene.row.schema) reads.type_of right _ reads.number in
+      no_rest_after place stands.children.middle left stands.children.left (λ l. RightCosts (class_of operator) l (CostsHere scene right))
+      (λ l. right_free (class_of operator) l (CostsHere scene right) free) n costs)
+  no_rest place (NodeKind.PairedLeft operator number) none here = by_kind scene place (NodeKind.PairedLeft operator number) here (NoRest place)
+      (λ left right stop from to stands n costs.
+      let reads = (left_read scene place operator number here stop from to left right stands).reads.1 in
+      let free = plain_here scene right reads.type_of reads.beside.1 (beside_plain (slots_of scene.row.schema) reads.type_of _ _ reads.number) in
+      no_rest_after place stands.children.middle left stands.children.left (λ l. RightCosts (class_of operator) l (CostsHere scene right))
+      (λ l. right_free (class_of operator) l (CostsHere scene right) free) n costs)
+  no_rest place NodeKind.Has none here = by_kind scene place NodeKind.Has here (NoRest place)
+      (λ left right stop from to stands n costs.
+      let typed = stands.top.typed in
+      let free = plain_here scene right typed.right typed.right_typed (flags_plain_type typed.left typed.right (flags_plain scene place stop from to left right here stands _ typed)) in
+      no_rest_after place stands.children.middle left stands.children.left (λ l. CostsHere scene right) (λ l. free) n costs)
+  no_rest place (NodeKind.PairedHas number) none here = by_kind scene place (NodeKind.PairedHas number) here (NoRest place)
+      (λ left right stop from to stands n costs.
+      let reads = (flags_read scene place number here stop from to left right stands).reads in
+      let free = read_free scene (slots_of scene.row.schema) reads.type_of right _ reads.number in
+      no_rest_after place stands.children.middle left stands.children.left (λ l. CostsHere scene right) (λ l. free) n costs)
+  no_rest place NodeKind.InPath none here = by_kind scene place NodeKind.InPath here (NoRest place)
+      (λ left path stop from to stands n costs.
+      let typed = stands.top.typed in
+      let free = plain_here scene path typed.right typed.right_typed (path_plain_type typed.left typed.right typed.makes.0) in
+      no_rest_after place stands.children.middle left stands.children.left (λ l. CostsHere scene path) (λ l. free) n costs)
+  no_rest place _ none here = absurd none
+
+  pub nothing_more : (place : ℕ) (kind : NodeKind) → HasNoRest kind → HasKind scene.list place kind → (budget : Budget) (stop : Option EvalStop) → Spent stop budget budget 0
+      → SpendsRest scene place budget None budget stop
+  nothing_more place kind none here budget stop spent =
+      rest_spends scene place budget budget stop
+      (λ last tree n stands costs.
+      let it = no_rest place kind none here last tree stands n costs in
+      record {
+        stop = it.stop;
+        operand = it.operand;
+        stands = it.stands;
+        own = it.own;
+        costs = it.costs;
+        rest = it.rest;
+        sum = it.sum;
+        holds = spent_same stop budget budget 0 it.rest it.holds spent;
+      })
+
+  -- ---- operators between two operands
+
+  module _ (place : ℕ) (operator : BinaryOperator) (here : HasKind scene.list place (NodeKind.Binary operator)) (ends : EndsOnceHere scene)
+      (l : ExprType → Val) (first : AnswersAtPlace scene (place + 1) (λ type. Some (gives (l type)))) where
+    binary_rest : (old new : Budget) (stop : Option EvalStop)
+        → ((middle last : ℕ) (right : Tree) (type : ExprType) (rest : ℕ) → ((at : ℕ) → IsRightOf scene.list place at → middle ≡ at) → StandsHere scene middle last right
+        → RightCosts (class_of operator) (l type) (CostsHere scene right) rest → Spent stop old new rest)
+        → SpendsRest scene place old None new stop
+    binary_rest old new stop goes =
+        rest_spends scene place old new stop
+        (λ whole_last whole whole_cost whole_stands whole_costs.
+        by_kind scene place (NodeKind.Binary operator) here (λ last tree. (n : ℕ) → CostsHere scene tree n → SplitWith scene place n (λ rest. Spent stop old new rest))
+        (λ left right last from to stands n costs.
+        let typed = stands.top.typed in
+        let means : MeansHere scene left (gives (l typed.left)) = first.of_tree stands.children.middle left typed.left stands.children.left typed.left_typed in
+        let once = ends left typed.left typed.left_typed in
+        let same : costs.outcome ≡ gives (l typed.left) = once.only costs.outcome costs.is ∙ sym (once.only (gives (l typed.left)) means) in
+        let asked = follows costs.outcome (gives (l typed.left)) (λ v. RightCosts (class_of operator) v (CostsHere scene right)) costs.rest same costs.follows in
+        record {
+          stop = stands.children.middle;
+          operand = left;
+          stands = stands.children.left;
+          own = costs.own;
+          costs = costs.costs;
+          rest = costs.rest;
+          sum = costs.sum;
+          holds = goes stands.children.middle last right typed.left costs.rest (λ at is_right. stops_there scene (place + 1) stands.children.middle at left stands.children.left is_right)
+              (only_child scene stands.children.middle last right stands.children.right) asked;
+        })
+        whole_last whole whole_stands whole_cost whole_costs)
+
+    -- a comparison asks for its right side
+    pub right_compared : (comparison : ComparisonOperator) → class_of operator ≡ OperatorClass.Comparison comparison → (right_place : ℕ) → IsRightOf scene.list place right_place
+        → (old new : Budget) (stop : Option EvalStop) → SpendsAt scene right_place old new stop → SpendsRest scene place old None new stop
+    right_compared comparison class right_place is_right old new stop second =
+        binary_rest old new stop
+        (λ middle last right type rest same stands asked.
+        second.of_tree last right rest (subst (λ (m : ℕ). StandsHere scene m last right) (same right_place is_right) stands)
+        (subst (λ (c : OperatorClass). RightCosts c (l type) (CostsHere scene right) rest) class asked))
+
+-- a left side that decides asks for nothing more, another one for the right side
+decided_costs : (connective : Connective) (left : Option Bool) (Right : ℕ → Type 0) (n : ℕ) → IsDecided connective (truth_val left) → RightCosts (OperatorClass.Connective connective) (truth_val left) Right n → n ≡ 0
+decided_costs Connective.And (Some false) Right n decided costs = costs
+decided_costs Connective.Or (Some true) Right n decided costs = costs
+decided_costs Connective.And (Some true) Right n decided costs = absurd decided
+decided_costs Connective.Or (Some false) Right n decided costs = absurd decided
+decided_costs Connective.And None Right n decided costs = absurd decided
+decided_costs Connective.Or None Right n decided costs = absurd decided
+
+undecided_costs : (connective : Connective) (left : Option Bool) (Right : ℕ → Type 0) (n : ℕ) → ¬ (IsDecided connective (truth_val left)) → RightCosts (OperatorClass.Connective connective) (truth_val left) Right n → Right n
+undecided_costs Connective.And (Some false) Right n undecided costs = absurd (undecided tt)
+undecided_costs Connective.Or (Some true) Right n undecided costs = absurd (undecided tt)
+undecided_costs Connective.And (Some true) Right n undecided costs = costs
+undecided_costs Connective.Or (Some false) Right n undecided costs = costs
+undecided_costs Connective.And None Right n undecided costs = costs
+undecided_costs Connective.Or None Right n undecided costs = costs
+
+module _ (scene : SceneModel) (place : ℕ) (operator : BinaryOperator) (here : HasKind scene.list place (NodeKind.Binary operator)) (ends : EndsOnceHere scene)
+    (connective : Connective) (class : class_of operator ≡ OperatorClass.Connective connective) (left : Option Bool) (first : AnswersTruth scene (place + 1) (Ok left)) where
+  pub right_left_out : IsDecided connective (truth_val left) → (budget : Budget) → SpendsRest scene place budget None budget None
+  right_left_out decided budget =
+      binary_rest scene place operator here ends (λ type. truth_val left) first budget budget None
+      (λ middle last right type rest same stands asked.
+      let none : rest ≡ 0 = decided_costs connective left (CostsHere scene right) rest decided (subst (λ (c : OperatorClass). RightCosts c (truth_val left) (CostsHere scene right) rest) class asked) in
+      spent_same None budget budget 0 rest none (takes_nothing budget))
+
+  pub right_asked : ¬ (IsDecided connective (truth_val left)) → (right_place : ℕ) → IsRightOf scene.list place right_place
+      → (old new : Budget) (stop : Option EvalStop) → SpendsAt scene right_place old new stop → SpendsRest scene place old None new stop
+  right_asked undecided right_place is_right old new stop second =
+      binary_rest scene place operator here ends (λ type. truth_val left) first old new stop
+      (λ middle last right type rest same stands asked.
+      second.of_tree last right rest (subst (λ (m : ℕ). StandsHere scene m last right) (same right_place is_right) stands)
+      (undecided_costs connective left (CostsHere scene right) rest undecided (subst (λ (c : OperatorClass). RightCosts c (truth_val left) (CostsHere scene right) rest) class asked)))

@@ -1,0 +1,182 @@
+-- How the cost of a node divides: into its first operand's, and that of the rest.
+use Rattle.std.proofs.Common.{◌≡◌, ◌+◌, ◌∙◌, ℕ, List, Option, Some, None, refl, sym, subst, slice_get, arith}
+use Rattle.edm_values.specs.Val.{Val}
+use Rattle.odata_checked_filter.specs.declared.checked_node.CheckedNode.{CheckedNode}
+use Rattle.odata_checked_filter.specs.declared.checked_node.NodeKind.{NodeKind}
+use Rattle.odata_filter_operations.specs.FaultView.{fault_outcome}
+use Rattle.odata_filter_operations.specs.Outcome.{Outcome, overflow, divides_by_zero}
+use Rattle.odata_filter_operations.specs.declared.fault.EvalFault.{EvalFault}
+use Rattle.odata_signatures.specs.Functions.{IsNamed}
+use Rattle.odata_signatures.specs.declared.function.Function.{Function}
+use Rattle.odata_syntax.specs.Tree.{Tree, Trees, node, call, more_trees, no_trees}
+use Rattle.odata_eval.specs.Costs.{CostAfter, CostThen}
+use Rattle.odata_eval.specs.declared.budget.Budget.{Budget}
+use Rattle.odata_eval.specs.declared.part.WalkClass.{WalkClass}
+use Rattle.odata_eval.specs.declared.stop.EvalStop.{EvalStop}
+use Rattle.odata_eval.specs.private.Place.{HasKind, IsClassAt}
+use Rattle.odata_eval.specs.private.Scene.{EndsOnceHere, MeansHere, StandsHere}
+use Rattle.odata_eval.specs.private.SceneModel.{SceneModel}
+use Rattle.odata_eval.specs.private.Spending.{CostsHere, SpendsRest, Spent}
+use Rattle.odata_eval.specs.private.WalkAnswer.{AnswersAtPlace}
+use Rattle.odata_eval.specs.private.WalkClass.{walk_of_kind}
+use Rattle.odata_eval.proofs.spending.Budgets.{spent_first, spent_same, spent_then}
+use Rattle.odata_eval.proofs.walking.Children.{only_child}
+use Rattle.odata_eval.proofs.walking.Parts.{by_kind, some_there, there_found}
+use Rattle.odata_eval.proofs.walking.Spines.{has_type, no_empty_call, only_now}
+
+-- ---- what follows an outcome that is known
+
+pub follows : (outcome known : Outcome) (GoesOn : Val → ℕ → Type 0) (rest : ℕ) → outcome ≡ known → CostThen outcome GoesOn rest → CostThen known GoesOn rest
+follows outcome known GoesOn rest same costs = subst (λ (o : Outcome). CostThen o GoesOn rest) same costs
+
+-- after a fault nothing
+pub fault_follows : (fault : EvalFault) (outcome known : Outcome) (GoesOn : Val → ℕ → Type 0) (rest : ℕ) → fault_outcome fault ≡ Some known → outcome ≡ known → CostThen outcome GoesOn rest → rest ≡ 0
+fault_follows EvalFault.Overflow outcome known GoesOn rest is same costs =
+    let e : overflow ≡ known = cc in follows outcome overflow GoesOn rest (same ∙ sym e) costs
+fault_follows EvalFault.DivideByZero outcome known GoesOn rest is same costs =
+    let e : divides_by_zero ≡ known = cc in follows outcome divides_by_zero GoesOn rest (same ∙ sym e) costs
+fault_follows EvalFault.Memory outcome known GoesOn rest is same costs = absurd (cc)
+
+pub no_more : (n : ℕ) → n ≡ n + 0
+no_more n = omega arith
+
+-- ---- the first operand
+
+-- a first operand with its cost, and the rest's: nothing after a fault of it
+pub record Split (scene : SceneModel) (place n : ℕ) : Type 0 where
+  pub stop : ℕ
+  pub operand : Tree
+  pub stands : StandsHere scene (place + 1) stop operand
+  pub own : ℕ
+  pub costs : CostsHere scene operand own
+  pub rest : ℕ
+  pub sum : n ≡ own + rest
+  pub stays : (fault : EvalFault) (known : Outcome) → fault_outcome fault ≡ Some known → ((o : Outcome) → MeansHere scene operand o → o ≡ known) → rest ≡ 0
+
+-- such a first operand, of whose rest this holds
+pub record SplitWith (scene : SceneModel) (place n : ℕ) (Holds : ℕ → Type 0) : Type 0 where
+  pub stop : ℕ
+  pub operand : Tree
+  pub stands : StandsHere scene (place + 1) stop operand
+  pub own : ℕ
+  pub costs : CostsHere scene operand own
+  pub rest : ℕ
+  pub sum : n ≡ own + rest
+  pub holds : Holds rest
+
+module _ (scene : SceneModel) where
+  -- whatever its whole is, where that costs what the operand costs
+  pub split_one : (place stop : ℕ) (operand : Tree) → StandsHere scene (place + 1) stop operand → (n : ℕ) → CostsHere scene operand n → Split scene place n
+  split_one place stop operand stands n costs = record {
+    stop = stop;
+    operand = operand;
+    stands = stands;
+    own = n;
+    costs = costs;
+    rest = 0;
+    sum = no_more n;
+    stays = λ fault known is one. refl;
+  }
+
+  pub split_after : (place stop : ℕ) (operand : Tree) → StandsHere scene (place + 1) stop operand → (GoesOn : Val → ℕ → Type 0) (n : ℕ)
+      → CostAfter (MeansHere scene operand) (CostsHere scene operand) GoesOn n → Split scene place n
+  split_after place stop operand stands GoesOn n after = record {
+    stop = stop;
+    operand = operand;
+    stands = stands;
+    own = after.own;
+    costs = after.costs;
+    rest = after.rest;
+    sum = after.sum;
+    stays = λ fault known is one. fault_follows fault after.outcome known GoesOn after.rest is (one after.outcome after.is) after.follows;
+  }
+
+  split_call : (place : ℕ) (asked : List ℕ) (arguments : Trees) (stop from to : ℕ) → ¬ (IsNamed Function.Now asked) → StandsHere scene place stop (node from to (call asked arguments))
+      → (n : ℕ) → CostsHere scene (node from to (call asked arguments)) n → Split scene place n
+  split_call place asked no_trees stop from to later stands n costs = absurd (no_empty_call scene asked stands.top.typed.types _ later stands.top.typed.arguments_typed stands.top.typed.call_typed)
+  split_call place asked (more_trees argument more) stop from to later stands n costs = split_after place stands.children.middle argument stands.children.left _ n costs
+
+  abbrev Splits : ℕ → ℕ → Tree → Type 0
+  Splits place stop tree = (n : ℕ) → CostsHere scene tree n → Split scene place n
+
+  split_of_kind : (place : ℕ) (kind : NodeKind) → ¬ (walk_of_kind kind ≡ WalkClass.Leaf) → HasKind scene.list place kind → (stop : ℕ) (tree : Tree) → StandsHere scene place stop tree → Splits place stop tree
+  split_of_kind place (NodeKind.Member slot) inner here = by_kind scene place (NodeKind.Member slot) here (Splits place)
+      (λ base asked stop from to stands. split_one place stop base (only_child scene (place + 1) stop base stands.children))
+  split_of_kind place NodeKind.Count inner here = by_kind scene place NodeKind.Count here (Splits place)
+      (λ base stop from to stands. split_one place stop base (only_child scene (place + 1) stop base stands.children))
+  split_of_kind place NodeKind.AnyItem inner here = by_kind scene place NodeKind.AnyItem here (Splits place)
+      (λ base stop from to stands. split_one place stop base (only_child scene (place + 1) stop base stands.children))
+  split_of_kind place NodeKind.Neg inner here = by_kind scene place NodeKind.Neg here (Splits place)
+      (λ operand stop from to stands. split_one place stop operand (only_child scene (place + 1) stop operand stands.children))
+  split_of_kind place NodeKind.Not inner here = by_kind scene place NodeKind.Not here (Splits place)
+      (λ operand stop from to stands. split_one place stop operand (only_child scene (place + 1) stop operand stands.children))
+  split_of_kind place NodeKind.Has inner here = by_kind scene place NodeKind.Has here (Splits place)
+      (λ left right stop from to stands. split_after place stands.children.middle left stands.children.left _)
+  split_of_kind place NodeKind.InPath inner here = by_kind scene place NodeKind.InPath here (Splits place)
+      (λ left path stop from to stands. split_after place stands.children.middle left stands.children.left _)
+  split_of_kind place NodeKind.InList inner here = by_kind scene place NodeKind.InList here (Splits place)
+      (λ left items stop from to stands. split_after place stands.children.middle left stands.children.left _)
+  split_of_kind place (NodeKind.PairedRight operator number) inner here = by_kind scene place (NodeKind.PairedRight operator number) here (Splits place)
+      (λ left right stop from to stands. split_after place stands.children.middle left stands.children.left _)
+  split_of_kind place (NodeKind.PairedLeft operator number) inner here = by_kind scene place (NodeKind.PairedLeft operator number) here (Splits place)
+      (λ left right stop from to stands. split_after place stands.children.middle left stands.children.left _)
+  split_of_kind place (NodeKind.PairedHas number) inner here = by_kind scene place (NodeKind.PairedHas number) here (Splits place)
+      (λ left right stop from to stands. split_after place stands.children.middle left stands.children.left _)
+  split_of_kind place (NodeKind.PairedList numbers) inner here = by_kind scene place (NodeKind.PairedList numbers) here (Splits place)
+      (λ left items stop from to stands. split_after place stands.children.middle left stands.children.left _)
+  split_of_kind place (NodeKind.Lambda quantifier) inner here = by_kind scene place (NodeKind.Lambda quantifier) here (Splits place)
+      (λ base asked body stop from to stands. split_after place stands.children.middle base stands.children.left _)
+  split_of_kind place (NodeKind.Binary operator) inner here = by_kind scene place (NodeKind.Binary operator) here (Splits place)
+      (λ left right stop from to stands. split_after place stands.children.middle left stands.children.left _)
+  split_of_kind place (NodeKind.Call function) inner here = by_kind scene place (NodeKind.Call function) here (Splits place)
+      (λ asked arguments named later stop from to stands. split_call place asked arguments stop from to (λ of_now. later (only_now function (named ∙ sym of_now))) stands)
+  split_of_kind place _ inner here = absurd (inner refl)
+
+  pub split : (place : ℕ) (class : WalkClass) → ¬ (class ≡ WalkClass.Leaf) → IsClassAt scene.list class place → (stop : ℕ) (tree : Tree) → StandsHere scene place stop tree
+      → (n : ℕ) → CostsHere scene tree n → Split scene place n
+  split place class inner is stop tree stands =
+      let found = some_there (λ (f : CheckedNode). walk_of_kind f.kind ≡ class) (slice_get scene.list.nodes place) is in
+      let kind = found.0.kind in
+      split_of_kind place kind (λ leaf. inner (sym found.1.1 ∙ leaf)) (there_found (λ (f : CheckedNode). f.kind ≡ kind) (slice_get scene.list.nodes place) found.0 found.1.0 refl) stop tree stands
+
+  -- ---- budgets
+
+  -- the answers that may stop: a fault is an outcome of what stands there
+  abbrev pub Faults : ℕ → EvalStop → Type 0
+  Faults place (EvalStop.Fault fault) = AnswersAtPlace scene place (λ type. fault_outcome fault)
+  Faults place EvalStop.TooCostly = Unit {0}
+
+  -- what stopped the first operand stops the node
+  fault_stays : EndsOnceHere scene → (place : ℕ) (stop : EvalStop) → Faults (place + 1) stop → (n : ℕ) (it : Split scene place n) (fault : EvalFault) → stop ≡ EvalStop.Fault fault → ¬ (fault ≡ EvalFault.Memory) → it.rest ≡ 0
+  fault_stays ends place (EvalStop.Fault EvalFault.Overflow) faults n it fault same known =
+      let typed = has_type scene (place + 1) it.stop it.operand it.stands in
+      let once = ends it.operand typed.0 typed.1 in
+      let means : MeansHere scene it.operand overflow = faults.of_tree it.stop it.operand typed.0 it.stands typed.1 in
+      it.stays EvalFault.Overflow overflow refl (λ o of_o. once.only o of_o ∙ sym (once.only overflow means))
+  fault_stays ends place (EvalStop.Fault EvalFault.DivideByZero) faults n it fault same known =
+      let typed = has_type scene (place + 1) it.stop it.operand it.stands in
+      let once = ends it.operand typed.0 typed.1 in
+      let means : MeansHere scene it.operand divides_by_zero = faults.of_tree it.stop it.operand typed.0 it.stands typed.1 in
+      it.stays EvalFault.DivideByZero divides_by_zero refl (λ o of_o. once.only o of_o ∙ sym (once.only divides_by_zero means))
+  fault_stays ends place (EvalStop.Fault EvalFault.Memory) faults n it fault same known = absurd (known (let e : fault ≡ EvalFault.Memory = cc in e))
+  fault_stays ends place EvalStop.TooCostly faults n it fault same known = absurd (cc)
+
+  pub first_stops : EndsOnceHere scene → (place : ℕ) (class : WalkClass) → ¬ (class ≡ WalkClass.Leaf) → IsClassAt scene.list class place → (stop : EvalStop) → Faults (place + 1) stop
+      → (budget : Budget) → SpendsRest scene place budget (Some stop) budget (Some stop)
+  first_stops ends place class inner is stop faults budget start first = record {
+    of_tree = λ last tree n stands costs.
+        let it = split place class inner is last tree stands n costs in
+        spent_same (Some stop) start budget (it.own + it.rest) n it.sum
+        (spent_first stop start budget it.own it.rest (fault_stays ends place stop faults n it) (first.of_tree it.stop it.operand it.own it.stands it.costs));
+  }
+
+  -- what the rest takes is taken after what the first operand took
+  pub rest_spends : (place : ℕ) (old new : Budget) (stop : Option EvalStop)
+      → ((last : ℕ) (tree : Tree) (n : ℕ) → StandsHere scene place last tree → CostsHere scene tree n → SplitWith scene place n (λ rest. Spent stop old new rest))
+      → SpendsRest scene place old None new stop
+  rest_spends place old new stop splits start first = record {
+    of_tree = λ last tree n stands costs.
+        let it = splits last tree n stands costs in
+        spent_same stop start new (it.own + it.rest) n it.sum
+        (spent_then stop start old new it.own it.rest (first.of_tree it.stop it.operand it.own it.stands it.costs) it.holds);
+  }

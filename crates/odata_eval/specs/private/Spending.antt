@@ -1,0 +1,143 @@
+-- For private clauses: what an answer leaves of a budget.
+use Rattle.std.specs.Prelude.{◌≡◌, ◌<◌, ◌+◌, ℕ, List, Option, Some, None, Result, Ok, Err, Bool, true, false}
+use Rattle.edm_values.specs.declared.datum.Datum.{Datum}
+use Rattle.edm_values.specs.declared.value.Value.{Value}
+use Rattle.csdl_schema.specs.ExprType.{ExprType}
+use Rattle.csdl_schema.specs.SchemaModel.{slots_of, type_name_at}
+use Rattle.edm_entities.specs.Row.{value_of}
+use Rattle.odata_syntax.specs.Tree.{Tree}
+use Rattle.odata_syntax.specs.declared.node.Quantifier.{Quantifier}
+use Rattle.odata_functions.specs.DatumVal.{datum_val}
+use Rattle.odata_filter_operations.specs.DatumView.{reading_at}
+use Rattle.odata_filter_operations.specs.FaultView.{fault_outcome}
+use Rattle.odata_filter_operations.specs.Outcome.{gives}
+use Rattle.odata_filter_operations.specs.declared.fault.EvalFault.{EvalFault}
+use Rattle.odata_eval.specs.Costs.{Costs, MembersCost}
+use Rattle.odata_eval.specs.CostsOnce.{CostsOnce}
+use Rattle.odata_eval.specs.Environment.{bound_over}
+use Rattle.odata_eval.specs.declared.budget.Budget.{Budget}
+use Rattle.odata_eval.specs.declared.frames.RangeVariable.{RangeVariable}
+use Rattle.odata_eval.specs.declared.stop.EvalStop.{EvalStop}
+use Rattle.odata_eval.specs.private.ItemMarks.{AnswersItem, IsMarked}
+use Rattle.odata_eval.specs.private.Lambda.{AnswersMembers, BodyMeans, BodyStands, type_of_variable, vals_of}
+use Rattle.odata_eval.specs.private.Scene.{StandsHere, TypedHere}
+use Rattle.odata_eval.specs.private.SceneModel.{SceneModel, environment_of}
+use Rattle.odata_eval.specs.private.WalkAnswer.{AnswersDatum, AnswersTruth}
+
+-- ---- answers that may stop for their cost, of which nothing is said then
+
+abbrev pub CountedTruth : SceneModel → ℕ → Result (Option Bool) EvalStop → Type 0
+CountedTruth scene place (Ok truth) = AnswersTruth scene place (Ok truth)
+CountedTruth scene place (Err (EvalStop.Fault fault)) = AnswersTruth scene place (Err fault)
+CountedTruth scene place (Err EvalStop.TooCostly) = Unit {0}
+
+abbrev pub CountedDatum : SceneModel → ℕ → Result Datum EvalStop → Type 0
+CountedDatum scene place (Ok datum) = AnswersDatum scene place (Ok datum)
+CountedDatum scene place (Err (EvalStop.Fault fault)) = AnswersDatum scene place (Err fault)
+CountedDatum scene place (Err EvalStop.TooCostly) = Unit {0}
+
+abbrev pub CountedMembers :
+    SceneModel → ℕ → Quantifier → RangeVariable → List Value → Result (Option Bool) EvalStop → Type 0
+CountedMembers scene place quantifier variable members (Ok truth) =
+    AnswersMembers scene place quantifier variable members (Ok truth)
+CountedMembers scene place quantifier variable members (Err (EvalStop.Fault fault)) =
+    AnswersMembers scene place quantifier variable members (Err fault)
+CountedMembers scene place quantifier variable members (Err EvalStop.TooCostly) = Unit {0}
+
+-- one that stands for an item of a list, for which a value may stand
+abbrev pub CountedItem : SceneModel → ℕ → Option ℕ → Result Datum EvalStop → Type 0
+CountedItem scene place mark (Ok datum) =
+    AnswersItem scene place mark
+    (λ type. Some (gives (datum_val (reading_at (slots_of scene.row.schema) type) datum)))
+CountedItem scene place mark (Err (EvalStop.Fault fault)) =
+    AnswersItem scene place mark (λ type. fault_outcome fault)
+CountedItem scene place mark (Err EvalStop.TooCostly) = Unit {0}
+
+-- an answer, its fault as a stop
+abbrev pub as_stop : {Held : Type 0} → Result Held EvalFault → Result Held EvalStop
+as_stop (Ok held) = Ok held
+as_stop (Err fault) = Err (EvalStop.Fault fault)
+
+-- ---- budgets
+
+-- what stopped an answer, if something did
+abbrev pub stopped_by : {Held : Type 0} → Result Held EvalStop → Option EvalStop
+stopped_by (Ok held) = None
+stopped_by (Err stop) = Some stop
+
+abbrev pub datum_stop : Result Datum EvalStop → Option EvalStop
+datum_stop answer = stopped_by answer
+
+abbrev pub datum_as_stop : Result Datum EvalFault → Result Datum EvalStop
+datum_as_stop answer = as_stop answer
+
+-- so many were taken from the budget
+abbrev pub Takes : Budget → Budget → ℕ → Type 0
+Takes Budget.Unbounded Budget.Unbounded n = Unit {0}
+Takes (Budget.Left old) (Budget.Left new) n = old ≡ n + new
+Takes _ _ n = ⊥
+
+-- the budget had fewer
+abbrev pub HasFewer : Budget → ℕ → Type 0
+HasFewer Budget.Unbounded n = ⊥
+HasFewer (Budget.Left old) n = old < n
+
+-- so many were taken, or there were fewer
+abbrev pub IsTaken : Bool → Budget → Budget → ℕ → Type 0
+IsTaken true old new n = Takes old new n
+IsTaken false old new n = HasFewer old n
+
+-- what costs so many took them from the budget, or stopped since it had fewer; where memory ran out nothing is said
+abbrev pub Spent : Option EvalStop → Budget → Budget → ℕ → Type 0
+Spent None old new n = Takes old new n
+Spent (Some EvalStop.TooCostly) old new n = HasFewer old n
+Spent (Some (EvalStop.Fault EvalFault.Overflow)) old new n = Takes old new n
+Spent (Some (EvalStop.Fault EvalFault.DivideByZero)) old new n = Takes old new n
+Spent (Some (EvalStop.Fault EvalFault.Memory)) old new n = Unit {0}
+
+-- ---- trees
+
+-- the tree has the cost
+abbrev pub CostsHere : SceneModel → Tree → ℕ → Type 0
+CostsHere scene =
+    Costs (slots_of scene.row.schema) (type_name_at scene.row.schema scene.row.type_id) scene.moment (value_of scene.row)
+    (environment_of scene)
+
+-- a tree that has a type has one cost
+abbrev pub CostsOnceHere : SceneModel → Type 0
+CostsOnceHere scene =
+    (tree : Tree) (type : ExprType) → TypedHere scene tree type
+    → CostsOnce (slots_of scene.row.schema) (type_name_at scene.row.schema scene.row.type_id) scene.moment
+    (value_of scene.row) (environment_of scene) tree
+
+-- what stands in the place was asked for, with a budget before and after
+pub record SpendsAt (scene : SceneModel) (place : ℕ) (old new : Budget) (stop : Option EvalStop) : Type 0 where
+  pub of_tree :
+      (last : ℕ) (tree : Tree) (n : ℕ) → StandsHere scene place last tree → CostsHere scene tree n
+      → Spent stop old new n
+
+-- so did an item of a list, whatever the operand before it
+pub record SpendsItem
+    (scene : SceneModel) (place : ℕ) (mark : Option ℕ) (old new : Budget) (stop : Option EvalStop) : Type 0 where
+  pub of_item :
+      (left : Tree) (last : ℕ) (tree : Tree) (n : ℕ) → StandsHere scene place last tree
+      → IsMarked scene.list.values (slots_of scene.row.schema) (TypedHere scene left) mark tree
+      → CostsHere scene tree n → Spent stop old new n
+
+-- where its first operand was asked for since the walk had some budget, the rest of it is asked for now
+abbrev pub SpendsRest : SceneModel → ℕ → Budget → Option EvalStop → Budget → Option EvalStop → Type 0
+SpendsRest scene place old first new stop =
+    (start : Budget) → SpendsAt scene (place + 1) start old first → SpendsAt scene place start new stop
+
+-- so were the members of a lambda operator, whatever body stands in the place
+pub record SpendsMembers
+    (scene : SceneModel) (place : ℕ) (quantifier : Quantifier) (variable : RangeVariable) (members : List Value)
+    (old new : Budget) (stop : Option EvalStop) : Type 0 where
+  pub of_body :
+      (last : ℕ) (body : Tree) (n : ℕ) → BodyStands scene variable place last body
+      → MembersCost quantifier (BodyMeans scene variable body)
+      (λ v. Costs (slots_of scene.row.schema) (type_name_at scene.row.schema scene.row.type_id) scene.moment
+      (value_of scene.row)
+      (bound_over (environment_of scene) variable.name.now (type_of_variable scene variable) v) body)
+      (vals_of (slots_of scene.row.schema) (type_of_variable scene variable) members) n
+      → Spent stop old new n

@@ -1,0 +1,50 @@
+//! Evaluation within a bound.
+ghost use Rattle.std.specs.Prelude.{◌≡◌, ◌≢◌, Err, IfSome};
+ghost use Rattle.csdl_schema.specs.ExpansionView.{paths_in};
+ghost use Rattle.csdl_schema.specs.PathSet.{Covers};
+ghost use Rattle.odata_checked_filter.specs.Calls.{TakesMemory};
+ghost use Rattle.odata_checked_filter.specs.Filter.{tree_of_filter};
+ghost use Rattle.odata_eval.specs.CostsOn.{KeepsBound};
+ghost use Rattle.odata_eval.specs.MeansOn.{IsTheOutcome};
+ghost use Rattle.odata_eval.specs.VerdictView.{outcome_told};
+
+use super::budget::Budget;
+use super::evaluator::verdict_of;
+use super::scene::Scene;
+use super::stop::EvalStop;
+use super::verdict::Verdict;
+use super::walk::truth_at;
+use edm_entities::Entity;
+use edm_values::{Moment, Value};
+use odata_checked_filter::Checked;
+use odata_filter_operations::EvalFault;
+use std::alloc::Global;
+
+/// What the filter says of the entity, within a bound: how many bodies of lambda operators, and items of lists within
+/// them, it may ask for. Where it costs more, evaluation stops there with `TooCostly`.
+pub fn evaluate_within(
+    alloc: Global,
+    checked: &Checked<'_>,
+    entity: &Entity<'_>,
+    now: &Moment,
+    most: u64,
+) -> Result<Verdict, EvalStop>
+    requires one_schema { checked.now.schema ≡ entity.now.schema }
+    requires one_type { checked.now.filtered ≡ entity.now.type_id }
+    requires covers { Covers (paths_in entity.now.expansion) (paths_in checked.now.expansion) }
+    ensures outcome { IfSome (outcome_told result)
+        (IsTheOutcome entity.now now.now (tree_of_filter checked.now)) }
+    ensures bound { KeepsBound entity.now now.now (tree_of_filter checked.now) most result }
+    ensures no_memory { ¬ TakesMemory (tree_of_filter checked.now) → result ≢ Err (EvalStop.Fault EvalFault.Memory) }
+{
+    let _nodes = checked.nodes();
+    let moment = Value::Moment(*now);
+    let scene = Scene::of(alloc, checked, entity, now, &moment);
+    scene.ends_once();
+    scene.costs_once();
+    let mut budget = Budget::Left(most);
+    match truth_at(&scene, 0, &mut budget) {
+        Ok(truth) => Ok(verdict_of(truth)),
+        Err(stop) => Err(stop),
+    }
+}

@@ -1,0 +1,65 @@
+//! How many bodies of lambda operators, and items of lists within them, a walk may still ask for.
+ghost use Rattle.std.specs.Prelude.{◌≡◌, ◌≢◌};
+ghost use Rattle.odata_eval.specs.Costs.{item_cost};
+ghost use Rattle.odata_eval.specs.private.SceneModel.{environment_of};
+ghost use Rattle.odata_eval.specs.private.Spending.{IsTaken, datum_as_stop};
+
+use super::scene::Scene;
+use super::stop::EvalStop;
+use edm_values::Datum;
+use odata_filter_operations::EvalFault;
+
+/// What is left of a bound, or that there is none.
+#[derive(Clone, Copy)]
+pub(crate) enum Budget {
+    Unbounded,
+    Left(u64),
+}
+
+/// Takes one, if one is left.
+pub(crate) fn take_one(budget: &mut Budget) -> bool
+    ensures { IsTaken result budget.old budget.new 1 }
+{
+    match *budget {
+        Budget::Unbounded => true,
+        Budget::Left(count) => {
+            if count == 0 {
+                return false;
+            }
+            *budget = Budget::Left(count - 1);
+            true
+        }
+    }
+}
+
+/// Takes one for an item of a list within a body, if one is left.
+pub(crate) fn take_item(scene: &Scene<'_, '_, '_>, budget: &mut Budget) -> bool
+    ensures { IsTaken result budget.old budget.new (item_cost (environment_of scene.now)) }
+{
+    if scene.is_within_body() {
+        take_one(budget)
+    } else {
+        true
+    }
+}
+
+/// The fault that stopped a walk without a bound.
+pub(crate) fn fault_of(stop: EvalStop) -> EvalFault
+    requires { stop ≢ EvalStop.TooCostly }
+    ensures { stop ≡ EvalStop.Fault result }
+{
+    match stop {
+        EvalStop::Fault(fault) => fault,
+        EvalStop::TooCostly => unreachable!(),
+    }
+}
+
+/// An answer for which nothing was counted, its fault as a stop.
+pub(crate) fn as_stop<'e>(answer: Result<Datum<'e>, EvalFault>) -> Result<Datum<'e>, EvalStop>
+    ensures { result ≡ datum_as_stop answer.entry }
+{
+    match answer {
+        Ok(value) => Ok(value),
+        Err(fault) => Err(EvalStop::Fault(fault)),
+    }
+}
