@@ -41,11 +41,20 @@ pub(crate) fn now_of(case: &Case<'_>) -> Result<Moment, Trouble> {
     }
 }
 
-/// The outcome of a filter on a row of the case.
-fn outcome(case: &Case<'_>, filter: &Value, row: &Value) -> Result<String, Trouble> {
+/// The outcome of a filter on a row of the case, or what it costs there.
+fn answer_on_row(
+    case: &Case<'_>,
+    asked: Asked,
+    filter: &Value,
+    row: &Value,
+) -> Result<String, Trouble> {
     let row = row_of(case, row)?;
     let now = now_of(case)?;
-    filter_answer(case, filter, AskedOfFilter::Outcome(&row, &now, case.times))
+    let of_filter = match asked {
+        Asked::Cost => AskedOfFilter::Cost(&row, &now),
+        _ => AskedOfFilter::Outcome(&row, &now, case.times),
+    };
+    filter_answer(case, filter, of_filter)
 }
 
 /// The outcome of the case's filter on its row with these members changed.
@@ -181,8 +190,8 @@ fn answer_of_given(case: &Case<'_>, asked: Asked, given: &Value) -> Result<Strin
 /// What is answered of what is given.
 fn answer(case: &Case<'_>, asked: Asked, given: &Value) -> Result<String, Trouble> {
     match asked {
-        Asked::Outcome => outcome(case, given, case.member("row")?),
-        Asked::OutcomeOnRow => outcome(case, case.member("filter")?, given),
+        Asked::Outcome | Asked::Cost => answer_on_row(case, asked, given, case.member("row")?),
+        Asked::OutcomeOnRow => answer_on_row(case, asked, case.member("filter")?, given),
         Asked::OutcomeOnChanged => changed_outcome(case, given),
         Asked::Refusal => filter_answer(case, given, AskedOfFilter::Acceptance),
         Asked::CanonicalOfFilter => filter_answer(case, given, AskedOfFilter::Canonical),
@@ -257,8 +266,8 @@ fn ask_alike(
     let Some(row) = case.find("row") else {
         return Ok(());
     };
-    let wanted = outcome(case, canonical, row)?;
-    let got = outcome(case, filter, row)?;
+    let wanted = answer_on_row(case, Asked::Outcome, canonical, row)?;
+    let got = answer_on_row(case, Asked::Outcome, filter, row)?;
     report.compare_at(filter, wanted.as_str(), got.as_str())
 }
 

@@ -1,6 +1,6 @@
 //! The forms of cases. `data/README.md` has the same table in words.
 use crate::form::Asked::{
-    AtPlaces, CanonicalOfFilter, CanonicalOfText, Conforms, Explanation, FilterOfQuery, Fits,
+    AtPlaces, CanonicalOfFilter, CanonicalOfText, Conforms, Cost, Explanation, FilterOfQuery, Fits,
     Identifier, Instant, LambdaDepth, Letters, LineFits, LineLetters, Literal, LookUps, Nodes,
     Outcome, OutcomeOnChanged, OutcomeOnRow, QueryRefusal, Refusal, RowBeginnings, Run,
     SchemaBeginnings, SchemaFault, TextRefusal, TokenCount, Tokens, Tree, TypeLetters, Values,
@@ -21,6 +21,8 @@ pub(crate) enum Asked {
     Nodes,
     Explanation,
     LambdaDepth,
+    /// What the given filter costs on the row.
+    Cost,
     Tokens,
     TokenCount,
     Tree,
@@ -153,6 +155,18 @@ const FORMS: &[Form] = &[
         Pairs("lambda_depths"),
         &["schema", "type", "lambda_depths"],
         NONE,
+    ),
+    (
+        Cost,
+        One("filter", "cost"),
+        &["schema", "type", "filter", "row", "cost"],
+        AT_A_MOMENT,
+    ),
+    (
+        Cost,
+        Pairs("costs"),
+        &["schema", "type", "row", "costs"],
+        AT_A_MOMENT,
     ),
     (
         Letters,

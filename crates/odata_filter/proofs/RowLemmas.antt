@@ -1,5 +1,7 @@
 pub mod CanonicalRows
 pub mod Collections
+pub mod CostsAlone
+pub mod CostsBut
 pub mod DeviceCalls
 pub mod LinesOpen
 pub mod RowLineJudges
@@ -8,6 +10,7 @@ pub mod OneCollection
 pub mod OneFault
 pub mod OneJudgment
 pub mod Renamed
+pub mod RowBounds
 pub mod RowJudges
 pub mod RowsBut
 pub mod TrueRows

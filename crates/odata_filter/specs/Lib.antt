@@ -25,6 +25,7 @@ pub use Rattle.edm_entities.specs.Fits
 pub use Rattle.edm_entities.specs.FitsPrimitive
 pub use Rattle.edm_entities.specs.Row
 pub use Rattle.edm_entities.specs.RowFaults
+pub use Rattle.odata_eval.specs.Costs
 pub use Rattle.odata_eval.specs.Means
 pub use Rattle.odata_eval.specs.MeansOn
 pub use Rattle.odata_filter_operations.specs.Outcome
@@ -46,6 +47,7 @@ pub mod DeviceFaults
 pub mod Collection
 pub mod RowsOnce
 pub mod RowAnswer
+pub mod RowCosts
 pub mod FaultNumbers
 pub mod Headline
 pub mod CanonicalRows

@@ -4,3 +4,4 @@ pub mod FilterNow
 pub mod PlanSteps
 pub mod RunFailures
 pub mod ValueAnswer
+pub mod ValueCosts

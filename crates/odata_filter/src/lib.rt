@@ -2,6 +2,7 @@
 #![tactic(auto)]
 
 mod bad_row;
+mod bounded_judge;
 mod collection;
 mod command;
 mod fault_number;
@@ -15,6 +16,7 @@ mod row_verdict;
 mod run_fault;
 
 pub use bad_row::BadRow;
+pub use bounded_judge::{BoundedJudge, RowStop};
 pub use collection::{filter_collection, filter_collection_by};
 pub use command::command_line;
 pub use command::laws::lines_by_example;

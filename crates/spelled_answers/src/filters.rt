@@ -3,6 +3,7 @@ ghost use Rattle.std.specs.Prelude.{◌≡◌};
 ghost use Rattle.csdl_schema.specs.ExpansionView.{paths_in};
 ghost use Rattle.csdl_schema.specs.PathSet.{Covers};
 ghost use Rattle.csdl_schema.specs.SchemaModel.{HoldsType};
+ghost use Rattle.odata_filter.specs.RowAnswer.{IsPlanOfFilter};
 
 use crate::nodes::{second_type, told_nodes};
 use crate::numbers::{shown_refusal, shown_row_fault};
@@ -13,8 +14,8 @@ use edm_values::{Moment, read_moment};
 use jiff::civil;
 use odata_eval::{EvalFault, Verdict, evaluate};
 use odata_filter::{
-    BadRow, FaultKind, NoVerdict, Numbered, RunFault, Tally, fault_name, filter_slice, judge_row,
-    row_plan_of,
+    BadRow, BoundedJudge, FaultKind, NoVerdict, Numbered, RowStop, RunFault, Tally, fault_name,
+    filter_slice, judge_row, row_plan_of,
 };
 use odata_typing::{Checked, check_to_store};
 use serde_json::Value;
@@ -32,6 +33,8 @@ pub enum AskedOfFilter<'a> {
     LambdaDepth,
     /// The outcome on this row, at this moment, of so many evaluations if they take no memory, and of a run.
     Outcome(&'a Value, &'a Moment, usize),
+    /// What it costs on this row, at this moment.
+    Cost(&'a Value, &'a Moment),
     /// The outcome on this row, at this moment, of so many evaluations.
     Evaluations(&'a Value, &'a Moment, usize),
 }
@@ -251,6 +254,53 @@ fn agreed_outcome(
     }
 }
 
+/// The answer to a line within a bound, if it has one.
+fn within(by: &BoundedJudge<'_, '_>, reader: &mut RowReader, line: &[u8]) -> Option<&'static str>
+    requires { IsPlanOfFilter by.now.checked.now by.now.plan.now }
+{
+    match by.judge(reader, line) {
+        Ok(verdict) => Some(spelled(Ok(verdict))),
+        Err(RowStop::NoVerdict(why)) => Some(spelled_row(&Err(why))),
+        Err(RowStop::TooCostly) => None,
+    }
+}
+
+/// The most that a case says of what a filter costs.
+const MOST: u64 = 100_000;
+
+/// What a filter costs on a row: the least bound within which the row has an answer, which is that without a bound.
+fn cost(
+    alloc: Global,
+    checked: &Checked<'_>,
+    row: &Value,
+    now: &Moment,
+) -> Result<String, Trouble> {
+    let line = row.to_string(alloc)?;
+    let told = judged(alloc, checked, line.as_bytes(), now, 0);
+    let plan = row_plan_of(alloc, checked);
+    let mut reader = RowReader::new(alloc);
+    for most in 0..MOST {
+        let by = BoundedJudge {
+            checked,
+            moment: now,
+            plan: &plan,
+            most,
+        };
+        let Some(said) = within(&by, &mut reader, line.as_bytes()) else {
+            continue;
+        };
+        if said == "memory" || told == "memory" {
+            return Err(Trouble::Memory);
+        }
+        return if said == told {
+            Ok(format!(in alloc; "{most}")?)
+        } else {
+            Ok(format!(in alloc; "{most}, but {said} within it, and {told} without")?)
+        };
+    }
+    Ok(String::from_str(alloc, "more than is tried")?)
+}
+
 /// The outcome on a row of so many evaluations, told without an allocation behind the first of them; the row is judged by
 /// itself once, and as often more.
 fn repeated_outcome(
@@ -294,6 +344,7 @@ fn answer(
         AskedOfFilter::Outcome(row, now, times) => {
             agreed_outcome(alloc, checked, row, now, times)
         }
+        AskedOfFilter::Cost(row, now) => cost(alloc, checked, row, now),
         AskedOfFilter::Evaluations(row, now, times) => {
             repeated_outcome(alloc, checked, row, now, times)
         }

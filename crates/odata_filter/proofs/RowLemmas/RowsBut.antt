@@ -27,7 +27,7 @@ use Rattle.odata_eval.specs.declared.verdict.Verdict.{Verdict}
 use Rattle.odata_filter.specs.RowAnswer.{PassesNone}
 use Rattle.odata_filter.specs.RowJudgment.{HasOutcome}
 use Rattle.odata_filter.specs.private.ValueAnswer.{TellsValue, answer_told, fault_told}
-use Rattle.odata_filter.proofs.RowLemmas.NamesAlone.{NodesNameNone, list_none, means_same}
+use Rattle.odata_filter.proofs.RowLemmas.NamesAlone.{NamesNone, NodesNameNone, list_none, means_same}
 
 -- ---- what a filter that names none of them comes to
 
@@ -43,8 +43,12 @@ nodes_none Passed texts i (found ∷ rest) unnamed no_row =
           (λ k. no_row (suc k)),
     )
 
-steps_same : (f g : List ℕ → FieldVal) (word : List ℕ) → f word ≡ g word → StepGives (fields f) word ≡ StepGives (fields g) word
+pub steps_same : (f g : List ℕ → FieldVal) (word : List ℕ) → f word ≡ g word → StepGives (fields f) word ≡ StepGives (fields g) word
 steps_same f g word same = fun_ext (λ (o : Outcome). ap (λ (field : FieldVal). FieldGives field o) same)
+
+pub tree_none : (filter : Filter) (Passed : Names) → PassesNone filter Passed → ((place : ℕ) → IfSome (slice_get filter.list.nodes place) (λ found. found.kind ≢ NodeKind.It)) → NamesNone Passed (tree_of_filter filter)
+tree_none filter Passed passes no_row =
+    list_none Passed filter.list passes.spelled (nodes_none Passed filter.list.texts 0 filter.list.nodes (λ k less. let same : k ≡ 0 + k = omega arith in subst (λ n. ¬ Passed (unwrap_or (slice_get filter.list.texts n) [])) same (passes.unnamed k less)) no_row)
 
 pub outcomes_same : (filter : Filter) (Passed : Names) (schema : SchemaModel) (id : ℕ) (now : MomentParts) (kept whole : List ℕ → FieldVal) → PassesNone filter Passed → ((name : List ℕ) → ¬ Passed name → kept name ≡ whole name)
     → Means (slots_of schema) (type_name_at schema id) now (fields kept) [] (tree_of_filter filter) ≡ Means (slots_of schema) (type_name_at schema id) now (fields whole) [] (tree_of_filter filter)
@@ -54,8 +58,7 @@ outcomes_same filter Passed schema id now kept whole passes agrees = by passes.n
         → Means (slots_of schema) (type_name_at schema id) now (fields kept) [] (tree_of_filter filter) ≡ Means (slots_of schema) (type_name_at schema id) now (fields whole) [] (tree_of_filter filter)
     by (inl none) = ap (λ (held : List ℕ → FieldVal). Means (slots_of schema) (type_name_at schema id) now (fields held) [] (tree_of_filter filter)) (fun_ext (λ (name : List ℕ). agrees name (none name)))
     by (inr no_row) =
-        means_same (slots_of schema) (type_name_at schema id) now (fields kept) (fields whole) Passed (λ word not. steps_same kept whole word (agrees word not)) [] (tree_of_filter filter)
-        (list_none Passed filter.list passes.spelled (nodes_none Passed filter.list.texts 0 filter.list.nodes (λ k less. let same : k ≡ 0 + k = omega arith in subst (λ n. ¬ Passed (unwrap_or (slice_get filter.list.texts n) [])) same (passes.unnamed k less)) no_row))
+        means_same (slots_of schema) (type_name_at schema id) now (fields kept) (fields whole) Passed (λ word not. steps_same kept whole word (agrees word not)) [] (tree_of_filter filter) (tree_none filter Passed passes no_row)
 
 -- ---- what is told of a row
 
@@ -72,6 +75,17 @@ pub record IsRowBut (filter : Filter) (now : MomentParts) (json : Data) (row : R
       (o : Outcome) → (Means (slots_of filter.schema) (type_name_at filter.schema filter.filtered) now whole [] (tree_of_filter filter) o
       → Means (slots_of row.schema) (type_name_at row.schema row.type_id) now (value_of row) [] (tree_of_filter filter) o)
 
+-- the line's value fits as the filter needs it
+pub fits_but : (filter : Filter) (line : List ℕ) (Passed : Names) (row : Row) → row.schema ≡ filter.schema → row.type_id ≡ filter.filtered
+    → ((path : PropertyPath) → paths_in row.expansion path ≡ paths_in filter.expansion path) → (read : IsLineBut line Passed row)
+    → Fits (slots_for_filter filter) (type_name_at filter.schema filter.filtered) read.json (fields read.whole)
+fits_but filter line Passed row schema_is type_is paths read =
+    let whole = fields read.whole in
+    let Paths : PathSet → Type 0 = λ p. Fits (expanded (slots_of row.schema) p) (type_name_at row.schema row.type_id) read.json whole in
+    let Schema : SchemaModel → Type 0 = λ s. Fits (expanded (slots_of s) (paths_in filter.expansion)) (type_name_at s row.type_id) read.json whole in
+    let Place : ℕ → Type 0 = λ n. Fits (slots_for_filter filter) (type_name_at filter.schema n) read.json whole in
+    subst Place type_is (subst Schema schema_is (subst Paths (fun_ext paths) read.fits))
+
 pub row_but : (filter : Filter) (now : MomentParts) (line : List ℕ) (Passed : Names) (row : Row) → row.schema ≡ filter.schema → row.type_id ≡ filter.filtered
     → ((path : PropertyPath) → paths_in row.expansion path ≡ paths_in filter.expansion path) → PassesNone filter Passed → (read : IsLineBut line Passed row) → IsRowBut filter now read.json row
 row_but filter now line Passed row schema_is type_is paths passes read =
@@ -80,14 +94,11 @@ row_but filter now line Passed row schema_is type_is paths passes read =
     let At : SchemaModel → ℕ → Outcome → Type 0 = λ s n o. Means (slots_of s) (type_name_at s n) now whole [] tree o in
     let same : Means (slots_of row.schema) (type_name_at row.schema row.type_id) now (value_of row) [] tree ≡ Means (slots_of row.schema) (type_name_at row.schema row.type_id) now whole [] tree =
     ap (λ (v : Val). Means (slots_of row.schema) (type_name_at row.schema row.type_id) now v [] tree) read.value_is ∙ outcomes_same filter Passed row.schema row.type_id now read.kept read.whole passes read.agrees in
-    let Paths : PathSet → Type 0 = λ p. Fits (expanded (slots_of row.schema) p) (type_name_at row.schema row.type_id) read.json whole in
-    let Schema : SchemaModel → Type 0 = λ s. Fits (expanded (slots_of s) (paths_in filter.expansion)) (type_name_at s row.type_id) read.json whole in
-    let Place : ℕ → Type 0 = λ n. Fits (slots_for_filter filter) (type_name_at filter.schema n) read.json whole in
     record {
       same_schema = schema_is;
       same_type = type_is;
       whole = whole;
-      fits = subst Place type_is (subst Schema schema_is (subst Paths (fun_ext paths) read.fits));
+      fits = fits_but filter line Passed row schema_is type_is paths read;
       means = λ o holds. subst (λ n. At filter.schema n o) type_is (subst (λ s. At s row.type_id o) schema_is (subst (λ (M : Outcome → Type 0). M o) same holds));
       meant = λ o holds. subst (λ (M : Outcome → Type 0). M o) (sym same) (subst (λ s. At s row.type_id o) (sym schema_is) (subst (λ n. At filter.schema n o) (sym type_is) holds));
     }
