@@ -86,6 +86,7 @@ extern "C" {
 #define ODFILTER_ROW_FAULT 22u     /* it is no entity of the filter's type; odfilter_path says where */
 #define ODFILTER_EVAL_FAULT 23u    /* the filter has no value on it */
 #define ODFILTER_LINE_TOO_LONG 24u /* a line of over 1,048,576 bytes; `fault` is 0 */
+#define ODFILTER_TOO_COSTLY 25u    /* the filter costs more on it than odfilter_set_bound allows; `fault` is 0 */
 
 /* ---- Faults, by their status. The names are those that odfilter_fault_name writes. */
 
@@ -266,7 +267,8 @@ uint32_t odfilter_property_paths(const odfilter_handle *filter, odfilter_room pa
 
 /* ---- Rows */
 
-/* Makes a judge: what lasts from row to row, of any filter. It has no moment yet. One call at a time uses it.
+/* Makes a judge: what lasts from row to row, of any filter. It has no moment and no bound yet. One call at a time
+ * uses it.
  *
  * ODFILTER_OK: `judge` is a judge. ODFILTER_NULL: it is. ODFILTER_MEMORY. */
 uint32_t odfilter_new_judge(odfilter_handle **judge);
@@ -277,12 +279,20 @@ uint32_t odfilter_new_judge(odfilter_handle **judge);
  * is. ODFILTER_OTHER_KIND: `judge` is no judge. ODFILTER_NOT_UTF8. */
 uint32_t odfilter_set_moment(odfilter_handle *judge, odfilter_bytes moment);
 
+/* Bounds what a filter may cost on a row: how many times it judges the body of an any() or all(), and how many items of
+ * lists after `in` it compares within one. Each row has the whole bound. Without this call there is none, and
+ * odfilter_filter_lines goes by none.
+ *
+ * ODFILTER_OK. ODFILTER_NULL: `judge` is. ODFILTER_OTHER_KIND: it is no judge. */
+uint32_t odfilter_set_bound(odfilter_handle *judge, uint64_t most);
+
 /* Judges a row: one JSON object, of any length. It may have white space around it, line feeds too.
  *
  * ODFILTER_OK: `verdict` is ODFILTER_TRUE, ODFILTER_FALSE or ODFILTER_NO_TRUTH_VALUE. ODFILTER_JSON_FAULT; a row
  * of white space alone is one. ODFILTER_ROW_FAULT: `fault`, and the judge keeps the path, of `length` bytes.
- * ODFILTER_EVAL_FAULT: `fault`. ODFILTER_MOMENT_NEEDED. ODFILTER_NULL: any of the four is. ODFILTER_OTHER_KIND:
- * `filter` is no filter, or `judge` no judge. ODFILTER_MEMORY. */
+ * ODFILTER_EVAL_FAULT: `fault`. ODFILTER_TOO_COSTLY: the row has no verdict within the judge's bound.
+ * ODFILTER_MOMENT_NEEDED. ODFILTER_NULL: any of the four is. ODFILTER_OTHER_KIND: `filter` is no filter, or `judge`
+ * no judge. ODFILTER_MEMORY. */
 uint32_t odfilter_judge(const odfilter_handle *filter, odfilter_handle *judge, odfilter_bytes row,
                         odfilter_answer *answer);
 

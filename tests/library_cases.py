@@ -25,7 +25,7 @@ QUESTIONS = {
 OUTCOMES = {"true": True, "false": False, "null": None}
 # what a case is of that a library can be asked; and what is asked of some of these for which it has no call
 OF_LIBRARY = {"schema", "document", "documents", "query", "queries", "query_refusals"}
-NO_CALL = {"nodes", "types", "lambda_depths", "values"}
+NO_CALL = {"nodes", "types", "lambda_depths", "costs", "values"}
 OPTIONS = {"--schema", "--type", "--filter", "--query", "--rows", "--now"}
 
 

@@ -144,6 +144,7 @@ static void nulls_of_rows(void)
     is_null("filter_lines: no answer", odfilter_filter_lines(filter, judge, row, kept, NULL), 0, NULL);
     is_null("set_moment: no judge", odfilter_set_moment(NULL, row), 0, NULL);
     is_null("set_moment: no moment", odfilter_set_moment(judge, no_bytes_of_length), 0, NULL);
+    is_null("set_bound: no judge", odfilter_set_bound(NULL, 0), 0, NULL);
     is_null("free: no place", odfilter_free(NULL), 0, NULL);
     drop(row);
     free(kept.at);
@@ -189,6 +190,7 @@ static void other_kinds(void)
         check("lines: its answer is written", kind == JUDGE || is_answer(answer, nothing));
         check("path: no judge", kind == JUDGE || odfilter_path(other, room, told()) == status);
         check("set_moment: no judge", kind == JUDGE || odfilter_set_moment(other, text) == status);
+        check("set_bound: no judge", kind == JUDGE || odfilter_set_bound(other, 0) == status);
     }
     drop(text);
     drop(row);

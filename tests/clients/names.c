@@ -22,6 +22,7 @@ static const char *const status_names[] = {
     [ODFILTER_ROW_FAULT] = "ROW_FAULT",
     [ODFILTER_EVAL_FAULT] = "EVAL_FAULT",
     [ODFILTER_LINE_TOO_LONG] = "LINE_TOO_LONG",
+    [ODFILTER_TOO_COSTLY] = "TOO_COSTLY",
 };
 
 /* the faults of each status, by their numbers; 0 is none */

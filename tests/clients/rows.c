@@ -175,6 +175,48 @@ static void moments(void)
     odfilter_free(&plain);
 }
 
+#define TAGS_DOCUMENT                                                                                                  \
+    "{\"$Version\":\"4.01\",\"Mini\":{\"Item\":{\"$Kind\":\"EntityType\",\"Tags\":{\"$Collection\":true}}}}"
+#define TAGS_ROW "{\"Tags\":[\"a\",\"b\",\"c\",\"d\"]}"
+
+/* a row by a judge with a bound: its status, and no path */
+static int comes_to(const odfilter_handle *filter, odfilter_handle *bounded, uint64_t most, uint32_t status)
+{
+    char at[64];
+    odfilter_room room = {at, sizeof at};
+    odfilter_answer answer = unwritten(), wanted = {0};
+    odfilter_bytes row = bytes_of(TAGS_ROW);
+    int is_so = odfilter_set_bound(bounded, most) == ODFILTER_OK;
+    is_so &= odfilter_judge(filter, bounded, row, &answer) == status;
+    wanted.verdict = status == ODFILTER_OK ? ODFILTER_TRUE : 0;
+    is_so &= is_answer(answer, wanted);
+    is_so &= odfilter_path(bounded, room, &answer) == ODFILTER_OK && !answer.length;
+    drop(row);
+    return is_so;
+}
+
+static void bounds(void)
+{
+    odfilter_handle *tags_schema = schema_of(TAGS_DOCUMENT), *tags = type_of(tags_schema, "Mini.Item");
+    odfilter_handle *bounded = new_judge(), *filter = filter_of(tags, "Tags/any(t:t eq 'c')");
+    odfilter_handle *plain = filter_of(tags, "'c' in Tags");
+    uint32_t told;
+    check("no bound", is_kept(filter, bounded, TAGS_ROW));
+    check("a bound of none", comes_to(filter, bounded, 0, ODFILTER_TOO_COSTLY));
+    check("a bound of one less", comes_to(filter, bounded, 2, ODFILTER_TOO_COSTLY));
+    check("a bound of as many", comes_to(filter, bounded, 3, ODFILTER_OK));
+    check("the next row has the whole bound", is_kept(filter, bounded, TAGS_ROW));
+    check("the greatest bound", comes_to(filter, bounded, UINT64_MAX, ODFILTER_OK));
+    check("no lambda operator", comes_to(plain, bounded, 0, ODFILTER_OK));
+    check("no row", judged(filter, bounded, "{}", &told) == ODFILTER_ROW_FAULT);
+    check("too costly after a row at fault", comes_to(filter, bounded, 0, ODFILTER_TOO_COSTLY));
+    odfilter_free(&plain);
+    odfilter_free(&filter);
+    odfilter_free(&bounded);
+    odfilter_free(&tags);
+    odfilter_free(&tags_schema);
+}
+
 /* a filter or a query that is refused: START and STOP, or the number */
 static void refused(const char *text, int is_query, uint32_t status, odfilter_answer wanted)
 {
@@ -218,6 +260,7 @@ int main(void)
     lines();
     long_lines();
     moments();
+    bounds();
     refusals();
     odfilter_free(&judge);
     odfilter_free(&type);

@@ -41,13 +41,13 @@ from typing import Any, Callable, NamedTuple, Optional, TypeVar, Union
 from urllib.parse import unquote_to_bytes
 
 from ._errors import Closed, Error, LibraryNotFound, MomentNeeded, NoFilter, NotAMoment, NotUtf8, QueryRefused
-from ._errors import Refused, RowFault, SchemaFault, UnknownType
+from ._errors import Refused, RowFault, SchemaFault, TooCostly, UnknownType
 from ._files import FileOrPath, Tally, filter_file
 
 __all__ = [
     "Closed", "Error", "Filter", "Judge", "Kept", "Library", "LibraryNotFound", "MomentNeeded", "NoFilter",
-    "NotAMoment", "NotUtf8", "QueryRefused", "Refused", "RowFault", "Schema", "SchemaFault", "Tally", "Type",
-    "UnknownType",
+    "NotAMoment", "NotUtf8", "QueryRefused", "Refused", "RowFault", "Schema", "SchemaFault", "Tally",
+    "TooCostly", "Type", "UnknownType",
 ]
 
 BytesOrText = Union[bytes, bytearray, memoryview, mmap.mmap, str]
@@ -55,7 +55,7 @@ BytesOrText = Union[bytes, bytearray, memoryview, mmap.mmap, str]
 # the statuses of odfilter.h
 OK, NULL, OTHER_KIND, NOT_UTF8, TOO_SMALL, MEMORY, UNKNOWN_TYPE, NO_FILTER, MOMENT_NEEDED, NOT_A_MOMENT = range(10)
 SCHEMA_FAULT, TEXT_FAULT, SYNTAX_FAULT, TYPE_FAULT, QUERY_FAULT = range(16, 21)
-JSON_FAULT, ROW_FAULT, EVAL_FAULT, LINE_TOO_LONG = range(21, 25)
+JSON_FAULT, ROW_FAULT, EVAL_FAULT, LINE_TOO_LONG, TOO_COSTLY = range(21, 26)
 # its verdicts
 FALSE, TRUE, NO_TRUTH_VALUE = range(3)
 
@@ -118,6 +118,7 @@ class _Answer(ctypes.Structure):
 _AnError = TypeVar("_AnError", bound=Error)
 _HANDLE, _PLACE, _ANSWER = ctypes.c_void_p, ctypes.POINTER(ctypes.c_void_p), ctypes.POINTER(_Answer)
 _NUMBER = ctypes.c_uint32
+_COUNT = ctypes.c_uint64
 # the calls of odfilter.h, without odfilter_: what each is given
 _CALLS: dict[str, list[Any]] = {
     "read_schema": [_Bytes, _Room, _PLACE, _ANSWER],
@@ -133,6 +134,7 @@ _CALLS: dict[str, list[Any]] = {
     "property_paths": [_HANDLE, _Room, _ANSWER],
     "new_judge": [_PLACE],
     "set_moment": [_HANDLE, _Bytes],
+    "set_bound": [_HANDLE, _COUNT],
     "judge": [_HANDLE, _HANDLE, _Bytes, _ANSWER],
     "filter_lines": [_HANDLE, _HANDLE, _Bytes, _Room, _ANSWER],
     "path": [_HANDLE, _Room, _ANSWER],
@@ -387,26 +389,32 @@ class Filter(_Held):
         owned = self._open()
         return owned.library._text("property_paths", owned.handle).splitlines()
 
-    def judge(self, now: Optional[str] = None) -> Judge:
-        """A judge by this filter; `now` is the moment that now() stands for. Raises NotAMoment."""
-        return Judge(self, now)
+    def judge(self, now: Optional[str] = None, bound: Optional[int] = None) -> Judge:
+        """A judge by this filter; `now` is the moment that now() stands for. Raises NotAMoment.
+
+        `bound` is how much the filter may cost on a row of `verdict`: how many times it judges the body of an any() or
+        all(), and how many items of lists after `in` it compares within one.
+        """
+        return Judge(self, now, bound)
 
 
 class Judge(_Held):
     """What judges rows by a filter, which it keeps: `Filter.judge` makes it."""
 
-    def __init__(self, by_filter: Filter, now: Optional[str] = None) -> None:
+    def __init__(self, by_filter: Filter, now: Optional[str] = None, bound: Optional[int] = None) -> None:
         self._filter, self._one_call = by_filter._open(), threading.Lock()
         library = self._filter.library
         owned = _Owned(library, "new_judge", ())
         if now is not None and library._call("set_moment", owned.handle, _lent_text(now, "a moment")) != OK:
             raise library._worded(NotAMoment(), NOT_A_MOMENT, _Answer(), now)
+        if bound is not None:
+            library._call("set_bound", owned.handle, _bound_of(bound))
         self._owned = owned
 
     def verdict(self, row: BytesOrText) -> Optional[bool]:
         """Whether the filter is true on a row, one JSON object; None where it is null.
 
-        Raises RowFault, MomentNeeded.
+        Raises RowFault, MomentNeeded, TooCostly.
         """
         owned, answer, lent = self._open(), _Answer(), _lent(row, "a row")
         with self._one_call:
@@ -451,9 +459,18 @@ class Judge(_Held):
         library = owned.library
         if status == MOMENT_NEEDED:
             return library._worded(MomentNeeded(), status, answer, "")
+        if status == TOO_COSTLY:
+            return TooCostly()
         path = library._text("path", owned.handle) if status == ROW_FAULT else ""
         fault = RowFault(library._fault(status, answer.fault), path, line, kept)
         return library._worded(fault, status, answer, path)
+
+
+def _bound_of(bound: int) -> int:
+    """The bound as the library takes it; what no row can cost is as good as none."""
+    if bound < 0:
+        raise ValueError("a bound is not negative")
+    return min(bound, (1 << 64) - 1)
 
 
 def _filter_text(query: BytesOrText) -> str:

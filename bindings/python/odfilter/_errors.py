@@ -132,6 +132,13 @@ class MomentNeeded(Error):
         return "usage now is needed"
 
 
+class TooCostly(Error):
+    """A filter costs more on a row than the bound of its judge allows."""
+
+    def __str__(self) -> str:
+        return "the filter costs more on the row than the judge's bound"
+
+
 class RowFault(Error):
     """A row has no verdict.
 

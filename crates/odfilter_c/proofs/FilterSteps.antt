@@ -25,6 +25,7 @@ no_filter held text (Fault.Json line) wrong = wrong
 no_filter held text (Fault.Row line why) wrong = wrong
 no_filter held text (Fault.Evaluation line why) wrong = wrong
 no_filter held text (Fault.LineTooLong line) wrong = wrong
+no_filter held text Fault.TooCostly wrong = wrong
 
 pub of_text : (given : Handle) (held : EntityType) (text : List ℕ) (result : Result Handle Fault) → given ≡ Handle.Type held
     → MatchResult result (IsFilterMade held text) (IsNotMade held text) → MatchResult result (IsFilterIn given text) (IsNoFilter given text)
@@ -51,6 +52,7 @@ no_query held query text (Fault.Json line) filter wrong = absurd wrong
 no_query held query text (Fault.Row line why) filter wrong = absurd wrong
 no_query held query text (Fault.Evaluation line why) filter wrong = absurd wrong
 no_query held query text (Fault.LineTooLong line) filter wrong = absurd wrong
+no_query held query text Fault.TooCostly filter wrong = absurd wrong
 
 pub of_query : (given : Handle) (held : EntityType) (query text : List ℕ) (result : Result Handle Fault) → given ≡ Handle.Type held
     → IsFilterOf query (Some text) → MatchResult result (IsFilterMade held text) (IsNotMade held text)

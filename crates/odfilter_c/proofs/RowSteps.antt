@@ -1,9 +1,16 @@
 -- What holds at the moment for a filter, as what holds of the filter's handle and the judge.
-use Rattle.std.proofs.Common.{◌≡◌, ℕ, List, Result, Ok, Err, Option, subst}
+use Rattle.std.proofs.Common.{◌≡◌, ℕ, List, Result, Ok, Err, Option, None, Some, refl, subst}
 use Rattle.edm_values.specs.MomentParts.{MomentParts}
 use Rattle.line_filter.specs.declared.tally.Tally.{Tally}
 use Rattle.odata_checked_filter.specs.Filter.{Filter}
-use Rattle.odfilter_c.specs.RowCalls.{IsMomentFor, IsRunAt, IsRunOver}
+use Rattle.odata_eval.specs.declared.verdict.Verdict.{Verdict}
+use Rattle.odata_filter.specs.RowAnswer.{TellsRow}
+use Rattle.odata_filter.specs.RowCosts.{ReportsRowWithin}
+use Rattle.odata_filter.specs.declared.bad_row.BadRow.{BadRow}
+use Rattle.odata_filter.specs.declared.bounded_judge.RowStop.{RowStop}
+use Rattle.odata_filter.specs.declared.no_verdict.NoVerdict.{NoVerdict}
+use Rattle.odfilter_c.specs.RowCalls.{IsMomentFor, IsOutcomeAt, IsOutcomeOn, IsRunAt, IsRunOver}
+use Rattle.odfilter_c.specs.private.RowFaults.{row_fault}
 use Rattle.odfilter_c.specs.declared.fault.Fault.{Fault}
 
 -- what is said at the moment that was taken, of the filter as it was put together
@@ -33,3 +40,43 @@ run_there filter given rows (Err (Fault.Json line)) text run = run
 run_there filter given rows (Err (Fault.Row line why)) text run = run
 run_there filter given rows (Err (Fault.Evaluation line why)) text run = run
 run_there filter given rows (Err (Fault.LineTooLong line)) text run = run
+run_there filter given rows (Err Fault.TooCostly) text run = run
+
+-- an outcome at that moment is one on the row
+pub outcome_there : (filter : Filter) (given : Option MomentParts) (bound : Option ℕ) (row : List ℕ) (outcome : Result Verdict Fault)
+    → (now : MomentParts) × (IsMomentFor filter given now × IsOutcomeAt filter now bound row outcome)
+    → IsOutcomeOn filter given bound row outcome
+outcome_there filter given bound row (Ok verdict) there = there
+outcome_there filter given bound row (Err Fault.MomentNeeded) there = absurd there.1.1
+outcome_there filter given bound row (Err Fault.OtherKind) there = there
+outcome_there filter given bound row (Err Fault.NotUtf8) there = there
+outcome_there filter given bound row (Err Fault.Memory) there = there
+outcome_there filter given bound row (Err Fault.UnknownType) there = there
+outcome_there filter given bound row (Err Fault.NoFilter) there = there
+outcome_there filter given bound row (Err Fault.NotAMoment) there = there
+outcome_there filter given bound row (Err Fault.UnknownNumber) there = there
+outcome_there filter given bound row (Err (Fault.TooSmall wanted)) there = there
+outcome_there filter given bound row (Err (Fault.Schema why)) there = there
+outcome_there filter given bound row (Err (Fault.Refused why)) there = there
+outcome_there filter given bound row (Err (Fault.Query why)) there = there
+outcome_there filter given bound row (Err (Fault.Whole why)) there = there
+outcome_there filter given bound row (Err (Fault.Json line)) there = there
+outcome_there filter given bound row (Err (Fault.Row line why)) there = there
+outcome_there filter given bound row (Err (Fault.Evaluation line why)) there = there
+outcome_there filter given bound row (Err (Fault.LineTooLong line)) there = there
+outcome_there filter given bound row (Err Fault.TooCostly) there = there
+
+-- what is told of a row without a bound, and within one
+pub plain_row : (filter : Filter) (now : MomentParts) (row : List ℕ) (why : NoVerdict) → TellsRow filter now row (Err why)
+    → IsOutcomeAt filter now None row (Err (row_fault why))
+plain_row filter now row (NoVerdict.Bad BadRow.NotJson) told = (refl, told)
+plain_row filter now row (NoVerdict.Bad (BadRow.NoEntity fault)) told = (refl, told)
+plain_row filter now row (NoVerdict.Bad (BadRow.NoValue fault)) told = (refl, (told, tt))
+plain_row filter now row NoVerdict.Memory told = tt
+
+pub bounded_row : (filter : Filter) (now : MomentParts) (row : List ℕ) (most : ℕ) (why : NoVerdict)
+    → ReportsRowWithin filter now row most (Err (RowStop.NoVerdict why)) → IsOutcomeAt filter now (Some most) row (Err (row_fault why))
+bounded_row filter now row most (NoVerdict.Bad BadRow.NotJson) told = (refl, told)
+bounded_row filter now row most (NoVerdict.Bad (BadRow.NoEntity fault)) told = (refl, told)
+bounded_row filter now row most (NoVerdict.Bad (BadRow.NoValue fault)) told = (refl, told)
+bounded_row filter now row most NoVerdict.Memory told = tt

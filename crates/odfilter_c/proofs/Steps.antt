@@ -15,7 +15,7 @@ pub use types.Kit.{Item, use0, ‵, raw, ◌⊛◌, some, later, prop, at_ret, S
 pub use types.Run.{enter, of_opd, lit, bin, addr, stop, fld, no_more, and_then, first, blocks, branches, skips, exec, returns, returns_within}
 pub use types.Part.{agg, sub, whole}
 pub use types.ByLocal.{alloc_all, pass_all, free_all, look_at, get, get_in, through, sets, lands_last, sets_last, env}
-pub use denote.Builtin.{u32, usize}
+pub use denote.Builtin.{u32, u64, usize}
 pub use denote.Exit.{yes}
 pub use denote.Laws.{Typed, Is, shows}
 pub use denote.Plain.{uint_Makes, uint_Lawful, uint_vals, uint_Tells}

@@ -9,7 +9,7 @@ use Rattle.odfilter_c.specs.declared.c_types.Room.{Room}
 use Rattle.odfilter_c.specs.declared.handle.Handle.{Handle}
 use Rattle.odfilter_c.specs.declared.owned.Owned.{Owned}
 use Rattle.odfilter_c.specs.Tells.{ReadsSchema, FindsType, ChecksText, ChecksQuery, Frees, TellsVersion, TellsStatus, TellsFault}
-use Rattle.odfilter_c.specs.RowTells.{TellsNeed, MakesJudge, SetsMoment, JudgesOne, FiltersLines, TellsPath}
+use Rattle.odfilter_c.specs.RowTells.{TellsNeed, MakesJudge, SetsBound, SetsMoment, JudgesOne, FiltersLines, TellsPath}
 
 abbrev pub lent_to_read_schema : Loan → Bytes → Room → Ptr → Ptr → Fml
 lent_to_read_schema l document names schema answer =
@@ -81,6 +81,15 @@ left_by_set_moment l judge moment result = unless_null (judge ∷ [])
     (fex Handle (λ judge'.
     fsep (left_judge l judge judge')
     (holds (of_bytes moment.at moment.length l.bytes ((judge' ≡ l.judge) × (result ≡ 1)) (λ bytes. SetsMoment l.judge judge' bytes result)))))
+
+abbrev pub lent_to_set_bound : Loan → Ptr → Fml
+lent_to_set_bound l judge = lent_judge l judge
+
+abbrev pub left_by_set_bound : Loan → Ptr → ℕ → ℕ → Fml
+left_by_set_bound l judge most result = unless_null (judge ∷ [])
+    (fsep (feq ℕ result 1) (lent_to_set_bound l judge))
+    (fex Handle (λ judge'.
+    fsep (left_judge l judge judge') (holds (SetsBound l.judge judge' most result))))
 
 abbrev pub lent_to_judge : Loan → Ptr → Ptr → Bytes → Ptr → Fml
 lent_to_judge l filter judge row answer =

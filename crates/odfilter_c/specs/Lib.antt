@@ -14,6 +14,7 @@ pub use Rattle.odata_expression_types.specs.HasTyping
 pub use Rattle.odata_expression_types.specs.PreOrder
 pub use Rattle.odata_filter.specs.FaultNumbers
 pub use Rattle.odata_filter.specs.RowAnswer
+pub use Rattle.odata_filter.specs.RowCosts
 pub use Rattle.odata_syntax.specs.CanonicalText
 pub mod Answers
 pub mod Outcomes
@@ -35,3 +36,4 @@ pub mod Costs
 pub mod UrlCalls
 pub mod Sentences
 pub mod FilterExports
+pub mod private

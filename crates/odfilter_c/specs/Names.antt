@@ -31,7 +31,8 @@ statuses =
     ∷ (21, codes "JSON_FAULT")
     ∷ (22, codes "ROW_FAULT")
     ∷ (23, codes "EVAL_FAULT")
-    ∷ (24, codes "LINE_TOO_LONG") ∷ []
+    ∷ (24, codes "LINE_TOO_LONG")
+    ∷ (25, codes "TOO_COSTLY") ∷ []
 
 -- what has numbered faults under a status
 abbrev pub kinds : List (ℕ × FaultKind)

@@ -1,5 +1,5 @@
 -- What a judge comes to: the verdict of a filter on a row, and the rows that the filter keeps.
-use Rattle.std.specs.Prelude.{◌≡◌, ℕ, IsUtf8, IsSomeAnd, List, [], Option, None, Some, Result, Ok, Err}
+use Rattle.std.specs.Prelude.{◌≡◌, ◌<◌, ◌≤◌, ℕ, IsUtf8, IsSomeAnd, List, [], Option, None, Some, Result, Ok, Err}
 use Rattle.edm_entities.specs.declared.fault.RowFault.{RowFault}
 use Rattle.edm_values.specs.MomentLiteral.{MomentValue}
 use Rattle.edm_values.specs.MomentParts.{MomentParts}
@@ -11,6 +11,7 @@ use Rattle.odata_checked_filter.specs.Calls.{UsesNow}
 use Rattle.odata_checked_filter.specs.Filter.{Filter, tree_of_filter}
 use Rattle.odata_eval.specs.declared.verdict.Verdict.{Verdict}
 use Rattle.odata_filter.specs.RowAnswer.{HasVerdict}
+use Rattle.odata_filter.specs.RowCosts.{RowCostIs}
 use Rattle.odata_filter.specs.RowJudgment.{JudgesRow, rows_of}
 use Rattle.odata_filter.specs.declared.bad_row.BadRow.{BadRow}
 use Rattle.odfilter_c.specs.Answers.{path_bytes}
@@ -18,9 +19,9 @@ use Rattle.odfilter_c.specs.declared.fault.Fault.{Fault}
 use Rattle.odfilter_c.specs.declared.handle.Handle.{Handle}
 use Rattle.odfilter_c.specs.declared.handle.JudgeHandle.{JudgeHandle}
 
--- a judge that has no moment, and was in no fault
+-- a judge that has no moment and no bound, and was in no fault
 abbrev pub IsNewJudge : Handle → Type 0
-IsNewJudge (Handle.Judge judge) = judge.value ≡ record { reader = tt; moment = None; last = None }
+IsNewJudge (Handle.Judge judge) = judge.value ≡ record { reader = tt; moment = None; bound = None; last = None }
 IsNewJudge handle = ⊥
 
 abbrev pub IsNoMemory : Fault → Type 0
@@ -43,25 +44,34 @@ IsMomentFor filter None now = ¬ UsesNow (tree_of_filter filter)
 abbrev pub LacksMoment : Filter → Option MomentParts → Type 0
 LacksMoment filter given = (given ≡ None) × UsesNow (tree_of_filter filter)
 
--- the verdict of the filter on the row
-abbrev pub IsVerdictOn : Filter → Option MomentParts → List ℕ → Verdict → Type 0
-IsVerdictOn filter given row verdict =
-    (now : MomentParts) × (IsMomentFor filter given now × HasVerdict filter now row verdict)
+-- what the filter costs on the row is within the judge's bound, or above it; without a bound any cost is within
+abbrev pub IsWithin : Option ℕ → Filter → MomentParts → List ℕ → Type 0
+IsWithin None filter now row = Unit {0}
+IsWithin (Some most) filter now row = RowCostIs filter now row (λ cost. cost ≤ most)
 
--- what is wrong with the row by itself
-abbrev pub IsBadRow : Filter → Option MomentParts → List ℕ → BadRow → Type 0
-IsBadRow filter given row bad =
-    (now : MomentParts) × (IsMomentFor filter given now × JudgesRow filter now row (Judgment.Fault bad))
+abbrev pub IsAbove : Option ℕ → Filter → MomentParts → List ℕ → Type 0
+IsAbove None filter now row = ⊥
+IsAbove (Some most) filter now row = RowCostIs filter now row (λ cost. most < cost)
 
--- why there is no verdict; a row by itself has no line, which is told as 0
-abbrev pub IsNoVerdict : Filter → Option MomentParts → List ℕ → Fault → Type 0
-IsNoVerdict filter given row Fault.MomentNeeded = LacksMoment filter given
-IsNoVerdict filter given row (Fault.Json line) = (line ≡ 0) × IsBadRow filter given row BadRow.NotJson
-IsNoVerdict filter given row (Fault.Row line fault) = (line ≡ 0) × IsBadRow filter given row (BadRow.NoEntity fault)
-IsNoVerdict filter given row (Fault.Evaluation line fault) =
-    (line ≡ 0) × IsBadRow filter given row (BadRow.NoValue fault)
-IsNoVerdict filter given row Fault.Memory = Unit {0}
-IsNoVerdict filter given row fault = ⊥
+-- the verdict of the filter on the row at a moment, within the bound, or why there is none; a row by itself has no line,
+-- which is told as 0
+abbrev pub IsOutcomeAt : Filter → MomentParts → Option ℕ → List ℕ → Result Verdict Fault → Type 0
+IsOutcomeAt filter now bound row (Ok verdict) = HasVerdict filter now row verdict × IsWithin bound filter now row
+IsOutcomeAt filter now bound row (Err (Fault.Json line)) =
+    (line ≡ 0) × JudgesRow filter now row (Judgment.Fault BadRow.NotJson)
+IsOutcomeAt filter now bound row (Err (Fault.Row line fault)) =
+    (line ≡ 0) × JudgesRow filter now row (Judgment.Fault (BadRow.NoEntity fault))
+IsOutcomeAt filter now bound row (Err (Fault.Evaluation line fault)) =
+    (line ≡ 0) × (JudgesRow filter now row (Judgment.Fault (BadRow.NoValue fault)) × IsWithin bound filter now row)
+IsOutcomeAt filter now bound row (Err Fault.TooCostly) = IsAbove bound filter now row
+IsOutcomeAt filter now bound row (Err Fault.Memory) = Unit {0}
+IsOutcomeAt filter now bound row (Err fault) = ⊥
+
+-- that at the judge's moment; none where it lacks one
+abbrev pub IsOutcomeOn : Filter → Option MomentParts → Option ℕ → List ℕ → Result Verdict Fault → Type 0
+IsOutcomeOn filter given bound row (Err Fault.MomentNeeded) = LacksMoment filter given
+IsOutcomeOn filter given bound row outcome =
+    (now : MomentParts) × (IsMomentFor filter given now × IsOutcomeAt filter now bound row outcome)
 
 -- the stop of a run over lines that a fault tells
 abbrev pub stop_of : Fault → Option (Stop BadRow)
@@ -90,7 +100,7 @@ last_after last (Fault.Row line fault) = Some fault
 last_after last Fault.MomentNeeded = last
 last_after last fault = None
 
--- the judge keeps that, and has the moment that it had
+-- the judge keeps that, and has the moment and the bound that it had
 abbrev pub Keeps : JudgeHandle → JudgeHandle → Option RowFault → Type 0
 Keeps old new last = new ≡ record old { last = last }
 

@@ -1,5 +1,5 @@
 -- What each call about rows tells of what it is lent.
-use Rattle.std.specs.Prelude.{◌≡◌, ◌⊎◌, ℕ, List, length, Option, None, Some, Result, Ok, Err, MatchResult}
+use Rattle.std.specs.Prelude.{◌≡◌, ◌⊎◌, ℕ, List, length, Option, None, Some, Result, Ok, Err}
 use Rattle.edm_entities.specs.declared.fault.RowFault.{RowFault}
 use Rattle.edm_values.specs.MomentParts.{MomentParts}
 use Rattle.line_filter.specs.declared.tally.Tally.{Tally}
@@ -8,7 +8,7 @@ use Rattle.odata_checked_filter.specs.Filter.{Filter, tree_of_filter}
 use Rattle.odata_eval.specs.declared.verdict.Verdict.{Verdict}
 use Rattle.odfilter_c.specs.Answers.{empty_answer, fault_answer, fault_status}
 use Rattle.odfilter_c.specs.Outcomes.{IsTold, Makes}
-use Rattle.odfilter_c.specs.RowCalls.{IsMomentOf, IsNewJudge, IsNoMemory, IsNoVerdict, IsRunOver, IsVerdictOn, Keeps, last_after, path_kept}
+use Rattle.odfilter_c.specs.RowCalls.{IsMomentOf, IsNewJudge, IsNoMemory, IsOutcomeOn, IsRunOver, Keeps, last_after, path_kept}
 use Rattle.odfilter_c.specs.Texts.{IsTooSmall, IsWritten, Writes}
 use Rattle.odfilter_c.specs.declared.c_types.Answer.{Answer}
 use Rattle.odfilter_c.specs.declared.fault.Fault.{Fault}
@@ -46,6 +46,12 @@ abbrev pub SetsMoment : Handle → Handle → List ℕ → ℕ → Type 0
 SetsMoment (Handle.Judge old) (Handle.Judge new) text status = SetsMomentOf old.value new.value text status
 SetsMoment old new text status = (new ≡ old) × (status ≡ fault_status Fault.OtherKind)
 
+-- setting a judge's bound
+abbrev pub SetsBound : Handle → Handle → ℕ → ℕ → Type 0
+SetsBound (Handle.Judge old) (Handle.Judge new) most status =
+    (new.value ≡ record old.value { bound = Some most }) × (status ≡ 0)
+SetsBound old new most status = (new ≡ old) × (status ≡ fault_status Fault.OtherKind)
+
 -- the number of a verdict
 abbrev pub verdict_number : Verdict → ℕ
 verdict_number Verdict.False = 0
@@ -63,7 +69,7 @@ pub record JudgesOneBy
     (filter : Filter) (old new : JudgeHandle) (row : List ℕ) (answer : Answer) (status : ℕ)
     : Type 0 where
   pub outcome : Result Verdict Fault
-  pub right : MatchResult outcome (IsVerdictOn filter old.moment row) (IsNoVerdict filter old.moment row)
+  pub right : IsOutcomeOn filter old.moment old.bound row outcome
   pub tells : TellsVerdict outcome old new answer status
 
 abbrev pub JudgesOne : Handle → Handle → Handle → List ℕ → Answer → ℕ → Type 0

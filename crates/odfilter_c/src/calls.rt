@@ -5,14 +5,15 @@ ghost use Rattle.odfilter_c.specs.Tells.{TellsCanonical, TellsFault, TellsNodes,
 ghost use Rattle.odfilter_c.specs.Sentences.{ReportsSentence, ReportsSentenceFor};
 ghost use Rattle.odfilter_c.specs.UrlCalls.{ChecksUrl};
 ghost use Rattle.odfilter_c.specs.Costs.{ReportsLambdaDepth, ReportsNodeCount, ReportsPaths};
-ghost use Rattle.odfilter_c.specs.RowTells.{FiltersLines, JudgesOne, MakesJudge, SetsMoment, TellsNeed, TellsPath};
+ghost use Rattle.odfilter_c.specs.RowTells.{FiltersLines, JudgesOne, MakesJudge, SetsBound, SetsMoment, TellsNeed};
+ghost use Rattle.odfilter_c.specs.RowTells.{TellsPath};
 
 use crate::c_types::Answer;
 use crate::cost_calls::{path_lines, report_lambda_depth, report_lines, report_node_count};
 use crate::fault::Fault;
 use crate::filter_calls::{canonical_of, explanation_of, filter_for, filter_in_query, filter_of};
 use crate::handle::Handle;
-use crate::judge_calls::{empty_judge, last_path, put_moment, tell_need, tell_row};
+use crate::judge_calls::{empty_judge, last_path, put_bound, put_moment, tell_need, tell_row};
 use crate::line_calls::tell_rows;
 use crate::name_calls::{VERSION, name_of_fault, name_of_status};
 use crate::owned::Owned;
@@ -217,6 +218,12 @@ pub(crate) fn set_moment<'a>(judge: &'a mut Handle, moment: &'a [u8]) -> u32
     ensures { SetsMoment judge.old judge.new moment.now result }
 {
     put_moment(judge, moment)
+}
+
+pub(crate) fn set_bound<'a>(judge: &'a mut Handle, most: u64) -> u32
+    ensures { SetsBound judge.old judge.new most result }
+{
+    put_bound(judge, most)
 }
 
 pub(crate) fn judge<'a>(

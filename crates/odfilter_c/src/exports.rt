@@ -10,6 +10,7 @@ ghost use Rattle.odfilter_c.specs.Exports.{lent_to_check_query, left_by_check_qu
 ghost use Rattle.odfilter_c.specs.Exports.{lent_to_needs_moment, left_by_needs_moment};
 ghost use Rattle.odfilter_c.specs.Exports.{lent_to_new_judge, left_by_new_judge};
 ghost use Rattle.odfilter_c.specs.Exports.{lent_to_set_moment, left_by_set_moment};
+ghost use Rattle.odfilter_c.specs.Exports.{lent_to_set_bound, left_by_set_bound};
 ghost use Rattle.odfilter_c.specs.Exports.{lent_to_judge, left_by_judge};
 ghost use Rattle.odfilter_c.specs.Exports.{lent_to_filter_lines, left_by_filter_lines};
 ghost use Rattle.odfilter_c.specs.Exports.{lent_to_path, left_by_path};
@@ -257,6 +258,20 @@ pub unsafe extern "C" fn odfilter_set_moment(judge: *mut u8, moment: Bytes) -> u
             )
         }
     }
+}
+
+/// Bounds what a filter may cost on a row.
+#[unsafe(no_mangle)]
+pub unsafe extern "C" fn odfilter_set_bound(judge: *mut u8, most: u64) -> u32
+    ghost loan: { Loan }
+    requires testable { (Testable judge) }
+    requires* lent { sem 𝓛 (flft loan.lifetime loan.share) ∗ sem 𝓛 (lent_to_set_bound loan judge) }
+    ensures* { sem 𝓛 (flft loan.lifetime loan.share) ∗ sem 𝓛 (left_by_set_bound loan judge most result) }
+{
+    if judge.is_null() {
+        return 1;
+    }
+    unsafe { calls::set_bound(&mut *(judge as *mut Handle), most) }
 }
 
 /// Judges a row.

@@ -33,6 +33,7 @@ pub(crate) enum Fault {
     Row { line: u64, fault: RowFault },
     Evaluation { line: u64, fault: EvalFault },
     LineTooLong { line: u64 },
+    TooCostly,
 }
 
 /// The status of a refusal, by what is wrong with the text.
@@ -175,6 +176,7 @@ impl Fault {
             Fault::Row { .. } => 22,
             Fault::Evaluation { .. } => 23,
             Fault::LineTooLong { .. } => 24,
+            Fault::TooCostly => 25,
         }
     }
 

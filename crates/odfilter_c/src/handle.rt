@@ -75,6 +75,8 @@ pub struct JudgeHandle {
     pub(crate) reader: RowReader,
     /// What `now()` stands for, if that is known.
     pub(crate) moment: Option<Moment>,
+    /// What a row may cost, if that is bounded.
+    pub(crate) bound: Option<u64>,
     /// What the last row was refused for, if it was.
     pub(crate) last: Option<RowFault>,
 }

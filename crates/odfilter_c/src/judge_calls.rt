@@ -5,19 +5,22 @@ ghost use Rattle.odata_checked_filter.specs.Filter.{tree_of_filter};
 ghost use Rattle.odata_filter.specs.Run.{IsFirstMoment};
 ghost use Rattle.odfilter_c.specs.Answers.{empty_answer};
 ghost use Rattle.odfilter_c.specs.Outcomes.{IsTold};
-ghost use Rattle.odfilter_c.specs.RowCalls.{IsMomentFor, IsMomentOf, IsNewJudge, IsNoMemory, IsNoVerdict, IsVerdictOn};
+ghost use Rattle.odfilter_c.specs.RowCalls.{IsMomentFor, IsMomentOf, IsNewJudge, IsNoMemory, IsOutcomeAt, IsOutcomeOn};
 ghost use Rattle.odfilter_c.specs.RowCalls.{Keeps, last_after, path_kept};
-ghost use Rattle.odfilter_c.specs.RowTells.{JudgesOne, JudgesOneBy, SetsMoment, SetsMomentOf, TellsNeedOf, verdict_number};
+ghost use Rattle.odata_filter.specs.RowAnswer.{IsPlanOfFilter};
+ghost use Rattle.odfilter_c.specs.private.RowFaults.{row_fault};
+ghost use Rattle.odfilter_c.specs.RowTells.{JudgesOne, JudgesOneBy, SetsBound, SetsMoment, SetsMomentOf};
+ghost use Rattle.odfilter_c.specs.RowTells.{TellsNeedOf, verdict_number};
 
 use crate::c_types::Answer;
 use crate::fault::{Fault, path_of};
 use crate::handle::{FilterHandle, Handle, JudgeHandle};
 use crate::telling::tell_fault;
-use edm_entities::RowReader;
+use edm_entities::{RowPlan, RowReader};
 use edm_values::{Moment, read_moment};
 use jiff::civil;
 use odata_eval::Verdict;
-use odata_filter::{BadRow, NoVerdict, judge_row};
+use odata_filter::{BadRow, BoundedJudge, NoVerdict, RowStop, judge_row};
 use odata_typing::Checked;
 use std::alloc::Global;
 
@@ -39,6 +42,7 @@ pub(crate) fn empty_judge(alloc: Global) -> Result<Handle, Fault>
     let judge = JudgeHandle {
         reader: RowReader::new(alloc),
         moment: None,
+        bound: None,
         last: None,
     };
     match Box::new(alloc, judge) {
@@ -83,6 +87,19 @@ pub(crate) fn put_moment(handle: &mut Handle, text: &[u8]) -> u32
     }
 }
 
+/// Has a handle that is a judge bound what a row may cost.
+pub(crate) fn put_bound(handle: &mut Handle, most: u64) -> u32
+    ensures { SetsBound handle.old handle.new most result }
+{
+    match handle {
+        Handle::Judge(judge) => {
+            judge.bound = Some(most);
+            0
+        }
+        _ => Fault::OtherKind.status(),
+    }
+}
+
 /// The moment that is handed in where none is asked for, the first one of year 1.
 fn first_moment() -> Moment
     ensures { IsFirstMoment result }
@@ -110,10 +127,54 @@ pub(crate) fn moment_for(checked: &Checked<'_>, given: Option<Moment>) -> Result
     }
 }
 
-/// The verdict on a row, or why there is none.
+/// The fault of a row by itself.
+fn row_fault(why: NoVerdict) -> Fault
+    ensures { result ≡ row_fault why }
+{
+    match why {
+        NoVerdict::Bad(BadRow::NotJson) => Fault::Json { line: 0 },
+        NoVerdict::Bad(BadRow::NoEntity(fault)) => Fault::Row { line: 0, fault },
+        NoVerdict::Bad(BadRow::NoValue(fault)) => Fault::Evaluation { line: 0, fault },
+        NoVerdict::Memory => Fault::Memory,
+    }
+}
+
+/// The verdict on a row at a moment, or why there is none.
+fn plain_verdict(
+    checked: &Checked<'_>,
+    now: &Moment,
+    plan: &RowPlan,
+    reader: &mut RowReader,
+    row: &[u8],
+) -> Result<Verdict, Fault>
+    requires { IsPlanOfFilter checked.now plan.now }
+    ensures { IsOutcomeAt checked.now now.now None row.now result }
+{
+    match judge_row(checked, now, plan, reader, row) {
+        Ok(verdict) => Ok(verdict),
+        Err(why) => Err(row_fault(why)),
+    }
+}
+
+/// The verdict on a row within a bound, or why there is none.
+fn bounded_verdict(
+    by: &BoundedJudge<'_, '_>,
+    reader: &mut RowReader,
+    row: &[u8],
+) -> Result<Verdict, Fault>
+    requires { IsPlanOfFilter by.now.checked.now by.now.plan.now }
+    ensures { IsOutcomeAt by.now.checked.now by.now.moment.now (Some by.now.most) row.now result }
+{
+    match by.judge(reader, row) {
+        Ok(verdict) => Ok(verdict),
+        Err(RowStop::NoVerdict(why)) => Err(row_fault(why)),
+        Err(RowStop::TooCostly) => Err(Fault::TooCostly),
+    }
+}
+
+/// The verdict on a row, within the judge's bound where it has one, or why there is none.
 fn verdict_on(held: &FilterHandle, judge: &mut JudgeHandle, row: &[u8]) -> Result<Verdict, Fault>
-    ensures outcome { MatchResult result (IsVerdictOn held.now judge.old.moment row.now)
-        (IsNoVerdict held.now judge.old.moment row.now) }
+    ensures outcome { IsOutcomeOn held.now judge.old.moment judge.old.bound row.now result }
     ensures same { judge.new ≡ judge.old }
 {
     let checked = held.filter.with_schema(&held.schema);
@@ -121,12 +182,17 @@ fn verdict_on(held: &FilterHandle, judge: &mut JudgeHandle, row: &[u8]) -> Resul
         Ok(now) => now,
         Err(fault) => return Err(fault),
     };
-    match judge_row(&checked, &now, &held.plan, &mut judge.reader, row) {
-        Ok(verdict) => Ok(verdict),
-        Err(NoVerdict::Bad(BadRow::NotJson)) => Err(Fault::Json { line: 0 }),
-        Err(NoVerdict::Bad(BadRow::NoEntity(fault))) => Err(Fault::Row { line: 0, fault }),
-        Err(NoVerdict::Bad(BadRow::NoValue(fault))) => Err(Fault::Evaluation { line: 0, fault }),
-        Err(NoVerdict::Memory) => Err(Fault::Memory),
+    match judge.bound {
+        Some(most) => {
+            let by = BoundedJudge {
+                checked: &checked,
+                moment: &now,
+                plan: &held.plan,
+                most,
+            };
+            bounded_verdict(&by, &mut judge.reader, row)
+        }
+        None => plain_verdict(&checked, &now, &held.plan, &mut judge.reader, row),
     }
 }
 

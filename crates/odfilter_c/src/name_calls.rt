@@ -33,6 +33,7 @@ pub(crate) fn name_of_status(status: u32) -> Result<&'static str, Fault>
         22 => Ok("ROW_FAULT"),
         23 => Ok("EVAL_FAULT"),
         24 => Ok("LINE_TOO_LONG"),
+        25 => Ok("TOO_COSTLY"),
         _ => Err(Fault::UnknownNumber),
     }
 }
