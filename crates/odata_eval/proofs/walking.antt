@@ -19,6 +19,7 @@ pub mod Readings
 pub mod Sides
 pub mod SlotValue
 pub mod Spines
+pub mod TextArguments
 pub mod TopNode
 pub mod Unread
 pub mod Variables

@@ -7,6 +7,7 @@ mod budget;
 mod collection_walk;
 mod evaluator;
 mod frames;
+mod kept_operands;
 mod lambda_walk;
 mod laws;
 mod number_walk;

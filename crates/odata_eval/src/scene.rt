@@ -215,7 +215,9 @@ impl<'e, 'c, 'r> Scene<'e, 'c, 'r> {
                 return value;
             }
         }
-        match at_level(&self.frames, level) {
+        // They are looked for in a copy, so that the scene itself has no address.
+        let frames = self.frames;
+        match at_level(&frames, level) {
             AtLevel::There(value) => value,
             AtLevel::Fewer(_) => unreachable!(),
         }

@@ -3,7 +3,7 @@
 //! by counting, and long chains take no stack.
 //!
 //! What is asked at each node is marked to be inlined, so that an answer is not passed on through memory.
-ghost use Rattle.std.specs.Prelude.{◌≡◌, ◌+◌, None, Ok};
+ghost use Rattle.std.specs.Prelude.{◌≡◌, ◌+◌, IfOk, None, Ok};
 ghost use Rattle.odata_signatures.specs.OperatorClass.{class_of};
 ghost use Rattle.odata_eval.specs.private.Place.{HasCall, HasOperator, HasOperatorOf, IsClassAt, PartStands, TruthStands};
 ghost use Rattle.odata_eval.specs.private.Spending.{CountedDatum, CountedTruth, SpendsAt, SpendsRest, datum_stop, stopped_by};
@@ -12,6 +12,7 @@ ghost use Rattle.odata_eval.specs.private.WalkAnswer.{AnswersDatum, AnswersTruth
 
 use super::budget::{Budget, as_stop, fault_of};
 use super::collection_walk::{among_at, flags_at, listed_at};
+use super::kept_operands::{kept_compared_at, lower_start_at};
 use super::lambda_walk::lambda_at;
 use super::number_walk::{number_at, number_chain_at};
 use super::operator_classes::{comparison_of, connective_of, decides, join};
@@ -120,7 +121,10 @@ fn compared_truth_at(
             _ => made_truth_at(scene, place, budget),
         },
         Part::Numeric => numbers_truth_at(scene, place, operator, budget),
-        _ => made_truth_at(scene, place, budget),
+        _ => match kept_compared_at(scene, place, operator) {
+            Some(truth) => Ok(Some(truth)),
+            None => made_truth_at(scene, place, budget),
+        },
     }
 }
 
@@ -181,7 +185,10 @@ fn called_truth_at(
     let own_stop = stop_of(scene, place);
     let first = match part_at(scene, place + 1) {
         Part::Leaf(value) => datum_of(value),
-        _ => return made_truth_at(scene, place, budget),
+        _ => match lower_start_at(scene, place, function) {
+            Some(truth) => return Ok(Some(truth)),
+            None => return made_truth_at(scene, place, budget),
+        },
     };
     let second_place = stop_of(scene, place + 1);
     if second_place == own_stop {
@@ -279,13 +286,18 @@ pub(crate) fn side_at(
 /// The same, where nothing is counted: a term of a chain, of a filter that is evaluated without a bound.
 #[tactic(auto, using(crate::proofs::spending::Stops::unbounded_truth, crate::proofs::spending::Stops::unbounded_datum))]
 #[inline(always)]
-pub(crate) fn term_at(scene: &Scene<'_, '_, '_>, place: usize) -> Result<Option<bool>, EvalFault>
+pub(crate) fn term_at(
+    scene: &Scene<'_, '_, '_>,
+    place: usize,
+    unbounded: &mut Budget,
+) -> Result<Option<bool>, EvalFault>
     requires stands { TruthStands scene.now place }
-    ensures { AnswersTruth scene.now place result }
+    requires unbounded { unbounded.old ≡ Budget.Unbounded }
+    ensures answers { AnswersTruth scene.now place result }
+    ensures unbounded { IfOk result (λ truth. unbounded.new ≡ Budget.Unbounded) }
 {
     scene.costs_once();
-    let mut unbounded = Budget::Unbounded;
-    match side_at(scene, place, &mut unbounded) {
+    match side_at(scene, place, unbounded) {
         Ok(truth) => Ok(truth),
         Err(stop) => Err(fault_of(stop)),
     }

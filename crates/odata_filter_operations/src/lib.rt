@@ -7,6 +7,7 @@ mod collections;
 mod datum;
 mod fault;
 mod operators;
+mod text_case;
 
 pub use calls::{called_on_one, called_on_three, called_on_two};
 pub use collections::{among, any_item_of, count_of, flags_of};
@@ -15,3 +16,4 @@ pub use datum::{
 };
 pub use fault::EvalFault;
 pub use operators::{calculated, compare_kept, compare_numbers, negated};
+pub use text_case::lower_starts_with;

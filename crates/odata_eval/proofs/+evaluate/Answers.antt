@@ -289,6 +289,19 @@ walk::compared_truth_at-returns-in-Leaf-part_at-clause-answers t c =
     let here = class_of_operator c.args.scene.now.list c.args.place c.args.operator (OperatorClass.Comparison c.comparison_of.result) c.requires.here c.comparison_of.ensures in
     kept_compared c.args.scene.now c.args.place c.comparison_of.result here c.right_of-right_place.result c.right_of-right_place.ensures c.in-Leaf.left.now c.in-Leaf-part_at.right.now c.in-Leaf.ensures.0 c.in-Leaf-part_at.ensures.0 c.ends_once.ensures c.comparisons_are_decided.ensures.any_contents (typed_part c.args.scene.now c.args.place IsBooleanOrNull c.requires.stands) c.compare_kept.result c.compare_kept.ensures
 
+pub walk::compared_truth_at-kept_compared_at-requires : goal.walk::compared_truth_at-kept_compared_at-requires
+walk::compared_truth_at-kept_compared_at-requires t c = record {
+  stands = typed_part c.args.scene.now c.args.place IsBooleanOrNull c.requires.stands;
+  here = c.requires.here;
+  comparison = c.requires.comparison;
+}
+
+pub walk::compared_truth_at-returns-in-Some-clause-answers : goal.walk::compared_truth_at-returns-in-Some-clause-answers
+walk::compared_truth_at-returns-in-Some-clause-answers t c = c.in-Some.ensures.answers
+
+pub walk::compared_truth_at-returns-in-Some-clause-spent : goal.walk::compared_truth_at-returns-in-Some-clause-spent
+walk::compared_truth_at-returns-in-Some-clause-spent t c = c.in-Some.ensures.spent c.args.budget.now
+
 pub walk::numbers_truth_at-right_of-right_place-requires : goal.walk::numbers_truth_at-right_of-right_place-requires
 walk::numbers_truth_at-right_of-right_place-requires t c = right_there c.args.scene.now c.args.place c.args.operator c.requires.here (typed_part c.args.scene.now c.args.place IsBooleanOrNull c.requires.stands)
 
@@ -538,6 +551,16 @@ walk::called_truth_at-stop_of-own_stop-requires t c = part_inside c.args.scene.n
 
 pub walk::called_truth_at-part_at-requires : goal.walk::called_truth_at-part_at-requires
 walk::called_truth_at-part_at-requires t c = record { stands = first_there c.args.scene.now c.calls_have_one_type.ensures.named c.args.place c.args.function c.requires.here c.stop_of-own_stop.result c.stop_of-own_stop.ensures (typed_part c.args.scene.now c.args.place IsBooleanOrNull c.requires.stands) }
+
+pub walk::called_truth_at-lower_start_at-requires : goal.walk::called_truth_at-lower_start_at-requires
+walk::called_truth_at-lower_start_at-requires t c = record { stands = typed_part c.args.scene.now c.args.place IsBooleanOrNull c.requires.stands; here = c.requires.here }
+
+pub walk::called_truth_at-returns-in-Some-clause-answers : goal.walk::called_truth_at-returns-in-Some-clause-answers
+walk::called_truth_at-returns-in-Some-clause-answers t c = c.in-Some.ensures
+
+pub walk::called_truth_at-returns-in-Some-clause-spent : goal.walk::called_truth_at-returns-in-Some-clause-spent
+walk::called_truth_at-returns-in-Some-clause-spent t c =
+    free_spends c.args.scene.now c.args.place None c.args.budget.now (called_free c.args.scene.now c.args.place c.args.function c.requires.here) (takes_nothing c.args.budget.now)
 
 pub walk::called_truth_at-stop_of-second_place-requires : goal.walk::called_truth_at-stop_of-second_place-requires
 walk::called_truth_at-stop_of-second_place-requires t c = part_inside c.args.scene.now (c.args.place + 1) (first_there c.args.scene.now c.calls_have_one_type.ensures.named c.args.place c.args.function c.requires.here c.stop_of-own_stop.result c.stop_of-own_stop.ensures (typed_part c.args.scene.now c.args.place IsBooleanOrNull c.requires.stands))

@@ -1,5 +1,5 @@
 -- What costs nothing: leaves, nodes of numbers, calls, and literals that are read beside an enumeration.
-use Rattle.std.proofs.Common.{◌≡◌, ℕ, ℤ, List, Option, refl, slice_get}
+use Rattle.std.proofs.Common.{◌≡◌, ℕ, ℤ, List, Option, refl, slice_get, ◌+◌, inl, inr}
 use Rattle.csdl_schema.specs.ExprType.{ExprType, collection, enumeration, null_type, single}
 use Rattle.csdl_schema.specs.SchemaModel.{Slots, slots_of, type_name_at}
 use Rattle.edm_entities.specs.Row.{value_of}
@@ -17,6 +17,7 @@ use Rattle.odata_syntax.specs.declared.node.BinaryOperator.{BinaryOperator}
 use Rattle.odata_signatures.specs.declared.function.Function.{Function}
 use Rattle.odata_eval.specs.Costs.{RightCosts}
 use Rattle.odata_eval.specs.declared.part.WalkClass.{WalkClass}
+use Rattle.odata_eval.specs.private.KeptOperands.{IsMadeAt, IsPathAt}
 use Rattle.odata_eval.specs.private.Place.{HasKind, IsClassAt}
 use Rattle.odata_eval.specs.private.Scene.{MeansHere, StandsHere, TypedHere}
 use Rattle.odata_eval.specs.private.SceneModel.{SceneModel, environment_of}
@@ -24,6 +25,7 @@ use Rattle.odata_eval.specs.private.Spending.{CostsHere}
 use Rattle.odata_eval.specs.private.WalkClass.{walk_of_kind, walk_of_operator}
 use Rattle.odata_eval.proofs.costs.PlainTypes.{IsPlainType, call_free, number_plain, plain_free}
 use Rattle.odata_eval.proofs.costs.Zero.{IsFree, after_free, right_free}
+use Rattle.odata_eval.proofs.walking.Children.{only_child}
 use Rattle.odata_eval.proofs.walking.Parts.{by_kind, some_there, there_found}
 use Rattle.odata_eval.proofs.walking.Unread.{operator_plain}
 
@@ -123,3 +125,21 @@ module _ (scene : SceneModel) where
   sides_free operator left right of_left of_right from to =
       after_free (MeansHere scene left) (CostsHere scene left) (λ l. RightCosts (class_of operator) l (CostsHere scene right)) of_left
       (λ l. right_free (class_of operator) l (CostsHere scene right) of_right)
+
+  -- a step from a leaf, and so a path of at most one
+  pub step_free : (place slot : ℕ) → HasKind scene.list place (NodeKind.Member slot) → IsClassAt scene.list WalkClass.Leaf (place + 1) → FreeThere place
+  step_free place slot here leaf = by_kind scene place (NodeKind.Member slot) here (λ stop tree. IsFree (CostsHere scene tree))
+      (λ base asked stop from to stands. leaf_free (place + 1) leaf stop base (only_child scene (place + 1) stop base stands.children))
+
+  pub path_free : (place : ℕ) → IsPathAt scene.list place → FreeThere place
+  path_free place is = elim is [
+    | inl leaf ↦ leaf_free place leaf
+    | inr step ↦ step_free place step.0 step.1 step.2
+  ]
+
+  -- what is made of kept values alone
+  pub made_free : (place : ℕ) → IsMadeAt scene.list place → FreeThere place
+  made_free place is = elim is [
+    | inl called ↦ called_free place called.0 called.1
+    | inr numeric ↦ numeric_free place numeric
+  ]

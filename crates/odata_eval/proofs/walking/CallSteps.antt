@@ -1,5 +1,5 @@
 -- What a call comes to, from what was answered of its arguments one after another.
-use Rattle.std.proofs.Common.{◌≡◌, ◌∙◌, ℕ, suc, ◌<◌, ◌≤◌, ◌+◌, List, [], ◌∷◌, Result, length, map, codes, refl, sym, subst, arith}
+use Rattle.std.proofs.Common.{◌≡◌, ◌∙◌, ℕ, suc, ◌<◌, ◌≤◌, ◌+◌, List, [], ◌∷◌, Some, Result, length, map, codes, refl, sym, subst, arith}
 use Rattle.std.specs.Prelude.{Contains}
 use Rattle.edm_values.specs.Val.{Val}
 use Rattle.edm_values.specs.declared.datum.Datum.{Datum}
@@ -300,5 +300,26 @@ module _ (scene : SceneModel) where
               given = all.mean (CallGives scene.moment function) o (subst (λ (vs : List Val). CallGives scene.moment function vs o) (sym read) is);
             })
             (given (reading_at slots type) (reading_at slots type)))
+            stop tree stands typed;
+      }
+
+      -- so is an outcome that no answer tells
+      pub call_gives : (told : Outcome) → ((r : Reading) → CallGives scene.moment function (map (datum_val r) answers) told) → AnswersAtPlace scene place (λ type. Some told)
+      call_gives told given = record {
+        of_tree = λ stop tree type stands typed.
+            by_kind scene place (NodeKind.Call function) here (λ stop tree. TypedHere scene tree type → MeansHere scene tree told)
+            (λ asked arguments named later stop from to stands typed.
+            let whole = node from to (call asked arguments) in
+            let slots = slots_of scene.row.schema in
+            let e : stop ≡ own = own_stop stop whole stands in
+            let all = all_answered ends (place + 1) own answers arguments typed.types (subst (λ (s : ℕ). StandsAll scene (place + 1) s arguments) e stands.children) typed.arguments_typed answered in
+            let applies = applies_of slots function typed.types type all.values (typed_call asked typed.types type named typed.call_typed) all.have in
+            let read = all.read (row_of function).arguments (reading_at slots type) applies.are in
+            record {
+              function = function;
+              named = named;
+              given = all.mean (CallGives scene.moment function) told
+                  (subst (λ (vs : List Val). CallGives scene.moment function vs told) (sym read) (given (reading_at slots type)));
+            })
             stop tree stands typed;
       }

@@ -1,9 +1,10 @@
 -- What a step to a property comes to.
-use Rattle.std.proofs.Common.{◌≡◌, ℕ, ◌<◌, ◌+◌, List, Some, Ok, length, map, refl, sym, subst}
+use Rattle.std.proofs.Common.{◌≡◌, ℕ, ◌<◌, ◌+◌, Bor, List, Some, Ok, length, map, refl, sym, subst}
 use Rattle.std.specs.Prelude.{slice_get}
 use Rattle.edm_values.specs.Val.{Val, fields}
 use Rattle.edm_values.specs.declared.datum.Datum.{Datum}
 use Rattle.edm_values.specs.declared.datum.Datum.TheVariants as datum
+use Rattle.edm_values.specs.declared.value.Value.{Value}
 use Rattle.odata_syntax.specs.Tree.{member}
 use Rattle.csdl_schema.specs.ExprType.{ExprType, single, structured}
 use Rattle.csdl_schema.specs.SchemaModel.{Slots, slot_named, slots_of, type_name_at}
@@ -21,7 +22,7 @@ use Rattle.odata_filter_operations.specs.DatumView.{HasSlot, IsDatumOf, IsStepOf
 use Rattle.odata_eval.specs.private.Place.{HasKind, PartStands}
 use Rattle.odata_eval.specs.private.Scene.{EndsOnceHere, MeansHere, TypedHere}
 use Rattle.odata_eval.specs.private.SceneModel.{SceneModel, environment_of}
-use Rattle.odata_eval.specs.private.WalkAnswer.{AnswersDatum}
+use Rattle.odata_eval.specs.private.WalkAnswer.{AnswersDatum, AnswersKept}
 use Rattle.odata_eval.proofs.meaning.Progress.{field_gives}
 use Rattle.odata_eval.proofs.meaning.TypeValues.{held_present}
 use Rattle.odata_eval.proofs.walking.Children.{only_child}
@@ -49,6 +50,33 @@ step_gives slots name asked slot type (datum.Record held) stepped named typed is
     subst (λ (v : Val). StepGives (fields (field_by_name slots.properties (slots.properties name) (map val_of held.now))) asked (gives v)) (sym (there.1.1 slots type))
     (field_gives (field_by_name slots.properties (slots.properties name) (map val_of held.now)) asked (val_of there.0 slots.properties type) here)
 step_gives slots name asked slot type _ stepped named typed is = absurd is
+
+-- what a kept record holds in the slot
+step_held : (slots : Slots) (name asked : List ℕ) (slot : ℕ) (type : ExprType) (held : Bor (List Value)) (v : Value)
+    → slot_named (slots.properties name) asked ≡ Some slot → PropertyTyped (slots.properties name) asked type → slice_get held.now slot ≡ Some v
+    → StepGives (datum_val (reading_at slots (single (structured name))) (datum.Record held)) asked (gives (val_of v slots.properties type))
+step_held slots name asked slot type held v named typed at =
+    field_gives (field_by_name slots.properties (slots.properties name) (map val_of held.now)) asked (val_of v slots.properties type)
+    (field_at slots (slots.properties name) asked slot type held.now v named typed at)
+
+pub kept_step : OneType → (scene : SceneModel) (place slot : ℕ) → HasKind scene.list place (NodeKind.Member slot) → (held : Bor (List Value)) (v : Value)
+    → AnswersDatum scene (place + 1) (Ok (datum.Record held)) → slice_get held.now slot ≡ Some v → AnswersKept scene place v
+kept_step types scene place slot here held v first at = record {
+  of_tree = λ stop tree type stands typed.
+      by_kind scene place (NodeKind.Member slot) here (λ stop tree. (t : ExprType) → TypedHere scene tree t → MeansHere scene tree (gives (val_of v (slots_of scene.row.schema).properties t)))
+      (λ base asked stop from to stands t typed.
+      let slots = slots_of scene.row.schema in
+      let root = type_name_at scene.row.schema scene.row.type_id in
+      let there = kind_there scene place (NodeKind.Member slot) here stop from to (member base asked) stands in
+      let same : typed.operand ≡ single (structured there.0) = types slots root (scope_of (environment_of scene)) base typed.operand (single (structured there.0)) typed.operand_typed there.1 in (
+        gives (datum_val (reading_at slots (single (structured there.0))) (datum.Record held)),
+        (
+          first.of_tree stop base (single (structured there.0)) (only_child scene (place + 1) stop base stands.children) there.1,
+          step_held slots there.0 asked slot t held v there.2 (subst (λ (s : ExprType). StepTyped slots asked s t) same typed.makes) at,
+        ),
+      ))
+      stop tree stands type typed;
+}
 
 module _ (types : OneType) (scene : SceneModel) (ends : EndsOnceHere scene) (place slot : ℕ) (here : HasKind scene.list place (NodeKind.Member slot)) where
   pub step_slot : (made : Datum) → PartStands scene place → AnswersDatum scene (place + 1) (Ok made) → HasSlot made slot

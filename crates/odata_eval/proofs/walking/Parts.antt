@@ -1,6 +1,6 @@
 -- What stands in a place, by the kind of its node.
 use Rattle.std.proofs.Common.{◌≡◌, ℕ, ◌<◌, List, Option, Some, None, length, refl, sym, subst, inl, inr}
-use Rattle.std.specs.Prelude.{IsSomeAnd, slice_get}
+use Rattle.std.specs.Prelude.{IfSome, IsSomeAnd, slice_get}
 use Rattle.std.proofs.lemmas.Option.{slice_get_within}
 use Rattle.edm_values.specs.declared.value.Value.{Value}
 use Rattle.odata_syntax.specs.Tree.{Shape, Tree, Trees, any_item, binary, call, count, has, in_list, in_path, it, lambda, literal, logical_not, member, name, negation, node}
@@ -35,6 +35,11 @@ some_there P None holds = absurd holds
 pub goes_there : {X : Type 0} (held : Option X) (P Q : X → Type 0) → ((x : X) → P x → Q x) → IsSomeAnd held P → IsSomeAnd held Q
 goes_there (Some x) P Q goes holds = goes x holds
 goes_there None P Q goes holds = absurd holds
+
+-- so of what may be held
+pub some_weaker : {X : Type 0} {P Q : X → Type 0} (held : Option X) → ((x : X) → P x → Q x) → IfSome held P → IfSome held Q
+some_weaker (Some x) goes holds = goes x holds
+some_weaker None goes holds = tt
 
 -- what is told of a part is told of the whole
 pub tells_there : (told : Option Outcome) (Part Whole : Type 0) (P Q : Outcome → Type 0) → (Part → Whole) → ((o : Outcome) → P o → Q o)

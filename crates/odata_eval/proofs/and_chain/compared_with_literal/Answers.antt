@@ -20,6 +20,9 @@ overflow_add-place c =
 pub node-requires : goal.node-requires
 node-requires c = part_inside c.args.scene.now (c.args.place + 1) (left_side c.args.scene.now c.args.place c.args.operator c.requires.here c.requires.stands)
 
+pub kept_term_at-requires : goal.kept_term_at-requires
+kept_term_at-requires c = record { stands = c.requires.stands; here = c.requires.here }
+
 pub node-requires-2 : goal.node-requires-2
 node-requires-2 c = part_inside c.args.scene.now c.right_of-right_place.result (right_part c.args.scene.now c.args.place c.args.operator c.requires.here c.requires.stands c.right_of-right_place.result c.right_of-right_place.ensures)
 

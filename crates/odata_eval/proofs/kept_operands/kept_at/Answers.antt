@@ -1,0 +1,32 @@
+use Rattle.std.proofs.Common.{◌≡◌, inl, inr, slice_get}
+use Rattle.odata_checked_filter.specs.declared.checked_node.CheckedNode.{CheckedNode}
+use Rattle.odata_checked_filter.specs.declared.checked_node.NodeKind.{NodeKind}
+use Rattle.odata_eval.proofs.walking.Parts.{part_inside, some_weaker, there_found}
+use Rattle.odata_eval.proofs.kept_operands.kept_at.Goals as goal
+
+pub node-requires : goal.node-requires
+node-requires c = part_inside c.args.scene.now c.args.place c.requires
+
+pub step_at-requires : goal.step_at-requires
+step_at-requires c = record {
+  stands = c.requires;
+  here = there_found (λ (f : CheckedNode). f.kind ≡ NodeKind.Member c.in-Member.slot) (slice_get c.args.scene.now.list.nodes c.args.place) c.node.result.now c.node.ensures c.in-Member.is;
+}
+
+pub returns-in-Member-clause-answers : goal.returns-in-Member-clause-answers
+returns-in-Member-clause-answers c = c.step_at.ensures.answers
+
+pub returns-in-Member-clause-path : goal.returns-in-Member-clause-path
+returns-in-Member-clause-path c =
+    some_weaker c.step_at.result
+    (λ value leaf. inr (c.in-Member.slot, there_found (λ (f : CheckedNode). f.kind ≡ NodeKind.Member c.in-Member.slot) (slice_get c.args.scene.now.list.nodes c.args.place) c.node.result.now c.node.ensures c.in-Member.is, leaf))
+    c.step_at.ensures.base
+
+pub found_at-requires : goal.found_at-requires
+found_at-requires c = record { stands = c.requires }
+
+pub returns-in_default-clause-answers : goal.returns-in_default-clause-answers
+returns-in_default-clause-answers c = c.found_at.ensures.answers
+
+pub returns-in_default-clause-path : goal.returns-in_default-clause-path
+returns-in_default-clause-path c = some_weaker c.found_at.result (λ value leaf. inl leaf) c.found_at.ensures.leaf

@@ -1,0 +1,9 @@
+use Rattle.std.proofs.Common.{subst, sym}
+use Rattle.odata_eval.specs.private.KeptOperands.{AnswersText}
+use Rattle.odata_eval.proofs.walking.TextArguments.{kept_text}
+use Rattle.odata_eval.proofs.kept_operands.kept_text_at.Goals as goal
+
+pub returns-in-Text : goal.returns-in-Text
+returns-in-Text c =
+    subst (AnswersText c.args.scene.now c.args.place) (sym c.as_str.ensures.value)
+    (kept_text c.args.scene.now c.args.place c.in-Some.value.now c.in-Text.text c.in-Text.is c.in-Some.ensures.answers)

@@ -1,0 +1,14 @@
+use Rattle.std.proofs.Common.{◌≡◌, slice_get}
+use Rattle.odata_checked_filter.specs.declared.checked_node.CheckedNode.{CheckedNode}
+use Rattle.odata_checked_filter.specs.declared.checked_node.NodeKind.{NodeKind}
+use Rattle.odata_eval.proofs.walking.Parts.{part_inside, there_found}
+use Rattle.odata_eval.proofs.kept_operands.lowered_text_at.Goals as goal
+
+pub node-requires : goal.node-requires
+node-requires c = part_inside c.args.scene.now c.args.place c.requires
+
+pub lowered_by_call-requires : goal.lowered_by_call-requires
+lowered_by_call-requires c = record {
+  stands = c.requires;
+  here = there_found (λ (f : CheckedNode). f.kind ≡ NodeKind.Call c.in-Call.function) (slice_get c.args.scene.now.list.nodes c.args.place) c.node.result.now c.node.ensures c.in-Call.is;
+}

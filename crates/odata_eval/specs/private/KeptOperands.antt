@@ -1,0 +1,43 @@
+-- For private clauses: operands that are taken where they are kept.
+use Rattle.std.specs.Prelude.{◌⊎◌, ◌+◌, ℕ, List, [], ◌∷◌, Some}
+use Rattle.edm_values.specs.Val.{text}
+use Rattle.odata_filter_operations.specs.LowerCase.{in_lower_case}
+use Rattle.odata_signatures.specs.declared.function.Function.{Function}
+use Rattle.odata_checked_filter.specs.FlatTree.{FlatTree}
+use Rattle.odata_checked_filter.specs.declared.checked_node.NodeKind.{NodeKind}
+use Rattle.odata_filter_operations.specs.FunctionGives.{FunctionGives}
+use Rattle.odata_filter_operations.specs.Outcome.{Outcome, gives}
+use Rattle.odata_eval.specs.declared.part.WalkClass.{WalkClass}
+use Rattle.odata_eval.specs.private.Place.{HasCall, HasKind, IsClassAt}
+use Rattle.odata_eval.specs.private.SceneModel.{SceneModel}
+use Rattle.odata_eval.specs.private.WalkAnswer.{AnswersAtPlace}
+
+-- a leaf stands there, or a step from one
+abbrev pub IsPathAt : FlatTree → ℕ → Type 0
+IsPathAt list place =
+    IsClassAt list WalkClass.Leaf place
+    ⊎ ((slot : ℕ) × HasKind list place (NodeKind.Member slot) × IsClassAt list WalkClass.Leaf (place + 1))
+
+-- a call stands there, or a node of numbers
+abbrev pub IsMadeAt : FlatTree → ℕ → Type 0
+IsMadeAt list place =
+    ((function : Function) × HasCall list place function) ⊎ IsClassAt list WalkClass.Numeric place
+
+-- the text is what stands there comes to
+abbrev pub AnswersText : SceneModel → ℕ → List ℕ → Type 0
+AnswersText scene place given = AnswersAtPlace scene place (λ type. Some (gives (text given)))
+
+-- what the function gives of that text is what its call there comes to
+abbrev pub AnswersCall : SceneModel → ℕ → Function → List ℕ → Type 0
+AnswersCall scene place function given =
+    (o : Outcome) → FunctionGives scene.moment function (text given ∷ []) o → AnswersAtPlace scene place (λ type. Some o)
+
+-- so is what it gives of another text and that one, where the first argument comes to the other
+abbrev pub AnswersLast : SceneModel → ℕ → Function → List ℕ → Type 0
+AnswersLast scene place function part =
+    (given : List ℕ) (o : Outcome) → AnswersText scene (place + 1) given
+    → FunctionGives scene.moment function (text given ∷ text part ∷ []) o → AnswersAtPlace scene place (λ type. Some o)
+
+-- that text in lower case is what stands there comes to
+abbrev pub AnswersLowered : SceneModel → ℕ → List ℕ → Type 0
+AnswersLowered scene place given = AnswersText scene place (in_lower_case given)

@@ -1,0 +1,317 @@
+//! Operands of which no value is made: a step from a value that is kept, the length of a kept text, what arithmetic makes
+//! of two kept numbers, and a kept text of whose lower case only the start is asked.
+ghost use Rattle.std.specs.Prelude.{◌≡◌, ◌+◌, ℕ, IfSome, List, None, Ok, Some};
+ghost use Rattle.odata_signatures.specs.OperatorClass.{class_of};
+ghost use Rattle.odata_checked_filter.specs.declared.checked_node.NodeKind.{NodeKind as Kind};
+ghost use Rattle.odata_eval.specs.private.KeptOperands.{AnswersCall, AnswersLast, AnswersLowered, AnswersText, IsMadeAt, IsPathAt};
+ghost use Rattle.odata_eval.specs.private.Place.{HasCall, HasKind, HasOperator, IsClassAt, PartStands};
+ghost use Rattle.odata_eval.specs.private.Spending.{SpendsAt};
+ghost use Rattle.odata_eval.specs.private.WalkAnswer.{AnswersKept, AnswersNumber, AnswersTruth};
+ghost use Rattle.odata_eval.specs.private.WalkClass.{walk_of_operator};
+ghost use Rattle.odata_eval.specs.declared.part.WalkClass.{WalkClass as Class};
+ghost use Rattle.odata_eval.specs.declared.budget.Budget.{Budget};
+
+use super::operator_classes::comparison_of;
+use super::part::{right_of, stop_of};
+use super::scene::Scene;
+use edm_values::{Datum, Value};
+use odata_checked_filter::NodeKind;
+use odata_expression_types::trees_have_one_type;
+use odata_filter_operations::{
+    calculated, compare_kept, compare_numbers, datum_of, kept_number, lower_starts_with,
+};
+use odata_functions::{comparisons_are_decided, operands_lie_within_promotion, text_length};
+use odata_signatures::{Function, OperatorClass, calls_have_one_type, class_of};
+use odata_syntax::BinaryOperator;
+
+/// The value to which a path of at most one step from a property, a literal or a variable leads.
+#[inline(always)]
+fn kept_at<'e>(scene: &Scene<'e, '_, '_>, place: usize) -> Option<&'e Value>
+    requires { PartStands scene.now place }
+    ensures answers { IfSome result (λ value. AnswersKept scene.now place value.now) }
+    ensures path { IfSome result (λ value. IsPathAt scene.now.list place) }
+{
+    match scene.node(place).kind {
+        NodeKind::Member { slot } => step_at(scene, place, slot),
+        _ => found_at(scene, place),
+    }
+}
+
+/// The value of a property, a literal or a variable.
+#[inline(always)]
+fn found_at<'e>(scene: &Scene<'e, '_, '_>, place: usize) -> Option<&'e Value>
+    requires stands { PartStands scene.now place }
+    ensures answers { IfSome result (λ value. AnswersKept scene.now place value.now) }
+    ensures leaf { IfSome result (λ value. IsClassAt scene.now.list Class.Leaf place) }
+{
+    match scene.node(place).kind {
+        NodeKind::Property { slot } => Some(scene.property(slot)),
+        NodeKind::Literal { value, .. } => Some(scene.literal(value)),
+        NodeKind::Variable { level } => Some(scene.variable(level)),
+        _ => None,
+    }
+}
+
+/// What a kept record has in the slot of a step.
+#[inline(always)]
+fn step_at<'e>(scene: &Scene<'e, '_, '_>, place: usize, slot: usize) -> Option<&'e Value>
+    requires stands { PartStands scene.now place }
+    requires here { HasKind scene.now.list place (Kind.Member slot) }
+    ensures answers { IfSome result (λ value. AnswersKept scene.now place value.now) }
+    ensures base { IfSome result (λ value. IsClassAt scene.now.list Class.Leaf (place + 1)) }
+{
+    trees_have_one_type();
+    let _nodes = scene.nodes();
+    let Some(base) = found_at(scene, place + 1) else {
+        return None;
+    };
+    let fields = match datum_of(base) {
+        Datum::Record(fields) => fields,
+        _ => return None,
+    };
+    if slot >= fields.len() {
+        return None;
+    }
+    Some(&fields[slot])
+}
+
+/// The kept text to which such a path leads.
+#[inline(always)]
+fn kept_text_at<'e>(scene: &Scene<'e, '_, '_>, place: usize) -> Option<&'e str>
+    requires { PartStands scene.now place }
+    ensures { IfSome result (λ given. AnswersText scene.now place given.now) }
+{
+    let Some(value) = kept_at(scene, place) else {
+        return None;
+    };
+    match value {
+        Value::Text(text) => Some(text.as_str()),
+        _ => None,
+    }
+}
+
+/// The kept text that is the only argument of a call.
+#[inline(always)]
+fn only_text_at<'e>(scene: &Scene<'e, '_, '_>, place: usize, function: Function) -> Option<&'e str>
+    requires stands { PartStands scene.now place }
+    requires here { HasCall scene.now.list place function }
+    ensures { IfSome result (λ given. AnswersCall scene.now place function given.now) }
+{
+    scene.ends_once();
+    calls_have_one_type();
+    let _nodes = scene.nodes();
+    let own_stop = stop_of(scene, place);
+    if stop_of(scene, place + 1) != own_stop {
+        return None;
+    }
+    kept_text_at(scene, place + 1)
+}
+
+/// The length of a kept text, where the call asks for that.
+#[inline(always)]
+fn length_at(scene: &Scene<'_, '_, '_>, place: usize, function: Function) -> Option<Option<i64>>
+    requires stands { PartStands scene.now place }
+    requires here { HasCall scene.now.list place function }
+    ensures { IfSome result (λ number. AnswersNumber scene.now place (Ok number)) }
+{
+    match function {
+        Function::Length => {}
+        _ => return None,
+    }
+    let Some(text) = only_text_at(scene, place, function) else {
+        return None;
+    };
+    match text_length(text) {
+        Ok(count) => Some(Some(count)),
+        Err(_) => None,
+    }
+}
+
+/// The kept text whose lower case is the value there.
+#[inline(always)]
+fn lowered_text_at<'e>(scene: &Scene<'e, '_, '_>, place: usize) -> Option<&'e str>
+    requires { PartStands scene.now place }
+    ensures { IfSome result (λ given. AnswersLowered scene.now place given.now) }
+{
+    match scene.node(place).kind {
+        NodeKind::Call { function } => lowered_by_call(scene, place, function),
+        _ => None,
+    }
+}
+
+/// The same, where a call stands.
+#[inline(always)]
+fn lowered_by_call<'e>(
+    scene: &Scene<'e, '_, '_>,
+    place: usize,
+    function: Function,
+) -> Option<&'e str>
+    requires stands { PartStands scene.now place }
+    requires here { HasCall scene.now.list place function }
+    ensures { IfSome result (λ given. AnswersLowered scene.now place given.now) }
+{
+    match function {
+        Function::ToLower => only_text_at(scene, place, function),
+        _ => None,
+    }
+}
+
+/// Whether the lower case of a kept text begins with another kept text, where the call asks for that.
+pub(crate) fn lower_start_at(
+    scene: &Scene<'_, '_, '_>,
+    place: usize,
+    function: Function,
+) -> Option<bool>
+    requires stands { PartStands scene.now place }
+    requires here { HasCall scene.now.list place function }
+    ensures { IfSome result (λ truth. AnswersTruth scene.now place (Ok (Some truth))) }
+{
+    match function {
+        Function::StartsWith => {}
+        _ => return None,
+    }
+    let _nodes = scene.nodes();
+    let Some(text) = lowered_text_at(scene, place + 1) else {
+        return None;
+    };
+    let Some(part) = last_text_at(scene, place, function) else {
+        return None;
+    };
+    Some(lower_starts_with(text, part))
+}
+
+/// The kept text that is the second and last argument of a call.
+#[inline(always)]
+fn last_text_at<'e>(scene: &Scene<'e, '_, '_>, place: usize, function: Function) -> Option<&'e str>
+    requires stands { PartStands scene.now place }
+    requires here { HasCall scene.now.list place function }
+    requires first { (given : List ℕ) × AnswersText scene.now (place + 1) given }
+    ensures { IfSome result (λ part. AnswersLast scene.now place function part.now) }
+{
+    scene.ends_once();
+    calls_have_one_type();
+    let _nodes = scene.nodes();
+    let own_stop = stop_of(scene, place);
+    let second_place = stop_of(scene, place + 1);
+    if second_place == own_stop {
+        return None;
+    }
+    if stop_of(scene, second_place) != own_stop {
+        return None;
+    }
+    kept_text_at(scene, second_place)
+}
+
+/// The number to which such a path leads.
+#[inline(always)]
+fn kept_number_at(scene: &Scene<'_, '_, '_>, place: usize) -> Option<Option<i64>>
+    requires { PartStands scene.now place }
+    ensures answers { IfSome result (λ number. AnswersNumber scene.now place (Ok number)) }
+    ensures path { IfSome result (λ number. IsPathAt scene.now.list place) }
+{
+    let Some(value) = kept_at(scene, place) else {
+        return None;
+    };
+    match value {
+        Value::Int(_) => Some(kept_number(value)),
+        _ => None,
+    }
+}
+
+/// What arithmetic makes of two kept numbers.
+#[inline(always)]
+fn kept_calculation_at(
+    scene: &Scene<'_, '_, '_>,
+    place: usize,
+    operator: BinaryOperator,
+) -> Option<Option<i64>>
+    requires stands { PartStands scene.now place }
+    requires here { HasOperator scene.now.list place operator }
+    ensures answers { IfSome result (λ number. AnswersNumber scene.now place (Ok number)) }
+    ensures numeric { IfSome result (λ number. IsClassAt scene.now.list Class.Numeric place) }
+{
+    scene.ends_once();
+    trees_have_one_type();
+    operands_lie_within_promotion();
+    let OperatorClass::Arithmetic(arithmetic) = class_of(operator) else {
+        return None;
+    };
+    let right_place = right_of(scene, place);
+    let Some(left) = kept_number_at(scene, place + 1) else {
+        return None;
+    };
+    let Some(right) = kept_number_at(scene, right_place) else {
+        return None;
+    };
+    let node = scene.node(place);
+    match calculated(arithmetic, &node.edm_type, left, right) {
+        Ok(number) => Some(number),
+        Err(_) => None,
+    }
+}
+
+/// A number that is made of kept values alone: the length of a text, or what arithmetic makes of two numbers.
+#[inline(always)]
+fn made_number_at(scene: &Scene<'_, '_, '_>, place: usize) -> Option<Option<i64>>
+    requires { PartStands scene.now place }
+    ensures answers { IfSome result (λ number. AnswersNumber scene.now place (Ok number)) }
+    ensures made { IfSome result (λ number. IsMadeAt scene.now.list place) }
+{
+    match scene.node(place).kind {
+        NodeKind::Call { function } => length_at(scene, place, function),
+        NodeKind::Binary { operator } => kept_calculation_at(scene, place, operator),
+        _ => None,
+    }
+}
+
+/// Whether a comparison is true whose left operand is a step from a kept value, or a number that is made of kept values.
+#[inline(always)]
+pub(crate) fn kept_compared_at(
+    scene: &Scene<'_, '_, '_>,
+    place: usize,
+    operator: BinaryOperator,
+) -> Option<bool>
+    requires stands { PartStands scene.now place }
+    requires here { HasOperator scene.now.list place operator }
+    requires comparison { walk_of_operator (class_of operator) ≡ Class.Eager }
+    ensures answers { IfSome result (λ truth. AnswersTruth scene.now place (Ok (Some truth))) }
+    ensures spent { (budget : Budget) → IfSome result (λ truth. SpendsAt scene.now place budget budget None) }
+{
+    scene.ends_once();
+    comparisons_are_decided();
+    let comparison = comparison_of(operator);
+    let right_place = right_of(scene, place);
+    if let NodeKind::Member { slot } = scene.node(place + 1).kind {
+        let Some(left) = step_at(scene, place + 1, slot) else {
+            return None;
+        };
+        let Some(right) = kept_at(scene, right_place) else {
+            return None;
+        };
+        return Some(compare_kept(comparison, left, right));
+    }
+    let Some(left) = made_number_at(scene, place + 1) else {
+        return None;
+    };
+    let Some(right) = kept_number_at(scene, right_place) else {
+        return None;
+    };
+    Some(compare_numbers(comparison, left, right))
+}
+
+/// The same, where the operator may be none of comparison.
+#[inline(always)]
+pub(crate) fn kept_term_at(
+    scene: &Scene<'_, '_, '_>,
+    place: usize,
+    operator: BinaryOperator,
+) -> Option<bool>
+    requires stands { PartStands scene.now place }
+    requires here { HasOperator scene.now.list place operator }
+    ensures { IfSome result (λ truth. AnswersTruth scene.now place (Ok (Some truth))) }
+{
+    match class_of(operator) {
+        OperatorClass::Comparison(_) => kept_compared_at(scene, place, operator),
+        _ => None,
+    }
+}
