@@ -2,8 +2,10 @@
 ghost use Rattle.std.specs.Prelude.{◌<◌, length};
 
 use csdl_schema::Expansion;
-use odata_syntax::BinaryOperator::{And, Eq, Gt, Lt, Ne, Or};
+use odata_syntax::BinaryOperator::{Comparison, Logical};
+use odata_syntax::ComparisonOperator::{Eq, Gt, Lt, Ne};
 use odata_syntax::LiteralKind::{Bool, Int, Null, Str};
+use odata_syntax::LogicalOperator::{And, Or};
 use odata_syntax::Quantifier::Any;
 use odata_typing::{Checked, NodeKind};
 use std::alloc::{AllocError, Global};
@@ -57,12 +59,12 @@ fn part_of(
         (NodeKind::Member { slot }, Some(base), None) => format!(in alloc; "({base}).c{slot}")?,
         (NodeKind::Not, Some(operand), None) => format!(in alloc; "(NOT {operand})")?,
         (NodeKind::Binary { operator }, Some(left), Some(right)) => match operator {
-            And => format!(in alloc; "({left} AND {right})")?,
-            Or => format!(in alloc; "({left} OR {right})")?,
-            Eq => format!(in alloc; "({left} IS NOT DISTINCT FROM {right})")?,
-            Ne => format!(in alloc; "({left} IS DISTINCT FROM {right})")?,
-            Gt => format!(in alloc; "COALESCE({left} > {right}, FALSE)")?,
-            Lt => format!(in alloc; "COALESCE({left} < {right}, FALSE)")?,
+            Logical(And) => format!(in alloc; "({left} AND {right})")?,
+            Logical(Or) => format!(in alloc; "({left} OR {right})")?,
+            Comparison(Eq) => format!(in alloc; "({left} IS NOT DISTINCT FROM {right})")?,
+            Comparison(Ne) => format!(in alloc; "({left} IS DISTINCT FROM {right})")?,
+            Comparison(Gt) => format!(in alloc; "COALESCE({left} > {right}, FALSE)")?,
+            Comparison(Lt) => format!(in alloc; "COALESCE({left} < {right}, FALSE)")?,
             _ => return Ok(None),
         },
         (NodeKind::Lambda { quantifier: Any }, Some(base), Some(body)) => {

@@ -6,7 +6,9 @@ use Rattle.edm_values.specs.declared.primitive.PrimitiveType.{PrimitiveType}
 use Rattle.edm_values.specs.declared.value.Value.{Value}
 use Rattle.odata_syntax.specs.FirstRun.{active_and_id}
 use Rattle.odata_syntax.specs.Tree.{Shape, Tree, node}
-use Rattle.odata_syntax.specs.declared.node.BinaryOperator.{BinaryOperator}
+use Rattle.odata_syntax.specs.declared.binary_operator.BinaryOperator.{BinaryOperator}
+use Rattle.odata_syntax.specs.declared.binary_operator.LogicalOperator.{LogicalOperator}
+use Rattle.odata_syntax.specs.declared.binary_operator.ComparisonOperator.{ComparisonOperator}
 use Rattle.odata_syntax.specs.declared.node.LiteralKind.{LiteralKind}
 use Rattle.csdl_schema.specs.SchemaModel.{SchemaModel, slots_of, type_name_at}
 use Rattle.odata_signatures.specs.TypeView.{expr_type}
@@ -45,9 +47,9 @@ abbrev pub item_list : FlatTree
 item_list =
     record {
       nodes =
-          listed (NodeKind.Binary BinaryOperator.And) PrimitiveType.Bool 0 18 5
+          listed (NodeKind.Binary (BinaryOperator.Logical LogicalOperator.And)) PrimitiveType.Bool 0 18 5
           ∷ listed (NodeKind.Property 0) PrimitiveType.Bool 0 6 2
-          ∷ listed (NodeKind.Binary BinaryOperator.Eq) PrimitiveType.Bool 11 18 5
+          ∷ listed (NodeKind.Binary (BinaryOperator.Comparison ComparisonOperator.Eq)) PrimitiveType.Bool 11 18 5
           ∷ listed (NodeKind.Property 1) PrimitiveType.Int32 11 13 4
           ∷ listed (NodeKind.Literal LiteralKind.Int 0) PrimitiveType.Int32 17 18 5
           ∷ [];

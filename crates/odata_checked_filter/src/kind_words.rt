@@ -4,7 +4,9 @@ ghost use Rattle.odata_syntax.specs.Lexeme.{operator_word};
 ghost use Rattle.odata_checked_filter.specs.private.KindTexts.{joint_word, kind_word, spaced};
 
 use super::checked_node::NodeKind;
-use odata_syntax::{BinaryOperator, operator_word};
+use odata_syntax::{
+    ArithmeticOperator, BinaryOperator, ComparisonOperator, LogicalOperator, operator_word,
+};
 
 /// The word of the operator of a node of that kind, without spaces; empty for a node without an operator.
 pub(crate) fn kind_word(kind: NodeKind) -> &'static str
@@ -50,18 +52,24 @@ fn spaced_word(operator: BinaryOperator) -> &'static str
     ensures { result.now ≡ spaced (operator_word operator) }
 {
     match operator {
-        BinaryOperator::Or => " or ",
-        BinaryOperator::And => " and ",
-        BinaryOperator::Eq => " eq ",
-        BinaryOperator::Ne => " ne ",
-        BinaryOperator::Gt => " gt ",
-        BinaryOperator::Ge => " ge ",
-        BinaryOperator::Lt => " lt ",
-        BinaryOperator::Le => " le ",
-        BinaryOperator::Add => " add ",
-        BinaryOperator::Sub => " sub ",
-        BinaryOperator::Mul => " mul ",
-        BinaryOperator::Div => " div ",
-        BinaryOperator::Mod => " mod ",
+        BinaryOperator::Logical(logical) => match logical {
+            LogicalOperator::Or => " or ",
+            LogicalOperator::And => " and ",
+        },
+        BinaryOperator::Comparison(comparison) => match comparison {
+            ComparisonOperator::Eq => " eq ",
+            ComparisonOperator::Ne => " ne ",
+            ComparisonOperator::Gt => " gt ",
+            ComparisonOperator::Ge => " ge ",
+            ComparisonOperator::Lt => " lt ",
+            ComparisonOperator::Le => " le ",
+        },
+        BinaryOperator::Arithmetic(arithmetic) => match arithmetic {
+            ArithmeticOperator::Add => " add ",
+            ArithmeticOperator::Sub => " sub ",
+            ArithmeticOperator::Mul => " mul ",
+            ArithmeticOperator::Div => " div ",
+            ArithmeticOperator::Mod => " mod ",
+        },
     }
 }

@@ -4,7 +4,8 @@ use Rattle.std.specs.Cmp.Lexicographic.{pointwise}
 use Rattle.edm_values.specs.MomentParts.{MomentParts}
 use Rattle.edm_values.specs.Val.{Val, boolean, whole, text, fields, FieldVal, absent, present}
 use Rattle.odata_syntax.specs.Tree.{Tree, node, literal, name, binary}
-use Rattle.odata_syntax.specs.declared.node.BinaryOperator.{BinaryOperator}
+use Rattle.odata_syntax.specs.declared.binary_operator.BinaryOperator.{BinaryOperator}
+use Rattle.odata_syntax.specs.declared.binary_operator.LogicalOperator.{LogicalOperator}
 use Rattle.odata_syntax.specs.declared.node.LiteralKind.{LiteralKind}
 use Rattle.csdl_schema.specs.SchemaModel.{Slots}
 use Rattle.odata_eval.specs.Means.{Means}
@@ -13,7 +14,7 @@ use Rattle.odata_filter_operations.specs.Outcome.{Outcome}
 -- the tree of `false and Missing`
 abbrev pub false_and_missing : Tree
 false_and_missing =
-    node 0 17 (binary BinaryOperator.And
+    node 0 17 (binary (BinaryOperator.Logical LogicalOperator.And)
     (node 0 5 (literal LiteralKind.Bool (codes "false")))
     (node 10 17 (name (codes "Missing"))))
 

@@ -9,7 +9,9 @@ use Rattle.csdl_schema.specs.PathSet.{no_paths}
 use Rattle.csdl_schema.specs.ExprType.{collection, primitive}
 use Rattle.csdl_schema.specs.SchemaModel.{Slots, declared}
 use Rattle.odata_syntax.specs.Tree.{Shape, Tree, node, literal, name, binary, lambda}
-use Rattle.odata_syntax.specs.declared.node.BinaryOperator.{BinaryOperator}
+use Rattle.odata_syntax.specs.declared.binary_operator.BinaryOperator.{BinaryOperator}
+use Rattle.odata_syntax.specs.declared.binary_operator.ComparisonOperator.{ComparisonOperator}
+use Rattle.odata_syntax.specs.declared.binary_operator.ArithmeticOperator.{ArithmeticOperator}
 use Rattle.odata_syntax.specs.declared.node.LiteralKind.{LiteralKind}
 use Rattle.odata_syntax.specs.declared.node.Quantifier.{Quantifier}
 use Rattle.odata_eval.specs.Means.{Means}
@@ -52,13 +54,13 @@ named word = node 0 0 (name word)
 
 abbrev pub one_div_zero : Tree
 one_div_zero =
-    node 0 0 (binary BinaryOperator.Div
+    node 0 0 (binary (BinaryOperator.Arithmetic ArithmeticOperator.Div)
     (node 0 0 (literal LiteralKind.Int (codes "1")))
     (node 0 0 (literal LiteralKind.Int (codes "0"))))
 
 -- `t eq null`
 abbrev pub is_null : Tree
-is_null = node 0 0 (binary BinaryOperator.Eq (named (codes "t")) null_literal)
+is_null = node 0 0 (binary (BinaryOperator.Comparison ComparisonOperator.Eq) (named (codes "t")) null_literal)
 
 -- `Tags/any(t:..)` and `Tags/all(t:..)`
 abbrev pub over_tags : Quantifier → Tree → Shape
@@ -66,7 +68,7 @@ over_tags quantifier body = lambda quantifier (named (codes "Tags")) (codes "t")
 
 -- `u eq t`, and `Tags/all(u:u eq t)`
 abbrev pub is_alike : Tree
-is_alike = node 0 0 (binary BinaryOperator.Eq (named (codes "u")) (named (codes "t")))
+is_alike = node 0 0 (binary (BinaryOperator.Comparison ComparisonOperator.Eq) (named (codes "u")) (named (codes "t")))
 
 abbrev pub all_alike : Tree
 all_alike = node 0 0 (lambda Quantifier.All (named (codes "Tags")) (codes "u") is_alike)

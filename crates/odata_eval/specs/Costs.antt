@@ -5,15 +5,14 @@ use Rattle.edm_values.specs.MomentParts.{MomentParts}
 use Rattle.edm_values.specs.Val.{Val, null, boolean, items, Vals, no_items, item}
 use Rattle.csdl_schema.specs.ExprType.{ExprType, SingleType, collection, single}
 use Rattle.csdl_schema.specs.SchemaModel.{Slots}
-use Rattle.odata_functions.specs.declared.comparison.ComparisonOperator.TheVariants.{Eq}
+use Rattle.odata_syntax.specs.declared.binary_operator.ComparisonOperator.TheVariants.{Eq}
 use Rattle.odata_syntax.specs.Tree.{Shape, Tree, any_item, binary, call, count, has, in_list, in_path, it, lambda, literal, logical_not, member, name, negation, node}
 use Rattle.odata_syntax.specs.Tree.{Trees, no_trees, more_trees}
 use Rattle.odata_syntax.specs.declared.node.Quantifier.{Quantifier}
 use Rattle.odata_syntax.specs.declared.node.Quantifier.TheVariants.{Any, All}
-use Rattle.odata_signatures.specs.OperatorClass.{class_of}
-use Rattle.odata_signatures.specs.declared.operator_class.Connective.TheVariants.{And, Or}
-use Rattle.odata_signatures.specs.declared.operator_class.OperatorClass.{OperatorClass}
-use Rattle.odata_signatures.specs.declared.operator_class.OperatorClass.TheVariants.{Connective}
+use Rattle.odata_syntax.specs.declared.binary_operator.LogicalOperator.TheVariants.{And, Or}
+use Rattle.odata_syntax.specs.declared.binary_operator.BinaryOperator.{BinaryOperator}
+use Rattle.odata_syntax.specs.declared.binary_operator.BinaryOperator.TheVariants.{Logical}
 use Rattle.odata_expression_types.specs.Typed.{Typed}
 use Rattle.odata_filter_operations.specs.CompareGives.{CompareGives}
 use Rattle.odata_filter_operations.specs.LeftFirst.{After}
@@ -47,10 +46,10 @@ pub record CostAfter
   pub sum : n ≡ own + rest
 
 -- after the left value of an operator its right side; a left value that decides `and` or `or` asks for nothing more
-abbrev pub RightCosts : OperatorClass → Val → (ℕ → Type 0) → ℕ → Type 0
-RightCosts (Connective And) (boolean false) Right n = CostsNothing n
-RightCosts (Connective Or) (boolean true) Right n = CostsNothing n
-RightCosts class l Right n = Right n
+abbrev pub RightCosts : BinaryOperator → Val → (ℕ → Type 0) → ℕ → Type 0
+RightCosts (Logical And) (boolean false) Right n = CostsNothing n
+RightCosts (Logical Or) (boolean true) Right n = CostsNothing n
+RightCosts operator l Right n = Right n
 
 -- a value of a body that decides asks for no more members, else the others are asked
 abbrev pub OthersCost : Quantifier → (ℕ → Type 0) → Val → ℕ → Type 0
@@ -97,7 +96,7 @@ abbrev mutual
   ShapeCosts slots root now entity environment (logical_not operand) = Costs slots root now entity environment operand
   ShapeCosts slots root now entity environment (binary operator left right) =
       CostAfter (Means slots root now entity environment left) (Costs slots root now entity environment left)
-      (λ l. RightCosts (class_of operator) l (Costs slots root now entity environment right))
+      (λ l. RightCosts operator l (Costs slots root now entity environment right))
   ShapeCosts slots root now entity environment (has left right) =
       CostAfter (Means slots root now entity environment left) (Costs slots root now entity environment left)
       (λ l. Costs slots root now entity environment right)

@@ -37,7 +37,6 @@ pub use Rattle.odata_checked_filter.specs.Levels
 pub use Rattle.odata_expression_types.specs.LiteralValue
 pub use Rattle.odata_checked_filter.specs.NameKinds
 pub use Rattle.odata_signatures.specs.Functions
-pub use Rattle.odata_signatures.specs.OperatorClass
 pub use Rattle.odata_signatures.specs.OperatorTyped
 pub use Rattle.odata_checked_filter.specs.Stands
 pub use Rattle.odata_expression_types.specs.NeededPaths

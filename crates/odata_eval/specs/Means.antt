@@ -9,7 +9,7 @@ use Rattle.odata_syntax.specs.Tree.{Trees, no_trees, more_trees}
 use Rattle.csdl_schema.specs.SchemaModel.{Slots}
 use Rattle.odata_signatures.specs.OperatorTyped.{NegationTyped, OperatorTyped}
 use Rattle.csdl_schema.specs.ExprType.{ExprType}
-use Rattle.odata_syntax.specs.declared.node.BinaryOperator.{BinaryOperator}
+use Rattle.odata_syntax.specs.declared.binary_operator.BinaryOperator.{BinaryOperator}
 use Rattle.odata_expression_types.specs.Reads.{OfEquality, ReadsNumber}
 use Rattle.odata_expression_types.specs.Sides.{Between}
 use Rattle.odata_expression_types.specs.Typed.{OperandTyped, OperandsTyped, Typed}

@@ -1,30 +1,25 @@
 -- What an operator comes to (OData URL Conventions 4.01, sections 5.1.1.1 and 5.1.1.2).
 use Rattle.edm_values.specs.Val.{Val}
-use Rattle.odata_syntax.specs.declared.node.BinaryOperator.{BinaryOperator}
+use Rattle.odata_syntax.specs.declared.binary_operator.BinaryOperator.{BinaryOperator}
 use Rattle.csdl_schema.specs.ExprType.{ExprType}
-use Rattle.odata_signatures.specs.OperatorClass.{class_of}
-use Rattle.odata_signatures.specs.declared.operator_class.OperatorClass.{OperatorClass}
-use Rattle.odata_signatures.specs.declared.operator_class.OperatorClass.TheVariants.{Connective, Comparison, Arithmetic}
+use Rattle.odata_syntax.specs.declared.binary_operator.BinaryOperator.TheVariants.{Logical, Comparison, Arithmetic}
 use Rattle.odata_filter_operations.specs.CalculationGives.{CalculationGives}
 use Rattle.odata_filter_operations.specs.CompareGives.{CompareGives}
 use Rattle.odata_filter_operations.specs.LeftFirst.{After}
 use Rattle.odata_filter_operations.specs.Outcome.{Outcome}
-use Rattle.odata_filter_operations.specs.TruthGives.{ConnectiveGives}
+use Rattle.odata_filter_operations.specs.TruthGives.{LogicalGives}
 
 -- a value that is computed in the type that the node has
 abbrev pub InType : (ExprType → Type 0) → (ExprType → Outcome → Type 0) → Outcome → Type 0
 InType NodeTyped Gives o = (type : ExprType) × NodeTyped type × Gives type o
 
--- of its left value and the outcomes of its right side, the node having a type: a connective may do without the right
--- side, all others take both values
-abbrev pub ClassGives : OperatorClass → (ExprType → Type 0) → Val → (Outcome → Type 0) → Outcome → Type 0
-ClassGives (Connective connective) NodeTyped l Right o = ConnectiveGives connective l Right o
-ClassGives (Comparison comparison) NodeTyped l Right o = After Right (CompareGives comparison l) o
-ClassGives (Arithmetic arithmetic) NodeTyped l Right o =
-    After Right (λ r. InType NodeTyped (λ type. CalculationGives arithmetic type l r)) o
-
+-- of its left value and the outcomes of its right side, the node having a type: a logical operator may do without the
+-- right side, all others take both values
 abbrev pub OperatorGives : BinaryOperator → (ExprType → Type 0) → Val → (Outcome → Type 0) → Outcome → Type 0
-OperatorGives operator = ClassGives (class_of operator)
+OperatorGives (Logical logical) NodeTyped l Right o = LogicalGives logical l Right o
+OperatorGives (Comparison comparison) NodeTyped l Right o = After Right (CompareGives comparison l) o
+OperatorGives (Arithmetic arithmetic) NodeTyped l Right o =
+    After Right (λ r. InType NodeTyped (λ type. CalculationGives arithmetic type l r)) o
 
 -- of the outcomes of both sides
 abbrev pub SidesGive : BinaryOperator → (ExprType → Type 0) → (Outcome → Type 0) → (Outcome → Type 0) → Outcome → Type 0

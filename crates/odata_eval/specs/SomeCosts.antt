@@ -3,7 +3,8 @@ use Rattle.std.specs.Prelude.{ℕ, List, [], ◌∷◌, codes}
 use Rattle.edm_values.specs.MomentParts.{MomentParts}
 use Rattle.edm_values.specs.Val.{Val}
 use Rattle.odata_syntax.specs.Tree.{Shape, Tree, binary, in_list, node, trees_of_list}
-use Rattle.odata_syntax.specs.declared.node.BinaryOperator.{BinaryOperator}
+use Rattle.odata_syntax.specs.declared.binary_operator.BinaryOperator.{BinaryOperator}
+use Rattle.odata_syntax.specs.declared.binary_operator.ComparisonOperator.{ComparisonOperator}
 use Rattle.odata_syntax.specs.declared.node.Quantifier.{Quantifier}
 use Rattle.odata_eval.specs.ComesToMembers.{is_null, named, null_literal, one_div_zero, over_tags, tagged, tagged_slots}
 use Rattle.odata_eval.specs.Costs.{Costs}
@@ -19,4 +20,4 @@ is_listed = node 0 0 (in_list (named (codes "t")) (trees_of_list (null_literal �
 
 -- `1 div 0 eq Tags/any(t:t eq null)`
 abbrev pub fault_first : Shape
-fault_first = binary BinaryOperator.Eq one_div_zero (node 0 0 (over_tags Quantifier.Any is_null))
+fault_first = binary (BinaryOperator.Comparison ComparisonOperator.Eq) one_div_zero (node 0 0 (over_tags Quantifier.Any is_null))

@@ -1,24 +1,23 @@
 //! The walk of a whole filter. Most are chains of `and` over Boolean properties and comparisons of a property with a
-//! literal, called plain terms here, as are comparisons of what is made of kept values alone: such a chain is asked from its leftmost term on, and left at once where a term is
-//! false. This alone takes some 135 of 1,470 instructions off a short row whose second term is false. The plain terms
-//! before the first other one are asked of a scene that is not kept in memory, which takes off another 57 of 1,216.
+//! literal, called plain terms here, as are comparisons of what is made of kept values alone: such a chain is asked from
+//! its leftmost term on, and left at once where a term is false. This alone takes some 135 of 1,470 instructions off a
+//! short row whose second term is false. The plain terms before the first other one are asked of a scene that is not kept
+//! in memory, which takes off another 57 of 1,216.
 ghost use Rattle.std.specs.Prelude.{◌<◌, ℕ, IfSome, IsTrue, Ok, Some};
 ghost use Rattle.odata_eval.specs.private.Place.{HasOperator, PartStands, TruthStands};
 ghost use Rattle.odata_eval.specs.private.Rest.{IsRest, TellsTerms};
 ghost use Rattle.odata_eval.specs.private.WalkAnswer.{AnswersTruth};
 
 use super::budget::Budget;
-use super::kept_operands::kept_term_at;
-use super::operator_classes::{decides, join};
+use super::kept_operands::kept_compared_at;
+use super::logical::{decides, join};
 use super::part::right_of;
 use super::scene::Scene;
 use super::walk::term_at;
-use edm_values::Value;
 use odata_checked_filter::NodeKind;
 use odata_filter_operations::{EvalFault, compare_kept, kept_truth};
-use odata_functions::{compare_values, comparisons_are_decided};
-use odata_signatures::{Connective, OperatorClass, class_of};
-use odata_syntax::BinaryOperator;
+use odata_functions::comparisons_are_decided;
+use odata_syntax::{BinaryOperator, ComparisonOperator, LogicalOperator};
 
 /// The terms of a chain of `and` that are left to ask, where those before them are true.
 #[derive(Clone, Copy)]
@@ -81,7 +80,7 @@ pub(crate) fn truth_of_rest(
     };
     let mut at = rest.ands;
     while 0 < at {
-        if decides(Connective::And, left) {
+        if decides(LogicalOperator::And, left) {
             return Ok(left);
         }
         at -= 1;
@@ -90,7 +89,7 @@ pub(crate) fn truth_of_rest(
             Some(true) => {}
             Some(false) => return Ok(Some(false)),
             None => match term_at(scene, right_place, &mut unbounded) {
-                Ok(right) => left = join(Connective::And, left, right),
+                Ok(right) => left = join(LogicalOperator::And, left, right),
                 Err(fault) => return Err(fault),
             },
         }
@@ -103,7 +102,7 @@ pub(crate) fn truth_of_rest(
 fn ands_end(scene: &Scene<'_, '_, '_>) -> usize
     requires stands { TruthStands scene.now 0 }
     ensures stands { TruthStands scene.now result }
-    ensures ands { (k : ℕ) → k < result → HasOperator scene.now.list k BinaryOperator.And }
+    ensures ands { (k : ℕ) → k < result → HasOperator scene.now.list k (BinaryOperator.Logical LogicalOperator.And) }
 {
     let _nodes = scene.nodes();
     let mut place = 0;
@@ -117,12 +116,12 @@ fn ands_end(scene: &Scene<'_, '_, '_>) -> usize
 #[inline(always)]
 fn is_and(scene: &Scene<'_, '_, '_>, place: usize) -> bool
     requires stands { PartStands scene.now place }
-    ensures { IsTrue result → HasOperator scene.now.list place BinaryOperator.And }
+    ensures { IsTrue result → HasOperator scene.now.list place (BinaryOperator.Logical LogicalOperator.And) }
 {
     matches!(
         scene.node(place).kind,
         NodeKind::Binary {
-            operator: BinaryOperator::And
+            operator: BinaryOperator::Logical(LogicalOperator::And)
         }
     )
 }
@@ -137,21 +136,25 @@ fn kept_truth_at(scene: &Scene<'_, '_, '_>, place: usize) -> Option<bool>
     scene.ends_once();
     match scene.node(place).kind {
         NodeKind::Property { slot } => kept_truth(scene.property(slot)),
-        NodeKind::Binary { operator } => compared_with_literal(scene, place, operator),
+        NodeKind::Binary { operator } => match operator {
+            BinaryOperator::Comparison(comparison) => {
+                compared_with_literal(scene, place, comparison)
+            }
+            _ => None,
+        },
         _ => None,
     }
 }
 
-/// Whether a comparison of a property with a literal is true. Two numbers are looked for before the operator's class is
-/// asked for, so that they are compared behind one jump by the operator.
+/// Whether a comparison of a property with a literal is true.
 #[inline(always)]
 fn compared_with_literal(
     scene: &Scene<'_, '_, '_>,
     place: usize,
-    operator: BinaryOperator,
+    comparison: ComparisonOperator,
 ) -> Option<bool>
     requires stands { PartStands scene.now place }
-    requires here { HasOperator scene.now.list place operator }
+    requires here { HasOperator scene.now.list place (BinaryOperator.Comparison comparison) }
     ensures { IfSome result (λ truth. AnswersTruth scene.now place (Ok (Some truth))) }
 {
     scene.ends_once();
@@ -159,22 +162,11 @@ fn compared_with_literal(
     let right_place = right_of(scene, place);
     let left = match scene.node(place + 1).kind {
         NodeKind::Property { slot } => scene.property(slot),
-        _ => return kept_term_at(scene, place, operator),
+        _ => return kept_compared_at(scene, place, comparison),
     };
     let right = match scene.node(right_place).kind {
         NodeKind::Literal { value, .. } => scene.literal(value),
         _ => return None,
     };
-    if let Value::Int(_) = left {
-        if let Value::Int(_) = right {
-            return match class_of(operator) {
-                OperatorClass::Comparison(numeric) => Some(compare_kept(numeric, left, right)),
-                _ => None,
-            };
-        }
-    }
-    match class_of(operator) {
-        OperatorClass::Comparison(comparison) => Some(compare_values(comparison, left, right)),
-        _ => None,
-    }
+    Some(compare_kept(comparison, left, right))
 }

@@ -13,7 +13,8 @@ use super::walk::{counted_at, operand_at};
 use edm_values::Datum;
 use odata_expression_types::trees_have_one_type;
 use odata_filter_operations::{EvalFault, among, flags_of};
-use odata_functions::{ComparisonOperator, compare, comparisons_are_decided};
+use odata_functions::{compare, comparisons_are_decided};
+use odata_syntax::ComparisonOperator;
 
 /// What `has` comes to.
 #[cycle(evaluate)]

@@ -1,17 +1,14 @@
 //! Operands of which no value is made: a step from a value that is kept, the length of a kept text, what arithmetic makes
 //! of two kept numbers, and a kept text of whose lower case only the start is asked.
 ghost use Rattle.std.specs.Prelude.{◌≡◌, ◌+◌, ℕ, IfSome, List, None, Ok, Some};
-ghost use Rattle.odata_signatures.specs.OperatorClass.{class_of};
 ghost use Rattle.odata_checked_filter.specs.declared.checked_node.NodeKind.{NodeKind as Kind};
 ghost use Rattle.odata_eval.specs.private.KeptOperands.{AnswersCall, AnswersLast, AnswersLowered, AnswersText, IsMadeAt, IsPathAt};
 ghost use Rattle.odata_eval.specs.private.Place.{HasCall, HasKind, HasOperator, IsClassAt, PartStands};
 ghost use Rattle.odata_eval.specs.private.Spending.{SpendsAt};
 ghost use Rattle.odata_eval.specs.private.WalkAnswer.{AnswersKept, AnswersNumber, AnswersTruth};
-ghost use Rattle.odata_eval.specs.private.WalkClass.{walk_of_operator};
 ghost use Rattle.odata_eval.specs.declared.part.WalkClass.{WalkClass as Class};
 ghost use Rattle.odata_eval.specs.declared.budget.Budget.{Budget};
 
-use super::operator_classes::comparison_of;
 use super::part::{right_of, stop_of};
 use super::scene::Scene;
 use edm_values::{Datum, Value};
@@ -21,8 +18,8 @@ use odata_filter_operations::{
     calculated, compare_kept, compare_numbers, datum_of, kept_number, lower_starts_with,
 };
 use odata_functions::{comparisons_are_decided, operands_lie_within_promotion, text_length};
-use odata_signatures::{Function, OperatorClass, calls_have_one_type, class_of};
-use odata_syntax::BinaryOperator;
+use odata_signatures::{Function, calls_have_one_type};
+use odata_syntax::{ArithmeticOperator, BinaryOperator, ComparisonOperator};
 
 /// The value to which a path of at most one step from a property, a literal or a variable leads.
 #[inline(always)]
@@ -223,19 +220,16 @@ fn kept_number_at(scene: &Scene<'_, '_, '_>, place: usize) -> Option<Option<i64>
 fn kept_calculation_at(
     scene: &Scene<'_, '_, '_>,
     place: usize,
-    operator: BinaryOperator,
+    operator: ArithmeticOperator,
 ) -> Option<Option<i64>>
     requires stands { PartStands scene.now place }
-    requires here { HasOperator scene.now.list place operator }
+    requires here { HasOperator scene.now.list place (BinaryOperator.Arithmetic operator) }
     ensures answers { IfSome result (λ number. AnswersNumber scene.now place (Ok number)) }
     ensures numeric { IfSome result (λ number. IsClassAt scene.now.list Class.Numeric place) }
 {
     scene.ends_once();
     trees_have_one_type();
     operands_lie_within_promotion();
-    let OperatorClass::Arithmetic(arithmetic) = class_of(operator) else {
-        return None;
-    };
     let right_place = right_of(scene, place);
     let Some(left) = kept_number_at(scene, place + 1) else {
         return None;
@@ -244,7 +238,7 @@ fn kept_calculation_at(
         return None;
     };
     let node = scene.node(place);
-    match calculated(arithmetic, &node.edm_type, left, right) {
+    match calculated(operator, &node.edm_type, left, right) {
         Ok(number) => Some(number),
         Err(_) => None,
     }
@@ -259,7 +253,10 @@ fn made_number_at(scene: &Scene<'_, '_, '_>, place: usize) -> Option<Option<i64>
 {
     match scene.node(place).kind {
         NodeKind::Call { function } => length_at(scene, place, function),
-        NodeKind::Binary { operator } => kept_calculation_at(scene, place, operator),
+        NodeKind::Binary { operator } => match operator {
+            BinaryOperator::Arithmetic(arithmetic) => kept_calculation_at(scene, place, arithmetic),
+            _ => None,
+        },
         _ => None,
     }
 }
@@ -269,17 +266,15 @@ fn made_number_at(scene: &Scene<'_, '_, '_>, place: usize) -> Option<Option<i64>
 pub(crate) fn kept_compared_at(
     scene: &Scene<'_, '_, '_>,
     place: usize,
-    operator: BinaryOperator,
+    comparison: ComparisonOperator,
 ) -> Option<bool>
     requires stands { PartStands scene.now place }
-    requires here { HasOperator scene.now.list place operator }
-    requires comparison { walk_of_operator (class_of operator) ≡ Class.Eager }
+    requires here { HasOperator scene.now.list place (BinaryOperator.Comparison comparison) }
     ensures answers { IfSome result (λ truth. AnswersTruth scene.now place (Ok (Some truth))) }
     ensures spent { (budget : Budget) → IfSome result (λ truth. SpendsAt scene.now place budget budget None) }
 {
     scene.ends_once();
     comparisons_are_decided();
-    let comparison = comparison_of(operator);
     let right_place = right_of(scene, place);
     if let NodeKind::Member { slot } = scene.node(place + 1).kind {
         let Some(left) = step_at(scene, place + 1, slot) else {
@@ -297,21 +292,4 @@ pub(crate) fn kept_compared_at(
         return None;
     };
     Some(compare_numbers(comparison, left, right))
-}
-
-/// The same, where the operator may be none of comparison.
-#[inline(always)]
-pub(crate) fn kept_term_at(
-    scene: &Scene<'_, '_, '_>,
-    place: usize,
-    operator: BinaryOperator,
-) -> Option<bool>
-    requires stands { PartStands scene.now place }
-    requires here { HasOperator scene.now.list place operator }
-    ensures { IfSome result (λ truth. AnswersTruth scene.now place (Ok (Some truth))) }
-{
-    match class_of(operator) {
-        OperatorClass::Comparison(_) => kept_compared_at(scene, place, operator),
-        _ => None,
-    }
 }

@@ -1,19 +1,17 @@
 //! The walk of a filter's list where numbers are taken: of arithmetic, and of `-`.
 ghost use Rattle.std.specs.Prelude.{◌≡◌, ◌+◌, Ok};
-ghost use Rattle.odata_signatures.specs.OperatorClass.{class_of};
 ghost use Rattle.odata_eval.specs.private.Place.{HasOperator, IsClassAt, NumberStands, PartStands};
 ghost use Rattle.odata_eval.specs.private.WalkAnswer.{AnswersNumber};
-ghost use Rattle.odata_eval.specs.private.WalkClass.{walk_of_operator};
 
-use super::operator_classes::arithmetic_of;
-use super::part::{Part, WalkClass, class_at, is_class_at, part_at, right_of, spine_bottom};
+use super::part::{
+    Part, WalkClass, arithmetic_operator, class_at, is_class_at, part_at, right_of, spine_bottom,
+};
 use super::scene::Scene;
 use super::walk::operand_at;
-use odata_checked_filter::NodeKind;
 use odata_expression_types::trees_have_one_type;
 use odata_filter_operations::{EvalFault, calculated, kept_number, negated, number_of};
 use odata_functions::operands_lie_within_promotion;
-use odata_syntax::BinaryOperator;
+use odata_syntax::{ArithmeticOperator, BinaryOperator};
 
 /// What a node of numbers comes to.
 #[cycle(evaluate)]
@@ -120,9 +118,9 @@ fn numeric_at(
         Err(fault) => return Err(fault),
     };
     let node = scene.node(place);
-    match node.kind {
-        NodeKind::Binary { operator } => { calculated_at(scene, place, operator, first) }
-        _ => negated(&node.edm_type, first),
+    match arithmetic_operator(node.kind) {
+        Some(operator) => calculated_at(scene, place, operator, first),
+        None => negated(&node.edm_type, first),
     }
 }
 
@@ -132,12 +130,11 @@ fn numeric_at(
 fn calculated_at(
     scene: &Scene<'_, '_, '_>,
     place: usize,
-    operator: BinaryOperator,
+    operator: ArithmeticOperator,
     left: Option<i64>,
 ) -> Result<Option<i64>, EvalFault>
     requires stands { PartStands scene.now place }
-    requires here { HasOperator scene.now.list place operator }
-    requires arithmetic { walk_of_operator (class_of operator) ≡ WalkClass.Numeric }
+    requires here { HasOperator scene.now.list place (BinaryOperator.Arithmetic operator) }
     requires left { AnswersNumber scene.now (place + 1) (Ok left) }
     ensures { AnswersNumber scene.now place result }
 {
@@ -146,7 +143,7 @@ fn calculated_at(
     operands_lie_within_promotion();
     let node = scene.node(place);
     match number_operand_at(scene, right_of(scene, place)) {
-        Ok(right) => calculated(arithmetic_of(operator), &node.edm_type, left, right),
+        Ok(right) => calculated(operator, &node.edm_type, left, right),
         Err(fault) => Err(fault),
     }
 }

@@ -1,13 +1,13 @@
 //! The walk where String literals are read beside an enumeration. The checker has read their numbers, which stand among the
 //! values of the filter's literals.
-ghost use Rattle.std.specs.Prelude.{◌<◌, ◌+◌, ℕ, None, Ok, Some, length};
+ghost use Rattle.std.specs.Prelude.{◌≡◌, ◌<◌, ◌+◌, ℕ, None, Ok, Some, length};
+ghost use Rattle.odata_signatures.specs.OperatorTyped.{IsEquality};
 ghost use Rattle.odata_checked_filter.specs.declared.checked_node.NodeKind.{NodeKind as Kind};
 ghost use Rattle.odata_eval.specs.private.Place.{HasKind, IsRightOf, PartStands, TruthStands};
 ghost use Rattle.odata_eval.specs.private.Spending.{CountedDatum, CountedItem, CountedTruth, SpendsAt, SpendsItem, SpendsRest, datum_stop, stopped_by};
 ghost use Rattle.odata_eval.specs.private.WalkAnswer.{AnswersDatum, AnswersKept, AnswersTruth};
 
 use super::budget::{Budget, take_item};
-use super::operator_classes::comparison_of;
 use super::part::{Part, part_at, right_of, stop_of};
 use super::scene::Scene;
 use super::stop::EvalStop;
@@ -15,8 +15,20 @@ use super::walk::{counted_at, made_truth_at, operand_at};
 use edm_values::{Datum, Value};
 use odata_expression_types::trees_have_one_type;
 use odata_filter_operations::{EvalFault, compare_kept, datum_of, flags_of};
-use odata_functions::{ComparisonOperator, compare, comparisons_are_decided};
-use odata_syntax::BinaryOperator;
+use odata_functions::{compare, comparisons_are_decided};
+use odata_syntax::{BinaryOperator, ComparisonOperator};
+
+/// Which comparison `eq` or `ne` is.
+#[inline(always)]
+fn equality_of(operator: BinaryOperator) -> ComparisonOperator
+    requires { IsEquality operator }
+    ensures { operator ≡ BinaryOperator.Comparison result }
+{
+    match operator {
+        BinaryOperator::Comparison(comparison) => comparison,
+        _ => unreachable!(),
+    }
+}
 
 /// What `eq` or `ne` comes to, whose right operand stands for the number in a place of the values.
 pub(crate) fn compared_right<'e>(
@@ -35,7 +47,7 @@ pub(crate) fn compared_right<'e>(
     trees_have_one_type();
     comparisons_are_decided();
     let right = datum_of(scene.literal(number));
-    Datum::Bool(compare(comparison_of(operator), left, &right))
+    Datum::Bool(compare(equality_of(operator), left, &right))
 }
 
 /// The same, where the left operand does.
@@ -56,7 +68,7 @@ pub(crate) fn compared_left_at<'e>(
     match operand_at(scene, right_of(scene, place)) {
         Ok(right) => {
             let left = datum_of(scene.literal(number));
-            Ok(Datum::Bool(compare(comparison_of(operator), &left, &right)))
+            Ok(Datum::Bool(compare(equality_of(operator), &left, &right)))
         }
         Err(fault) => Err(fault),
     }
@@ -123,7 +135,7 @@ fn compared_kept_right(
     scene.ends_once();
     trees_have_one_type();
     comparisons_are_decided();
-    compare_kept(comparison_of(operator), left, scene.literal(number))
+    compare_kept(equality_of(operator), left, scene.literal(number))
 }
 
 /// Whether the comparison with that number on the left is true of a right operand that is kept.
@@ -143,7 +155,7 @@ fn compared_kept_left(
     scene.ends_once();
     trees_have_one_type();
     comparisons_are_decided();
-    compare_kept(comparison_of(operator), scene.literal(number), right)
+    compare_kept(equality_of(operator), scene.literal(number), right)
 }
 
 /// What `has` comes to, whose right operand stands for the number in a place of the values.

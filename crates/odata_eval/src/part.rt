@@ -1,10 +1,10 @@
 //! What stands in a place of a filter's list.
-ghost use Rattle.std.specs.Prelude.{◌≡◌, ◌<◌, ◌≤◌, ◌↔◌, ℕ, IsTrue, length};
+ghost use Rattle.std.specs.Prelude.{◌≡◌, ◌<◌, ◌≤◌, ◌↔◌, ℕ, IfNone, IfSome, IsTrue, length};
 
 use super::scene::Scene;
 use edm_values::Value;
 use odata_checked_filter::NodeKind;
-use odata_signatures::{OperatorClass, class_of};
+use odata_syntax::{ArithmeticOperator, BinaryOperator, LogicalOperator};
 
 /// How the walk takes a node: as a value that is there, by the truth values of its operands, by their numbers, or by
 /// their values.
@@ -21,7 +21,7 @@ pub(crate) enum WalkClass {
 pub(crate) enum Part<'e> {
     /// A literal, `$it`, `now()`, a variable or a property, with its value.
     Leaf(&'e Value),
-    /// A node of truth values: a connective or `not`.
+    /// A node of truth values: a logical operator or `not`.
     Logical,
     /// A node of numbers: an arithmetic operator or `-`.
     Numeric,
@@ -57,11 +57,43 @@ fn walk_of_kind(kind: NodeKind) -> WalkClass
         NodeKind::AnyItem => WalkClass::Eager,
         NodeKind::Lambda { .. } => WalkClass::Eager,
         NodeKind::Now => WalkClass::Leaf,
-        NodeKind::Binary { operator } => match class_of(operator) {
-            OperatorClass::Connective(_) => WalkClass::Logical,
-            OperatorClass::Comparison(_) => WalkClass::Eager,
-            OperatorClass::Arithmetic(_) => WalkClass::Numeric,
+        NodeKind::Binary { operator } => match operator {
+            BinaryOperator::Logical(_) => WalkClass::Logical,
+            BinaryOperator::Comparison(_) => WalkClass::Eager,
+            BinaryOperator::Arithmetic(_) => WalkClass::Numeric,
         },
+    }
+}
+
+/// The logical operator of a node of this kind. `None` where it has none.
+#[inline(always)]
+pub(crate) fn logical_operator(kind: NodeKind) -> Option<LogicalOperator>
+    ensures some { IfSome result (λ o. kind ≡ NodeKind.Binary (BinaryOperator.Logical o)) }
+    ensures none { IfNone result ((o : LogicalOperator) → ¬ (kind ≡ NodeKind.Binary (BinaryOperator.Logical o))) }
+{
+    match kind {
+        NodeKind::Binary { operator } => match operator {
+            BinaryOperator::Logical(logical) => Some(logical),
+            BinaryOperator::Comparison(_) => None,
+            BinaryOperator::Arithmetic(_) => None,
+        },
+        _ => None,
+    }
+}
+
+/// The arithmetic operator of a node of this kind. `None` where it has none.
+#[inline(always)]
+pub(crate) fn arithmetic_operator(kind: NodeKind) -> Option<ArithmeticOperator>
+    ensures some { IfSome result (λ o. kind ≡ NodeKind.Binary (BinaryOperator.Arithmetic o)) }
+    ensures none { IfNone result ((o : ArithmeticOperator) → ¬ (kind ≡ NodeKind.Binary (BinaryOperator.Arithmetic o))) }
+{
+    match kind {
+        NodeKind::Binary { operator } => match operator {
+            BinaryOperator::Arithmetic(arithmetic) => Some(arithmetic),
+            BinaryOperator::Logical(_) => None,
+            BinaryOperator::Comparison(_) => None,
+        },
+        _ => None,
     }
 }
 

@@ -4,23 +4,23 @@
 //!
 //! What is asked at each node is marked to be inlined, so that an answer is not passed on through memory.
 ghost use Rattle.std.specs.Prelude.{◌≡◌, ◌+◌, IfOk, None, Ok};
-ghost use Rattle.odata_signatures.specs.OperatorClass.{class_of};
-ghost use Rattle.odata_eval.specs.private.Place.{HasCall, HasOperator, HasOperatorOf, IsClassAt, PartStands, TruthStands};
+ghost use Rattle.odata_eval.specs.private.Place.{HasCall, HasOperator, IsClassAt, PartStands, TruthStands};
 ghost use Rattle.odata_eval.specs.private.Spending.{CountedDatum, CountedTruth, SpendsAt, SpendsRest, datum_stop, stopped_by};
-ghost use Rattle.odata_eval.specs.private.WalkClass.{walk_of_operator};
 ghost use Rattle.odata_eval.specs.private.WalkAnswer.{AnswersDatum, AnswersTruth};
 
 use super::budget::{Budget, as_stop, fault_of};
 use super::collection_walk::{among_at, flags_at, listed_at};
 use super::kept_operands::{kept_compared_at, lower_start_at};
 use super::lambda_walk::lambda_at;
+use super::logical::{decides, join};
 use super::number_walk::{number_at, number_chain_at};
-use super::operator_classes::{comparison_of, connective_of, decides, join};
 use super::paired_walk::{
     compared_left_at, compared_right, flags_right, left_read_truth_at, numbered_at,
     right_read_truth_at,
 };
-use super::part::{Part, WalkClass, class_at, part_at, right_of, spine_bottom, stop_of};
+use super::part::{
+    Part, WalkClass, class_at, logical_operator, part_at, right_of, spine_bottom, stop_of,
+};
 use super::scene::Scene;
 use super::stop::EvalStop;
 use edm_values::{Datum, Value};
@@ -31,11 +31,9 @@ use odata_filter_operations::{
     compare_numbers, count_of, datum_of, datum_of_number, datum_of_truth, kept_truth, step,
     truth_of,
 };
-use odata_functions::{
-    ComparisonOperator, compare, comparisons_are_decided, not3, operands_lie_within_promotion,
-};
-use odata_signatures::{Function, OperatorClass, calls_have_one_type, class_of};
-use odata_syntax::BinaryOperator;
+use odata_functions::{compare, comparisons_are_decided, not3, operands_lie_within_promotion};
+use odata_signatures::{Function, calls_have_one_type};
+use odata_syntax::{BinaryOperator, ComparisonOperator, LogicalOperator};
 
 /// What a node of type Boolean or Null comes to on an entity of the filtered type.
 #[cycle(evaluate)]
@@ -73,8 +71,8 @@ fn plain_truth_at(
 {
     scene.ends_once();
     if let NodeKind::Binary { operator } = scene.node(place).kind {
-        if let OperatorClass::Comparison(_) = class_of(operator) {
-            return compared_truth_at(scene, place, operator, budget);
+        if let BinaryOperator::Comparison(comparison) = operator {
+            return compared_truth_at(scene, place, comparison, budget);
         }
     }
     if let NodeKind::Call { function } = scene.node(place).kind {
@@ -103,12 +101,11 @@ fn plain_truth_at(
 fn compared_truth_at(
     scene: &Scene<'_, '_, '_>,
     place: usize,
-    operator: BinaryOperator,
+    comparison: ComparisonOperator,
     budget: &mut Budget,
 ) -> Result<Option<bool>, EvalStop>
     requires stands { TruthStands scene.now place }
-    requires here { HasOperator scene.now.list place operator }
-    requires comparison { walk_of_operator (class_of operator) ≡ WalkClass.Eager }
+    requires here { HasOperator scene.now.list place (BinaryOperator.Comparison comparison) }
     ensures answers { CountedTruth scene.now place result }
     ensures spent { SpendsAt scene.now place budget.old budget.new (stopped_by result) }
 {
@@ -117,11 +114,11 @@ fn compared_truth_at(
     let right_place = right_of(scene, place);
     match part_at(scene, place + 1) {
         Part::Leaf(left) => match part_at(scene, right_place) {
-            Part::Leaf(right) => Ok(Some(compare_kept(comparison_of(operator), left, right))),
+            Part::Leaf(right) => Ok(Some(compare_kept(comparison, left, right))),
             _ => made_truth_at(scene, place, budget),
         },
-        Part::Numeric => numbers_truth_at(scene, place, operator, budget),
-        _ => match kept_compared_at(scene, place, operator) {
+        Part::Numeric => numbers_truth_at(scene, place, comparison, budget),
+        _ => match kept_compared_at(scene, place, comparison) {
             Some(truth) => Ok(Some(truth)),
             None => made_truth_at(scene, place, budget),
         },
@@ -134,12 +131,11 @@ fn compared_truth_at(
 fn numbers_truth_at(
     scene: &Scene<'_, '_, '_>,
     place: usize,
-    operator: BinaryOperator,
+    comparison: ComparisonOperator,
     budget: &mut Budget,
 ) -> Result<Option<bool>, EvalStop>
     requires stands { TruthStands scene.now place }
-    requires here { HasOperator scene.now.list place operator }
-    requires comparison { walk_of_operator (class_of operator) ≡ WalkClass.Eager }
+    requires here { HasOperator scene.now.list place (BinaryOperator.Comparison comparison) }
     requires numeric { IsClassAt scene.now.list WalkClass.Numeric (place + 1) }
     ensures answers { CountedTruth scene.now place result }
     ensures spent { SpendsAt scene.now place budget.old budget.new (stopped_by result) }
@@ -152,13 +148,11 @@ fn numbers_truth_at(
     };
     match part_at(scene, right_place) {
         Part::Leaf(value) => match value {
-            Value::Int(right) => {
-                Ok(Some(compare_numbers(comparison_of(operator), left, Some(*right))))
-            }
+            Value::Int(right) => Ok(Some(compare_numbers(comparison, left, Some(*right)))),
             _ => made_truth_at(scene, place, budget),
         },
         Part::Numeric => match number_at(scene, right_place) {
-            Ok(right) => Ok(Some(compare_numbers(comparison_of(operator), left, right))),
+            Ok(right) => Ok(Some(compare_numbers(comparison, left, right))),
             Err(fault) => Err(EvalStop::Fault(fault)),
         },
         _ => made_truth_at(scene, place, budget),
@@ -259,9 +253,9 @@ fn logical_at(
         Ok(first) => first,
         Err(stop) => return Err(stop),
     };
-    match scene.node(place).kind {
-        NodeKind::Binary { operator } => { connected_at(scene, place, operator, first, budget) }
-        _ => Ok(not3(first)),
+    match logical_operator(scene.node(place).kind) {
+        Some(operator) => connected_at(scene, place, operator, first, budget),
+        None => Ok(not3(first)),
     }
 }
 
@@ -303,29 +297,27 @@ pub(crate) fn term_at(
     }
 }
 
-/// What a connective comes to. The right side of a decided one is left out.
+/// What a logical operator comes to. The right side of a decided one is left out.
 #[cycle(evaluate)]
 fn connected_at(
     scene: &Scene<'_, '_, '_>,
     place: usize,
-    operator: BinaryOperator,
+    operator: LogicalOperator,
     left: Option<bool>,
     budget: &mut Budget,
 ) -> Result<Option<bool>, EvalStop>
     requires stands { PartStands scene.now place }
-    requires here { HasOperator scene.now.list place operator }
-    requires connective { walk_of_operator (class_of operator) ≡ WalkClass.Logical }
+    requires here { HasOperator scene.now.list place (BinaryOperator.Logical operator) }
     requires left { AnswersTruth scene.now (place + 1) (Ok left) }
     ensures answers { CountedTruth scene.now place result }
     ensures spent { SpendsRest scene.now place budget.old None budget.new (stopped_by result) }
 {
     scene.ends_once();
-    let connective = connective_of(operator);
-    if decides(connective, left) {
+    if decides(operator, left) {
         return Ok(left);
     }
     match side_at(scene, right_of(scene, place), budget) {
-        Ok(right) => Ok(join(connective, left, right)),
+        Ok(right) => Ok(join(operator, left, right)),
         Err(stop) => Err(stop),
     }
 }
@@ -432,8 +424,8 @@ fn made_at<'e>(
         NodeKind::InList => listed_at(scene, place, &first, budget),
         NodeKind::PairedList { numbers } => numbered_at(scene, place, numbers, &first, budget),
         NodeKind::Lambda { quantifier } => lambda_at(scene, place, quantifier, first, budget),
-        NodeKind::Binary { operator } => match class_of(operator) {
-            OperatorClass::Comparison(comparison) => {
+        NodeKind::Binary { operator } => match operator {
+            BinaryOperator::Comparison(comparison) => {
                 compared_at(scene, place, comparison, first, budget)
             }
             _ => unreachable!(),
@@ -452,7 +444,7 @@ fn compared_at<'e>(
     budget: &mut Budget,
 ) -> Result<Datum<'e>, EvalStop>
     requires stands { PartStands scene.now place }
-    requires comparison { HasOperatorOf scene.now.list place (OperatorClass.Comparison comparison) }
+    requires here { HasOperator scene.now.list place (BinaryOperator.Comparison comparison) }
     requires left { AnswersDatum scene.now (place + 1) (Ok left) }
     ensures answers { CountedDatum scene.now place result }
     ensures spent { SpendsRest scene.now place budget.old None budget.new (datum_stop result) }

@@ -5,7 +5,8 @@ use Rattle.edm_values.specs.Val.{Val}
 use Rattle.odata_text.specs.Tokens.{token_limit}
 use Rattle.odata_syntax.specs.FirstRun.{first_run_tree}
 use Rattle.odata_syntax.specs.Tree.{Shape, Tree, start_of, node, literal, name, binary}
-use Rattle.odata_syntax.specs.declared.node.BinaryOperator.{BinaryOperator}
+use Rattle.odata_syntax.specs.declared.binary_operator.BinaryOperator.{BinaryOperator}
+use Rattle.odata_syntax.specs.declared.binary_operator.ComparisonOperator.{ComparisonOperator}
 use Rattle.odata_syntax.specs.declared.node.LiteralKind.{LiteralKind}
 use Rattle.csdl_schema.specs.PathSet.{no_paths}
 use Rattle.csdl_schema.specs.ExprType.{ExprType, single, primitive}
@@ -144,7 +145,7 @@ item_slots = record {
 -- `ID eq 'a'`
 abbrev pub mixed_filter : Tree
 mixed_filter =
-    node 0 9 (binary BinaryOperator.Eq
+    node 0 9 (binary (BinaryOperator.Comparison ComparisonOperator.Eq)
     (node 0 2 (name (codes "ID")))
     (node 6 9 (literal LiteralKind.Str (codes "'a'"))))
 

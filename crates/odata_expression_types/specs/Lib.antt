@@ -22,7 +22,6 @@ pub use Rattle.odata_signatures.specs.ComparableTypes
 pub use Rattle.odata_signatures.specs.ExprTypes
 pub use Rattle.odata_signatures.specs.Functions
 pub use Rattle.odata_signatures.specs.HasTyped
-pub use Rattle.odata_signatures.specs.OperatorClass
 pub use Rattle.odata_signatures.specs.OperatorTyped
 pub use Rattle.odata_signatures.specs.QuotedNumber
 pub use Rattle.odata_signatures.specs.Side

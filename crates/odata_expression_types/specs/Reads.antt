@@ -1,7 +1,7 @@
 -- Which String literals of a tree are read as texts of an enumeration (OData URL Conventions 4.01, section 5.1.1.1).
 use Rattle.std.specs.Prelude.{◌⊎◌, ℤ}
 use Rattle.odata_syntax.specs.Tree.{Tree, Trees, more_trees, no_trees}
-use Rattle.odata_syntax.specs.declared.node.BinaryOperator.{BinaryOperator}
+use Rattle.odata_syntax.specs.declared.binary_operator.BinaryOperator.{BinaryOperator}
 use Rattle.csdl_schema.specs.ExprType.{ExprType}
 use Rattle.csdl_schema.specs.SchemaModel.{Slots}
 use Rattle.odata_signatures.specs.OperatorTyped.{IsEquality}

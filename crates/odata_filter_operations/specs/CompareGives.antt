@@ -3,7 +3,7 @@ use Rattle.std.specs.Prelude.{◌↔◌, IsTrue}
 use Rattle.edm_values.specs.Val.{Val, boolean}
 use Rattle.odata_functions.specs.Comparable.{AreComparableBy}
 use Rattle.odata_functions.specs.Comparison.{ComparesTrue}
-use Rattle.odata_functions.specs.declared.comparison.ComparisonOperator.{ComparisonOperator}
+use Rattle.odata_syntax.specs.declared.binary_operator.ComparisonOperator.{ComparisonOperator}
 use Rattle.odata_filter_operations.specs.Outcome.{Outcome, GivesSome}
 
 -- the value is true if the fact holds, and else false

@@ -3,7 +3,7 @@ use Rattle.std.specs.Prelude.{◌≡◌, ℕ, IsSomeAnd, length, slice_get}
 use Rattle.edm_values.specs.Val.{Val, null, items, Vals}
 use Rattle.csdl_schema.specs.ExprType.{ExprType, collection, single}
 use Rattle.csdl_schema.specs.ExprType.{SingleType}
-use Rattle.odata_functions.specs.declared.comparison.ComparisonOperator.TheVariants.{Eq}
+use Rattle.odata_syntax.specs.declared.binary_operator.ComparisonOperator.TheVariants.{Eq}
 use Rattle.odata_syntax.specs.declared.node.Quantifier.{Quantifier}
 use Rattle.odata_syntax.specs.declared.node.Quantifier.TheVariants.{Any}
 use Rattle.odata_filter_operations.specs.CollectionGives.{members_of}

@@ -13,7 +13,8 @@ ghost use Rattle.odata_filter_operations.specs.Members.{HasMembers, IsAmong, IsO
 use super::datum::datum_of;
 use super::fault::EvalFault;
 use edm_values::{Datum, Value};
-use odata_functions::{ComparisonOperator, compare, comparisons_are_decided, has_bits};
+use odata_functions::{compare, comparisons_are_decided, has_bits};
+use odata_syntax::ComparisonOperator;
 
 /// How many members a collection has; null of null.
 pub fn count_of<'e>(base: Datum<'_>) -> Result<Datum<'e>, EvalFault>

@@ -12,10 +12,9 @@ ghost use Rattle.odata_filter_operations.specs.Operands.{AreNumbers, IsOneNumber
 
 use super::fault::EvalFault;
 use edm_values::{Prim, Value};
-use odata_functions::{
-    ArithFault, ArithmeticOperator, ComparisonOperator, arith, compare_values, negate,
-};
+use odata_functions::{ArithFault, arith, compare_values, negate};
 use odata_signatures::{EdmType, ValueType};
+use odata_syntax::{ArithmeticOperator, ComparisonOperator};
 
 /// Whether the comparison of two values that are kept is true. Numbers are compared at once.
 #[inline(always)]

@@ -13,8 +13,8 @@ use Rattle.edm_values.specs.declared.datum.Datum.TheVariants as datum
 use Rattle.odata_functions.specs.Comparable.{AreComparableBy, HaveEquality, HaveOrder}
 use Rattle.odata_functions.specs.Comparison.{AreEqual, IsGreater, ComparesTrue, text_cmp}
 use Rattle.odata_functions.specs.DatumVal.{Reading, datum_val}
-use Rattle.odata_functions.specs.declared.comparison.ComparisonOperator.{ComparisonOperator}
-use Rattle.odata_functions.specs.declared.comparison.ComparisonOperator.TheVariants.{Eq, Ne, Gt, Ge, Lt, Le}
+use Rattle.odata_syntax.specs.declared.binary_operator.ComparisonOperator.{ComparisonOperator}
+use Rattle.odata_syntax.specs.declared.binary_operator.ComparisonOperator.TheVariants.{Eq, Ne, Gt, Ge, Lt, Le}
 use Rattle.odata_functions.proofs.TextOrder.{only_greater}
 
 -- a fact that a test tells

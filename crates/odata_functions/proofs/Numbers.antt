@@ -13,8 +13,8 @@ use Rattle.odata_functions.specs.Promotion.{IsPromoted}
 use Rattle.odata_functions.specs.Texts.{CountComes}
 use Rattle.odata_functions.specs.declared.arithmetic.ArithFault.{ArithFault}
 use Rattle.odata_functions.specs.declared.arithmetic.ArithFault.TheVariants.{Overflow, DivideByZero}
-use Rattle.odata_functions.specs.declared.arithmetic.ArithmeticOperator.{ArithmeticOperator}
-use Rattle.odata_functions.specs.declared.arithmetic.ArithmeticOperator.TheVariants.{Add, Sub, Mul, Div, Mod}
+use Rattle.odata_syntax.specs.declared.binary_operator.ArithmeticOperator.{ArithmeticOperator}
+use Rattle.odata_syntax.specs.declared.binary_operator.ArithmeticOperator.TheVariants.{Add, Sub, Mul, Div, Mod}
 use Rattle.odata_functions.proofs.Divisions.{division, none_by_zero, one_quotient, one_remainder}
 
 one_number : (operator : ArithmeticOperator) (a b m n : ℤ) → MakesNumber operator a b m → MakesNumber operator a b n → m ≡ n

@@ -1,7 +1,7 @@
 -- Which values an operator compares (OData URL Conventions 4.01, sections 5.1.1.1.1 to 5.1.1.1.6).
 use Rattle.edm_values.specs.Val.{Val, null, boolean, whole, text, date, moment, guid, member, items}
-use Rattle.odata_functions.specs.declared.comparison.ComparisonOperator.{ComparisonOperator}
-use Rattle.odata_functions.specs.declared.comparison.ComparisonOperator.TheVariants.{Eq, Ne, Gt, Ge, Lt, Le}
+use Rattle.odata_syntax.specs.declared.binary_operator.ComparisonOperator.{ComparisonOperator}
+use Rattle.odata_syntax.specs.declared.binary_operator.ComparisonOperator.TheVariants.{Eq, Ne, Gt, Ge, Lt, Le}
 
 -- for `eq` and `ne`: two values of one kind, neither a record nor a list, or null and anything but a list; which
 -- enumeration a number is of, a value does not hold

@@ -8,8 +8,8 @@ use Rattle.std.specs.Str.{chars}
 use Rattle.edm_values.specs.Civil.{epoch_day}
 use Rattle.edm_values.specs.Instant.{instant}
 use Rattle.edm_values.specs.Val.{Val, null, boolean, whole, text, date, moment, guid, member}
-use Rattle.odata_functions.specs.declared.comparison.ComparisonOperator.{ComparisonOperator}
-use Rattle.odata_functions.specs.declared.comparison.ComparisonOperator.TheVariants.{Eq, Ne, Gt, Ge, Lt, Le}
+use Rattle.odata_syntax.specs.declared.binary_operator.ComparisonOperator.{ComparisonOperator}
+use Rattle.odata_syntax.specs.declared.binary_operator.ComparisonOperator.TheVariants.{Eq, Ne, Gt, Ge, Lt, Le}
 
 -- the order of two texts: the first characters that differ decide, by their scalar values, and else the lengths
 abbrev pub text_cmp : List ℕ → List ℕ → Ordering

@@ -5,17 +5,8 @@ ghost use Rattle.edm_values.specs.NumberTypes.{IsNumberOf};
 ghost use Rattle.odata_functions.specs.Promotion.{IsPromoted};
 
 use edm_values::Prim;
+use odata_syntax::ArithmeticOperator;
 use thiserror::Error;
-
-/// An arithmetic operator with two operands (section 5.1.1.2).
-#[derive(Clone, Copy, Debug, PartialEq, Eq)]
-pub enum ArithmeticOperator {
-    Add,
-    Sub,
-    Mul,
-    Div,
-    Mod,
-}
 
 /// Why arithmetic has no result.
 #[derive(Clone, Copy, Debug, PartialEq, Eq, Error)]
@@ -27,7 +18,7 @@ pub enum ArithFault {
 }
 
 ghost use Rattle.odata_functions.specs.Arithmetic.{ArithmeticGives, ComesWithin, NegationGives, NumbersGive};
-ghost use Rattle.odata_functions.specs.declared.arithmetic.ArithmeticOperator.TheVariants.{Div, Mod};
+ghost use Rattle.odata_syntax.specs.declared.binary_operator.ArithmeticOperator.TheVariants.{Div, Mod};
 
 /// What the operator makes of two operands of a type, in that type; null where one is null.
 #[inline(always)]

@@ -3,8 +3,8 @@ ghost use Rattle.std.specs.Prelude.{◌↔◌, IsTrue};
 ghost use Rattle.odata_functions.specs.Comparable.{AreComparableBy, HaveEquality, HaveOrder};
 ghost use Rattle.odata_functions.specs.DatumVal.{Reading, datum_val};
 
-use crate::ComparisonOperator;
 use edm_values::Datum;
+use odata_syntax::ComparisonOperator;
 
 /// Whether the operator compares these values.
 pub fn comparable(operator: ComparisonOperator, left: &Datum<'_>, right: &Datum<'_>) -> bool

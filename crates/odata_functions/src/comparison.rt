@@ -4,22 +4,11 @@ ghost use Rattle.std.specs.Str.{chars};
 ghost use Rattle.std.specs.declared.cmp.Ordering.TheVariants.{Greater};
 ghost use Rattle.odata_functions.specs.DatumVal.{Reading, datum_val};
 ghost use Rattle.odata_functions.specs.KeptVal.{Contents, kept_val};
-
-use edm_values::{Datum, Value};
-
-/// A comparison operator (sections 5.1.1.1.1 to 5.1.1.1.6).
-#[derive(Clone, Copy, Debug, PartialEq, Eq)]
-pub enum ComparisonOperator {
-    Eq,
-    Ne,
-    Gt,
-    Ge,
-    Lt,
-    Le,
-}
-
 ghost use Rattle.odata_functions.specs.Comparable.{AreComparableBy};
 ghost use Rattle.odata_functions.specs.Comparison.{AreEqual, ComparesTrue, IsGreater, text_cmp};
+
+use edm_values::{Datum, Value};
+use odata_syntax::ComparisonOperator;
 
 /// Whether the comparison is true.
 pub fn compare(operator: ComparisonOperator, left: &Datum<'_>, right: &Datum<'_>) -> bool

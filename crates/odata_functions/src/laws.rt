@@ -17,8 +17,8 @@ ghost use Rattle.odata_functions.specs.Division.{IsDivision};
 ghost use Rattle.odata_functions.specs.KeptVal.{Contents, kept_val};
 ghost use Rattle.odata_functions.specs.Promotion.{promotion, negation_type, IsPromoted};
 ghost use Rattle.odata_functions.specs.declared.arithmetic.ArithFault.{ArithFault};
-ghost use Rattle.odata_functions.specs.declared.arithmetic.ArithmeticOperator.{ArithmeticOperator};
-ghost use Rattle.odata_functions.specs.declared.comparison.ComparisonOperator.{ComparisonOperator};
+ghost use Rattle.odata_syntax.specs.declared.binary_operator.ArithmeticOperator.{ArithmeticOperator};
+ghost use Rattle.odata_syntax.specs.declared.binary_operator.ComparisonOperator.{ComparisonOperator};
 
 /// Texts are in the order of their bytes in UTF-8, and equal where these are.
 pub fn texts_in_byte_order()

@@ -17,10 +17,10 @@ mod promoting;
 mod text_parts;
 mod text_search;
 
-pub use arithmetic::{ArithFault, ArithmeticOperator, arith, negate};
+pub use arithmetic::{ArithFault, arith, negate};
 pub use bits::has_bits;
 pub use comparability::comparable;
-pub use comparison::{ComparisonOperator, compare, compare_values};
+pub use comparison::{compare, compare_values};
 pub use connectives::{and3, not3, or3};
 pub use date_parts::{
     date_of, day_of, hour_of, minute_of, month_of, offset_of, second_of, year_of,

@@ -4,8 +4,8 @@ use Rattle.edm_values.specs.NumberTypes.{IsNumberType}
 use Rattle.edm_values.specs.declared.primitive.PrimitiveType.{PrimitiveType}
 use Rattle.csdl_schema.specs.ExprType.{SingleType, primitive, enumeration, structured}
 use Rattle.csdl_schema.specs.ExprType.{ExprType, null_type, single}
-use Rattle.odata_functions.specs.declared.comparison.ComparisonOperator.{ComparisonOperator}
-use Rattle.odata_functions.specs.declared.comparison.ComparisonOperator.TheVariants.{Eq, Ne, Gt, Ge, Lt, Le}
+use Rattle.odata_syntax.specs.declared.binary_operator.ComparisonOperator.{ComparisonOperator}
+use Rattle.odata_syntax.specs.declared.binary_operator.ComparisonOperator.TheVariants.{Eq, Ne, Gt, Ge, Lt, Le}
 
 -- two number types, or one type on both sides
 abbrev pub AreAlikePrimitives : PrimitiveType → PrimitiveType → Type 0

@@ -12,7 +12,6 @@ pub mod ExprTypes
 pub mod Functions
 pub mod HasTyped
 pub mod ManyValues
-pub mod OperatorClass
 pub mod OperatorTyped
 pub mod QuotedNumber
 pub mod Side

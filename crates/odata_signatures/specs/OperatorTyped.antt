@@ -4,12 +4,11 @@ use Rattle.edm_values.specs.declared.primitive.PrimitiveType.{PrimitiveType}
 use Rattle.csdl_schema.specs.ExprType.{ExprType}
 use Rattle.csdl_schema.specs.SchemaModel.{Slots}
 use Rattle.odata_functions.specs.Promotion.{promotion, negation_type}
-use Rattle.odata_syntax.specs.declared.node.BinaryOperator.{BinaryOperator}
-use Rattle.odata_signatures.specs.declared.operator_class.OperatorClass.{OperatorClass}
-use Rattle.odata_signatures.specs.declared.operator_class.OperatorClass.TheVariants.{Connective, Comparison, Arithmetic}
+use Rattle.odata_syntax.specs.declared.binary_operator.BinaryOperator.{BinaryOperator}
+use Rattle.odata_syntax.specs.declared.binary_operator.BinaryOperator.TheVariants.{Logical, Comparison, Arithmetic}
+use Rattle.odata_syntax.specs.declared.binary_operator.ComparisonOperator.{ComparisonOperator}
 use Rattle.odata_signatures.specs.ComparableTypes.{AreComparedBy}
 use Rattle.odata_signatures.specs.ExprTypes.{boolean_type, IsBooleanOrNull, IsNumberOrNull, number_or_null}
-use Rattle.odata_signatures.specs.OperatorClass.{class_of}
 use Rattle.odata_signatures.specs.QuotedNumber.{HasNumber}
 use Rattle.odata_signatures.specs.Side.{Side}
 
@@ -21,17 +20,17 @@ pub record ArithmeticTyped (left right type : ExprType) : Type 0 where
   pub right_is : IsNumberOrNull right right_number
   pub type_is : type ≡ number_or_null (promotion left_number right_number)
 
--- an operator of the class takes operands of the first two types and gives a value of the third
-abbrev pub ClassTyped : OperatorClass → ExprType → ExprType → ExprType → Type 0
-ClassTyped (Connective connective) left right type =
+-- by the types alone the operator takes operands of the first two types and gives a value of the third
+abbrev pub OperatorByTypes : BinaryOperator → ExprType → ExprType → ExprType → Type 0
+OperatorByTypes (Logical logical) left right type =
     IsBooleanOrNull left × IsBooleanOrNull right × (type ≡ boolean_type)
-ClassTyped (Comparison comparison) left right type = AreComparedBy comparison left right × (type ≡ boolean_type)
-ClassTyped (Arithmetic arithmetic) left right type = ArithmeticTyped left right type
+OperatorByTypes (Comparison comparison) left right type = AreComparedBy comparison left right × (type ≡ boolean_type)
+OperatorByTypes (Arithmetic arithmetic) left right type = ArithmeticTyped left right type
 
 -- `eq` and `ne`
 abbrev pub IsEquality : BinaryOperator → Type 0
-IsEquality BinaryOperator.Eq = Unit {0}
-IsEquality BinaryOperator.Ne = Unit {0}
+IsEquality (BinaryOperator.Comparison ComparisonOperator.Eq) = Unit {0}
+IsEquality (BinaryOperator.Comparison ComparisonOperator.Ne) = Unit {0}
 IsEquality _ = ⊥
 
 -- of `eq` and `ne`: this holds of the type of one side and of what the other one quotes
@@ -43,7 +42,7 @@ OfOneSide Holds operator left right =
 -- number of the enumeration on the other side
 abbrev pub OperatorTyped : Slots → BinaryOperator → Side → Side → ExprType → Type 0
 OperatorTyped slots operator left right type =
-    ClassTyped (class_of operator) left.type_of right.type_of type
+    OperatorByTypes operator left.type_of right.type_of type
     ⊎ (OfOneSide (HasNumber slots) operator left right × (type ≡ boolean_type))
 
 -- `-` before an operand of the first type gives the second

@@ -3,14 +3,13 @@
 use Rattle.std.specs.Prelude.{◌≡◌, ◌↔◌, ℕ, List}
 use Rattle.csdl_schema.specs.ExprType.{ExprType, single, enumeration}
 use Rattle.csdl_schema.specs.SchemaModel.{Slots}
-use Rattle.odata_functions.specs.declared.comparison.ComparisonOperator.{ComparisonOperator}
-use Rattle.odata_syntax.specs.declared.node.BinaryOperator.{BinaryOperator}
+use Rattle.odata_syntax.specs.declared.binary_operator.ComparisonOperator.{ComparisonOperator}
+use Rattle.odata_syntax.specs.declared.binary_operator.BinaryOperator.{BinaryOperator}
 use Rattle.odata_signatures.specs.CollectionTyped.{IsItemBeside}
 use Rattle.odata_signatures.specs.ComparableTypes.{AreComparable, AreComparedBy}
 use Rattle.odata_signatures.specs.ExprTypes.{boolean_type, string_type}
 use Rattle.odata_signatures.specs.HasTyped.{AreFlags, HasTyped}
-use Rattle.odata_signatures.specs.OperatorClass.{class_of}
-use Rattle.odata_signatures.specs.OperatorTyped.{ClassTyped, OfOneSide, OperatorTyped}
+use Rattle.odata_signatures.specs.OperatorTyped.{OperatorByTypes, OfOneSide, OperatorTyped}
 use Rattle.odata_signatures.specs.QuotedNumber.{IsReadBeside}
 use Rattle.odata_signatures.specs.Side.{Side}
 
@@ -19,7 +18,7 @@ abbrev pub OperandsByTypes : Type 0
 OperandsByTypes =
     (slots : Slots) (operator : BinaryOperator) (left right : Side) (type : ExprType)
     → ¬ OfOneSide IsReadBeside operator left right
-    → OperatorTyped slots operator left right type ↔ ClassTyped (class_of operator) left.type_of right.type_of type
+    → OperatorTyped slots operator left right type ↔ OperatorByTypes operator left.type_of right.type_of type
 
 -- those of `has`
 abbrev pub FlagsByTypes : Type 0

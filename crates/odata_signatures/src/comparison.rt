@@ -8,7 +8,7 @@ ghost use Rattle.odata_signatures.specs.TypeThere.{IsThere, IsTypeThere};
 use super::edm_type::{EdmType, ValueType};
 use csdl_schema::{EnumId, Schema};
 use edm_values::Prim;
-use odata_functions::ComparisonOperator;
+use odata_syntax::ComparisonOperator;
 
 /// Whether the comparison takes values of these types.
 pub(crate) fn are_compared(

@@ -12,7 +12,6 @@ mod has;
 mod laws;
 mod membership;
 mod operator;
-mod operator_class;
 mod quoted_number;
 
 pub use argument_kind::ArgumentKind;
@@ -25,5 +24,4 @@ pub use has::has_type;
 pub use laws::{calls_have_one_type, quoted_texts_have_one_number, unread_operands_go_by_types};
 pub use membership::in_path_type;
 pub use operator::{made_type, negated_type, opposite_type};
-pub use operator_class::{Connective, OperatorClass, class_of};
 pub use quoted_number::{Beside, number_beside};

@@ -2,14 +2,12 @@
 ghost use Rattle.std.specs.Prelude.{IfSome, IfNone};
 ghost use Rattle.csdl_schema.specs.ExprType.{ExprType};
 ghost use Rattle.csdl_schema.specs.SchemaModel.{SchemaModel};
-ghost use Rattle.odata_signatures.specs.OperatorTyped.{ArithmeticTyped, ClassTyped, NegationTyped, NotTyped};
-ghost use Rattle.odata_signatures.specs.OperatorClass.{class_of};
+ghost use Rattle.odata_signatures.specs.OperatorTyped.{ArithmeticTyped, NegationTyped, NotTyped, OperatorByTypes};
 ghost use Rattle.odata_signatures.specs.TypeView.{expr_type};
 ghost use Rattle.odata_signatures.specs.TypeThere.{IsTypeThere};
 
 use super::comparison::are_compared;
 use super::edm_type::{BOOLEAN, EdmType};
-use super::operator_class::{OperatorClass, class_of};
 use csdl_schema::Schema;
 use odata_functions::{negation_type, promotion};
 use odata_syntax::BinaryOperator;
@@ -24,26 +22,26 @@ pub fn made_type(
 ) -> Option<EdmType>
     requires left { IsTypeThere schema.now left.now }
     requires right { IsTypeThere schema.now right.now }
-    ensures typed { IfSome result (λ t. ClassTyped (class_of operator)
+    ensures typed { IfSome result (λ t. OperatorByTypes operator
         (expr_type schema.now left.now) (expr_type schema.now right.now) (expr_type schema.now t)) }
     ensures there { IfSome result (IsTypeThere schema.now) }
-    ensures none { IfNone result ((type : ExprType) → ¬ ClassTyped (class_of operator)
+    ensures none { IfNone result ((type : ExprType) → ¬ OperatorByTypes operator
         (expr_type schema.now left.now) (expr_type schema.now right.now) type) }
 {
-    match class_of(operator) {
-        OperatorClass::Connective(_) => if left.is_truth() && right.is_truth() {
+    match operator {
+        BinaryOperator::Logical(_) => if left.is_truth() && right.is_truth() {
             Some(BOOLEAN)
         } else {
             None
         },
-        OperatorClass::Comparison(comparison) => {
+        BinaryOperator::Comparison(comparison) => {
             if are_compared(schema, comparison, left, right) {
                 Some(BOOLEAN)
             } else {
                 None
             }
         }
-        OperatorClass::Arithmetic(_) => promoted_type(left, right),
+        BinaryOperator::Arithmetic(_) => promoted_type(left, right),
     }
 }
 

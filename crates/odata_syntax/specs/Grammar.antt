@@ -1,7 +1,10 @@
 -- Which tree the grammar derives from which tokens (OData URL Conventions 4.01, 5.1.1; OData ABNF 4.01, section 4).
 use Rattle.std.specs.Prelude.{ℕ, suc, List, [], ◌∷◌, ◌++◌, codes}
 use Rattle.std.specs.Str.{str_to_ascii_lowercase}
-use Rattle.odata_syntax.specs.declared.node.BinaryOperator.{BinaryOperator}
+use Rattle.odata_syntax.specs.declared.binary_operator.BinaryOperator.{BinaryOperator}
+use Rattle.odata_syntax.specs.declared.binary_operator.LogicalOperator.{LogicalOperator}
+use Rattle.odata_syntax.specs.declared.binary_operator.ComparisonOperator.{ComparisonOperator}
+use Rattle.odata_syntax.specs.declared.binary_operator.ArithmeticOperator.{ArithmeticOperator}
 use Rattle.odata_syntax.specs.declared.node.LiteralKind.{LiteralKind}
 use Rattle.odata_syntax.specs.declared.node.Quantifier.{Quantifier}
 use Rattle.odata_text.specs.declared.token.TokenKind.{TokenKind}
@@ -58,19 +61,19 @@ open_path_level = 11
 
 -- the level of an operator's form
 abbrev pub operator_level : BinaryOperator → Level
-operator_level BinaryOperator.Or = or_level
-operator_level BinaryOperator.And = and_level
-operator_level BinaryOperator.Eq = eq_level
-operator_level BinaryOperator.Ne = eq_level
-operator_level BinaryOperator.Gt = relational_level
-operator_level BinaryOperator.Ge = relational_level
-operator_level BinaryOperator.Lt = relational_level
-operator_level BinaryOperator.Le = relational_level
-operator_level BinaryOperator.Add = additive_level
-operator_level BinaryOperator.Sub = additive_level
-operator_level BinaryOperator.Mul = multiplicative_level
-operator_level BinaryOperator.Div = multiplicative_level
-operator_level BinaryOperator.Mod = multiplicative_level
+operator_level (BinaryOperator.Logical LogicalOperator.Or) = or_level
+operator_level (BinaryOperator.Logical LogicalOperator.And) = and_level
+operator_level (BinaryOperator.Comparison ComparisonOperator.Eq) = eq_level
+operator_level (BinaryOperator.Comparison ComparisonOperator.Ne) = eq_level
+operator_level (BinaryOperator.Comparison ComparisonOperator.Gt) = relational_level
+operator_level (BinaryOperator.Comparison ComparisonOperator.Ge) = relational_level
+operator_level (BinaryOperator.Comparison ComparisonOperator.Lt) = relational_level
+operator_level (BinaryOperator.Comparison ComparisonOperator.Le) = relational_level
+operator_level (BinaryOperator.Arithmetic ArithmeticOperator.Add) = additive_level
+operator_level (BinaryOperator.Arithmetic ArithmeticOperator.Sub) = additive_level
+operator_level (BinaryOperator.Arithmetic ArithmeticOperator.Mul) = multiplicative_level
+operator_level (BinaryOperator.Arithmetic ArithmeticOperator.Div) = multiplicative_level
+operator_level (BinaryOperator.Arithmetic ArithmeticOperator.Mod) = multiplicative_level
 
 -- a tree of one token
 abbrev pub token_tree : TokenModel → Shape → Tree

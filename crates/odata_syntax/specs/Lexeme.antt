@@ -2,7 +2,10 @@
 use Rattle.std.specs.Prelude.{◌≡◌, ◌⊎◌, ℕ, List, [], ◌∷◌, ◌==◌, Bool, false, IsTrue, codes}
 use Rattle.std.specs.List.{list_any}
 use Rattle.std.specs.Str.{str_eq_ignore_ascii_case}
-use Rattle.odata_syntax.specs.declared.node.BinaryOperator.{BinaryOperator}
+use Rattle.odata_syntax.specs.declared.binary_operator.BinaryOperator.{BinaryOperator}
+use Rattle.odata_syntax.specs.declared.binary_operator.LogicalOperator.{LogicalOperator}
+use Rattle.odata_syntax.specs.declared.binary_operator.ComparisonOperator.{ComparisonOperator}
+use Rattle.odata_syntax.specs.declared.binary_operator.ArithmeticOperator.{ArithmeticOperator}
 use Rattle.odata_syntax.specs.declared.node.LiteralKind.{LiteralKind}
 use Rattle.odata_syntax.specs.declared.node.Quantifier.{Quantifier}
 use Rattle.odata_text.specs.declared.token.TokenKind.{TokenKind}
@@ -28,19 +31,19 @@ pub record SpellsDollar (word : List ℕ) (p : TokenModel) : Type 0 where
 
 -- the word of an operator (URL Conventions 4.01, 5.1.1.1 and 5.1.1.2)
 abbrev pub operator_word : BinaryOperator → List ℕ
-operator_word BinaryOperator.Or = codes "or"
-operator_word BinaryOperator.And = codes "and"
-operator_word BinaryOperator.Eq = codes "eq"
-operator_word BinaryOperator.Ne = codes "ne"
-operator_word BinaryOperator.Gt = codes "gt"
-operator_word BinaryOperator.Ge = codes "ge"
-operator_word BinaryOperator.Lt = codes "lt"
-operator_word BinaryOperator.Le = codes "le"
-operator_word BinaryOperator.Add = codes "add"
-operator_word BinaryOperator.Sub = codes "sub"
-operator_word BinaryOperator.Mul = codes "mul"
-operator_word BinaryOperator.Div = codes "div"
-operator_word BinaryOperator.Mod = codes "mod"
+operator_word (BinaryOperator.Logical LogicalOperator.Or) = codes "or"
+operator_word (BinaryOperator.Logical LogicalOperator.And) = codes "and"
+operator_word (BinaryOperator.Comparison ComparisonOperator.Eq) = codes "eq"
+operator_word (BinaryOperator.Comparison ComparisonOperator.Ne) = codes "ne"
+operator_word (BinaryOperator.Comparison ComparisonOperator.Gt) = codes "gt"
+operator_word (BinaryOperator.Comparison ComparisonOperator.Ge) = codes "ge"
+operator_word (BinaryOperator.Comparison ComparisonOperator.Lt) = codes "lt"
+operator_word (BinaryOperator.Comparison ComparisonOperator.Le) = codes "le"
+operator_word (BinaryOperator.Arithmetic ArithmeticOperator.Add) = codes "add"
+operator_word (BinaryOperator.Arithmetic ArithmeticOperator.Sub) = codes "sub"
+operator_word (BinaryOperator.Arithmetic ArithmeticOperator.Mul) = codes "mul"
+operator_word (BinaryOperator.Arithmetic ArithmeticOperator.Div) = codes "div"
+operator_word (BinaryOperator.Arithmetic ArithmeticOperator.Mod) = codes "mod"
 
 pub record IsOperator (operator : BinaryOperator) (p : TokenModel) : Type 0 where
   pub word : SpellsWord (operator_word operator) p

@@ -1,6 +1,6 @@
 -- The tree of an expression (OData URL Conventions 4.01, section 5.1.1).
 use Rattle.std.specs.Prelude.{ℕ, List, [], ◌∷◌}
-use Rattle.odata_syntax.specs.declared.node.BinaryOperator.{BinaryOperator}
+use Rattle.odata_syntax.specs.declared.binary_operator.BinaryOperator.{BinaryOperator}
 use Rattle.odata_syntax.specs.declared.node.LiteralKind.{LiteralKind}
 use Rattle.odata_syntax.specs.declared.node.Quantifier.{Quantifier}
 

@@ -2,7 +2,7 @@
 ghost use Rattle.std.specs.Prelude.{◌≡◌};
 ghost use Rattle.odata_syntax.specs.Grammar.{operator_level};
 
-use crate::BinaryOperator;
+use crate::{ArithmeticOperator, BinaryOperator, ComparisonOperator, LogicalOperator};
 
 /// A whole expression.
 pub const OR: u8 = 1;
@@ -42,12 +42,21 @@ pub fn operator_level(operator: BinaryOperator) -> u8
     ensures { result ≡ operator_level operator }
 {
     match operator {
-        BinaryOperator::Or => OR,
-        BinaryOperator::And => AND,
-        BinaryOperator::Eq | BinaryOperator::Ne => EQ,
-        BinaryOperator::Gt | BinaryOperator::Ge | BinaryOperator::Lt | BinaryOperator::Le =>
-            RELATIONAL,
-        BinaryOperator::Add | BinaryOperator::Sub => ADDITIVE,
-        BinaryOperator::Mul | BinaryOperator::Div | BinaryOperator::Mod => MULTIPLICATIVE,
+        BinaryOperator::Logical(logical) => match logical {
+            LogicalOperator::Or => OR,
+            LogicalOperator::And => AND,
+        },
+        BinaryOperator::Comparison(comparison) => match comparison {
+            ComparisonOperator::Eq | ComparisonOperator::Ne => EQ,
+            ComparisonOperator::Gt
+            | ComparisonOperator::Ge
+            | ComparisonOperator::Lt
+            | ComparisonOperator::Le => RELATIONAL,
+        },
+        BinaryOperator::Arithmetic(arithmetic) => match arithmetic {
+            ArithmeticOperator::Add | ArithmeticOperator::Sub => ADDITIVE,
+            ArithmeticOperator::Mul | ArithmeticOperator::Div | ArithmeticOperator::Mod =>
+                MULTIPLICATIVE,
+        },
     }
 }

@@ -1,6 +1,7 @@
 //! From the text of a `$filter` to its tree (OData URL Conventions 4.01, section 5.1.1).
 #![tactic(auto)]
 
+mod binary_operator;
 mod canonical_laws;
 mod expr;
 pub mod level;
@@ -13,10 +14,13 @@ mod syntax_fault;
 mod syntax_laws;
 mod syntax_list;
 
+pub use binary_operator::{
+    ArithmeticOperator, BinaryOperator, ComparisonOperator, LogicalOperator,
+};
 pub use canonical_laws::{canonical_texts_read_back, one_canonical_text, texts_tell_normal_forms};
 pub use expr::Expr;
 pub use level::operator_level;
-pub use node::{BinaryOperator, LiteralKind, Node, Quantifier};
+pub use node::{LiteralKind, Node, Quantifier};
 pub use normal_form::normal;
 pub use parser::{TextOrSyntaxFault, parse, parse_text};
 pub use places::{NO_NODE, Place};

@@ -1,23 +1,5 @@
+use crate::BinaryOperator;
 use odata_text::Span;
-
-/// An operator between two operands, of any level (OData URL Conventions 4.01, sections 5.1.1.1 and 5.1.1.2). `has` and
-/// `in` are none of these: what may stand behind them differs.
-#[derive(Clone, Copy, Debug, PartialEq, Eq)]
-pub enum BinaryOperator {
-    Or,
-    And,
-    Eq,
-    Ne,
-    Gt,
-    Ge,
-    Lt,
-    Le,
-    Add,
-    Sub,
-    Mul,
-    Div,
-    Mod,
-}
 
 /// What kind of literal a spelling is.
 #[derive(Clone, Copy, Debug, PartialEq, Eq)]

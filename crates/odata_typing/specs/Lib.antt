@@ -40,7 +40,6 @@ pub use Rattle.odata_signatures.specs.CollectionTyped
 pub use Rattle.odata_signatures.specs.ComparableTypes
 pub use Rattle.odata_signatures.specs.ExprTypes
 pub use Rattle.odata_signatures.specs.HasTyped
-pub use Rattle.odata_signatures.specs.OperatorClass
 pub use Rattle.odata_signatures.specs.OperatorTyped
 pub use Rattle.odata_signatures.specs.Side
 pub use Rattle.odata_signatures.specs.TypeView

@@ -21,15 +21,7 @@ use edm_values::Value;
 use odata_checked_filter::NodeKind;
 use odata_expression_types::TypeFaultCode;
 use odata_signatures::{BOOLEAN, EdmType, ValueType, has_type, in_path_type, made_type};
-use odata_syntax::BinaryOperator;
-
-/// What stands between the two operands.
-#[derive(Clone, Copy)]
-pub(crate) enum Infix {
-    Operator(BinaryOperator),
-    Has,
-    InPath,
-}
+use odata_syntax::{BinaryOperator, ComparisonOperator};
 
 /// The types of the two operands, and what they quote.
 #[derive(Clone, Copy)]
@@ -40,7 +32,7 @@ pub(crate) struct OperandTypes<'n> {
     pub(crate) right_quoted: Option<&'n str>,
 }
 
-ghost use Rattle.odata_typing.specs.private.Forms.{InfixByTypes, InfixReason, infix_kind, infix_shape};
+ghost use Rattle.odata_typing.specs.private.Forms.{InfixByTypes, InfixReason, IsInfix, infix_shape};
 ghost use Rattle.odata_typing.specs.private.Pairing.{OneIsRead, paired_kind};
 
 /// An operator between its operands.
@@ -61,7 +53,7 @@ pub(crate) fn checked_operator(
     let left_type = walk.type_at(left);
     let right_type = walk.type_at(walk.stop_at(left));
     if may_be_read(operator, left_type, right_type) {
-        return checked_infix(setting, judged, Infix::Operator(operator), walk);
+        return checked_infix(setting, judged, NodeKind::Binary { operator }, walk);
     }
     let edm_type = made_type(setting.schema, operator, left_type, right_type);
     let kind = NodeKind::Binary { operator };
@@ -72,11 +64,16 @@ pub(crate) fn checked_operator(
 #[inline(always)]
 fn may_be_read(operator: BinaryOperator, left: &EdmType, right: &EdmType) -> bool
     ensures { (schema : SchemaModel) (l r : Option (List ℕ)) → ¬ IsTrue result
-        → ¬ OneIsRead IsReadBeside (Infix.Operator operator) (quoting l (expr_type schema left.now))
+        → ¬ OneIsRead IsReadBeside (NodeKind.Binary operator) (quoting l (expr_type schema left.now))
         (quoting r (expr_type schema right.now)) }
 {
     match operator {
-        BinaryOperator::Eq | BinaryOperator::Ne => is_enumeration(left) || is_enumeration(right),
+        BinaryOperator::Comparison(comparison) => match comparison {
+            ComparisonOperator::Eq | ComparisonOperator::Ne => {
+                is_enumeration(left) || is_enumeration(right)
+            }
+            _ => false,
+        },
         _ => false,
     }
 }
@@ -101,13 +98,14 @@ pub(crate) fn is_enumeration(edm_type: &EdmType) -> bool
 pub(crate) fn checked_infix(
     setting: &Setting<'_>,
     judged: &Judged<'_>,
-    form: Infix,
+    kind: NodeKind,
     walk: &mut Walk,
 ) -> bool
+    requires kind { IsInfix kind }
     requires ready { IsNodeReady setting.now walk.old judged.now }
     requires operands { (l : Tree) × (r : Tree) × AreChildren setting.now walk.old judged.now (l ∷ r ∷ []) }
     ensures { (l r : Tree) → AreChildren setting.now walk.old judged.now (l ∷ r ∷ [])
-        → IsNodeJudged setting.now judged.now (infix_shape form l r) walk.old walk.new result }
+        → IsNodeJudged setting.now judged.now (infix_shape kind l r) walk.old walk.new result }
 {
     laws_below();
     let left = judged.number + 1;
@@ -118,11 +116,11 @@ pub(crate) fn checked_infix(
         left_quoted: walk.quoted_at(left),
         right_quoted: walk.quoted_at(right),
     };
-    let pairing = pairing_of(setting.schema, form, &types);
-    let edm_type = infix_type(setting.schema, form, &types);
-    let code = reason_of(form, &types.right);
+    let pairing = pairing_of(setting.schema, kind, &types);
+    let edm_type = infix_type(setting.schema, kind, &types);
+    let code = reason_of(kind, &types.right);
     match pairing {
-        Pairing::Unread => walk.put_typed(judged, kind_of(form), edm_type, code),
+        Pairing::Unread => walk.put_typed(judged, kind, edm_type, code),
         Pairing::Number(paired, number) => {
             let value = walk.list.values().len();
             walk.push_value(Value::Enum(number))
@@ -143,42 +141,34 @@ fn paired_kind(paired: Paired, number: usize) -> NodeKind
 }
 
 /// The type between operands of these types, by the types alone. `None` where they may not stand there.
-fn infix_type(schema: &Schema, form: Infix, types: &OperandTypes<'_>) -> Option<EdmType>
+fn infix_type(schema: &Schema, kind: NodeKind, types: &OperandTypes<'_>) -> Option<EdmType>
     requires left { IsTypeThere schema.now types.now.left }
     requires right { IsTypeThere schema.now types.now.right }
-    ensures typed { IfSome result (λ t. InfixByTypes form
+    ensures typed { IfSome result (λ t. InfixByTypes kind
         (expr_type schema.now types.now.left) (expr_type schema.now types.now.right) (expr_type schema.now t)) }
     ensures there { IfSome result (IsTypeThere schema.now) }
-    ensures none { IfNone result ((type : ExprType) → ¬ InfixByTypes form
+    ensures none { IfNone result ((type : ExprType) → ¬ InfixByTypes kind
         (expr_type schema.now types.now.left) (expr_type schema.now types.now.right) type) }
 {
-    match form {
-        Infix::Operator(operator) => made_type(schema, operator, &types.left, &types.right),
-        Infix::Has => has_type(schema, &types.left, &types.right),
-        Infix::InPath => in_path_type(schema, &types.left, &types.right),
-    }
-}
-
-fn kind_of(form: Infix) -> NodeKind
-    ensures { result ≡ infix_kind form }
-{
-    match form {
-        Infix::Operator(operator) => NodeKind::Binary { operator },
-        Infix::Has => NodeKind::Has,
-        Infix::InPath => NodeKind::InPath,
+    match kind {
+        NodeKind::Binary { operator } => made_type(schema, operator, &types.left, &types.right),
+        NodeKind::Has => has_type(schema, &types.left, &types.right),
+        NodeKind::InPath => in_path_type(schema, &types.left, &types.right),
+        _ => None,
     }
 }
 
 /// Why operands may not stand there, of which the right one has this type: a path after `in` has to lead to a
 /// collection.
-fn reason_of(form: Infix, right: &EdmType) -> TypeFaultCode
-    ensures { (schema : SchemaModel) → InfixReason form (expr_type schema right.now) result }
+fn reason_of(kind: NodeKind, right: &EdmType) -> TypeFaultCode
+    requires { IsInfix kind }
+    ensures { (schema : SchemaModel) → InfixReason kind (expr_type schema right.now) result }
 {
-    match form {
-        Infix::Operator(_) | Infix::Has => TypeFaultCode::OperandTypes,
-        Infix::InPath => match right {
+    match kind {
+        NodeKind::InPath => match right {
             EdmType::Collection(_) => TypeFaultCode::OperandTypes,
             EdmType::Null | EdmType::Single(_) => TypeFaultCode::NotCollection,
         },
+        _ => TypeFaultCode::OperandTypes,
     }
 }

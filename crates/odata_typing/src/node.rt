@@ -7,7 +7,7 @@ ghost use Rattle.odata_syntax.specs.Tree.{Tree, it};
 ghost use Rattle.odata_typing.specs.private.Judging.{AreLastTrees, IsNodeJudged, IsTreeJudged};
 ghost use Rattle.odata_typing.specs.private.Settings.{IsNodeReady, IsReady, IsRun, IsSetting, name_of, run_tree};
 
-use super::binary_node::{Infix, checked_infix, checked_operator};
+use super::binary_node::{checked_infix, checked_operator};
 use super::call_node::checked_call;
 use super::in_list::checked_in_list;
 use super::lambda::checked_lambda;
@@ -76,8 +76,8 @@ fn checked_node(setting: &Setting<'_>, judged: &Judged<'_>, walk: &mut Walk) -> 
         SyntaxKind::Not => checked_unary(setting, judged, Unary::Not, walk),
         SyntaxKind::Count => checked_unary(setting, judged, Unary::Count, walk),
         SyntaxKind::AnyItem => checked_unary(setting, judged, Unary::AnyItem, walk),
-        SyntaxKind::Has => checked_infix(setting, judged, Infix::Has, walk),
-        SyntaxKind::InPath => checked_infix(setting, judged, Infix::InPath, walk),
+        SyntaxKind::Has => checked_infix(setting, judged, NodeKind::Has, walk),
+        SyntaxKind::InPath => checked_infix(setting, judged, NodeKind::InPath, walk),
         SyntaxKind::InList => checked_in_list(setting, judged, walk),
         SyntaxKind::Call => checked_call(setting, judged, walk),
         SyntaxKind::Lambda(_) => unreachable!(),

@@ -3,10 +3,11 @@ ghost use Rattle.csdl_schema.specs.SchemaModel.{slots_of};
 ghost use Rattle.odata_signatures.specs.OperatorTyped.{IsEquality};
 ghost use Rattle.odata_typing.specs.private.Pairing.{IsPairing, left_side, right_side};
 
-use super::binary_node::{Infix, OperandTypes};
+use super::binary_node::OperandTypes;
 use csdl_schema::Schema;
+use odata_checked_filter::NodeKind;
 use odata_signatures::{Beside, number_beside};
-use odata_syntax::BinaryOperator;
+use odata_syntax::{BinaryOperator, ComparisonOperator};
 
 /// A node by the operand that is read: the right one or the left one of an operator, or the right one of `has`.
 #[derive(Clone, Copy)]
@@ -28,27 +29,26 @@ pub(crate) enum Pairing {
 }
 
 /// What is read of the operands.
-pub(crate) fn pairing_of(schema: &Schema, form: Infix, operands: &OperandTypes<'_>) -> Pairing
-    ensures { IsPairing (slots_of schema.now) form (left_side schema.now operands.now)
+pub(crate) fn pairing_of(schema: &Schema, kind: NodeKind, operands: &OperandTypes<'_>) -> Pairing
+    ensures { IsPairing (slots_of schema.now) kind (left_side schema.now operands.now)
         (right_side schema.now operands.now) result }
 {
-    match form {
-        Infix::Operator(operator) => match operator {
-            BinaryOperator::Eq => operator_pairing(schema, operator, operands),
-            BinaryOperator::Ne => operator_pairing(schema, operator, operands),
-            BinaryOperator::Or | BinaryOperator::And => Pairing::Unread,
-            BinaryOperator::Gt | BinaryOperator::Ge => Pairing::Unread,
-            BinaryOperator::Lt | BinaryOperator::Le => Pairing::Unread,
-            BinaryOperator::Add | BinaryOperator::Sub => Pairing::Unread,
-            BinaryOperator::Mul | BinaryOperator::Div => Pairing::Unread,
-            BinaryOperator::Mod => Pairing::Unread,
+    match kind {
+        NodeKind::Binary { operator } => match operator {
+            BinaryOperator::Comparison(comparison) => match comparison {
+                ComparisonOperator::Eq => operator_pairing(schema, operator, operands),
+                ComparisonOperator::Ne => operator_pairing(schema, operator, operands),
+                ComparisonOperator::Gt | ComparisonOperator::Ge => Pairing::Unread,
+                ComparisonOperator::Lt | ComparisonOperator::Le => Pairing::Unread,
+            },
+            BinaryOperator::Logical(_) | BinaryOperator::Arithmetic(_) => Pairing::Unread,
         },
-        Infix::Has => match number_beside(schema, &operands.left, operands.right_quoted) {
+        NodeKind::Has => match number_beside(schema, &operands.left, operands.right_quoted) {
             Beside::Unread => Pairing::Unread,
             Beside::Number(number) => Pairing::Number(Paired::Has, number),
             Beside::Unknown => Pairing::Unknown,
         },
-        Infix::InPath => Pairing::Unread,
+        _ => Pairing::Unread,
     }
 }
 
@@ -59,7 +59,7 @@ fn operator_pairing(
     operands: &OperandTypes<'_>,
 ) -> Pairing
     requires { IsEquality operator }
-    ensures { IsPairing (slots_of schema.now) (Infix.Operator operator) (left_side schema.now operands.now)
+    ensures { IsPairing (slots_of schema.now) (NodeKind.Binary operator) (left_side schema.now operands.now)
         (right_side schema.now operands.now) result }
 {
     match number_beside(schema, &operands.left, operands.right_quoted) {

@@ -1,6 +1,6 @@
 //! The nodes of a tree, in one line.
 use crate::trouble::Trouble;
-use odata_syntax::Node;
+use odata_syntax::{BinaryOperator, Node};
 use std::alloc::{AllocError, Global};
 
 /// What a node is, with its name or its variable.
@@ -13,7 +13,7 @@ fn label(alloc: Global, node: &Node) -> Result<String, AllocError> {
         Node::Count { .. } => String::from_str(alloc, "/$count"),
         Node::Neg { .. } => String::from_str(alloc, "-"),
         Node::Not { .. } => String::from_str(alloc, "not"),
-        Node::Binary { operator, .. } => format!(in alloc; "{operator:?}"),
+        Node::Binary { operator, .. } => operator_label(alloc, *operator),
         Node::Has { .. } => String::from_str(alloc, "has"),
         Node::InList { .. } => String::from_str(alloc, "in ()"),
         Node::InPath { .. } => String::from_str(alloc, "in"),
@@ -23,6 +23,15 @@ fn label(alloc: Global, node: &Node) -> Result<String, AllocError> {
             Some((variable, _)) => format!(in alloc; "/any({variable}:)"),
         },
         Node::All { variable, .. } => format!(in alloc; "/all({variable}:)"),
+    }
+}
+
+/// The name of an operator, without that of its group.
+fn operator_label(alloc: Global, operator: BinaryOperator) -> Result<String, AllocError> {
+    match operator {
+        BinaryOperator::Logical(logical) => format!(in alloc; "{logical:?}"),
+        BinaryOperator::Comparison(comparison) => format!(in alloc; "{comparison:?}"),
+        BinaryOperator::Arithmetic(arithmetic) => format!(in alloc; "{arithmetic:?}"),
     }
 }
 

@@ -5,8 +5,8 @@ ghost use Rattle.odata_functions.specs.Promotion.{IsPromoted};
 
 use edm_values::Prim::{self, Int16, Int32, Int64};
 use odata_functions::ArithFault::{self, DivideByZero, Overflow};
-use odata_functions::ArithmeticOperator::{self, Add, Div, Mod, Mul, Sub};
 use odata_functions::{and3, arith, negate, not3, or3};
+use odata_syntax::ArithmeticOperator::{self, Add, Div, Mod, Mul, Sub};
 use std::test::Fail;
 
 type Answer = Result<Option<i64>, ArithFault>;

@@ -8,7 +8,7 @@ use Rattle.odata_syntax.specs.declared.node.Quantifier.{Quantifier}
 use Rattle.csdl_schema.specs.ExprType.{single}
 use Rattle.odata_syntax.specs.NormalForm.{IsNormalForm, IsNormalShape}
 use Rattle.odata_syntax.specs.Tree.{Shape, Tree, Trees, any_item, binary, count, has, in_list, in_path, lambda, member, node}
-use Rattle.odata_syntax.specs.declared.node.BinaryOperator.{BinaryOperator}
+use Rattle.odata_syntax.specs.declared.binary_operator.BinaryOperator.{BinaryOperator}
 use Rattle.odata_syntax.specs.declared.node.LiteralKind.{LiteralKind}
 use Rattle.odata_signatures.specs.declared.function.Function.{Function}
 use Rattle.csdl_schema.specs.SchemaModel.{SchemaModel}

@@ -2,7 +2,7 @@
 use Rattle.std.proofs.Common.{◌≡◌, ◌⊎◌, ℕ, ℤ, ◌+◌, ◌<◌, List, [], ◌∷◌, Some, slice_get, refl, sym, ap, subst, inl, inr, arith}
 use Rattle.edm_values.specs.declared.value.Value.{Value}
 use Rattle.odata_syntax.specs.Tree.{Shape, Tree, Trees, any_item, binary, call, count, has, in_list, in_path, it, lambda, literal, logical_not, member, name, negation, node}
-use Rattle.odata_syntax.specs.declared.node.BinaryOperator.{BinaryOperator}
+use Rattle.odata_syntax.specs.declared.binary_operator.BinaryOperator.{BinaryOperator}
 use Rattle.odata_syntax.specs.declared.node.LiteralKind.{LiteralKind}
 use Rattle.odata_syntax.specs.declared.node.Quantifier.{Quantifier}
 use Rattle.csdl_schema.specs.ExprType.{ExprType}

@@ -1,4 +1,4 @@
-use Rattle.std.proofs.Common.{Err, None, ◌≡◌, ◌<◌, ◌≤◌, ◌+◌, ◌-◌, ◌*◌, ℕ, ℤ, [], ◌∷◌, refl, Bool, Option, Some, Result, Ok, SFits, w64, ap, sym, subst, slice_get, length, rules, arith}
+use Rattle.std.proofs.Common.{Err, None, ◌≡◌, ◌<◌, ◌≤◌, ◌+◌, ◌-◌, ◌*◌, ◌∙◌, ℕ, ℤ, [], ◌∷◌, refl, Bool, Option, Some, Result, Ok, SFits, w64, ap, sym, subst, slice_get, length, rules, arith}
 use Rattle.edm_values.specs.declared.datum.Datum.{Datum}
 use Rattle.edm_values.specs.declared.datum.Datum.TheVariants as datum
 use Rattle.std.specs.Prelude.{◌↔◌, IsTrue}
@@ -11,9 +11,8 @@ use Rattle.odata_functions.specs.DatumVal.{datum_val}
 use Rattle.odata_checked_filter.specs.declared.checked_node.CheckedNode.{CheckedNode}
 use Rattle.odata_checked_filter.specs.declared.checked_node.NodeKind.{NodeKind}
 use Rattle.odata_signatures.specs.ExprTypes.{IsBooleanOrNull}
-use Rattle.odata_signatures.specs.OperatorClass.{class_of}
 use Rattle.odata_signatures.specs.declared.function.Function.{Function}
-use Rattle.odata_signatures.specs.declared.operator_class.OperatorClass.{OperatorClass}
+use Rattle.odata_syntax.specs.declared.binary_operator.BinaryOperator.{BinaryOperator}
 use Rattle.odata_filter_operations.specs.declared.fault.EvalFault.{EvalFault}
 use Rattle.odata_eval.specs.declared.part.WalkClass.{WalkClass}
 use Rattle.odata_signatures.specs.CollectionTyped.{IsComparableWithMembers}
@@ -42,7 +41,7 @@ use Rattle.odata_eval.proofs.spending.Splits.{first_stops}
 use Rattle.odata_eval.proofs.spending.Stops.{after_stop, after_value, as_counted, as_spent, by_stop, datum_faults, fault_nothing, next_spent, truth_faults}
 use Rattle.odata_eval.proofs.spending.Wholes.{both_free, left_free, right_free}
 use Rattle.odata_eval.proofs.spending.Members.{all_paid, body_decides, body_passes, body_stops, none_left, none_paid}
-use Rattle.odata_eval.specs.private.Place.{HasCall, HasKind, IsClassAt, IsStopOf, NumberStands, PartStands, TruthStands}
+use Rattle.odata_eval.specs.private.Place.{HasCall, HasKind, HasOperator, IsClassAt, IsStopOf, NumberStands, PartStands, TruthStands}
 use Rattle.odata_eval.specs.private.WalkClass.{walk_of_kind}
 use Rattle.odata_eval.specs.private.WalkAnswer.{AllAnswered, AnswersDatum, AnswersNumber, AnswersTruth}
 use Rattle.odata_eval.specs.private.Frames.{frame_of}
@@ -60,10 +59,10 @@ use Rattle.odata_eval.proofs.walking.Sides.{flags_sides, next_faults, next_furth
 use Rattle.odata_eval.proofs.walking.MemberSteps.{step_answers, step_slot}
 use Rattle.odata_eval.proofs.walking.Compared.{kept_compared, may_compare, may_compare_kept, numbers_compared, truth_compared}
 use Rattle.odata_eval.proofs.walking.KeptValues.{kept_value, value_kept}
-use Rattle.odata_eval.proofs.walking.ReadPairs.{equality_walks, kept_everywhere, left_answers, left_faults, left_further, left_next, left_part, left_within, may_compare_left}
+use Rattle.odata_eval.proofs.walking.ReadPairs.{kept_everywhere, left_answers, left_faults, left_further, left_next, left_part, left_within, may_compare_left}
 use Rattle.odata_eval.proofs.walking.Readings.{number_values, truth_values}
-use Rattle.odata_eval.proofs.walking.Spines.{StepUp, at_top, below_bottom, bottom_down, class_of_operator, first_faults, logical_stands, first_part, first_step, kind_walks, only_neg, only_not, operator_of_class, part_down, right_further, right_part, right_there, right_typed, step_up, typed_down, typed_part, walks_by}
-use Rattle.odata_eval.proofs.walking.WalkSteps.{TakesBoth, both_faults, calculation_answers, decided_answers, joined_answers, joined_faults, negated_operand, negation_answers, not_answers, numbers_taken, numbers_there, values_taken}
+use Rattle.odata_eval.proofs.walking.Spines.{StepUp, at_top, below_bottom, bottom_down, first_faults, logical_stands, first_part, first_step, kind_walks, only_neg, only_not, part_down, right_further, right_part, right_there, right_typed, step_up, typed_down, typed_part, walks_by}
+use Rattle.odata_eval.proofs.walking.WalkSteps.{both_faults, calculation_answers, decided_answers, joined_answers, joined_faults, negated_operand, negation_answers, not_answers, numbers_there}
 use Rattle.odata_eval.proofs.walking.WalkValues.{kept_datum, made_value, read_value, value_there}
 use Rattle.odata_eval.proofs.+evaluate.Goals as goal
 
@@ -131,28 +130,28 @@ pub walk::logical_at-node-requires : goal.walk::logical_at-node-requires
 walk::logical_at-node-requires t c = part_inside c.args.scene.now c.args.place c.requires.stands
 
 pub walk::connected_at-returns-then-decides-clause-answers : goal.walk::connected_at-returns-then-decides-clause-answers
-walk::connected_at-returns-then-decides-clause-answers t c = decided_answers c.args.scene.now c.args.place c.args.operator c.requires.here c.connective_of-connective.result c.args.left c.connective_of-connective.ensures (c.decides.ensures.0 c.if-decides.true) c.requires.left
+walk::connected_at-returns-then-decides-clause-answers t c = decided_answers c.args.scene.now c.args.place c.args.operator c.requires.here c.args.left (c.decides.ensures.0 c.if-decides.true) c.requires.left
 
 pub walk::connected_at-right_of-requires : goal.walk::connected_at-right_of-requires
-walk::connected_at-right_of-requires t c = right_there c.args.scene.now c.args.place c.args.operator c.requires.here c.requires.stands
+walk::connected_at-right_of-requires t c = right_there c.args.scene.now c.args.place (BinaryOperator.Logical c.args.operator) c.requires.here c.requires.stands
 
 pub walk::connected_at-side_at-requires : goal.walk::connected_at-side_at-requires
 walk::connected_at-side_at-requires t c =
     let inside : c.args.place < length c.args.scene.now.list.nodes = part_inside c.args.scene.now c.args.place c.requires.stands in
-    let behind : c.args.place < c.right_of.result = right_further c.args.scene.now c.args.place c.args.operator c.requires.here c.requires.stands c.right_of.result c.right_of.ensures in
+    let behind : c.args.place < c.right_of.result = right_further c.args.scene.now c.args.place (BinaryOperator.Logical c.args.operator) c.requires.here c.requires.stands c.right_of.result c.right_of.ensures in
     let smaller : 16 * (length c.args.scene.now.list.nodes - c.right_of.result) + 12 < 16 * (length c.args.scene.now.list.nodes - c.args.place) + 3 = omega arith in
-    let stands : TruthStands c.args.scene.now c.right_of.result = right_typed c.args.scene.now c.args.place c.args.operator c.requires.here c.requires.stands c.right_of.result c.right_of.ensures WalkClass.Logical c.requires.connective in
+    let stands : TruthStands c.args.scene.now c.right_of.result = right_typed c.args.scene.now c.args.place (BinaryOperator.Logical c.args.operator) c.requires.here c.requires.stands c.right_of.result c.right_of.ensures WalkClass.Logical refl in
     search rules
 
 pub walk::connected_at-returns-in-Ok-clause-answers : goal.walk::connected_at-returns-in-Ok-clause-answers
 walk::connected_at-returns-in-Ok-clause-answers t c =
-    subst (λ (r : Option Bool). AnswersTruth c.args.scene.now c.args.place (Ok r)) (sym c.join.ensures) (joined_answers c.args.scene.now c.args.place c.args.operator c.requires.here c.right_of.result c.right_of.ensures c.connective_of-connective.result c.args.left
-    c.connective_of-connective.ensures (λ decided. let e = c.decides.ensures.1 decided in cc) c.requires.left c.in-Ok.right c.in-Ok.ensures.answers)
+    subst (λ (r : Option Bool). AnswersTruth c.args.scene.now c.args.place (Ok r)) (sym c.join.ensures) (joined_answers c.args.scene.now c.args.place c.args.operator c.requires.here c.args.left c.right_of.result c.right_of.ensures
+    (λ decided. let e = c.decides.ensures.1 decided in cc) c.requires.left c.in-Ok.right c.in-Ok.ensures.answers)
 
 pub walk::connected_at-returns-in-Err-clause-answers : goal.walk::connected_at-returns-in-Err-clause-answers
 walk::connected_at-returns-in-Err-clause-answers t c =
     by_stop (λ s. CountedTruth c.args.scene.now c.right_of.result (Err s)) (λ s. CountedTruth c.args.scene.now c.args.place (Err s))
-    (λ fault. joined_faults c.args.scene.now c.args.place c.args.operator c.requires.here c.right_of.result c.right_of.ensures c.connective_of-connective.result c.args.left c.connective_of-connective.ensures (λ decided. let e = c.decides.ensures.1 decided in cc) c.requires.left fault)
+    (λ fault. joined_faults c.args.scene.now c.args.place c.args.operator c.requires.here c.args.left c.right_of.result c.right_of.ensures (λ decided. let e = c.decides.ensures.1 decided in cc) c.requires.left fault)
     (λ is. tt) c.in-Err.stop c.in-Err.ensures.answers
 
 -- ---- another node with operands
@@ -191,68 +190,65 @@ pub number_walk::numeric_at-node-node-requires : goal.number_walk::numeric_at-no
 number_walk::numeric_at-node-node-requires t c = part_inside c.args.scene.now c.args.place c.requires.stands
 
 pub number_walk::calculated_at-right_of-requires : goal.number_walk::calculated_at-right_of-requires
-number_walk::calculated_at-right_of-requires t c = right_there c.args.scene.now c.args.place c.args.operator c.requires.here c.requires.stands
+number_walk::calculated_at-right_of-requires t c = right_there c.args.scene.now c.args.place (BinaryOperator.Arithmetic c.args.operator) c.requires.here c.requires.stands
 
 pub number_walk::calculated_at-number_operand_at-requires : goal.number_walk::calculated_at-number_operand_at-requires
 number_walk::calculated_at-number_operand_at-requires t c =
     let inside : c.args.place < length c.args.scene.now.list.nodes = part_inside c.args.scene.now c.args.place c.requires.stands in
-    let behind : c.args.place < c.right_of.result = right_further c.args.scene.now c.args.place c.args.operator c.requires.here c.requires.stands c.right_of.result c.right_of.ensures in
+    let behind : c.args.place < c.right_of.result = right_further c.args.scene.now c.args.place (BinaryOperator.Arithmetic c.args.operator) c.requires.here c.requires.stands c.right_of.result c.right_of.ensures in
     let smaller : 16 * (length c.args.scene.now.list.nodes - c.right_of.result) + 15 < 16 * (length c.args.scene.now.list.nodes - c.args.place) + 3 = omega arith in
-    let stands : NumberStands c.args.scene.now c.right_of.result = right_typed c.args.scene.now c.args.place c.args.operator c.requires.here c.requires.stands c.right_of.result c.right_of.ensures WalkClass.Numeric c.requires.arithmetic in
+    let stands : NumberStands c.args.scene.now c.right_of.result = right_typed c.args.scene.now c.args.place (BinaryOperator.Arithmetic c.args.operator) c.requires.here c.requires.stands c.right_of.result c.right_of.ensures WalkClass.Numeric refl in
     search rules
 
 pub number_walk::calculated_at-calculated-requires : goal.number_walk::calculated_at-calculated-requires
 number_walk::calculated_at-calculated-requires t c =
     let promotes : Promotes = record { left = c.operands_lie_within_promotion.ensures.left; right = c.operands_lie_within_promotion.ensures.right; negation = c.operands_lie_within_promotion.ensures.negation; three = c.operands_lie_within_promotion.ensures.three } in
-    numbers_there c.args.scene.now c.args.place c.args.operator c.requires.here c.right_of.result c.right_of.ensures c.args.left c.in-Ok.right c.requires.left c.in-Ok.ensures c.arithmetic_of.result c.arithmetic_of.ensures c.node-node.result.now c.node-node.ensures c.ends_once.ensures promotes c.requires.stands
+    numbers_there c.args.scene.now c.args.place c.args.operator c.requires.here c.right_of.result c.right_of.ensures c.args.left c.in-Ok.right c.requires.left c.in-Ok.ensures c.node-node.result.now c.node-node.ensures c.ends_once.ensures promotes c.requires.stands
 
 pub number_walk::calculated_at-returns-in-Ok : goal.number_walk::calculated_at-returns-in-Ok
-number_walk::calculated_at-returns-in-Ok t c = calculation_answers c.args.scene.now c.args.place c.args.operator c.requires.here c.right_of.result c.right_of.ensures c.args.left c.in-Ok.right c.requires.left c.in-Ok.ensures c.arithmetic_of.result c.arithmetic_of.ensures c.node-node.result.now c.node-node.ensures c.calculated.result c.trees_have_one_type.ensures c.calculated.ensures
+number_walk::calculated_at-returns-in-Ok t c = calculation_answers c.args.scene.now c.args.place c.args.operator c.requires.here c.right_of.result c.right_of.ensures c.args.left c.in-Ok.right c.requires.left c.in-Ok.ensures c.node-node.result.now c.node-node.ensures c.calculated.result c.trees_have_one_type.ensures c.calculated.ensures
 
 pub number_walk::calculated_at-returns-in-Err : goal.number_walk::calculated_at-returns-in-Err
-number_walk::calculated_at-returns-in-Err t c = both_faults c.args.scene.now c.args.place c.args.operator c.requires.here c.right_of.result c.right_of.ensures (λ type. number_val c.args.left) c.in-Err.fault (numbers_taken (class_of c.args.operator) c.requires.arithmetic) c.requires.left c.in-Err.ensures
+number_walk::calculated_at-returns-in-Err t c = both_faults c.args.scene.now c.args.place (BinaryOperator.Arithmetic c.args.operator) c.requires.here c.right_of.result c.right_of.ensures (λ type. number_val c.args.left) c.in-Err.fault tt c.requires.left c.in-Err.ensures
 
 -- ---- a comparison of values that are made
 
 pub walk::compared_at-right_of-right_place-requires : goal.walk::compared_at-right_of-right_place-requires
 walk::compared_at-right_of-right_place-requires t c =
-    let there = operator_of_class c.args.scene.now.list c.args.place (OperatorClass.Comparison c.args.comparison) c.requires.comparison in
-    right_there c.args.scene.now c.args.place there.operator there.here c.requires.stands
+    right_there c.args.scene.now c.args.place (BinaryOperator.Comparison c.args.comparison) c.requires.here c.requires.stands
 
 pub walk::compared_at-compare-requires : goal.walk::compared_at-compare-requires
 walk::compared_at-compare-requires t c =
-    may_compare c.args.scene.now c.args.place c.args.comparison c.requires.comparison c.right_of-right_place.result c.right_of-right_place.ensures c.args.left c.datum_of.result c.requires.left
+    may_compare c.args.scene.now c.args.place c.args.comparison c.requires.here c.right_of-right_place.result c.right_of-right_place.ensures c.args.left c.datum_of.result c.requires.left
     (kept_datum c.args.scene.now c.right_of-right_place.result c.in-Leaf.value.now c.datum_of.result c.in-Leaf.ensures.0 c.datum_of.ensures) c.ends_once.ensures c.comparisons_are_decided.ensures.any_reading c.requires.stands
 
 pub walk::compared_at-returns-in-Leaf-clause-answers : goal.walk::compared_at-returns-in-Leaf-clause-answers
 walk::compared_at-returns-in-Leaf-clause-answers t c =
-    truth_compared c.args.scene.now c.args.place c.args.comparison c.requires.comparison c.right_of-right_place.result c.right_of-right_place.ensures c.args.left c.datum_of.result c.requires.left
+    truth_compared c.args.scene.now c.args.place c.args.comparison c.requires.here c.right_of-right_place.result c.right_of-right_place.ensures c.args.left c.datum_of.result c.requires.left
     (kept_datum c.args.scene.now c.right_of-right_place.result c.in-Leaf.value.now c.datum_of.result c.in-Leaf.ensures.0 c.datum_of.ensures) c.ends_once.ensures c.comparisons_are_decided.ensures.any_reading c.requires.stands c.compare.result c.compare.ensures
 
 pub walk::compared_at-counted_at-requires : goal.walk::compared_at-counted_at-requires
 walk::compared_at-counted_at-requires t c =
-    let there = operator_of_class c.args.scene.now.list c.args.place (OperatorClass.Comparison c.args.comparison) c.requires.comparison in
     let inside : c.args.place < length c.args.scene.now.list.nodes = part_inside c.args.scene.now c.args.place c.requires.stands in
-    let behind : c.args.place < c.right_of-right_place.result = right_further c.args.scene.now c.args.place there.operator there.here c.requires.stands c.right_of-right_place.result c.right_of-right_place.ensures in
+    let behind : c.args.place < c.right_of-right_place.result = right_further c.args.scene.now c.args.place (BinaryOperator.Comparison c.args.comparison) c.requires.here c.requires.stands c.right_of-right_place.result c.right_of-right_place.ensures in
     let smaller : 16 * (length c.args.scene.now.list.nodes - c.right_of-right_place.result) + 12 < 16 * (length c.args.scene.now.list.nodes - c.args.place) + 3 = omega arith in
-    let stands : PartStands c.args.scene.now c.right_of-right_place.result = right_part c.args.scene.now c.args.place there.operator there.here c.requires.stands c.right_of-right_place.result c.right_of-right_place.ensures in
+    let stands : PartStands c.args.scene.now c.right_of-right_place.result = right_part c.args.scene.now c.args.place (BinaryOperator.Comparison c.args.comparison) c.requires.here c.requires.stands c.right_of-right_place.result c.right_of-right_place.ensures in
     search rules
 
 pub walk::compared_at-compare-requires-in-Ok : goal.walk::compared_at-compare-requires-in-Ok
 walk::compared_at-compare-requires-in-Ok t c =
-    may_compare c.args.scene.now c.args.place c.args.comparison c.requires.comparison c.right_of-right_place.result c.right_of-right_place.ensures c.args.left c.in-Ok.right c.requires.left
+    may_compare c.args.scene.now c.args.place c.args.comparison c.requires.here c.right_of-right_place.result c.right_of-right_place.ensures c.args.left c.in-Ok.right c.requires.left
     c.in-Ok.ensures.answers c.ends_once.ensures c.comparisons_are_decided.ensures.any_reading c.requires.stands
 
 pub walk::compared_at-returns-in-Ok-clause-answers : goal.walk::compared_at-returns-in-Ok-clause-answers
 walk::compared_at-returns-in-Ok-clause-answers t c =
-    truth_compared c.args.scene.now c.args.place c.args.comparison c.requires.comparison c.right_of-right_place.result c.right_of-right_place.ensures c.args.left c.in-Ok.right c.requires.left
+    truth_compared c.args.scene.now c.args.place c.args.comparison c.requires.here c.right_of-right_place.result c.right_of-right_place.ensures c.args.left c.in-Ok.right c.requires.left
     c.in-Ok.ensures.answers c.ends_once.ensures c.comparisons_are_decided.ensures.any_reading c.requires.stands c.compare-in-Ok.result c.compare-in-Ok.ensures
 
 pub walk::compared_at-returns-clause-answers : goal.walk::compared_at-returns-clause-answers
 walk::compared_at-returns-clause-answers t c =
-    let there = operator_of_class c.args.scene.now.list c.args.place (OperatorClass.Comparison c.args.comparison) c.requires.comparison in
     by_stop (λ s. CountedDatum c.args.scene.now c.right_of-right_place.result (Err s)) (λ s. CountedDatum c.args.scene.now c.args.place (Err s))
-    (λ fault. both_faults c.args.scene.now c.args.place there.operator there.here c.right_of-right_place.result c.right_of-right_place.ensures (λ type. datum_val (reading_at (slots_of c.args.scene.now.row.schema) type) c.args.left) fault (subst TakesBoth (sym there.class_is) tt) c.requires.left)
+    (λ fault. both_faults c.args.scene.now c.args.place (BinaryOperator.Comparison c.args.comparison) c.requires.here c.right_of-right_place.result c.right_of-right_place.ensures (λ type. datum_val (reading_at (slots_of c.args.scene.now.row.schema) type) c.args.left) fault tt c.requires.left)
     (λ is. tt) c.in-Err.behind c.in-Err.ensures.answers
 
 -- ---- a node that is none of truth values
@@ -272,28 +268,27 @@ walk::numeric_truth_at-returns-in-Ok t c = read_value c.args.scene.now c.args.pl
 -- ---- a comparison in place
 
 pub walk::compared_truth_at-right_of-right_place-requires : goal.walk::compared_truth_at-right_of-right_place-requires
-walk::compared_truth_at-right_of-right_place-requires t c = right_there c.args.scene.now c.args.place c.args.operator c.requires.here (typed_part c.args.scene.now c.args.place IsBooleanOrNull c.requires.stands)
+walk::compared_truth_at-right_of-right_place-requires t c = right_there c.args.scene.now c.args.place (BinaryOperator.Comparison c.args.comparison) c.requires.here (typed_part c.args.scene.now c.args.place IsBooleanOrNull c.requires.stands)
 
 pub walk::compared_truth_at-overflow_add-place : goal.walk::compared_truth_at-overflow_add-place
 walk::compared_truth_at-overflow_add-place t c =
-    let behind = right_further c.args.scene.now c.args.place c.args.operator c.requires.here (typed_part c.args.scene.now c.args.place IsBooleanOrNull c.requires.stands) c.right_of-right_place.result c.right_of-right_place.ensures in
+    let behind = right_further c.args.scene.now c.args.place (BinaryOperator.Comparison c.args.comparison) c.requires.here (typed_part c.args.scene.now c.args.place IsBooleanOrNull c.requires.stands) c.right_of-right_place.result c.right_of-right_place.ensures in
     omega (arith, behind, c.right_of-right_place.type_inv)
 
 pub walk::compared_truth_at-compare_kept-requires : goal.walk::compared_truth_at-compare_kept-requires
 walk::compared_truth_at-compare_kept-requires t c =
-    let here = class_of_operator c.args.scene.now.list c.args.place c.args.operator (OperatorClass.Comparison c.comparison_of.result) c.requires.here c.comparison_of.ensures in
-    may_compare_kept c.args.scene.now c.args.place c.comparison_of.result here c.right_of-right_place.result c.right_of-right_place.ensures c.in-Leaf.left.now c.in-Leaf-part_at.right.now c.in-Leaf.ensures.0 c.in-Leaf-part_at.ensures.0 c.ends_once.ensures c.comparisons_are_decided.ensures.any_contents (typed_part c.args.scene.now c.args.place IsBooleanOrNull c.requires.stands)
+    let here = c.requires.here in
+    may_compare_kept c.args.scene.now c.args.place c.args.comparison here c.right_of-right_place.result c.right_of-right_place.ensures c.in-Leaf.left.now c.in-Leaf-part_at.right.now c.in-Leaf.ensures.0 c.in-Leaf-part_at.ensures.0 c.ends_once.ensures c.comparisons_are_decided.ensures.any_contents (typed_part c.args.scene.now c.args.place IsBooleanOrNull c.requires.stands)
 
 pub walk::compared_truth_at-returns-in-Leaf-part_at-clause-answers : goal.walk::compared_truth_at-returns-in-Leaf-part_at-clause-answers
 walk::compared_truth_at-returns-in-Leaf-part_at-clause-answers t c =
-    let here = class_of_operator c.args.scene.now.list c.args.place c.args.operator (OperatorClass.Comparison c.comparison_of.result) c.requires.here c.comparison_of.ensures in
-    kept_compared c.args.scene.now c.args.place c.comparison_of.result here c.right_of-right_place.result c.right_of-right_place.ensures c.in-Leaf.left.now c.in-Leaf-part_at.right.now c.in-Leaf.ensures.0 c.in-Leaf-part_at.ensures.0 c.ends_once.ensures c.comparisons_are_decided.ensures.any_contents (typed_part c.args.scene.now c.args.place IsBooleanOrNull c.requires.stands) c.compare_kept.result c.compare_kept.ensures
+    let here = c.requires.here in
+    kept_compared c.args.scene.now c.args.place c.args.comparison here c.right_of-right_place.result c.right_of-right_place.ensures c.in-Leaf.left.now c.in-Leaf-part_at.right.now c.in-Leaf.ensures.0 c.in-Leaf-part_at.ensures.0 c.ends_once.ensures c.comparisons_are_decided.ensures.any_contents (typed_part c.args.scene.now c.args.place IsBooleanOrNull c.requires.stands) c.compare_kept.result c.compare_kept.ensures
 
 pub walk::compared_truth_at-kept_compared_at-requires : goal.walk::compared_truth_at-kept_compared_at-requires
 walk::compared_truth_at-kept_compared_at-requires t c = record {
   stands = typed_part c.args.scene.now c.args.place IsBooleanOrNull c.requires.stands;
   here = c.requires.here;
-  comparison = c.requires.comparison;
 }
 
 pub walk::compared_truth_at-returns-in-Some-clause-answers : goal.walk::compared_truth_at-returns-in-Some-clause-answers
@@ -303,11 +298,11 @@ pub walk::compared_truth_at-returns-in-Some-clause-spent : goal.walk::compared_t
 walk::compared_truth_at-returns-in-Some-clause-spent t c = c.in-Some.ensures.spent c.args.budget.now
 
 pub walk::numbers_truth_at-right_of-right_place-requires : goal.walk::numbers_truth_at-right_of-right_place-requires
-walk::numbers_truth_at-right_of-right_place-requires t c = right_there c.args.scene.now c.args.place c.args.operator c.requires.here (typed_part c.args.scene.now c.args.place IsBooleanOrNull c.requires.stands)
+walk::numbers_truth_at-right_of-right_place-requires t c = right_there c.args.scene.now c.args.place (BinaryOperator.Comparison c.args.comparison) c.requires.here (typed_part c.args.scene.now c.args.place IsBooleanOrNull c.requires.stands)
 
 pub walk::numbers_truth_at-overflow_add-place : goal.walk::numbers_truth_at-overflow_add-place
 walk::numbers_truth_at-overflow_add-place t c =
-    let behind = right_further c.args.scene.now c.args.place c.args.operator c.requires.here (typed_part c.args.scene.now c.args.place IsBooleanOrNull c.requires.stands) c.right_of-right_place.result c.right_of-right_place.ensures in
+    let behind = right_further c.args.scene.now c.args.place (BinaryOperator.Comparison c.args.comparison) c.requires.here (typed_part c.args.scene.now c.args.place IsBooleanOrNull c.requires.stands) c.right_of-right_place.result c.right_of-right_place.ensures in
     omega (arith, behind, c.right_of-right_place.type_inv)
 
 pub walk::numbers_truth_at-number_chain_at-requires : goal.walk::numbers_truth_at-number_chain_at-requires
@@ -315,52 +310,83 @@ walk::numbers_truth_at-number_chain_at-requires t c =
     let part = typed_part c.args.scene.now c.args.place IsBooleanOrNull c.requires.stands in
     let inside : c.args.place < length c.args.scene.now.list.nodes = part_inside c.args.scene.now c.args.place part in
     let smaller : 16 * (length c.args.scene.now.list.nodes - (c.args.place + 1)) + 10 < 16 * (length c.args.scene.now.list.nodes - c.args.place) + 8 = omega arith in
-    let left : PartStands c.args.scene.now (c.args.place + 1) = first_part c.args.scene.now c.args.place WalkClass.Eager (λ leaf. cc) (walks_by c.args.scene.now.list c.args.place c.args.operator WalkClass.Eager c.requires.here c.requires.comparison) part in
+    let left : PartStands c.args.scene.now (c.args.place + 1) = first_part c.args.scene.now c.args.place WalkClass.Eager (λ leaf. cc) (walks_by c.args.scene.now.list c.args.place (BinaryOperator.Comparison c.args.comparison) WalkClass.Eager c.requires.here refl) part in
     search rules
 
 pub walk::numbers_truth_at-part_at-requires : goal.walk::numbers_truth_at-part_at-requires
 walk::numbers_truth_at-part_at-requires t c = record {
-  stands = right_part c.args.scene.now c.args.place c.args.operator c.requires.here (typed_part c.args.scene.now c.args.place IsBooleanOrNull c.requires.stands) c.right_of-right_place.result
+  stands = right_part c.args.scene.now c.args.place (BinaryOperator.Comparison c.args.comparison) c.requires.here (typed_part c.args.scene.now c.args.place IsBooleanOrNull c.requires.stands) c.right_of-right_place.result
       c.right_of-right_place.ensures;
 }
 
 pub walk::numbers_truth_at-returns-in-Err-clause-answers : goal.walk::numbers_truth_at-returns-in-Err-clause-answers
-walk::numbers_truth_at-returns-in-Err-clause-answers t c = first_faults c.args.scene.now c.args.place WalkClass.Eager c.in-Err.fault (λ leaf. cc) (walks_by c.args.scene.now.list c.args.place c.args.operator WalkClass.Eager c.requires.here c.requires.comparison) c.in-Err.ensures
+walk::numbers_truth_at-returns-in-Err-clause-answers t c = first_faults c.args.scene.now c.args.place WalkClass.Eager c.in-Err.fault (λ leaf. cc) (walks_by c.args.scene.now.list c.args.place (BinaryOperator.Comparison c.args.comparison) WalkClass.Eager c.requires.here refl) c.in-Err.ensures
 
 pub walk::numbers_truth_at-number_at-requires : goal.walk::numbers_truth_at-number_at-requires
 walk::numbers_truth_at-number_at-requires t c =
     let part = typed_part c.args.scene.now c.args.place IsBooleanOrNull c.requires.stands in
     let inside : c.args.place < length c.args.scene.now.list.nodes = part_inside c.args.scene.now c.args.place part in
-    let behind : c.args.place < c.right_of-right_place.result = right_further c.args.scene.now c.args.place c.args.operator c.requires.here part c.right_of-right_place.result c.right_of-right_place.ensures in
+    let behind : c.args.place < c.right_of-right_place.result = right_further c.args.scene.now c.args.place (BinaryOperator.Comparison c.args.comparison) c.requires.here part c.right_of-right_place.result c.right_of-right_place.ensures in
     let smaller : 16 * (length c.args.scene.now.list.nodes - c.right_of-right_place.result) + 8 < 16 * (length c.args.scene.now.list.nodes - c.args.place) + 8 = omega arith in
-    let right : PartStands c.args.scene.now c.right_of-right_place.result = right_part c.args.scene.now c.args.place c.args.operator c.requires.here part c.right_of-right_place.result c.right_of-right_place.ensures in
+    let right : PartStands c.args.scene.now c.right_of-right_place.result = right_part c.args.scene.now c.args.place (BinaryOperator.Comparison c.args.comparison) c.requires.here part c.right_of-right_place.result c.right_of-right_place.ensures in
     search rules
 
 pub walk::numbers_truth_at-returns-in-Err-number_at-clause-answers : goal.walk::numbers_truth_at-returns-in-Err-number_at-clause-answers
-walk::numbers_truth_at-returns-in-Err-number_at-clause-answers t c = both_faults c.args.scene.now c.args.place c.args.operator c.requires.here c.right_of-right_place.result c.right_of-right_place.ensures (λ type. number_val c.in-Ok.left) c.in-Err-number_at.fault (values_taken (class_of c.args.operator) c.requires.comparison) c.in-Ok.ensures c.in-Err-number_at.ensures
+walk::numbers_truth_at-returns-in-Err-number_at-clause-answers t c = both_faults c.args.scene.now c.args.place (BinaryOperator.Comparison c.args.comparison) c.requires.here c.right_of-right_place.result c.right_of-right_place.ensures (λ type. number_val c.in-Ok.left) c.in-Err-number_at.fault tt c.in-Ok.ensures c.in-Err-number_at.ensures
+
+pub walk::logical_at-connected_at-requires : goal.walk::logical_at-connected_at-requires
+walk::logical_at-connected_at-requires t c =
+    let operator = BinaryOperator.Logical c.in-Some.operator in
+    let here : HasOperator c.args.scene.now.list c.args.place operator = there_found (λ (f : CheckedNode). f.kind ≡ NodeKind.Binary operator) (slice_get c.args.scene.now.list.nodes c.args.place) c.node.result.now c.node.ensures c.in-Some.ensures.some in
+    let left : AnswersTruth c.args.scene.now (c.args.place + 1) (Ok c.in-Ok.first) = subst (λ (r : Result (Option Bool) EvalStop). CountedTruth c.args.scene.now (c.args.place + 1) r) c.in-Ok.is c.requires.first in
+    let smaller : 16 * (length c.args.scene.now.list.nodes - c.args.place) + 3 < 16 * (length c.args.scene.now.list.nodes - c.args.place) + 4 = omega arith in
+    search rules
+
+pub number_walk::numeric_at-calculated_at-requires : goal.number_walk::numeric_at-calculated_at-requires
+number_walk::numeric_at-calculated_at-requires t c =
+    let operator = BinaryOperator.Arithmetic c.in-Some.operator in
+    let here : HasOperator c.args.scene.now.list c.args.place operator = there_found (λ (f : CheckedNode). f.kind ≡ NodeKind.Binary operator) (slice_get c.args.scene.now.list.nodes c.args.place) c.node-node.result.now c.node-node.ensures c.in-Some.ensures.some in
+    let left : AnswersNumber c.args.scene.now (c.args.place + 1) (Ok c.in-Ok.first) = subst (λ (r : Result (Option ℤ) EvalFault). AnswersNumber c.args.scene.now (c.args.place + 1) r) c.in-Ok.is c.requires.first in
+    let smaller : 16 * (length c.args.scene.now.list.nodes - c.args.place) + 3 < 16 * (length c.args.scene.now.list.nodes - c.args.place) + 4 = omega arith in
+    search rules
+
+pub walk::made_at-compared_at-requires : goal.walk::made_at-compared_at-requires
+walk::made_at-compared_at-requires t c =
+    let operator = BinaryOperator.Comparison c.in-Comparison.comparison in
+    let here : HasOperator c.args.scene.now.list c.args.place operator = there_found (λ (f : CheckedNode). f.kind ≡ NodeKind.Binary operator) (slice_get c.args.scene.now.list.nodes c.args.place) c.node.result.now c.node.ensures (c.in-Binary.is ∙ ap NodeKind.Binary c.in-Comparison.is) in
+    let left : AnswersDatum c.args.scene.now (c.args.place + 1) (Ok c.in-Ok.first) = subst (λ (r : Result Datum EvalStop). CountedDatum c.args.scene.now (c.args.place + 1) r) c.in-Ok.is c.requires.first in
+    let smaller : 16 * (length c.args.scene.now.list.nodes - c.args.place) + 3 < 16 * (length c.args.scene.now.list.nodes - c.args.place) + 4 = omega arith in
+    search rules
+
+pub walk::plain_truth_at-compared_truth_at-requires : goal.walk::plain_truth_at-compared_truth_at-requires
+walk::plain_truth_at-compared_truth_at-requires t c =
+    let operator = BinaryOperator.Comparison c.in-Comparison.comparison in
+    let here : HasOperator c.args.scene.now.list c.args.place operator = there_found (λ (f : CheckedNode). f.kind ≡ NodeKind.Binary operator) (slice_get c.args.scene.now.list.nodes c.args.place) c.node.result.now c.node.ensures (c.in-Binary.is ∙ ap NodeKind.Binary c.in-Comparison.is) in
+    let smaller : 16 * (length c.args.scene.now.list.nodes - c.args.place) + 9 < 16 * (length c.args.scene.now.list.nodes - c.args.place) + 10 = omega arith in
+    search rules
 
 -- ---- `not`, and `-`
 
-pub walk::logical_at-returns-in_default-clause-answers : goal.walk::logical_at-returns-in_default-clause-answers
-walk::logical_at-returns-in_default-clause-answers t c =
+pub walk::logical_at-returns-in-None-clause-answers : goal.walk::logical_at-returns-in-None-clause-answers
+walk::logical_at-returns-in-None-clause-answers t c =
     let first = subst (λ (r : Result (Option Bool) EvalStop). CountedTruth c.args.scene.now (c.args.place + 1) r) c.in-Ok.is c.requires.first in
     let walk = found_there (λ (f : CheckedNode). walk_of_kind f.kind ≡ WalkClass.Logical) (slice_get c.args.scene.now.list.nodes c.args.place) c.node.result.now c.node.ensures c.requires.logical in
-    let here = there_found (λ (f : CheckedNode). f.kind ≡ NodeKind.Not) (slice_get c.args.scene.now.list.nodes c.args.place) c.node.result.now c.node.ensures (only_not c.node.result.now.kind walk c.in_default.not-Binary) in
+    let here = there_found (λ (f : CheckedNode). f.kind ≡ NodeKind.Not) (slice_get c.args.scene.now.list.nodes c.args.place) c.node.result.now c.node.ensures (only_not c.node.result.now.kind walk c.in-None.ensures.none) in
     subst (λ (r : Option Bool). AnswersTruth c.args.scene.now c.args.place (Ok r)) (sym c.not3.ensures) (not_answers c.args.scene.now c.args.place c.in-Ok.first here first)
 
 pub number_walk::numeric_at-negated-requires : goal.number_walk::numeric_at-negated-requires
 number_walk::numeric_at-negated-requires t c =
     let first = subst (λ (r : Result (Option ℤ) EvalFault). AnswersNumber c.args.scene.now (c.args.place + 1) r) c.in-Ok.is c.requires.first in
     let walk = found_there (λ (f : CheckedNode). walk_of_kind f.kind ≡ WalkClass.Numeric) (slice_get c.args.scene.now.list.nodes c.args.place) c.node-node.result.now c.node-node.ensures c.requires.numeric in
-    let here = there_found (λ (f : CheckedNode). f.kind ≡ NodeKind.Neg) (slice_get c.args.scene.now.list.nodes c.args.place) c.node-node.result.now c.node-node.ensures (only_neg c.node-node.result.now.kind walk c.in_default.not-Binary) in
+    let here = there_found (λ (f : CheckedNode). f.kind ≡ NodeKind.Neg) (slice_get c.args.scene.now.list.nodes c.args.place) c.node-node.result.now c.node-node.ensures (only_neg c.node-node.result.now.kind walk c.in-None.ensures.none) in
     let promotes : Promotes = record { left = c.operands_lie_within_promotion.ensures.left; right = c.operands_lie_within_promotion.ensures.right; negation = c.operands_lie_within_promotion.ensures.negation; three = c.operands_lie_within_promotion.ensures.three } in
     negated_operand c.args.scene.now c.args.place c.in-Ok.first c.node-node.result.now c.node-node.ensures here first c.ends_once.ensures promotes c.requires.stands
 
-pub number_walk::numeric_at-returns-in_default : goal.number_walk::numeric_at-returns-in_default
-number_walk::numeric_at-returns-in_default t c =
+pub number_walk::numeric_at-returns-in-None : goal.number_walk::numeric_at-returns-in-None
+number_walk::numeric_at-returns-in-None t c =
     let first = subst (λ (r : Result (Option ℤ) EvalFault). AnswersNumber c.args.scene.now (c.args.place + 1) r) c.in-Ok.is c.requires.first in
     let walk = found_there (λ (f : CheckedNode). walk_of_kind f.kind ≡ WalkClass.Numeric) (slice_get c.args.scene.now.list.nodes c.args.place) c.node-node.result.now c.node-node.ensures c.requires.numeric in
-    let here = there_found (λ (f : CheckedNode). f.kind ≡ NodeKind.Neg) (slice_get c.args.scene.now.list.nodes c.args.place) c.node-node.result.now c.node-node.ensures (only_neg c.node-node.result.now.kind walk c.in_default.not-Binary) in
+    let here = there_found (λ (f : CheckedNode). f.kind ≡ NodeKind.Neg) (slice_get c.args.scene.now.list.nodes c.args.place) c.node-node.result.now c.node-node.ensures (only_neg c.node-node.result.now.kind walk c.in-None.ensures.none) in
     negation_answers c.args.scene.now c.args.place c.in-Ok.first c.node-node.result.now c.node-node.ensures here first c.negated.result c.trees_have_one_type.ensures c.negated.ensures
 
 -- ---- chains of numbers
@@ -401,27 +427,27 @@ number_walk::number_operand_at-returns-in-Leaf t c = kept_value c.args.scene.now
 
 pub walk::numbers_truth_at-returns-in-Int-clause-answers : goal.walk::numbers_truth_at-returns-in-Int-clause-answers
 walk::numbers_truth_at-returns-in-Int-clause-answers t c =
-    let here = class_of_operator c.args.scene.now.list c.args.place c.args.operator (OperatorClass.Comparison c.comparison_of.result) c.requires.here c.comparison_of.ensures in
+    let here = c.requires.here in
     let right = kept_value c.args.scene.now c.right_of-right_place.result c.in-Leaf.value.now c.in-Leaf.ensures.0 (number_val (Some c.in-Int.right)) (ap plain_val c.in-Int.is) in
     let fits : SFits w64 c.in-Int.right = search rules in
-    let compared : IsTrue c.compare_numbers.result ↔ ComparesTrue c.comparison_of.result (number_val c.in-Ok.left) (number_val (Some c.in-Int.right)) =
-    subst (λ (n : ℤ). IsTrue c.compare_numbers.result ↔ ComparesTrue c.comparison_of.result (number_val c.in-Ok.left) (number_val (Some n))) (to_z-of_z w64 c.in-Int.right fits) c.compare_numbers.ensures in
-    numbers_compared c.args.scene.now c.args.place c.comparison_of.result here c.right_of-right_place.result c.right_of-right_place.ensures c.in-Ok.left (Some c.in-Int.right) c.compare_numbers.result c.in-Ok.ensures right compared
+    let compared : IsTrue c.compare_numbers.result ↔ ComparesTrue c.args.comparison (number_val c.in-Ok.left) (number_val (Some c.in-Int.right)) =
+    subst (λ (n : ℤ). IsTrue c.compare_numbers.result ↔ ComparesTrue c.args.comparison (number_val c.in-Ok.left) (number_val (Some n))) (to_z-of_z w64 c.in-Int.right fits) c.compare_numbers.ensures in
+    numbers_compared c.args.scene.now c.args.place c.args.comparison here c.right_of-right_place.result c.right_of-right_place.ensures c.in-Ok.left (Some c.in-Int.right) c.compare_numbers.result c.in-Ok.ensures right compared
 
 pub walk::numbers_truth_at-returns-in-Ok-number_at-clause-answers : goal.walk::numbers_truth_at-returns-in-Ok-number_at-clause-answers
 walk::numbers_truth_at-returns-in-Ok-number_at-clause-answers t c =
-    let here = class_of_operator c.args.scene.now.list c.args.place c.args.operator (OperatorClass.Comparison c.comparison_of-in-Ok-number_at.result) c.requires.here c.comparison_of-in-Ok-number_at.ensures in
-    numbers_compared c.args.scene.now c.args.place c.comparison_of-in-Ok-number_at.result here c.right_of-right_place.result c.right_of-right_place.ensures c.in-Ok.left c.in-Ok-number_at.right c.compare_numbers-in-Ok-number_at.result c.in-Ok.ensures c.in-Ok-number_at.ensures c.compare_numbers-in-Ok-number_at.ensures
+    let here = c.requires.here in
+    numbers_compared c.args.scene.now c.args.place c.args.comparison here c.right_of-right_place.result c.right_of-right_place.ensures c.in-Ok.left c.in-Ok-number_at.right c.compare_numbers-in-Ok-number_at.result c.in-Ok.ensures c.in-Ok-number_at.ensures c.compare_numbers-in-Ok-number_at.ensures
 
 pub walk::compared_truth_at-part_at-requires : goal.walk::compared_truth_at-part_at-requires
 walk::compared_truth_at-part_at-requires t c = record {
-  stands = first_part c.args.scene.now c.args.place WalkClass.Eager (λ leaf. cc) (walks_by c.args.scene.now.list c.args.place c.args.operator WalkClass.Eager c.requires.here c.requires.comparison)
+  stands = first_part c.args.scene.now c.args.place WalkClass.Eager (λ leaf. cc) (walks_by c.args.scene.now.list c.args.place (BinaryOperator.Comparison c.args.comparison) WalkClass.Eager c.requires.here refl)
       (typed_part c.args.scene.now c.args.place IsBooleanOrNull c.requires.stands);
 }
 
 pub walk::compared_truth_at-part_at-requires-in-Leaf : goal.walk::compared_truth_at-part_at-requires-in-Leaf
 walk::compared_truth_at-part_at-requires-in-Leaf t c = record {
-  stands = right_part c.args.scene.now c.args.place c.args.operator c.requires.here (typed_part c.args.scene.now c.args.place IsBooleanOrNull c.requires.stands) c.right_of-right_place.result
+  stands = right_part c.args.scene.now c.args.place (BinaryOperator.Comparison c.args.comparison) c.requires.here (typed_part c.args.scene.now c.args.place IsBooleanOrNull c.requires.stands) c.right_of-right_place.result
       c.right_of-right_place.ensures;
 }
 
@@ -771,17 +797,17 @@ paired_walk::compared_left_at-operand_at-requires t c =
 pub paired_walk::compared_left_at-literal-requires : goal.paired_walk::compared_left_at-literal-requires
 paired_walk::compared_left_at-literal-requires t c = (left_within c.trees_have_one_type.ensures c.args.scene.now c.args.place c.args.operator c.args.number c.requires.here c.requires.stands).1.1
 
-pub paired_walk::compared_left_at-comparison_of-requires : goal.paired_walk::compared_left_at-comparison_of-requires
-paired_walk::compared_left_at-comparison_of-requires t c = equality_walks c.args.operator (left_within c.trees_have_one_type.ensures c.args.scene.now c.args.place c.args.operator c.args.number c.requires.here c.requires.stands).1.2
+pub paired_walk::compared_left_at-equality_of-requires : goal.paired_walk::compared_left_at-equality_of-requires
+paired_walk::compared_left_at-equality_of-requires t c = (left_within c.trees_have_one_type.ensures c.args.scene.now c.args.place c.args.operator c.args.number c.requires.here c.requires.stands).1.2
 
 pub paired_walk::compared_left_at-compare-requires : goal.paired_walk::compared_left_at-compare-requires
 paired_walk::compared_left_at-compare-requires t c =
-    may_compare_left c.trees_have_one_type.ensures c.args.scene.now c.args.place c.args.operator c.args.number c.comparison_of.result c.comparison_of.ensures c.literal.result.now c.literal.ensures c.datum_of-left.result c.datum_of-left.ensures
+    may_compare_left c.trees_have_one_type.ensures c.args.scene.now c.args.place c.args.operator c.args.number c.equality_of.result c.equality_of.ensures c.literal.result.now c.literal.ensures c.datum_of-left.result c.datum_of-left.ensures
     c.in-Ok.right c.right_of.result c.right_of.ensures c.requires.here c.in-Ok.ensures c.ends_once.ensures c.comparisons_are_decided.ensures.any_reading c.requires.stands
 
 pub paired_walk::compared_left_at-returns-in-Ok : goal.paired_walk::compared_left_at-returns-in-Ok
 paired_walk::compared_left_at-returns-in-Ok t c =
-    left_answers c.trees_have_one_type.ensures c.args.scene.now c.args.place c.args.operator c.args.number c.comparison_of.result c.comparison_of.ensures c.literal.result.now c.literal.ensures c.datum_of-left.result c.datum_of-left.ensures
+    left_answers c.trees_have_one_type.ensures c.args.scene.now c.args.place c.args.operator c.args.number c.equality_of.result c.equality_of.ensures c.literal.result.now c.literal.ensures c.datum_of-left.result c.datum_of-left.ensures
     c.in-Ok.right c.right_of.result c.right_of.ensures c.requires.here c.in-Ok.ensures c.ends_once.ensures c.requires.stands c.compare.result c.compare.ensures
 
 pub paired_walk::compared_left_at-returns-in-Err : goal.paired_walk::compared_left_at-returns-in-Err
@@ -1029,8 +1055,7 @@ number_walk::number_on_leaf_at-part_at-requires t c = record { stands = first_pa
 
 pub walk::compared_at-part_at-requires : goal.walk::compared_at-part_at-requires
 walk::compared_at-part_at-requires t c =
-    let there = operator_of_class c.args.scene.now.list c.args.place (OperatorClass.Comparison c.args.comparison) c.requires.comparison in
-    record { stands = right_part c.args.scene.now c.args.place there.operator there.here c.requires.stands c.right_of-right_place.result c.right_of-right_place.ensures }
+    record { stands = right_part c.args.scene.now c.args.place (BinaryOperator.Comparison c.args.comparison) c.requires.here c.requires.stands c.right_of-right_place.result c.right_of-right_place.ensures }
 
 pub walk::counted_at-truth_at-requires : goal.walk::counted_at-truth_at-requires
 walk::counted_at-truth_at-requires t c =
@@ -1099,30 +1124,30 @@ walk::plain_truth_at-returns-in-Err-clause-spent t c =
 pub walk::compared_truth_at-returns-in-Leaf-part_at-clause-spent : goal.walk::compared_truth_at-returns-in-Leaf-part_at-clause-spent
 walk::compared_truth_at-returns-in-Leaf-part_at-clause-spent t c =
     free_spends c.args.scene.now c.args.place None c.args.budget.now
-    (both_free c.args.scene.now c.args.place c.args.operator c.requires.here c.right_of-right_place.result c.right_of-right_place.ensures (leaf_free c.args.scene.now (c.args.place + 1) c.in-Leaf.ensures.1) (leaf_free c.args.scene.now c.right_of-right_place.result c.in-Leaf-part_at.ensures.1))
+    (both_free c.args.scene.now c.args.place (BinaryOperator.Comparison c.args.comparison) c.requires.here c.right_of-right_place.result c.right_of-right_place.ensures (leaf_free c.args.scene.now (c.args.place + 1) c.in-Leaf.ensures.1) (leaf_free c.args.scene.now c.right_of-right_place.result c.in-Leaf-part_at.ensures.1))
     (takes_nothing c.args.budget.now)
 
 pub walk::numbers_truth_at-returns-in-Err-clause-spent : goal.walk::numbers_truth_at-returns-in-Err-clause-spent
 walk::numbers_truth_at-returns-in-Err-clause-spent t c =
-    first_stops c.args.scene.now c.ends_once.ensures c.args.place WalkClass.Eager (λ leaf. cc) (walks_by c.args.scene.now.list c.args.place c.args.operator WalkClass.Eager c.requires.here c.requires.comparison) (EvalStop.Fault c.in-Err.fault) c.in-Err.ensures c.args.budget.now c.args.budget.now
+    first_stops c.args.scene.now c.ends_once.ensures c.args.place WalkClass.Eager (λ leaf. cc) (walks_by c.args.scene.now.list c.args.place (BinaryOperator.Comparison c.args.comparison) WalkClass.Eager c.requires.here refl) (EvalStop.Fault c.in-Err.fault) c.in-Err.ensures c.args.budget.now c.args.budget.now
     (free_spends c.args.scene.now (c.args.place + 1) (Some (EvalStop.Fault c.in-Err.fault)) c.args.budget.now (numeric_free c.args.scene.now (c.args.place + 1) c.requires.numeric) (fault_nothing c.in-Err.fault c.args.budget.now))
 
 pub walk::numbers_truth_at-returns-in-Int-clause-spent : goal.walk::numbers_truth_at-returns-in-Int-clause-spent
 walk::numbers_truth_at-returns-in-Int-clause-spent t c =
     free_spends c.args.scene.now c.args.place None c.args.budget.now
-    (both_free c.args.scene.now c.args.place c.args.operator c.requires.here c.right_of-right_place.result c.right_of-right_place.ensures (numeric_free c.args.scene.now (c.args.place + 1) c.requires.numeric) (leaf_free c.args.scene.now c.right_of-right_place.result c.in-Leaf.ensures.1))
+    (both_free c.args.scene.now c.args.place (BinaryOperator.Comparison c.args.comparison) c.requires.here c.right_of-right_place.result c.right_of-right_place.ensures (numeric_free c.args.scene.now (c.args.place + 1) c.requires.numeric) (leaf_free c.args.scene.now c.right_of-right_place.result c.in-Leaf.ensures.1))
     (takes_nothing c.args.budget.now)
 
 pub walk::numbers_truth_at-returns-in-Ok-number_at-clause-spent : goal.walk::numbers_truth_at-returns-in-Ok-number_at-clause-spent
 walk::numbers_truth_at-returns-in-Ok-number_at-clause-spent t c =
     free_spends c.args.scene.now c.args.place None c.args.budget.now
-    (both_free c.args.scene.now c.args.place c.args.operator c.requires.here c.right_of-right_place.result c.right_of-right_place.ensures (numeric_free c.args.scene.now (c.args.place + 1) c.requires.numeric) (numeric_free c.args.scene.now c.right_of-right_place.result c.in-Numeric.ensures))
+    (both_free c.args.scene.now c.args.place (BinaryOperator.Comparison c.args.comparison) c.requires.here c.right_of-right_place.result c.right_of-right_place.ensures (numeric_free c.args.scene.now (c.args.place + 1) c.requires.numeric) (numeric_free c.args.scene.now c.right_of-right_place.result c.in-Numeric.ensures))
     (takes_nothing c.args.budget.now)
 
 pub walk::numbers_truth_at-returns-in-Err-number_at-clause-spent : goal.walk::numbers_truth_at-returns-in-Err-number_at-clause-spent
 walk::numbers_truth_at-returns-in-Err-number_at-clause-spent t c =
     free_spends c.args.scene.now c.args.place (Some (EvalStop.Fault c.in-Err-number_at.fault)) c.args.budget.now
-    (both_free c.args.scene.now c.args.place c.args.operator c.requires.here c.right_of-right_place.result c.right_of-right_place.ensures (numeric_free c.args.scene.now (c.args.place + 1) c.requires.numeric) (numeric_free c.args.scene.now c.right_of-right_place.result c.in-Numeric.ensures))
+    (both_free c.args.scene.now c.args.place (BinaryOperator.Comparison c.args.comparison) c.requires.here c.right_of-right_place.result c.right_of-right_place.ensures (numeric_free c.args.scene.now (c.args.place + 1) c.requires.numeric) (numeric_free c.args.scene.now c.right_of-right_place.result c.in-Numeric.ensures))
     (fault_nothing c.in-Err-number_at.fault c.args.budget.now)
 
 pub walk::called_truth_at-returns-in-Ok-clause-spent : goal.walk::called_truth_at-returns-in-Ok-clause-spent
@@ -1139,27 +1164,27 @@ walk::logical_at-returns-in-Err-clause-spent t c =
     (first_stops c.args.scene.now c.ends_once.ensures c.args.place WalkClass.Logical (λ leaf. cc) c.requires.logical c.in-Err.stop
     (truth_faults c.args.scene.now (c.args.place + 1) c.in-Err.stop (subst (λ (r : Result (Option Bool) EvalStop). CountedTruth c.args.scene.now (c.args.place + 1) r) c.in-Err.is c.requires.first)) c.args.budget.now)
 
-pub walk::logical_at-returns-in-Binary-clause-spent : goal.walk::logical_at-returns-in-Binary-clause-spent
-walk::logical_at-returns-in-Binary-clause-spent t c =
+pub walk::logical_at-returns-in-Some-clause-spent : goal.walk::logical_at-returns-in-Some-clause-spent
+walk::logical_at-returns-in-Some-clause-spent t c =
     after_value (Option Bool) c.args.scene.now c.args.place c.args.first c.in-Ok.first c.args.budget.now c.connected_at.new.budget (stopped_by c.connected_at.result) c.in-Ok.is c.connected_at.ensures.spent
 
-pub walk::logical_at-returns-in_default-clause-spent : goal.walk::logical_at-returns-in_default-clause-spent
-walk::logical_at-returns-in_default-clause-spent t c =
+pub walk::logical_at-returns-in-None-clause-spent : goal.walk::logical_at-returns-in-None-clause-spent
+walk::logical_at-returns-in-None-clause-spent t c =
     let walk = found_there (λ (f : CheckedNode). walk_of_kind f.kind ≡ WalkClass.Logical) (slice_get c.args.scene.now.list.nodes c.args.place) c.node.result.now c.node.ensures c.requires.logical in
-    let here = there_found (λ (f : CheckedNode). f.kind ≡ NodeKind.Not) (slice_get c.args.scene.now.list.nodes c.args.place) c.node.result.now c.node.ensures (only_not c.node.result.now.kind walk c.in_default.not-Binary) in
+    let here = there_found (λ (f : CheckedNode). f.kind ≡ NodeKind.Not) (slice_get c.args.scene.now.list.nodes c.args.place) c.node.result.now c.node.ensures (only_not c.node.result.now.kind walk c.in-None.ensures.none) in
     after_value (Option Bool) c.args.scene.now c.args.place c.args.first c.in-Ok.first c.args.budget.now c.args.budget.now None c.in-Ok.is (nothing_more c.args.scene.now c.args.place NodeKind.Not tt here c.args.budget.now None (takes_nothing c.args.budget.now))
 
 pub walk::connected_at-returns-then-decides-clause-spent : goal.walk::connected_at-returns-then-decides-clause-spent
 walk::connected_at-returns-then-decides-clause-spent t c =
-    right_left_out c.args.scene.now c.args.place c.args.operator c.requires.here c.ends_once.ensures c.connective_of-connective.result c.connective_of-connective.ensures c.args.left c.requires.left (c.decides.ensures.0 c.if-decides.true) c.args.budget.now
+    right_left_out c.args.scene.now c.args.place c.args.operator c.requires.here c.ends_once.ensures c.args.left c.requires.left (c.decides.ensures.0 c.if-decides.true) c.args.budget.now
 
 pub walk::connected_at-returns-in-Ok-clause-spent : goal.walk::connected_at-returns-in-Ok-clause-spent
 walk::connected_at-returns-in-Ok-clause-spent t c =
-    right_asked c.args.scene.now c.args.place c.args.operator c.requires.here c.ends_once.ensures c.connective_of-connective.result c.connective_of-connective.ensures c.args.left c.requires.left (λ decided. let e = c.decides.ensures.1 decided in cc) c.right_of.result c.right_of.ensures c.args.budget.now c.side_at.new.budget None c.in-Ok.ensures.spent
+    right_asked c.args.scene.now c.args.place c.args.operator c.requires.here c.ends_once.ensures c.args.left c.requires.left (λ decided. let e = c.decides.ensures.1 decided in cc) c.right_of.result c.right_of.ensures c.args.budget.now c.side_at.new.budget None c.in-Ok.ensures.spent
 
 pub walk::connected_at-returns-in-Err-clause-spent : goal.walk::connected_at-returns-in-Err-clause-spent
 walk::connected_at-returns-in-Err-clause-spent t c =
-    right_asked c.args.scene.now c.args.place c.args.operator c.requires.here c.ends_once.ensures c.connective_of-connective.result c.connective_of-connective.ensures c.args.left c.requires.left (λ decided. let e = c.decides.ensures.1 decided in cc) c.right_of.result c.right_of.ensures c.args.budget.now c.side_at.new.budget (Some c.in-Err.stop) c.in-Err.ensures.spent
+    right_asked c.args.scene.now c.args.place c.args.operator c.requires.here c.ends_once.ensures c.args.left c.requires.left (λ decided. let e = c.decides.ensures.1 decided in cc) c.right_of.result c.right_of.ensures c.args.budget.now c.side_at.new.budget (Some c.in-Err.stop) c.in-Err.ensures.spent
 
 pub walk::counted_at-returns-in-Leaf-clause-spent : goal.walk::counted_at-returns-in-Leaf-clause-spent
 walk::counted_at-returns-in-Leaf-clause-spent t c =
@@ -1247,19 +1272,16 @@ walk::made_at-returns-in-Comparison-clause-spent t c =
 
 pub walk::compared_at-returns-in-Leaf-clause-spent : goal.walk::compared_at-returns-in-Leaf-clause-spent
 walk::compared_at-returns-in-Leaf-clause-spent t c =
-    let there = operator_of_class c.args.scene.now.list c.args.place (OperatorClass.Comparison c.args.comparison) c.requires.comparison in
-    right_compared c.args.scene.now c.args.place there.operator there.here c.ends_once.ensures (λ type. datum_val (reading_at (slots_of c.args.scene.now.row.schema) type) c.args.left) c.requires.left c.args.comparison there.class_is c.right_of-right_place.result c.right_of-right_place.ensures c.args.budget.now c.args.budget.now None
+    right_compared c.args.scene.now c.args.place c.args.comparison c.requires.here c.ends_once.ensures (λ type. datum_val (reading_at (slots_of c.args.scene.now.row.schema) type) c.args.left) c.requires.left c.right_of-right_place.result c.right_of-right_place.ensures c.args.budget.now c.args.budget.now None
     (free_spends c.args.scene.now c.right_of-right_place.result None c.args.budget.now (leaf_free c.args.scene.now c.right_of-right_place.result c.in-Leaf.ensures.1) (takes_nothing c.args.budget.now))
 
 pub walk::compared_at-returns-in-Ok-clause-spent : goal.walk::compared_at-returns-in-Ok-clause-spent
 walk::compared_at-returns-in-Ok-clause-spent t c =
-    let there = operator_of_class c.args.scene.now.list c.args.place (OperatorClass.Comparison c.args.comparison) c.requires.comparison in
-    right_compared c.args.scene.now c.args.place there.operator there.here c.ends_once.ensures (λ type. datum_val (reading_at (slots_of c.args.scene.now.row.schema) type) c.args.left) c.requires.left c.args.comparison there.class_is c.right_of-right_place.result c.right_of-right_place.ensures c.args.budget.now c.counted_at.new.budget None c.in-Ok.ensures.spent
+    right_compared c.args.scene.now c.args.place c.args.comparison c.requires.here c.ends_once.ensures (λ type. datum_val (reading_at (slots_of c.args.scene.now.row.schema) type) c.args.left) c.requires.left c.right_of-right_place.result c.right_of-right_place.ensures c.args.budget.now c.counted_at.new.budget None c.in-Ok.ensures.spent
 
 pub walk::compared_at-returns-clause-spent : goal.walk::compared_at-returns-clause-spent
 walk::compared_at-returns-clause-spent t c =
-    let there = operator_of_class c.args.scene.now.list c.args.place (OperatorClass.Comparison c.args.comparison) c.requires.comparison in
-    right_compared c.args.scene.now c.args.place there.operator there.here c.ends_once.ensures (λ type. datum_val (reading_at (slots_of c.args.scene.now.row.schema) type) c.args.left) c.requires.left c.args.comparison there.class_is c.right_of-right_place.result c.right_of-right_place.ensures c.args.budget.now c.counted_at.new.budget (Some c.in-Err.behind) c.in-Err.ensures.spent
+    right_compared c.args.scene.now c.args.place c.args.comparison c.requires.here c.ends_once.ensures (λ type. datum_val (reading_at (slots_of c.args.scene.now.row.schema) type) c.args.left) c.requires.left c.right_of-right_place.result c.right_of-right_place.ensures c.args.budget.now c.counted_at.new.budget (Some c.in-Err.behind) c.in-Err.ensures.spent
 
 pub paired_walk::right_read_truth_at-returns-in-Leaf-clause-spent : goal.paired_walk::right_read_truth_at-returns-in-Leaf-clause-spent
 paired_walk::right_read_truth_at-returns-in-Leaf-clause-spent t c =

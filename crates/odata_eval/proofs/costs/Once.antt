@@ -2,8 +2,8 @@
 use Rattle.std.proofs.Common.{◌≡◌, ◌+◌, ◌∙◌, ℕ, refl, subst, sym, ap, true, false}
 use Rattle.edm_values.specs.Val.{Val, null, boolean}
 use Rattle.odata_syntax.specs.declared.node.Quantifier.{Quantifier}
-use Rattle.odata_signatures.specs.declared.operator_class.Connective.{Connective}
-use Rattle.odata_signatures.specs.declared.operator_class.OperatorClass.{OperatorClass}
+use Rattle.odata_syntax.specs.declared.binary_operator.LogicalOperator.{LogicalOperator}
+use Rattle.odata_syntax.specs.declared.binary_operator.BinaryOperator.{BinaryOperator}
 use Rattle.odata_filter_operations.specs.Outcome.{Outcome, gives, overflow, divides_by_zero}
 use Rattle.odata_eval.specs.Costs.{CostAfter, CostThen, CostsMore, CostsNothing, OthersCost, RightCosts}
 
@@ -51,9 +51,9 @@ pub after_once : (Operand : Outcome → Type 0) (OperandCosts : ℕ → Type 0) 
 after_once Operand OperandCosts GoesOn ends own goes =
     both_once Operand OperandCosts GoesOn ends own (then_once ends.outcome GoesOn (λ v same. goes v (subst Operand (sym same) ends.is)))
 
-pub right_once : (class : OperatorClass) (l : Val) (Right : ℕ → Type 0) → Once Right → Once (RightCosts class l Right)
-right_once (OperatorClass.Connective Connective.And) (boolean false) Right once = nothing_once
-right_once (OperatorClass.Connective Connective.Or) (boolean true) Right once = nothing_once
+pub right_once : (operator : BinaryOperator) (l : Val) (Right : ℕ → Type 0) → Once Right → Once (RightCosts operator l Right)
+right_once (BinaryOperator.Logical LogicalOperator.And) (boolean false) Right once = nothing_once
+right_once (BinaryOperator.Logical LogicalOperator.Or) (boolean true) Right once = nothing_once
 right_once _ _ Right once = once
 
 pub others_once : (quantifier : Quantifier) (Others : ℕ → Type 0) (v : Val) → Once Others → Once (OthersCost quantifier Others v)

@@ -10,12 +10,11 @@ use Rattle.csdl_schema.specs.SchemaModel.{Slots, expanded, slots_of, type_name_a
 use Rattle.edm_entities.specs.Fits.{Fits}
 use Rattle.edm_entities.specs.HasType.{AllHaveType, HasType}
 use Rattle.edm_entities.specs.Row.{value_of}
-use Rattle.odata_functions.specs.declared.comparison.ComparisonOperator.{ComparisonOperator}
+use Rattle.odata_syntax.specs.declared.binary_operator.ComparisonOperator.{ComparisonOperator}
 use Rattle.odata_syntax.specs.Tree.{Tree, node, literal, it, name, count, negation, logical_not, binary, in_list, in_path, call, any_item, lambda, Trees, no_trees, more_trees}
 use Rattle.odata_syntax.specs.Tree as tree
 use Rattle.odata_syntax.specs.declared.node.Quantifier.{Quantifier}
 use Rattle.odata_signatures.specs.ExprTypes.{boolean_type}
-use Rattle.odata_signatures.specs.OperatorClass.{class_of}
 use Rattle.odata_expression_types.specs.Typed.{AreTyped, Typed}
 use Rattle.odata_filter_operations.specs.CompareGives.{CompareGives}
 use Rattle.odata_filter_operations.specs.LeftFirst.{After}
@@ -133,9 +132,9 @@ module _ (one : OneEach) (some : SomeEach) (all_end : TypedEndsOnce) (slots : Sl
     tree_once environment fitting (node start stop (any_item base)) type typed = tree_once environment fitting base typed.operand typed.operand_typed
     tree_once environment fitting (node start stop (binary operator left right)) type typed =
         after_once (Means slots root now entity environment left) (Costs slots root now entity environment left)
-        (λ l. RightCosts (class_of operator) l (Costs slots root now entity environment right))
+        (λ l. RightCosts operator l (Costs slots root now entity environment right))
         (ends environment fitting left typed.left typed.left_typed) (tree_once environment fitting left typed.left typed.left_typed)
-        (λ l is. right_once (class_of operator) l (Costs slots root now entity environment right) (tree_once environment fitting right typed.right typed.right_typed))
+        (λ l is. right_once operator l (Costs slots root now entity environment right) (tree_once environment fitting right typed.right typed.right_typed))
     tree_once environment fitting (node start stop (tree.has left right)) type typed =
         after_once (Means slots root now entity environment left) (Costs slots root now entity environment left) (λ l. Costs slots root now entity environment right)
         (ends environment fitting left typed.left typed.left_typed) (tree_once environment fitting left typed.left typed.left_typed)

@@ -11,10 +11,9 @@ use Rattle.odata_syntax.specs.Tree as tree
 use Rattle.odata_signatures.specs.ArgumentTypes.{AreArgumentTypes, IsArgumentType}
 use Rattle.odata_signatures.specs.CollectionTyped.{IsCollection}
 use Rattle.odata_signatures.specs.ExprTypes.{IsNumberOrNull, boolean_type}
-use Rattle.odata_signatures.specs.OperatorClass.{class_of}
-use Rattle.odata_signatures.specs.OperatorTyped.{ClassTyped}
+use Rattle.odata_signatures.specs.OperatorTyped.{OperatorByTypes}
 use Rattle.odata_signatures.specs.declared.argument_kind.ArgumentKind.{ArgumentKind}
-use Rattle.odata_signatures.specs.declared.operator_class.OperatorClass.{OperatorClass}
+use Rattle.odata_syntax.specs.declared.binary_operator.BinaryOperator.{BinaryOperator}
 use Rattle.odata_expression_types.specs.Typed.{AreTyped, StepTyped, Typed}
 use Rattle.odata_eval.specs.Costs.{ArgumentsCost, Costs, RightCosts}
 use Rattle.odata_eval.specs.Environment.{Environment, scope_of}
@@ -73,10 +72,10 @@ argument_plain kind (single (structured of)) is = absurd is
 argument_plain kind (collection of) is = absurd is
 
 -- both operands of arithmetic
-operands_plain : (class : OperatorClass) (left right type : ExprType) → ClassTyped class left right type → IsPlainType type → IsPlainType left × IsPlainType right
-operands_plain (OperatorClass.Connective connective) left right type typed plain = absurd (no_truth type typed.2 plain)
-operands_plain (OperatorClass.Comparison comparison) left right type typed plain = absurd (no_truth type typed.1 plain)
-operands_plain (OperatorClass.Arithmetic arithmetic) left right type typed plain = (number_plain left typed.left_number typed.left_is, number_plain right typed.right_number typed.right_is)
+operands_plain : (operator : BinaryOperator) (left right type : ExprType) → OperatorByTypes operator left right type → IsPlainType type → IsPlainType left × IsPlainType right
+operands_plain (BinaryOperator.Logical logical) left right type typed plain = absurd (no_truth type typed.2 plain)
+operands_plain (BinaryOperator.Comparison comparison) left right type typed plain = absurd (no_truth type typed.1 plain)
+operands_plain (BinaryOperator.Arithmetic arithmetic) left right type typed plain = (number_plain left typed.left_number typed.left_is, number_plain right typed.right_number typed.right_is)
 
 module _ (slots : Slots) (root : List ℕ) (now : MomentParts) (entity : Val) (environment : Environment) where
   mutual
@@ -92,10 +91,10 @@ module _ (slots : Slots) (root : List ℕ) (now : MomentParts) (entity : Val) (e
     plain_free (node start stop (logical_not operand)) type typed plain = absurd (no_truth type typed.makes.1 plain)
     plain_free (node start stop (binary operator left right)) type typed plain = elim typed.makes [
       | inl makes ↦
-          let sides = operands_plain (class_of operator) typed.left typed.right type makes plain in
+          let sides = operands_plain operator typed.left typed.right type makes plain in
           after_free (Means slots root now entity environment left) (Costs slots root now entity environment left)
-          (λ l. RightCosts (class_of operator) l (Costs slots root now entity environment right)) (plain_free left typed.left typed.left_typed sides.0)
-          (λ l. right_free (class_of operator) l (Costs slots root now entity environment right) (plain_free right typed.right typed.right_typed sides.1))
+          (λ l. RightCosts operator l (Costs slots root now entity environment right)) (plain_free left typed.left typed.left_typed sides.0)
+          (λ l. right_free operator l (Costs slots root now entity environment right) (plain_free right typed.right typed.right_typed sides.1))
       | inr makes ↦ absurd (no_truth type makes.1 plain)
     ]
     plain_free (node start stop (tree.has left right)) type typed plain = absurd (no_truth type typed.makes.1 plain)

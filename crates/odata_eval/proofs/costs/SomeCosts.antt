@@ -5,7 +5,7 @@ use Rattle.edm_values.specs.MomentParts.{MomentParts}
 use Rattle.edm_values.specs.Val.{Val, boolean, null, text, whole, items, no_items}
 use Rattle.edm_values.specs.declared.primitive.PrimitiveType.{PrimitiveType}
 use Rattle.csdl_schema.specs.ExprType.{ExprType, primitive, single}
-use Rattle.odata_functions.specs.declared.comparison.ComparisonOperator.{ComparisonOperator}
+use Rattle.odata_syntax.specs.declared.binary_operator.ComparisonOperator.{ComparisonOperator}
 use Rattle.odata_filter_operations.specs.CompareGives.{CompareGives}
 use Rattle.odata_filter_operations.specs.LeftFirst.{After}
 use Rattle.odata_filter_operations.specs.Outcome.{gives, divides_by_zero}

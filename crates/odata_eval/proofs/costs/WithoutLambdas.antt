@@ -3,12 +3,11 @@ use Rattle.std.proofs.Common.{◌≡◌, ◌+◌, ℕ, List, [], max, arith}
 use Rattle.edm_values.specs.MomentParts.{MomentParts}
 use Rattle.edm_values.specs.Val.{Val}
 use Rattle.csdl_schema.specs.SchemaModel.{Slots}
-use Rattle.odata_functions.specs.declared.comparison.ComparisonOperator.{ComparisonOperator}
+use Rattle.odata_syntax.specs.declared.binary_operator.ComparisonOperator.{ComparisonOperator}
 use Rattle.odata_syntax.specs.Tree.{Tree, node, literal, it, name, count, negation, logical_not, binary, in_list, in_path, call, any_item, lambda, Trees, no_trees, more_trees}
 use Rattle.odata_syntax.specs.Tree as tree
 use Rattle.odata_syntax.specs.declared.node.Quantifier.{Quantifier}
 use Rattle.odata_checked_filter.specs.LambdaDepth.{lambda_depth, lambda_depth_among}
-use Rattle.odata_signatures.specs.OperatorClass.{class_of}
 use Rattle.odata_expression_types.specs.Typed.{Typed}
 use Rattle.odata_filter_operations.specs.CompareGives.{CompareGives}
 use Rattle.odata_filter_operations.specs.LeftFirst.{After}
@@ -39,9 +38,9 @@ module _ (slots : Slots) (root : List ℕ) (now : MomentParts) (entity : Val) wh
     free_without (node start stop (logical_not operand)) none = free_without operand none
     free_without (node start stop (any_item base)) none = free_without base none
     free_without (node start stop (binary operator left right)) none =
-        after_free (Means slots root now entity [] left) (Costs slots root now entity [] left) (λ l. RightCosts (class_of operator) l (Costs slots root now entity [] right))
+        after_free (Means slots root now entity [] left) (Costs slots root now entity [] left) (λ l. RightCosts operator l (Costs slots root now entity [] right))
         (free_without left (left_none (lambda_depth left) (lambda_depth right) none))
-        (λ l. right_free (class_of operator) l (Costs slots root now entity [] right) (free_without right (right_none (lambda_depth left) (lambda_depth right) none)))
+        (λ l. right_free operator l (Costs slots root now entity [] right) (free_without right (right_none (lambda_depth left) (lambda_depth right) none)))
     free_without (node start stop (tree.has left right)) none =
         after_free (Means slots root now entity [] left) (Costs slots root now entity [] left) (λ l. Costs slots root now entity [] right)
         (free_without left (left_none (lambda_depth left) (lambda_depth right) none)) (λ l. free_without right (right_none (lambda_depth left) (lambda_depth right) none))

@@ -2,8 +2,8 @@
 use Rattle.std.proofs.Common.{◌≡◌, ◌+◌, ℕ, arith, true, false}
 use Rattle.edm_values.specs.Val.{Val, null, boolean}
 use Rattle.odata_syntax.specs.declared.node.Quantifier.{Quantifier}
-use Rattle.odata_signatures.specs.declared.operator_class.Connective.{Connective}
-use Rattle.odata_signatures.specs.declared.operator_class.OperatorClass.{OperatorClass}
+use Rattle.odata_syntax.specs.declared.binary_operator.LogicalOperator.{LogicalOperator}
+use Rattle.odata_syntax.specs.declared.binary_operator.BinaryOperator.{BinaryOperator}
 use Rattle.odata_filter_operations.specs.Outcome.{Outcome, gives, overflow, divides_by_zero}
 use Rattle.odata_eval.specs.Costs.{CostAfter, CostThen, OthersCost, RightCosts}
 
@@ -24,9 +24,9 @@ pub after_free : (Operand : Outcome → Type 0) (OperandCosts : ℕ → Type 0) 
 after_free Operand OperandCosts GoesOn own rest n costs =
     no_sum n costs.own costs.rest costs.sum (own costs.own costs.costs) (then_free costs.outcome GoesOn rest costs.rest costs.follows)
 
-pub right_free : (class : OperatorClass) (l : Val) (Right : ℕ → Type 0) → IsFree Right → IsFree (RightCosts class l Right)
-right_free (OperatorClass.Connective Connective.And) (boolean false) Right free = λ n is. is
-right_free (OperatorClass.Connective Connective.Or) (boolean true) Right free = λ n is. is
+pub right_free : (operator : BinaryOperator) (l : Val) (Right : ℕ → Type 0) → IsFree Right → IsFree (RightCosts operator l Right)
+right_free (BinaryOperator.Logical LogicalOperator.And) (boolean false) Right free = λ n is. is
+right_free (BinaryOperator.Logical LogicalOperator.Or) (boolean true) Right free = λ n is. is
 right_free _ _ Right free = free
 
 pub others_free : (quantifier : Quantifier) (Others : ℕ → Type 0) (v : Val) → IsFree Others → IsFree (OthersCost quantifier Others v)

@@ -3,10 +3,10 @@ use Rattle.edm_values.specs.Val.{Val, boolean}
 use Rattle.csdl_schema.specs.ExprType.{ExprType}
 use Rattle.csdl_schema.specs.SchemaModel.{Slots}
 use Rattle.edm_entities.specs.HasType.{HasType}
-use Rattle.odata_functions.specs.declared.comparison.ComparisonOperator.{ComparisonOperator}
-use Rattle.odata_signatures.specs.declared.operator_class.OperatorClass.{OperatorClass}
+use Rattle.odata_syntax.specs.declared.binary_operator.ComparisonOperator.{ComparisonOperator}
+use Rattle.odata_syntax.specs.declared.binary_operator.BinaryOperator.{BinaryOperator}
 use Rattle.odata_signatures.specs.ExprTypes.{boolean_type}
-use Rattle.odata_signatures.specs.OperatorTyped.{ClassTyped}
+use Rattle.odata_signatures.specs.OperatorTyped.{OperatorByTypes}
 use Rattle.odata_filter_operations.specs.CompareGives.{CompareGives}
 use Rattle.odata_filter_operations.specs.Outcome.{gives}
 use Rattle.odata_eval.proofs.meaning.Ends.{Ends, typed_value}
@@ -15,7 +15,7 @@ use Rattle.odata_eval.proofs.meaning.LawsBelow.{SomeEach}
 use Rattle.odata_eval.proofs.meaning.TypeValues.{truth_has}
 
 pub compare_ends : (some : SomeEach) (slots : Slots) (operator : ComparisonOperator) (left right type : ExprType) (l r : Val)
-    → ClassTyped (OperatorClass.Comparison operator) left right type → HasType slots left l → HasType slots right r
+    → OperatorByTypes (BinaryOperator.Comparison operator) left right type → HasType slots left l → HasType slots right r
     → Ends slots type (CompareGives operator l r)
 compare_ends some slots operator left right type l r typed of_l of_r =
     let answer = some.decided operator l r in

@@ -14,7 +14,7 @@ use Rattle.odata_syntax.specs.Tree.{Tree}
 use Rattle.csdl_schema.specs.SchemaModel.{Slots}
 use Rattle.odata_functions.specs.Comparison.{ComparesTrue}
 use Rattle.odata_functions.specs.Connectives.{and3}
-use Rattle.odata_functions.specs.declared.comparison.ComparisonOperator.{ComparisonOperator}
+use Rattle.odata_syntax.specs.declared.binary_operator.ComparisonOperator.{ComparisonOperator}
 use Rattle.odata_eval.specs.ComesTo.{ComesTo, ComesToIn, false_and_missing, item_value}
 use Rattle.odata_eval.specs.Means.{Means}
 use Rattle.odata_filter_operations.specs.Outcome.{Outcome, gives}
@@ -110,7 +110,7 @@ pub inactive_item : OneEach → ComesTo first_run_tree (item_value (pos 2) (code
 inactive_item known = comes_to known first_run_tree (item_value (pos 2) (codes "a") false) (gives (boolean false)) (λ slots root now none.
     inr (unread slots none _ _, inr (unread slots none _ _, (gives (boolean false), (inr (unread slots none _ _, inr (unread slots none _ _, (gives (boolean false), (refl, refl)))), refl)))))
 
--- no connective has its operands read
+-- no logical operator has its operands read
 pub right_side_unread : OneEach → (slots : Slots) (value : Val) → ComesToIn slots false_and_missing value (gives (boolean false))
 right_side_unread known slots value = in_slots known slots false_and_missing value (gives (boolean false)) (λ root now.
     inr (λ n reads. reads.beside.0, inr (λ n reads. reads.beside.0, (gives (boolean false), (refl, refl)))))

@@ -7,7 +7,7 @@ use Rattle.edm_values.specs.declared.primitive.PrimitiveType.{PrimitiveType}
 use Rattle.csdl_schema.specs.ExprType.{ExprType, SingleType, collection, single}
 use Rattle.csdl_schema.specs.SchemaModel.{Slots}
 use Rattle.odata_functions.specs.Bits.{HasBits}
-use Rattle.odata_functions.specs.declared.comparison.ComparisonOperator.{ComparisonOperator}
+use Rattle.odata_syntax.specs.declared.binary_operator.ComparisonOperator.{ComparisonOperator}
 use Rattle.odata_syntax.specs.Spans.{list_of_trees}
 use Rattle.odata_syntax.specs.Tree.{Tree, Trees, no_trees, more_trees}
 use Rattle.odata_syntax.specs.declared.node.Quantifier.{Quantifier}

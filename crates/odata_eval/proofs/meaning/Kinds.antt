@@ -7,7 +7,7 @@ use Rattle.csdl_schema.specs.ExprType.{ExprType, null_type, single, SingleType, 
 use Rattle.csdl_schema.specs.SchemaModel.{Slots}
 use Rattle.edm_entities.specs.HasType.{HasType}
 use Rattle.odata_functions.specs.Comparable.{AreComparableBy, HaveEquality, HaveOrder}
-use Rattle.odata_functions.specs.declared.comparison.ComparisonOperator.{ComparisonOperator}
+use Rattle.odata_syntax.specs.declared.binary_operator.ComparisonOperator.{ComparisonOperator}
 use Rattle.odata_signatures.specs.ComparableTypes.{AreAlikePrimitives, AreComparable, AreComparableSingles, AreComparedBy, AreOrdered, IsOrderedPrimitive, IsOrderedSingle}
 use Rattle.odata_signatures.specs.ExprTypes.{IsBooleanOrNull}
 use Rattle.odata_filter_operations.specs.TruthGives.{truth_val}

@@ -10,7 +10,7 @@ use Rattle.edm_values.specs.Val.{Val, null, boolean, whole, text, items, Vals, n
 use Rattle.edm_values.specs.declared.primitive.PrimitiveType.{PrimitiveType}
 use Rattle.csdl_schema.specs.ExprType.{ExprType, primitive, single}
 use Rattle.odata_functions.specs.declared.arithmetic.ArithFault.{ArithFault}
-use Rattle.odata_functions.specs.declared.comparison.ComparisonOperator.{ComparisonOperator}
+use Rattle.odata_syntax.specs.declared.binary_operator.ComparisonOperator.{ComparisonOperator}
 use Rattle.odata_syntax.specs.Tree.{Shape, Tree, Trees, any_item, count, in_list, in_path, trees_of_list, node}
 use Rattle.odata_syntax.specs.declared.node.Quantifier.{Quantifier}
 use Rattle.odata_expression_types.specs.Reads.{ReadsNumber}

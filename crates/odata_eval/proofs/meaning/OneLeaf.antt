@@ -5,16 +5,16 @@ use Rattle.csdl_schema.specs.ExprType.{ExprType, single, primitive}
 use Rattle.odata_functions.specs.Comparison.{ComparesTrue}
 use Rattle.odata_functions.specs.Connectives.{not3}
 use Rattle.odata_functions.specs.declared.arithmetic.ArithFault.{ArithFault}
-use Rattle.odata_functions.specs.declared.arithmetic.ArithmeticOperator.{ArithmeticOperator}
-use Rattle.odata_functions.specs.declared.comparison.ComparisonOperator.{ComparisonOperator}
-use Rattle.odata_signatures.specs.declared.operator_class.Connective.{Connective}
-use Rattle.odata_signatures.specs.declared.operator_class.OperatorClass.{OperatorClass}
+use Rattle.odata_syntax.specs.declared.binary_operator.ArithmeticOperator.{ArithmeticOperator}
+use Rattle.odata_syntax.specs.declared.binary_operator.ComparisonOperator.{ComparisonOperator}
+use Rattle.odata_syntax.specs.declared.binary_operator.LogicalOperator.{LogicalOperator}
+use Rattle.odata_syntax.specs.declared.binary_operator.BinaryOperator.{BinaryOperator}
 use Rattle.odata_filter_operations.specs.CalculationGives.{CalculationGives, NegatedGives, number_outcome}
 use Rattle.odata_filter_operations.specs.CompareGives.{CompareGives, GivesTruth, IsWhether}
 use Rattle.odata_eval.specs.NameGives.{FoundGives, StepGives, FieldGives}
-use Rattle.odata_eval.specs.OperatorGives.{ClassGives, InType}
+use Rattle.odata_eval.specs.OperatorGives.{OperatorGives, InType}
 use Rattle.odata_filter_operations.specs.Outcome.{Outcome, gives}
-use Rattle.odata_filter_operations.specs.TruthGives.{ConnectiveGives, JoinGives, NotGives, joined, truth_val}
+use Rattle.odata_filter_operations.specs.TruthGives.{LogicalGives, JoinGives, NotGives, joined, truth_val}
 use Rattle.odata_eval.proofs.meaning.LawsBelow.{OneEach}
 use Rattle.odata_eval.proofs.meaning.OneStep.{AtMostOne, same_one, GivesSome-one, After-one, InType-one}
 
@@ -35,19 +35,19 @@ GivesTruth-one Fact = GivesSome-one (IsWhether Fact) (IsWhether-one Fact)
 pub CompareGives-one : (operator : ComparisonOperator) (v w : Val) → AtMostOne (CompareGives operator v w)
 CompareGives-one operator v w a b p q = GivesTruth-one (ComparesTrue operator v w) a b p.1 q.1
 
-pub JoinGives-one : (connective : Connective) (left : Option Bool) (v : Val) → AtMostOne (JoinGives connective left v)
-JoinGives-one connective left null a b p q = same_one (gives (truth_val (joined connective left None))) a b p q
-JoinGives-one connective left (boolean x) a b p q = same_one (gives (truth_val (joined connective left (Some x)))) a b p q
-JoinGives-one connective left _ a b p q = absurd p
+pub JoinGives-one : (logical : LogicalOperator) (left : Option Bool) (v : Val) → AtMostOne (JoinGives logical left v)
+JoinGives-one logical left null a b p q = same_one (gives (truth_val (joined logical left None))) a b p q
+JoinGives-one logical left (boolean x) a b p q = same_one (gives (truth_val (joined logical left (Some x)))) a b p q
+JoinGives-one logical left _ a b p q = absurd p
 
-pub ConnectiveGives-one : (connective : Connective) (v : Val) (Right : Outcome → Type 0) → AtMostOne Right → AtMostOne (ConnectiveGives connective v Right)
-ConnectiveGives-one Connective.And (boolean false) Right one a b p q = same_one (gives (boolean false)) a b p q
-ConnectiveGives-one Connective.And (boolean true) Right one a b p q = After-one Right (JoinGives Connective.And (Some true)) one (JoinGives-one Connective.And (Some true)) a b p q
-ConnectiveGives-one Connective.And null Right one a b p q = After-one Right (JoinGives Connective.And None) one (JoinGives-one Connective.And None) a b p q
-ConnectiveGives-one Connective.Or (boolean true) Right one a b p q = same_one (gives (boolean true)) a b p q
-ConnectiveGives-one Connective.Or (boolean false) Right one a b p q = After-one Right (JoinGives Connective.Or (Some false)) one (JoinGives-one Connective.Or (Some false)) a b p q
-ConnectiveGives-one Connective.Or null Right one a b p q = After-one Right (JoinGives Connective.Or None) one (JoinGives-one Connective.Or None) a b p q
-ConnectiveGives-one _ _ Right one a b p q = absurd p
+pub LogicalGives-one : (logical : LogicalOperator) (v : Val) (Right : Outcome → Type 0) → AtMostOne Right → AtMostOne (LogicalGives logical v Right)
+LogicalGives-one LogicalOperator.And (boolean false) Right one a b p q = same_one (gives (boolean false)) a b p q
+LogicalGives-one LogicalOperator.And (boolean true) Right one a b p q = After-one Right (JoinGives LogicalOperator.And (Some true)) one (JoinGives-one LogicalOperator.And (Some true)) a b p q
+LogicalGives-one LogicalOperator.And null Right one a b p q = After-one Right (JoinGives LogicalOperator.And None) one (JoinGives-one LogicalOperator.And None) a b p q
+LogicalGives-one LogicalOperator.Or (boolean true) Right one a b p q = same_one (gives (boolean true)) a b p q
+LogicalGives-one LogicalOperator.Or (boolean false) Right one a b p q = After-one Right (JoinGives LogicalOperator.Or (Some false)) one (JoinGives-one LogicalOperator.Or (Some false)) a b p q
+LogicalGives-one LogicalOperator.Or null Right one a b p q = After-one Right (JoinGives LogicalOperator.Or None) one (JoinGives-one LogicalOperator.Or None) a b p q
+LogicalGives-one _ _ Right one a b p q = absurd p
 
 pub NotGives-one : (v : Val) → AtMostOne (NotGives v)
 NotGives-one null a b p q = same_one (gives (truth_val (not3 None))) a b p q
@@ -72,12 +72,12 @@ module _ (known : OneEach) where
       same_number p.0 q.0 a b (known.negation t (Some x) p.0 q.0 p.1 q.1) p.2 q.2
   NegatedGives-one _ _ a b p q = absurd p
 
-  pub ClassGives-one : (class : OperatorClass) (NodeTyped : ExprType → Type 0) (v : Val) (Right : Outcome → Type 0)
-      → ((s t : ExprType) → NodeTyped s → NodeTyped t → s ≡ t) → AtMostOne Right → AtMostOne (ClassGives class NodeTyped v Right)
-  ClassGives-one (OperatorClass.Connective connective) NodeTyped v Right types one a b p q = ConnectiveGives-one connective v Right one a b p q
-  ClassGives-one (OperatorClass.Comparison comparison) NodeTyped v Right types one a b p q =
+  pub OperatorGives-one : (operator : BinaryOperator) (NodeTyped : ExprType → Type 0) (v : Val) (Right : Outcome → Type 0)
+      → ((s t : ExprType) → NodeTyped s → NodeTyped t → s ≡ t) → AtMostOne Right → AtMostOne (OperatorGives operator NodeTyped v Right)
+  OperatorGives-one (BinaryOperator.Logical logical) NodeTyped v Right types one a b p q = LogicalGives-one logical v Right one a b p q
+  OperatorGives-one (BinaryOperator.Comparison comparison) NodeTyped v Right types one a b p q =
       After-one Right (CompareGives comparison v) one (CompareGives-one comparison v) a b p q
-  ClassGives-one (OperatorClass.Arithmetic arithmetic) NodeTyped v Right types one a b p q =
+  OperatorGives-one (BinaryOperator.Arithmetic arithmetic) NodeTyped v Right types one a b p q =
       After-one Right (λ w. InType NodeTyped (λ type. CalculationGives arithmetic type v w)) one
       (λ w. InType-one NodeTyped (λ type. CalculationGives arithmetic type v w) types (λ type. CalculationGives-one arithmetic type v w)) a b p q
 

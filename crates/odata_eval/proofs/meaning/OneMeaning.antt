@@ -9,10 +9,9 @@ use Rattle.odata_syntax.specs.Tree.{Trees, no_trees, more_trees}
 use Rattle.csdl_schema.specs.ExprType.{ExprType, single, enumeration}
 use Rattle.csdl_schema.specs.SchemaModel.{Slots}
 use Rattle.odata_expression_types.specs.LiteralValue.{LiteralValue}
-use Rattle.odata_signatures.specs.OperatorClass.{class_of}
 use Rattle.odata_signatures.specs.declared.function.Function.{Function}
 use Rattle.odata_signatures.specs.OperatorTyped.{NegationTyped, OperatorTyped}
-use Rattle.odata_syntax.specs.declared.node.BinaryOperator.{BinaryOperator}
+use Rattle.odata_syntax.specs.declared.binary_operator.BinaryOperator.{BinaryOperator}
 use Rattle.odata_signatures.specs.QuotedNumber.{NumberBeside}
 use Rattle.odata_expression_types.specs.Reads.{OfEquality, ReadsNumber}
 use Rattle.odata_expression_types.specs.Sides.{Between, quoted_text}
@@ -35,7 +34,7 @@ use Rattle.odata_eval.proofs.meaning.AllTrees.{AllTrees}
 use Rattle.odata_eval.proofs.meaning.CallLaws.{CallGives-one}
 use Rattle.odata_eval.proofs.meaning.FormsOne.{AnyItemGives-one, CountGives-one, HasGives-one, InGives-one, ItemsGive-one, LambdaGives-one}
 use Rattle.odata_eval.proofs.meaning.LawsBelow.{OneEach}
-use Rattle.odata_eval.proofs.meaning.OneLeaf.{ClassGives-one, FoundGives-one, NegatedGives-one, NotGives-one, StepGives-one}
+use Rattle.odata_eval.proofs.meaning.OneLeaf.{OperatorGives-one, FoundGives-one, NegatedGives-one, NotGives-one, StepGives-one}
 use Rattle.odata_eval.proofs.meaning.OneStep.{AtMostOne, GivesSome-one, After-one, InType-one, same_one}
 
 -- behind arguments each of which has at most one outcome
@@ -71,7 +70,7 @@ ReadsNumber-one known slots Beside tree one m n p q =
 SidesGive-one : (known : OneEach) (operator : BinaryOperator) (N : ExprType → Type 0) (Left Right : Outcome → Type 0) → ((s t : ExprType) → N s → N t → s ≡ t) → AtMostOne Left → AtMostOne Right
     → AtMostOne (SidesGive operator N Left Right)
 SidesGive-one known operator N Left Right one left right =
-    After-one Left (λ l. OperatorGives operator N l Right) left (λ l. ClassGives-one known (class_of operator) N l Right one right)
+    After-one Left (λ l. OperatorGives operator N l Right) left (λ l. OperatorGives-one known operator N l Right one right)
 
 module _ (known : OneEach) (slots : Slots) (root : List ℕ) (now : MomentParts) (entity : Val) where
   mutual

@@ -9,7 +9,7 @@ use Rattle.edm_values.specs.NumberTypes.{IsIntLiteralType, IsNumberOf}
 use Rattle.edm_values.specs.Val.{Val, null, boolean, whole, date, moment, guid, member, text, fields, FieldVal, present}
 use Rattle.edm_values.specs.declared.primitive.PrimitiveType.{PrimitiveType}
 use Rattle.odata_syntax.specs.Tree.{Tree, Trees, no_trees, more_trees}
-use Rattle.odata_syntax.specs.declared.node.BinaryOperator.{BinaryOperator}
+use Rattle.odata_syntax.specs.declared.binary_operator.BinaryOperator.{BinaryOperator}
 use Rattle.odata_syntax.specs.declared.node.LiteralKind.{LiteralKind}
 use Rattle.csdl_schema.specs.ExprType.{ExprType, single, primitive, enumeration}
 use Rattle.csdl_schema.specs.SchemaModel.{Slots}
@@ -18,15 +18,13 @@ use Rattle.odata_functions.specs.Arithmetic.{ArithmeticGives}
 use Rattle.odata_functions.specs.Connectives.{not3}
 use Rattle.odata_functions.specs.declared.arithmetic.ArithFault.{ArithFault}
 use Rattle.odata_functions.specs.declared.arithmetic.ArithFault.TheVariants.{Overflow, DivideByZero}
-use Rattle.odata_functions.specs.declared.arithmetic.ArithmeticOperator.{ArithmeticOperator}
-use Rattle.odata_signatures.specs.declared.operator_class.Connective.{Connective}
-use Rattle.odata_signatures.specs.declared.operator_class.OperatorClass.{OperatorClass}
+use Rattle.odata_syntax.specs.declared.binary_operator.ArithmeticOperator.{ArithmeticOperator}
+use Rattle.odata_syntax.specs.declared.binary_operator.LogicalOperator.{LogicalOperator}
 use Rattle.odata_signatures.specs.CollectionTyped.{IsItemBeside}
 use Rattle.odata_signatures.specs.ExprTypes.{boolean_type, string_type}
 use Rattle.odata_expression_types.specs.LiteralValue.{LiteralTyped, IntTyped}
 use Rattle.odata_signatures.specs.HasTyped.{HasTyped}
-use Rattle.odata_signatures.specs.OperatorClass.{class_of}
-use Rattle.odata_signatures.specs.OperatorTyped.{ClassTyped, NotTyped, OperatorTyped}
+use Rattle.odata_signatures.specs.OperatorTyped.{OperatorByTypes, NotTyped, OperatorTyped}
 use Rattle.odata_signatures.specs.QuotedNumber.{NumberBeside}
 use Rattle.odata_expression_types.specs.Reads.{ReadsNumber}
 use Rattle.odata_expression_types.specs.Sides.{Between, quoted_text, side_of, sides_of}
@@ -41,10 +39,10 @@ use Rattle.odata_eval.specs.LiteralGives.{LiteralGives}
 use Rattle.odata_eval.specs.Means.{ArgumentsMean, BinaryGives, Means}
 use Rattle.odata_eval.specs.NameGives.{StepGives, FieldGives}
 use Rattle.odata_eval.specs.OneByOne.{ItemAlone}
-use Rattle.odata_eval.specs.OperatorGives.{ClassGives, InType, OperatorGives, SidesGive}
+use Rattle.odata_eval.specs.OperatorGives.{InType, OperatorGives, SidesGive}
 use Rattle.odata_filter_operations.specs.Outcome.{Outcome, gives}
 use Rattle.odata_eval.specs.ReadGives.{GivesMember, UnlessRead}
-use Rattle.odata_filter_operations.specs.TruthGives.{ConnectiveGives, JoinGives, NotGives, joined, truth_val}
+use Rattle.odata_filter_operations.specs.TruthGives.{LogicalGives, JoinGives, NotGives, joined, truth_val}
 use Rattle.odata_filter_operations.specs.Operands.{AreNumbers, IsOneNumber}
 use Rattle.odata_eval.specs.private.WalkClass.{IsDecided}
 use Rattle.odata_eval.proofs.meaning.AllTrees.{AllTrees, AllTyped}
@@ -96,26 +94,26 @@ pub not_gives : (truth : Option Bool) → NotGives (truth_val truth) (gives (tru
 not_gives (Some b) = refl
 not_gives None = refl
 
-pub join_gives : (connective : Connective) (left right : Option Bool) → JoinGives connective left (truth_val right) (gives (truth_val (joined connective left right)))
-join_gives connective left (Some b) = refl
-join_gives connective left None = refl
+pub join_gives : (logical : LogicalOperator) (left right : Option Bool) → JoinGives logical left (truth_val right) (gives (truth_val (joined logical left right)))
+join_gives logical left (Some b) = refl
+join_gives logical left None = refl
 
-pub decided_gives : (connective : Connective) (left : Option Bool) (Right : Outcome → Type 0) → IsDecided connective (truth_val left)
-    → ConnectiveGives connective (truth_val left) Right (gives (truth_val left))
-decided_gives Connective.And (Some false) Right decided = refl
-decided_gives Connective.Or (Some true) Right decided = refl
+pub decided_gives : (logical : LogicalOperator) (left : Option Bool) (Right : Outcome → Type 0) → IsDecided logical (truth_val left)
+    → LogicalGives logical (truth_val left) Right (gives (truth_val left))
+decided_gives LogicalOperator.And (Some false) Right decided = refl
+decided_gives LogicalOperator.Or (Some true) Right decided = refl
 decided_gives _ _ Right decided = absurd decided
 
--- behind a truth value that does not decide, a connective goes by its right side
-pub undecided_goes : (connective : Connective) (left : Option Bool) (Right : Outcome → Type 0) (o : Outcome) → ¬ (IsDecided connective (truth_val left))
-    → After Right (JoinGives connective left) o → ConnectiveGives connective (truth_val left) Right o
-undecided_goes Connective.And (Some false) Right o undecided goes = absurd (undecided tt)
-undecided_goes Connective.Or (Some true) Right o undecided goes = absurd (undecided tt)
+-- behind a truth value that does not decide, a logical operator goes by its right side
+pub undecided_goes : (logical : LogicalOperator) (left : Option Bool) (Right : Outcome → Type 0) (o : Outcome) → ¬ (IsDecided logical (truth_val left))
+    → After Right (JoinGives logical left) o → LogicalGives logical (truth_val left) Right o
+undecided_goes LogicalOperator.And (Some false) Right o undecided goes = absurd (undecided tt)
+undecided_goes LogicalOperator.Or (Some true) Right o undecided goes = absurd (undecided tt)
 undecided_goes _ _ Right o undecided goes = goes
 
-decided_or_not : (connective : Connective) (left : Option Bool) → IsDecided connective (truth_val left) ⊎ (¬ IsDecided connective (truth_val left))
-decided_or_not Connective.And (Some false) = inl tt
-decided_or_not Connective.Or (Some true) = inl tt
+decided_or_not : (logical : LogicalOperator) (left : Option Bool) → IsDecided logical (truth_val left) ⊎ (¬ IsDecided logical (truth_val left))
+decided_or_not LogicalOperator.And (Some false) = inl tt
+decided_or_not LogicalOperator.Or (Some true) = inl tt
 decided_or_not _ _ = inr (λ decided. decided)
 
 pub not_ends : (slots : Slots) (operand type : ExprType) (v : Val) → NotTyped operand type → HasType slots operand v → Ends slots type (NotGives v)
@@ -124,21 +122,21 @@ not_ends slots operand type v typed has =
     subst (λ (w : Val). Ends slots type (NotGives w)) (sym truth.1)
     (gives (truth_val (not3 truth.0)), (not_gives truth.0, truth_ends slots type (not3 truth.0) typed.1))
 
-join_ends : (slots : Slots) (type : ExprType) (connective : Connective) (left : Option Bool) (v : Val)
-    → type ≡ boolean_type → IsTruth v → Ends slots type (JoinGives connective left v)
-join_ends slots type connective left v is truth =
-    subst (λ (w : Val). Ends slots type (JoinGives connective left w)) (sym truth.1)
-    (gives (truth_val (joined connective left truth.0)), (join_gives connective left truth.0, truth_ends slots type (joined connective left truth.0) is))
+join_ends : (slots : Slots) (type : ExprType) (logical : LogicalOperator) (left : Option Bool) (v : Val)
+    → type ≡ boolean_type → IsTruth v → Ends slots type (JoinGives logical left v)
+join_ends slots type logical left v is truth =
+    subst (λ (w : Val). Ends slots type (JoinGives logical left w)) (sym truth.1)
+    (gives (truth_val (joined logical left truth.0)), (join_gives logical left truth.0, truth_ends slots type (joined logical left truth.0) is))
 
-connective_ends : (slots : Slots) (connective : Connective) (right type : ExprType) (left : Option Bool) (Right : Outcome → Type 0)
+logical_ends : (slots : Slots) (logical : LogicalOperator) (right type : ExprType) (left : Option Bool) (Right : Outcome → Type 0)
     → type ≡ boolean_type → ((v : Val) → HasType slots right v → IsTruth v)
-    → Ends slots right Right → Ends slots type (ConnectiveGives connective (truth_val left) Right)
-connective_ends slots connective right type left Right is truths_right ends =
-    elim (decided_or_not connective left) [
-      | inl decided ↦ (gives (truth_val left), (decided_gives connective left Right decided, truth_ends slots type left is))
+    → Ends slots right Right → Ends slots type (LogicalGives logical (truth_val left) Right)
+logical_ends slots logical right type left Right is truths_right ends =
+    elim (decided_or_not logical left) [
+      | inl decided ↦ (gives (truth_val left), (decided_gives logical left Right decided, truth_ends slots type left is))
       | inr undecided ↦
-          let goes = after_ends slots slots right type Right (JoinGives connective left) ends (λ v has. join_ends slots type connective left v is (truths_right v has)) in
-          (goes.0, (undecided_goes connective left Right goes.0 undecided goes.1.0, goes.1.1))
+          let goes = after_ends slots slots right type Right (JoinGives logical left) ends (λ v has. join_ends slots type logical left v is (truths_right v has)) in
+          (goes.0, (undecided_goes logical left Right goes.0 undecided goes.1.0, goes.1.1))
     ]
 
 answer_typed : (slots : Slots) (operator : ArithmeticOperator) (p : PrimitiveType) (a b : ℤ) (answer : Result (Option ℤ) ArithFault)
@@ -169,16 +167,16 @@ pub in_type : (slots : Slots) (NodeTyped : ExprType → Type 0) (Gives : ExprTyp
     → NodeTyped type → Ends slots type (Gives type) → Ends slots type (InType NodeTyped Gives)
 in_type slots NodeTyped Gives type typed ends = (ends.0, ((type, typed, ends.1.0), ends.1.1))
 
-class_ends : (some : SomeEach) (promotes : Promotes) (slots : Slots) (class : OperatorClass) (NodeTyped : ExprType → Type 0) (left right type : ExprType) (l : Val) (Right : Outcome → Type 0)
-    → ClassTyped class left right type → NodeTyped type → HasType slots left l → Ends slots right Right
-    → Ends slots type (ClassGives class NodeTyped l Right)
-class_ends some promotes slots (OperatorClass.Connective connective) NodeTyped left right type l Right typed is of_l ends =
+operator_ends : (some : SomeEach) (promotes : Promotes) (slots : Slots) (operator : BinaryOperator) (NodeTyped : ExprType → Type 0) (left right type : ExprType) (l : Val) (Right : Outcome → Type 0)
+    → OperatorByTypes operator left right type → NodeTyped type → HasType slots left l → Ends slots right Right
+    → Ends slots type (OperatorGives operator NodeTyped l Right)
+operator_ends some promotes slots (BinaryOperator.Logical logical) NodeTyped left right type l Right typed is of_l ends =
     let truth = truth_of slots left l typed.0 of_l in
-    subst (λ (v : Val). Ends slots type (ConnectiveGives connective v Right)) (sym truth.1)
-    (connective_ends slots connective right type truth.0 Right typed.2 (λ v has. truth_of slots right v typed.1 has) ends)
-class_ends some promotes slots (OperatorClass.Comparison comparison) NodeTyped left right type l Right typed is of_l ends =
+    subst (λ (v : Val). Ends slots type (LogicalGives logical v Right)) (sym truth.1)
+    (logical_ends slots logical right type truth.0 Right typed.2 (λ v has. truth_of slots right v typed.1 has) ends)
+operator_ends some promotes slots (BinaryOperator.Comparison comparison) NodeTyped left right type l Right typed is of_l ends =
     after_ends slots slots right type Right (CompareGives comparison l) ends (λ r of_r. compare_ends some slots comparison left right type l r typed of_l of_r)
-class_ends some promotes slots (OperatorClass.Arithmetic arithmetic) NodeTyped left right type l Right typed is of_l ends =
+operator_ends some promotes slots (BinaryOperator.Arithmetic arithmetic) NodeTyped left right type l Right typed is of_l ends =
     after_ends slots slots right type Right (λ r. InType NodeTyped (λ t. CalculationGives arithmetic t l r)) ends
     (λ r of_r. in_type slots NodeTyped (λ t. CalculationGives arithmetic t l r) type is
     (calculation_ends some slots arithmetic type l r (calculated_values promotes slots left right type l r typed of_l of_r)))
@@ -186,10 +184,10 @@ class_ends some promotes slots (OperatorClass.Arithmetic arithmetic) NodeTyped l
 -- ---- sides that may be read
 
 sides_end : (some : SomeEach) (promotes : Promotes) (slots : Slots) (operator : BinaryOperator) (NodeTyped : ExprType → Type 0) (left right type : ExprType) (Left Right : Outcome → Type 0)
-    → ClassTyped (class_of operator) left right type → NodeTyped type → Ends slots left Left → Ends slots right Right → Ends slots type (SidesGive operator NodeTyped Left Right)
+    → OperatorByTypes operator left right type → NodeTyped type → Ends slots left Left → Ends slots right Right → Ends slots type (SidesGive operator NodeTyped Left Right)
 sides_end some promotes slots operator NodeTyped left right type Left Right makes typed of_left of_right =
     after_ends slots slots left type Left (λ l. OperatorGives operator NodeTyped l Right) of_left
-    (λ l of_l. class_ends some promotes slots (class_of operator) NodeTyped left right type l Right makes typed of_l of_right)
+    (λ l of_l. operator_ends some promotes slots operator NodeTyped left right type l Right makes typed of_l of_right)
 
 -- a number that is read is a value of its type
 abbrev pub ReadsHave : Slots → Slots → Type 0

@@ -12,11 +12,9 @@ use Rattle.csdl_schema.specs.ExprType.{ExprType, single, collection, SingleType,
 use Rattle.csdl_schema.specs.PathSet.{PathSet, PropertyPath}
 use Rattle.csdl_schema.specs.SchemaModel.{Slots}
 use Rattle.odata_signatures.specs.ExprTypes.{IsBooleanOrNull, boolean_type, number_or_null}
-use Rattle.odata_signatures.specs.OperatorClass.{class_of}
-use Rattle.odata_signatures.specs.OperatorTyped.{ClassTyped, NegationTyped, OperatorTyped}
+use Rattle.odata_signatures.specs.OperatorTyped.{OperatorByTypes, NegationTyped, OperatorTyped}
 use Rattle.odata_signatures.specs.Side.{Side}
-use Rattle.odata_signatures.specs.declared.operator_class.OperatorClass.{OperatorClass}
-use Rattle.odata_syntax.specs.declared.node.BinaryOperator.{BinaryOperator}
+use Rattle.odata_syntax.specs.declared.binary_operator.BinaryOperator.{BinaryOperator}
 use Rattle.odata_expression_types.specs.NeededPaths.{IsNeeded, IsNeededAmong, StepNeeds, VariablePaths, path_of, variable_path}
 use Rattle.odata_expression_types.specs.Typed.{AreTyped, OperandTyped, StepTyped, Typed, variable_type}
 use Rattle.odata_filter_operations.specs.CalculationGives.{NegatedGives}
@@ -55,13 +53,13 @@ flat_number : (number : Option PrimitiveType) → IsFlat (number_or_null number)
 flat_number None = tt
 flat_number (Some p) = tt
 
-flat_class : (class : OperatorClass) (left right type : ExprType) → ClassTyped class left right type → IsFlat type
-flat_class (OperatorClass.Connective connective) left right type typed = flat_same boolean_type type typed.2 tt
-flat_class (OperatorClass.Comparison comparison) left right type typed = flat_same boolean_type type typed.1 tt
-flat_class (OperatorClass.Arithmetic arithmetic) left right type typed = flat_same _ type typed.type_is (flat_number _)
+flat_by_types : (operator : BinaryOperator) (left right type : ExprType) → OperatorByTypes operator left right type → IsFlat type
+flat_by_types (BinaryOperator.Logical logical) left right type typed = flat_same boolean_type type typed.2 tt
+flat_by_types (BinaryOperator.Comparison comparison) left right type typed = flat_same boolean_type type typed.1 tt
+flat_by_types (BinaryOperator.Arithmetic arithmetic) left right type typed = flat_same _ type typed.type_is (flat_number _)
 
 flat_operator : (slots : Slots) (operator : BinaryOperator) (left right : Side) (type : ExprType) → OperatorTyped slots operator left right type → IsFlat type
-flat_operator slots operator left right type (inl plain) = flat_class (class_of operator) left.type_of right.type_of type plain
+flat_operator slots operator left right type (inl plain) = flat_by_types operator left.type_of right.type_of type plain
 flat_operator slots operator left right type (inr read) = flat_same boolean_type type read.1 tt
 
 -- a number that is read is of its enumeration, whatever records hold

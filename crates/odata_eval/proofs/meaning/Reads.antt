@@ -4,14 +4,13 @@ use Rattle.edm_values.specs.Val as val
 use Rattle.csdl_schema.specs.ExprType.{ExprType, single, enumeration}
 use Rattle.csdl_schema.specs.SchemaModel.{Slots}
 use Rattle.edm_entities.specs.HasType.{HasType}
-use Rattle.odata_functions.specs.declared.comparison.ComparisonOperator.{ComparisonOperator}
+use Rattle.odata_syntax.specs.declared.binary_operator.ComparisonOperator.{ComparisonOperator}
 use Rattle.odata_syntax.specs.Tree.{Tree}
-use Rattle.odata_syntax.specs.declared.node.BinaryOperator.{BinaryOperator}
+use Rattle.odata_syntax.specs.declared.binary_operator.BinaryOperator.{BinaryOperator}
 use Rattle.odata_signatures.specs.ComparableTypes.{AreComparable}
 use Rattle.odata_signatures.specs.ExprTypes.{boolean_type, string_type}
 use Rattle.odata_signatures.specs.HasTyped.{AreFlags}
-use Rattle.odata_signatures.specs.OperatorClass.{class_of}
-use Rattle.odata_signatures.specs.OperatorTyped.{ClassTyped, IsEquality}
+use Rattle.odata_signatures.specs.OperatorTyped.{OperatorByTypes, IsEquality}
 use Rattle.odata_signatures.specs.QuotedNumber.{NumberBeside}
 use Rattle.odata_expression_types.specs.Reads.{OfEquality, ReadsNumber}
 use Rattle.odata_expression_types.specs.Sides.{quoted_text}
@@ -51,14 +50,14 @@ number_flags slots (single (enumeration name)) (Some spelling) n number = refl
 number_flags slots (single (enumeration name)) None n number = absurd number
 number_flags slots _ quoted n number = absurd number
 
-pub equality_typed : (operator : BinaryOperator) (left right type : ExprType) → IsEquality operator → AreComparable left right → type ≡ boolean_type → ClassTyped (class_of operator) left right type
-equality_typed BinaryOperator.Eq left right type equality comparable is = (comparable, is)
-equality_typed BinaryOperator.Ne left right type equality comparable is = (comparable, is)
+pub equality_typed : (operator : BinaryOperator) (left right type : ExprType) → IsEquality operator → AreComparable left right → type ≡ boolean_type → OperatorByTypes operator left right type
+equality_typed (BinaryOperator.Comparison ComparisonOperator.Eq) left right type equality comparable is = (comparable, is)
+equality_typed (BinaryOperator.Comparison ComparisonOperator.Ne) left right type equality comparable is = (comparable, is)
 equality_typed _ left right type equality comparable is = absurd equality
 
-equality_compares : (operator : BinaryOperator) (left right type : ExprType) → IsEquality operator → ClassTyped (class_of operator) left right type → AreComparable left right
-equality_compares BinaryOperator.Eq left right type equality typed = typed.0
-equality_compares BinaryOperator.Ne left right type equality typed = typed.0
+equality_compares : (operator : BinaryOperator) (left right type : ExprType) → IsEquality operator → OperatorByTypes operator left right type → AreComparable left right
+equality_compares (BinaryOperator.Comparison ComparisonOperator.Eq) left right type equality typed = typed.0
+equality_compares (BinaryOperator.Comparison ComparisonOperator.Ne) left right type equality typed = typed.0
 equality_compares _ left right type equality typed = absurd equality
 
 module _ (laws : ReadLaws) (slots : Slots) (root : List ℕ) (scope : Scope) where
@@ -105,13 +104,13 @@ module _ (laws : ReadLaws) (slots : Slots) (root : List ℕ) (scope : Scope) whe
 
   -- an operator whose operands go together by their types reads none of them
   pub right_unread : (operator : BinaryOperator) (left right : Tree) (s t type : ExprType) → Typed slots root scope left s → Typed slots root scope right t
-      → ClassTyped (class_of operator) s t type → (n : ℤ) → ¬ ReadsNumber slots (OfEquality operator (Typed slots root scope left)) right n
+      → OperatorByTypes operator s t type → (n : ℤ) → ¬ ReadsNumber slots (OfEquality operator (Typed slots root scope left)) right n
   right_unread operator left right s t type of_left of_right typed n reads =
       right_apart left right s t n of_left of_right (record { type_of = reads.type_of; beside = reads.beside.1; number = reads.number })
       (equality_compares operator s t type reads.beside.0 typed)
 
   pub left_unread : (operator : BinaryOperator) (left right : Tree) (s t type : ExprType) → Typed slots root scope left s → Typed slots root scope right t
-      → ClassTyped (class_of operator) s t type → (n : ℤ) → ¬ ReadsNumber slots (OfEquality operator (Typed slots root scope right)) left n
+      → OperatorByTypes operator s t type → (n : ℤ) → ¬ ReadsNumber slots (OfEquality operator (Typed slots root scope right)) left n
   left_unread operator left right s t type of_left of_right typed n reads =
       left_apart left right s t n of_left of_right (record { type_of = reads.type_of; beside = reads.beside.1; number = reads.number })
       (equality_compares operator s t type reads.beside.0 typed)

@@ -4,21 +4,19 @@ use Rattle.edm_values.specs.Val.{Val, null, boolean}
 use Rattle.csdl_schema.specs.ExprType.{ExprType}
 use Rattle.csdl_schema.specs.SchemaModel.{Slots}
 use Rattle.odata_syntax.specs.Tree.{Tree}
-use Rattle.odata_syntax.specs.declared.node.BinaryOperator.{BinaryOperator}
-use Rattle.odata_signatures.specs.OperatorClass.{class_of}
+use Rattle.odata_syntax.specs.declared.binary_operator.BinaryOperator.{BinaryOperator}
 use Rattle.odata_signatures.specs.QuotedNumber.{NumberBeside}
 use Rattle.odata_expression_types.specs.Reads.{OfEquality, ReadsNumber}
 use Rattle.odata_expression_types.specs.Sides.{quoted_text}
 use Rattle.odata_expression_types.specs.Typed.{OperandTyped, OperandsTyped}
-use Rattle.odata_signatures.specs.declared.operator_class.Connective.{Connective}
-use Rattle.odata_signatures.specs.declared.operator_class.OperatorClass.{OperatorClass}
+use Rattle.odata_syntax.specs.declared.binary_operator.LogicalOperator.{LogicalOperator}
 use Rattle.odata_filter_operations.specs.CalculationGives.{CalculationGives}
 use Rattle.odata_filter_operations.specs.CompareGives.{CompareGives}
 use Rattle.odata_filter_operations.specs.LeftFirst.{After, Then}
-use Rattle.odata_eval.specs.OperatorGives.{ClassGives, InType, OperatorGives, SidesGive}
+use Rattle.odata_eval.specs.OperatorGives.{InType, OperatorGives, SidesGive}
 use Rattle.odata_eval.specs.ReadGives.{UnlessRead}
 use Rattle.odata_filter_operations.specs.Outcome.{Outcome, gives, overflow, divides_by_zero, GivesSome}
-use Rattle.odata_filter_operations.specs.TruthGives.{ConnectiveGives, JoinGives}
+use Rattle.odata_filter_operations.specs.TruthGives.{LogicalGives, JoinGives}
 
 -- outcomes of the one are outcomes of the other
 abbrev pub Goes : (Outcome → Type 0) → (Outcome → Type 0) → Type 0
@@ -79,30 +77,30 @@ pub in_type_both : (N M : ExprType → Type 0) (Gives : ExprType → Outcome →
 in_type_both N M Gives same =
     both (InType N Gives) (InType M Gives) (in_type_goes N M Gives (λ type. (same type).0)) (in_type_goes M N Gives (λ type. (same type).1))
 
-connective_goes : (connective : Connective) (v : Val) (P Q : Outcome → Type 0) → Goes P Q → Goes (ConnectiveGives connective v P) (ConnectiveGives connective v Q)
-connective_goes Connective.And (boolean false) P Q goes o is = is
-connective_goes Connective.And (boolean true) P Q goes o is = after_goes P Q (JoinGives Connective.And (Some true)) (JoinGives Connective.And (Some true)) goes (λ v r given. given) o is
-connective_goes Connective.And null P Q goes o is = after_goes P Q (JoinGives Connective.And None) (JoinGives Connective.And None) goes (λ v r given. given) o is
-connective_goes Connective.Or (boolean true) P Q goes o is = is
-connective_goes Connective.Or (boolean false) P Q goes o is = after_goes P Q (JoinGives Connective.Or (Some false)) (JoinGives Connective.Or (Some false)) goes (λ v r given. given) o is
-connective_goes Connective.Or null P Q goes o is = after_goes P Q (JoinGives Connective.Or None) (JoinGives Connective.Or None) goes (λ v r given. given) o is
-connective_goes _ _ P Q goes o is = absurd is
+logical_goes : (logical : LogicalOperator) (v : Val) (P Q : Outcome → Type 0) → Goes P Q → Goes (LogicalGives logical v P) (LogicalGives logical v Q)
+logical_goes LogicalOperator.And (boolean false) P Q goes o is = is
+logical_goes LogicalOperator.And (boolean true) P Q goes o is = after_goes P Q (JoinGives LogicalOperator.And (Some true)) (JoinGives LogicalOperator.And (Some true)) goes (λ v r given. given) o is
+logical_goes LogicalOperator.And null P Q goes o is = after_goes P Q (JoinGives LogicalOperator.And None) (JoinGives LogicalOperator.And None) goes (λ v r given. given) o is
+logical_goes LogicalOperator.Or (boolean true) P Q goes o is = is
+logical_goes LogicalOperator.Or (boolean false) P Q goes o is = after_goes P Q (JoinGives LogicalOperator.Or (Some false)) (JoinGives LogicalOperator.Or (Some false)) goes (λ v r given. given) o is
+logical_goes LogicalOperator.Or null P Q goes o is = after_goes P Q (JoinGives LogicalOperator.Or None) (JoinGives LogicalOperator.Or None) goes (λ v r given. given) o is
+logical_goes _ _ P Q goes o is = absurd is
 
-class_goes : (class : OperatorClass) (N M : ExprType → Type 0) (v : Val) (P Q : Outcome → Type 0) → ((type : ExprType) → N type → M type) → Goes P Q
-    → Goes (ClassGives class N v P) (ClassGives class M v Q)
-class_goes (OperatorClass.Connective connective) N M v P Q typed goes = connective_goes connective v P Q goes
-class_goes (OperatorClass.Comparison comparison) N M v P Q typed goes =
+operator_goes : (operator : BinaryOperator) (N M : ExprType → Type 0) (v : Val) (P Q : Outcome → Type 0) → ((type : ExprType) → N type → M type) → Goes P Q
+    → Goes (OperatorGives operator N v P) (OperatorGives operator M v Q)
+operator_goes (BinaryOperator.Logical logical) N M v P Q typed goes = logical_goes logical v P Q goes
+operator_goes (BinaryOperator.Comparison comparison) N M v P Q typed goes =
     after_goes P Q (CompareGives comparison v) (CompareGives comparison v) goes (λ w o given. given)
-class_goes (OperatorClass.Arithmetic arithmetic) N M v P Q typed goes =
+operator_goes (BinaryOperator.Arithmetic arithmetic) N M v P Q typed goes =
     after_goes P Q (λ w. InType N (λ type. CalculationGives arithmetic type v w)) (λ w. InType M (λ type. CalculationGives arithmetic type v w)) goes
     (λ w. in_type_goes N M (λ type. CalculationGives arithmetic type v w) typed)
 
-pub class_both : (class : OperatorClass) (N M : ExprType → Type 0) (v : Val) (P Q : Outcome → Type 0) → BothTyped N M → Both P Q
-    → Both (ClassGives class N v P) (ClassGives class M v Q)
-class_both class N M v P Q typed same =
-    both (ClassGives class N v P) (ClassGives class M v Q)
-    (class_goes class N M v P Q (λ type. (typed type).0) (there P Q same))
-    (class_goes class M N v Q P (λ type. (typed type).1) (back P Q same))
+pub operator_both : (operator : BinaryOperator) (N M : ExprType → Type 0) (v : Val) (P Q : Outcome → Type 0) → BothTyped N M → Both P Q
+    → Both (OperatorGives operator N v P) (OperatorGives operator M v Q)
+operator_both operator N M v P Q typed same =
+    both (OperatorGives operator N v P) (OperatorGives operator M v Q)
+    (operator_goes operator N M v P Q (λ type. (typed type).0) (there P Q same))
+    (operator_goes operator M N v Q P (λ type. (typed type).1) (back P Q same))
 
 -- ---- the types of operands
 
@@ -146,7 +144,7 @@ unless_both R S F G P Q reads given same =
 pub sides_both : (operator : BinaryOperator) (N M : ExprType → Type 0) (L K R S : Outcome → Type 0) → BothTyped N M → Both L K → Both R S
     → Both (SidesGive operator N L R) (SidesGive operator M K S)
 sides_both operator N M L K R S typed left right =
-    after_both L K (λ v. OperatorGives operator N v R) (λ v. OperatorGives operator M v S) left (λ v. class_both (class_of operator) N M v R S typed right)
+    after_both L K (λ v. OperatorGives operator N v R) (λ v. OperatorGives operator M v S) left (λ v. operator_both operator N M v R S typed right)
 
 -- of trees that quote the same beside operands of the same types
 reads_go : (slots : Slots) (B C : ExprType → Type 0) (tree other : Tree) (n : ℤ) → ((type : ExprType) → B type → C type) → quoted_text tree ≡ quoted_text other

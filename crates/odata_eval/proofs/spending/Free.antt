@@ -7,13 +7,11 @@ use Rattle.odata_checked_filter.specs.declared.checked_node.CheckedNode.{Checked
 use Rattle.odata_checked_filter.specs.declared.checked_node.NodeKind.{NodeKind}
 use Rattle.odata_signatures.specs.CollectionTyped.{IsComparableWithMembers}
 use Rattle.odata_signatures.specs.HasTyped.{AreFlags}
-use Rattle.odata_signatures.specs.OperatorClass.{class_of}
-use Rattle.odata_signatures.specs.OperatorTyped.{ClassTyped}
+use Rattle.odata_signatures.specs.OperatorTyped.{OperatorByTypes}
 use Rattle.odata_signatures.specs.QuotedNumber.{NumberBeside}
-use Rattle.odata_signatures.specs.declared.operator_class.OperatorClass.{OperatorClass}
+use Rattle.odata_syntax.specs.declared.binary_operator.BinaryOperator.{BinaryOperator}
 use Rattle.odata_expression_types.specs.Sides.{quoted_text}
 use Rattle.odata_syntax.specs.Tree.{Tree, binary, node, literal}
-use Rattle.odata_syntax.specs.declared.node.BinaryOperator.{BinaryOperator}
 use Rattle.odata_signatures.specs.declared.function.Function.{Function}
 use Rattle.odata_eval.specs.Costs.{RightCosts}
 use Rattle.odata_eval.specs.declared.part.WalkClass.{WalkClass}
@@ -30,16 +28,16 @@ use Rattle.odata_eval.proofs.walking.Parts.{by_kind, some_there, there_found}
 use Rattle.odata_eval.proofs.walking.Unread.{operator_plain}
 
 -- no operator is taken as a leaf
-operator_inner : (class : OperatorClass) → walk_of_operator class ≡ WalkClass.Leaf → ⊥
-operator_inner (OperatorClass.Connective connective) leaf = cc
-operator_inner (OperatorClass.Comparison comparison) leaf = cc
-operator_inner (OperatorClass.Arithmetic arithmetic) leaf = cc
+operator_inner : (operator : BinaryOperator) → walk_of_operator operator ≡ WalkClass.Leaf → ⊥
+operator_inner (BinaryOperator.Logical logical) leaf = cc
+operator_inner (BinaryOperator.Comparison comparison) leaf = cc
+operator_inner (BinaryOperator.Arithmetic arithmetic) leaf = cc
 
 -- operands of arithmetic
-numbers_plain : (class : OperatorClass) (left right type : ExprType) → walk_of_operator class ≡ WalkClass.Numeric → ClassTyped class left right type → IsPlainType left × IsPlainType right
-numbers_plain (OperatorClass.Arithmetic arithmetic) left right type numeric typed = (number_plain left typed.left_number typed.left_is, number_plain right typed.right_number typed.right_is)
-numbers_plain (OperatorClass.Connective connective) left right type numeric typed = absurd (cc)
-numbers_plain (OperatorClass.Comparison comparison) left right type numeric typed = absurd (cc)
+numbers_plain : (operator : BinaryOperator) (left right type : ExprType) → walk_of_operator operator ≡ WalkClass.Numeric → OperatorByTypes operator left right type → IsPlainType left × IsPlainType right
+numbers_plain (BinaryOperator.Arithmetic arithmetic) left right type numeric typed = (number_plain left typed.left_number typed.left_is, number_plain right typed.right_number typed.right_is)
+numbers_plain (BinaryOperator.Logical logical) left right type numeric typed = absurd (cc)
+numbers_plain (BinaryOperator.Comparison comparison) left right type numeric typed = absurd (cc)
 
 -- of `has`, and of `in` before a path
 pub flags_plain_type : (left right : ExprType) → AreFlags left right → IsPlainType right
@@ -92,7 +90,7 @@ module _ (scene : SceneModel) where
   leaf_of_kind place NodeKind.Now leaf here = by_kind scene place NodeKind.Now here (λ stop tree. IsFree (CostsHere scene tree))
       (λ asked arguments named stop from to stands.
       call_free (slots_of scene.row.schema) (type_name_at scene.row.schema scene.row.type_id) scene.moment (value_of scene.row) (environment_of scene) from to asked arguments _ stands.top.typed)
-  leaf_of_kind place (NodeKind.Binary operator) leaf here = absurd (operator_inner (class_of operator) leaf)
+  leaf_of_kind place (NodeKind.Binary operator) leaf here = absurd (operator_inner operator leaf)
   leaf_of_kind place _ leaf here = absurd (cc)
 
   pub leaf_free : (place : ℕ) → IsClassAt scene.list WalkClass.Leaf place → FreeThere place
@@ -106,9 +104,9 @@ module _ (scene : SceneModel) where
   numeric_of_kind place (NodeKind.Binary operator) numeric here = by_kind scene place (NodeKind.Binary operator) here (λ stop tree. IsFree (CostsHere scene tree))
       (λ left right stop from to stands.
       let typed = stands.top.typed in
-      let plain = numbers_plain (class_of operator) typed.left typed.right _ numeric (operator_plain scene place stop from to left right operator here stands _ typed) in
-      after_free (MeansHere scene left) (CostsHere scene left) (λ l. RightCosts (class_of operator) l (CostsHere scene right)) (plain_here left typed.left typed.left_typed plain.0)
-      (λ l. right_free (class_of operator) l (CostsHere scene right) (plain_here right typed.right typed.right_typed plain.1)))
+      let plain = numbers_plain operator typed.left typed.right _ numeric (operator_plain scene place stop from to left right operator here stands _ typed) in
+      after_free (MeansHere scene left) (CostsHere scene left) (λ l. RightCosts operator l (CostsHere scene right)) (plain_here left typed.left typed.left_typed plain.0)
+      (λ l. right_free operator l (CostsHere scene right) (plain_here right typed.right typed.right_typed plain.1)))
   numeric_of_kind place _ numeric here = absurd (cc)
 
   pub numeric_free : (place : ℕ) → IsClassAt scene.list WalkClass.Numeric place → FreeThere place
@@ -123,8 +121,8 @@ module _ (scene : SceneModel) where
   pub sides_free : (operator : BinaryOperator) (left right : Tree) → IsFree (CostsHere scene left) → IsFree (CostsHere scene right) → (from to : ℕ)
       → IsFree (CostsHere scene (node from to (binary operator left right)))
   sides_free operator left right of_left of_right from to =
-      after_free (MeansHere scene left) (CostsHere scene left) (λ l. RightCosts (class_of operator) l (CostsHere scene right)) of_left
-      (λ l. right_free (class_of operator) l (CostsHere scene right) of_right)
+      after_free (MeansHere scene left) (CostsHere scene left) (λ l. RightCosts operator l (CostsHere scene right)) of_left
+      (λ l. right_free operator l (CostsHere scene right) of_right)
 
   -- a step from a leaf, and so a path of at most one
   pub step_free : (place slot : ℕ) → HasKind scene.list place (NodeKind.Member slot) → IsClassAt scene.list WalkClass.Leaf (place + 1) → FreeThere place

@@ -4,7 +4,7 @@ use Rattle.edm_values.specs.Val.{Val, boolean}
 use Rattle.csdl_schema.specs.ExprType.{ExprType, collection}
 use Rattle.csdl_schema.specs.SchemaModel.{slots_of, type_name_at}
 use Rattle.edm_entities.specs.Row.{value_of}
-use Rattle.odata_functions.specs.declared.comparison.ComparisonOperator.{ComparisonOperator}
+use Rattle.odata_syntax.specs.declared.binary_operator.ComparisonOperator.{ComparisonOperator}
 use Rattle.odata_filter_operations.specs.CompareGives.{CompareGives}
 use Rattle.odata_filter_operations.specs.LambdaGives.{ItemsGive}
 use Rattle.odata_filter_operations.specs.LeftFirst.{After}

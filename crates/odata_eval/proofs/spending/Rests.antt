@@ -8,14 +8,12 @@ use Rattle.odata_checked_filter.specs.declared.checked_node.NodeKind.{NodeKind}
 use Rattle.odata_filter_operations.specs.Outcome.{gives}
 use Rattle.odata_filter_operations.specs.TruthGives.{truth_val}
 use Rattle.odata_signatures.specs.ArgumentTypes.{AreArgumentTypes}
-use Rattle.odata_signatures.specs.OperatorClass.{class_of}
 use Rattle.odata_signatures.specs.declared.argument_kind.ArgumentKind.{ArgumentKind}
 use Rattle.odata_signatures.specs.declared.function.Function.{Function}
-use Rattle.odata_signatures.specs.declared.operator_class.Connective.{Connective}
-use Rattle.odata_signatures.specs.declared.operator_class.OperatorClass.{OperatorClass}
-use Rattle.odata_functions.specs.declared.comparison.ComparisonOperator.{ComparisonOperator}
+use Rattle.odata_syntax.specs.declared.binary_operator.LogicalOperator.{LogicalOperator}
+use Rattle.odata_syntax.specs.declared.binary_operator.BinaryOperator.{BinaryOperator}
+use Rattle.odata_syntax.specs.declared.binary_operator.ComparisonOperator.{ComparisonOperator}
 use Rattle.odata_syntax.specs.Tree.{Tree, Trees, node, call, more_trees, no_trees}
-use Rattle.odata_syntax.specs.declared.node.BinaryOperator.{BinaryOperator}
 use Rattle.odata_signatures.specs.Functions.{IsNamed}
 use Rattle.odata_eval.specs.Costs.{ArgumentsCost, CostAfter, RightCosts}
 use Rattle.odata_eval.specs.declared.budget.Budget.{Budget}
@@ -108,14 +106,14 @@ module _ (scene : SceneModel) where
       (λ left right stop from to stands n costs.
       let reads = (right_read scene place operator number here stop from to left right stands).reads in
       let free = read_free scene (slots_of scene.row.schema) reads.type_of right _ reads.number in
-      no_rest_after place stands.children.middle left stands.children.left (λ l. RightCosts (class_of operator) l (CostsHere scene right))
-      (λ l. right_free (class_of operator) l (CostsHere scene right) free) n costs)
+      no_rest_after place stands.children.middle left stands.children.left (λ l. RightCosts operator l (CostsHere scene right))
+      (λ l. right_free operator l (CostsHere scene right) free) n costs)
   no_rest place (NodeKind.PairedLeft operator number) none here = by_kind scene place (NodeKind.PairedLeft operator number) here (NoRest place)
       (λ left right stop from to stands n costs.
       let reads = (left_read scene place operator number here stop from to left right stands).reads.1 in
       let free = plain_here scene right reads.type_of reads.beside.1 (beside_plain (slots_of scene.row.schema) reads.type_of _ _ reads.number) in
-      no_rest_after place stands.children.middle left stands.children.left (λ l. RightCosts (class_of operator) l (CostsHere scene right))
-      (λ l. right_free (class_of operator) l (CostsHere scene right) free) n costs)
+      no_rest_after place stands.children.middle left stands.children.left (λ l. RightCosts operator l (CostsHere scene right))
+      (λ l. right_free operator l (CostsHere scene right) free) n costs)
   no_rest place NodeKind.Has none here = by_kind scene place NodeKind.Has here (NoRest place)
       (λ left right stop from to stands n costs.
       let typed = stands.top.typed in
@@ -156,7 +154,7 @@ module _ (scene : SceneModel) where
       (l : ExprType → Val) (first : AnswersAtPlace scene (place + 1) (λ type. Some (gives (l type)))) where
     binary_rest : (old new : Budget) (stop : Option EvalStop)
         → ((middle last : ℕ) (right : Tree) (type : ExprType) (rest : ℕ) → ((at : ℕ) → IsRightOf scene.list place at → middle ≡ at) → StandsHere scene middle last right
-        → RightCosts (class_of operator) (l type) (CostsHere scene right) rest → Spent stop old new rest)
+        → RightCosts operator (l type) (CostsHere scene right) rest → Spent stop old new rest)
         → SpendsRest scene place old None new stop
     binary_rest old new stop goes =
         rest_spends scene place old new stop
@@ -167,7 +165,7 @@ module _ (scene : SceneModel) where
         let means : MeansHere scene left (gives (l typed.left)) = first.of_tree stands.children.middle left typed.left stands.children.left typed.left_typed in
         let once = ends left typed.left typed.left_typed in
         let same : costs.outcome ≡ gives (l typed.left) = once.only costs.outcome costs.is ∙ sym (once.only (gives (l typed.left)) means) in
-        let asked = follows costs.outcome (gives (l typed.left)) (λ v. RightCosts (class_of operator) v (CostsHere scene right)) costs.rest same costs.follows in
+        let asked = follows costs.outcome (gives (l typed.left)) (λ v. RightCosts operator v (CostsHere scene right)) costs.rest same costs.follows in
         record {
           stop = stands.children.middle;
           operand = left;
@@ -181,45 +179,46 @@ module _ (scene : SceneModel) where
         })
         whole_last whole whole_stands whole_cost whole_costs)
 
-    -- a comparison asks for its right side
-    pub right_compared : (comparison : ComparisonOperator) → class_of operator ≡ OperatorClass.Comparison comparison → (right_place : ℕ) → IsRightOf scene.list place right_place
+  -- a comparison asks for its right side
+  module _ (place : ℕ) (comparison : ComparisonOperator) (here : HasKind scene.list place (NodeKind.Binary (BinaryOperator.Comparison comparison))) (ends : EndsOnceHere scene)
+      (l : ExprType → Val) (first : AnswersAtPlace scene (place + 1) (λ type. Some (gives (l type)))) where
+    pub right_compared : (right_place : ℕ) → IsRightOf scene.list place right_place
         → (old new : Budget) (stop : Option EvalStop) → SpendsAt scene right_place old new stop → SpendsRest scene place old None new stop
-    right_compared comparison class right_place is_right old new stop second =
-        binary_rest old new stop
+    right_compared right_place is_right old new stop second =
+        binary_rest place (BinaryOperator.Comparison comparison) here ends l first old new stop
         (λ middle last right type rest same stands asked.
-        second.of_tree last right rest (subst (λ (m : ℕ). StandsHere scene m last right) (same right_place is_right) stands)
-        (subst (λ (c : OperatorClass). RightCosts c (l type) (CostsHere scene right) rest) class asked))
+        second.of_tree last right rest (subst (λ (m : ℕ). StandsHere scene m last right) (same right_place is_right) stands) asked)
 
 -- a left side that decides asks for nothing more, another one for the right side
-decided_costs : (connective : Connective) (left : Option Bool) (Right : ℕ → Type 0) (n : ℕ) → IsDecided connective (truth_val left) → RightCosts (OperatorClass.Connective connective) (truth_val left) Right n → n ≡ 0
-decided_costs Connective.And (Some false) Right n decided costs = costs
-decided_costs Connective.Or (Some true) Right n decided costs = costs
-decided_costs Connective.And (Some true) Right n decided costs = absurd decided
-decided_costs Connective.Or (Some false) Right n decided costs = absurd decided
-decided_costs Connective.And None Right n decided costs = absurd decided
-decided_costs Connective.Or None Right n decided costs = absurd decided
+decided_costs : (logical : LogicalOperator) (left : Option Bool) (Right : ℕ → Type 0) (n : ℕ) → IsDecided logical (truth_val left) → RightCosts (BinaryOperator.Logical logical) (truth_val left) Right n → n ≡ 0
+decided_costs LogicalOperator.And (Some false) Right n decided costs = costs
+decided_costs LogicalOperator.Or (Some true) Right n decided costs = costs
+decided_costs LogicalOperator.And (Some true) Right n decided costs = absurd decided
+decided_costs LogicalOperator.Or (Some false) Right n decided costs = absurd decided
+decided_costs LogicalOperator.And None Right n decided costs = absurd decided
+decided_costs LogicalOperator.Or None Right n decided costs = absurd decided
 
-undecided_costs : (connective : Connective) (left : Option Bool) (Right : ℕ → Type 0) (n : ℕ) → ¬ (IsDecided connective (truth_val left)) → RightCosts (OperatorClass.Connective connective) (truth_val left) Right n → Right n
-undecided_costs Connective.And (Some false) Right n undecided costs = absurd (undecided tt)
-undecided_costs Connective.Or (Some true) Right n undecided costs = absurd (undecided tt)
-undecided_costs Connective.And (Some true) Right n undecided costs = costs
-undecided_costs Connective.Or (Some false) Right n undecided costs = costs
-undecided_costs Connective.And None Right n undecided costs = costs
-undecided_costs Connective.Or None Right n undecided costs = costs
+undecided_costs : (logical : LogicalOperator) (left : Option Bool) (Right : ℕ → Type 0) (n : ℕ) → ¬ (IsDecided logical (truth_val left)) → RightCosts (BinaryOperator.Logical logical) (truth_val left) Right n → Right n
+undecided_costs LogicalOperator.And (Some false) Right n undecided costs = absurd (undecided tt)
+undecided_costs LogicalOperator.Or (Some true) Right n undecided costs = absurd (undecided tt)
+undecided_costs LogicalOperator.And (Some true) Right n undecided costs = costs
+undecided_costs LogicalOperator.Or (Some false) Right n undecided costs = costs
+undecided_costs LogicalOperator.And None Right n undecided costs = costs
+undecided_costs LogicalOperator.Or None Right n undecided costs = costs
 
-module _ (scene : SceneModel) (place : ℕ) (operator : BinaryOperator) (here : HasKind scene.list place (NodeKind.Binary operator)) (ends : EndsOnceHere scene)
-    (connective : Connective) (class : class_of operator ≡ OperatorClass.Connective connective) (left : Option Bool) (first : AnswersTruth scene (place + 1) (Ok left)) where
-  pub right_left_out : IsDecided connective (truth_val left) → (budget : Budget) → SpendsRest scene place budget None budget None
+module _ (scene : SceneModel) (place : ℕ) (logical : LogicalOperator) (here : HasKind scene.list place (NodeKind.Binary (BinaryOperator.Logical logical))) (ends : EndsOnceHere scene)
+    (left : Option Bool) (first : AnswersTruth scene (place + 1) (Ok left)) where
+  pub right_left_out : IsDecided logical (truth_val left) → (budget : Budget) → SpendsRest scene place budget None budget None
   right_left_out decided budget =
-      binary_rest scene place operator here ends (λ type. truth_val left) first budget budget None
+      binary_rest scene place (BinaryOperator.Logical logical) here ends (λ type. truth_val left) first budget budget None
       (λ middle last right type rest same stands asked.
-      let none : rest ≡ 0 = decided_costs connective left (CostsHere scene right) rest decided (subst (λ (c : OperatorClass). RightCosts c (truth_val left) (CostsHere scene right) rest) class asked) in
+      let none : rest ≡ 0 = decided_costs logical left (CostsHere scene right) rest decided asked in
       spent_same None budget budget 0 rest none (takes_nothing budget))
 
-  pub right_asked : ¬ (IsDecided connective (truth_val left)) → (right_place : ℕ) → IsRightOf scene.list place right_place
+  pub right_asked : ¬ (IsDecided logical (truth_val left)) → (right_place : ℕ) → IsRightOf scene.list place right_place
       → (old new : Budget) (stop : Option EvalStop) → SpendsAt scene right_place old new stop → SpendsRest scene place old None new stop
   right_asked undecided right_place is_right old new stop second =
-      binary_rest scene place operator here ends (λ type. truth_val left) first old new stop
+      binary_rest scene place (BinaryOperator.Logical logical) here ends (λ type. truth_val left) first old new stop
       (λ middle last right type rest same stands asked.
       second.of_tree last right rest (subst (λ (m : ℕ). StandsHere scene m last right) (same right_place is_right) stands)
-      (undecided_costs connective left (CostsHere scene right) rest undecided (subst (λ (c : OperatorClass). RightCosts c (truth_val left) (CostsHere scene right) rest) class asked)))
+      (undecided_costs logical left (CostsHere scene right) rest undecided asked))

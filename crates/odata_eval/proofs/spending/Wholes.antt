@@ -2,7 +2,7 @@
 use Rattle.std.proofs.Common.{◌+◌, ℕ, subst}
 use Rattle.csdl_schema.specs.SchemaModel.{slots_of}
 use Rattle.odata_checked_filter.specs.declared.checked_node.NodeKind.{NodeKind}
-use Rattle.odata_syntax.specs.declared.node.BinaryOperator.{BinaryOperator}
+use Rattle.odata_syntax.specs.declared.binary_operator.BinaryOperator.{BinaryOperator}
 use Rattle.odata_eval.specs.private.Place.{HasKind, IsRightOf}
 use Rattle.odata_eval.specs.private.Scene.{StandsHere}
 use Rattle.odata_eval.specs.private.SceneModel.{SceneModel}

@@ -4,11 +4,9 @@ use Rattle.std.specs.Prelude.{◌↔◌, IfSome, IsTrue}
 use Rattle.std.proofs.lemmas.Bool.{cases_lt}
 use Rattle.edm_values.specs.PlainVal.{plain_val}
 use Rattle.edm_values.specs.declared.value.Value.{Value}
-use Rattle.odata_syntax.specs.declared.node.BinaryOperator.{BinaryOperator}
+use Rattle.odata_syntax.specs.declared.binary_operator.BinaryOperator.{BinaryOperator}
 use Rattle.odata_signatures.specs.ExprTypes.{IsBooleanOrNull}
-use Rattle.odata_signatures.specs.OperatorClass.{class_of}
-use Rattle.odata_signatures.specs.declared.operator_class.Connective.{Connective}
-use Rattle.odata_signatures.specs.declared.operator_class.OperatorClass.{OperatorClass}
+use Rattle.odata_syntax.specs.declared.binary_operator.LogicalOperator.{LogicalOperator}
 use Rattle.odata_checked_filter.specs.FlatTree.{FlatTree}
 use Rattle.odata_filter_operations.specs.TruthGives.{joined, truth_val}
 use Rattle.odata_filter_operations.specs.declared.fault.EvalFault.{EvalFault}
@@ -23,13 +21,13 @@ use Rattle.odata_eval.proofs.walking.WalkSteps.{decided_answers, joined_answers,
 
 -- before so many places there are only `and`s
 abbrev pub AndsBefore : FlatTree → ℕ → Type 0
-AndsBefore list count = (k : ℕ) → k < count → HasOperator list k BinaryOperator.And
+AndsBefore list count = (k : ℕ) → k < count → HasOperator list k (BinaryOperator.Logical LogicalOperator.And)
 
-pub ands_further : (list : FlatTree) (count : ℕ) → AndsBefore list count → HasOperator list count BinaryOperator.And → AndsBefore list (count + 1)
+pub ands_further : (list : FlatTree) (count : ℕ) → AndsBefore list count → HasOperator list count (BinaryOperator.Logical LogicalOperator.And) → AndsBefore list (count + 1)
 ands_further list count ands here k within =
     elim (cases_lt k count) [
       | inl before ↦ ands k before
-      | inr after ↦ (let same : count ≡ k = omega arith in subst (λ (n : ℕ). HasOperator list n BinaryOperator.And) same here)
+      | inr after ↦ (let same : count ≡ k = omega arith in subst (λ (n : ℕ). HasOperator list n (BinaryOperator.Logical LogicalOperator.And)) same here)
     ]
 
 -- what goes on from each place to the one before it goes up to the top
@@ -44,36 +42,36 @@ pub told_not : (answer : Bool) (Fact : Type 0) → (IsTrue answer ↔ Fact) → 
 told_not answer Fact told so = λ fact. let e : answer ≡ true = told.1 fact in absurd (cc)
 
 -- a true term leaves what the others come to, a false one makes them false
-true_term : (left : Option Bool) → joined Connective.And left (Some true) ≡ left
+true_term : (left : Option Bool) → joined LogicalOperator.And left (Some true) ≡ left
 true_term (Some true) = refl
 true_term (Some false) = refl
 true_term None = refl
 
-false_term : (left : Option Bool) → joined Connective.And left (Some false) ≡ Some false
+false_term : (left : Option Bool) → joined LogicalOperator.And left (Some false) ≡ Some false
 false_term (Some true) = refl
 false_term (Some false) = refl
 false_term None = refl
 
 -- behind a true one the others come to what they come to by themselves
-true_side : (term : Option Bool) → joined Connective.And (Some true) term ≡ term
+true_side : (term : Option Bool) → joined LogicalOperator.And (Some true) term ≡ term
 true_side (Some true) = refl
 true_side (Some false) = refl
 true_side None = refl
 
 module _ (scene : SceneModel) where
-  and_walks : (place : ℕ) → HasOperator scene.list place BinaryOperator.And → IsClassAt scene.list WalkClass.Logical place
-  and_walks place here = walks_by scene.list place BinaryOperator.And WalkClass.Logical here refl
+  and_walks : (place : ℕ) → HasOperator scene.list place (BinaryOperator.Logical LogicalOperator.And) → IsClassAt scene.list WalkClass.Logical place
+  and_walks place here = walks_by scene.list place (BinaryOperator.Logical LogicalOperator.And) WalkClass.Logical here refl
 
   -- the next place down
-  pub next_stands : (place : ℕ) → HasOperator scene.list place BinaryOperator.And → TruthStands scene place → TruthStands scene (place + 1)
+  pub next_stands : (place : ℕ) → HasOperator scene.list place (BinaryOperator.Logical LogicalOperator.And) → TruthStands scene place → TruthStands scene (place + 1)
   next_stands place here stands = first_step scene place WalkClass.Logical (λ leaf. cc) (and_walks place here) (typed_part scene place IsBooleanOrNull stands)
 
   module _ (count : ℕ) (ands : AndsBefore scene.list count) where
     -- what decides in a place of the chain, or has a fault, is what the whole comes to
-    pub decided_up : (left : Option Bool) → IsDecided Connective.And (truth_val left) → (place : ℕ) → place ≤ count → AnswersTruth scene place (Ok left) → AnswersTruth scene 0 (Ok left)
+    pub decided_up : (left : Option Bool) → IsDecided LogicalOperator.And (truth_val left) → (place : ℕ) → place ≤ count → AnswersTruth scene place (Ok left) → AnswersTruth scene 0 (Ok left)
     decided_up left decided place within =
         up (λ k. AnswersTruth scene k (Ok left)) place
-        (λ i before first. decided_answers scene i BinaryOperator.And (ands i (omega arith)) Connective.And left refl decided first)
+        (λ i before first. decided_answers scene i LogicalOperator.And (ands i (omega arith)) left decided first)
 
     pub fault_up : (place : ℕ) → place ≤ count → (fault : EvalFault) → AnswersTruth scene place (Err fault) → AnswersTruth scene 0 (Err fault)
     fault_up place within fault =
@@ -82,7 +80,7 @@ module _ (scene : SceneModel) where
 
     -- a step up, to the `and` of which the terms so far are the left side
     module _ (top : TruthStands scene 0) (at : ℕ) (above : 0 < at) (within : at ≤ count) where
-      and_there : HasOperator scene.list (at - 1) BinaryOperator.And
+      and_there : HasOperator scene.list (at - 1) (BinaryOperator.Logical LogicalOperator.And)
       and_there = ands (at - 1) (omega arith)
 
       part_there : PartStands scene (at - 1)
@@ -92,20 +90,20 @@ module _ (scene : SceneModel) where
 
       -- the next term stands on its right
       pub term_there : (right : ℕ) × IsRightOf scene.list (at - 1) right
-      term_there = right_there scene (at - 1) BinaryOperator.And and_there part_there
+      term_there = right_there scene (at - 1) (BinaryOperator.Logical LogicalOperator.And) and_there part_there
 
       module _ (right : ℕ) (is_right : IsRightOf scene.list (at - 1) right) where
         pub term_stands : TruthStands scene right
-        term_stands = right_typed scene (at - 1) BinaryOperator.And and_there part_there right is_right WalkClass.Logical refl
+        term_stands = right_typed scene (at - 1) (BinaryOperator.Logical LogicalOperator.And) and_there part_there right is_right WalkClass.Logical refl
 
-        module _ (left : Option Bool) (undecided : ¬ (IsDecided Connective.And (truth_val left))) (first : AnswersTruth scene at (Ok left)) where
+        module _ (left : Option Bool) (undecided : ¬ (IsDecided LogicalOperator.And (truth_val left))) (first : AnswersTruth scene at (Ok left)) where
           left_there : AnswersTruth scene (at - 1 + 1) (Ok left)
           left_there = let e : at ≡ at - 1 + 1 = omega arith in subst (λ (k : ℕ). AnswersTruth scene k (Ok left)) e first
 
           -- what comes of the terms so far and of the next one
-          pub next_answers : (term : Option Bool) → AnswersTruth scene right (Ok term) → AnswersTruth scene (at - 1) (Ok (joined Connective.And left term))
+          pub next_answers : (term : Option Bool) → AnswersTruth scene right (Ok term) → AnswersTruth scene (at - 1) (Ok (joined LogicalOperator.And left term))
           next_answers term second =
-              joined_answers scene (at - 1) BinaryOperator.And and_there right is_right Connective.And left refl undecided left_there term second
+              joined_answers scene (at - 1) LogicalOperator.And and_there left right is_right undecided left_there term second
 
           pub true_answers : AnswersTruth scene right (Ok (Some true)) → AnswersTruth scene (at - 1) (Ok left)
           true_answers second = subst (λ (r : Option Bool). AnswersTruth scene (at - 1) (Ok r)) (true_term left) (next_answers (Some true) second)
@@ -117,7 +115,7 @@ module _ (scene : SceneModel) where
           pub fault_answers : (fault : EvalFault) → AnswersTruth scene right (Err fault) → AnswersTruth scene 0 (Err fault)
           fault_answers fault second =
               fault_up (at - 1) (omega arith) fault
-              (joined_faults scene (at - 1) BinaryOperator.And and_there right is_right Connective.And left refl undecided left_there fault second)
+              (joined_faults scene (at - 1) LogicalOperator.And and_there left right is_right undecided left_there fault second)
 
         module _ (first : AnswersTruth scene at (Ok (Some true))) where
           -- behind true terms the next one's answer is that of its `and`
@@ -125,19 +123,19 @@ module _ (scene : SceneModel) where
           true_goes_up (Ok term) second =
               subst (λ (r : Option Bool). AnswersTruth scene (at - 1) (Ok r)) (true_side term) (next_answers (Some true) (λ none. none) first term second)
           true_goes_up (Err fault) second =
-              joined_faults scene (at - 1) BinaryOperator.And and_there right is_right Connective.And (Some true) refl (λ none. none) (left_there (Some true) (λ none. none) first) fault second
+              joined_faults scene (at - 1) LogicalOperator.And and_there (Some true) right is_right (λ none. none) (left_there (Some true) (λ none. none) first) fault second
 
 -- no operator is taken as a leaf
-operator_inner : (class : OperatorClass) → ¬ (walk_of_operator class ≡ WalkClass.Leaf)
-operator_inner (OperatorClass.Connective connective) leaf = cc
-operator_inner (OperatorClass.Comparison comparison) leaf = cc
-operator_inner (OperatorClass.Arithmetic arithmetic) leaf = cc
+operator_inner : (operator : BinaryOperator) → ¬ (walk_of_operator operator ≡ WalkClass.Leaf)
+operator_inner (BinaryOperator.Logical logical) leaf = cc
+operator_inner (BinaryOperator.Comparison comparison) leaf = cc
+operator_inner (BinaryOperator.Arithmetic arithmetic) leaf = cc
 
 -- its left side stands behind it
 pub left_side : (scene : SceneModel) (place : ℕ) (operator : BinaryOperator) → HasOperator scene.list place operator → PartStands scene place → PartStands scene (place + 1)
 left_side scene place operator here part =
-    first_part scene place (walk_of_operator (class_of operator)) (operator_inner (class_of operator))
-    (walks_by scene.list place operator (walk_of_operator (class_of operator)) here refl) part
+    first_part scene place (walk_of_operator operator) (operator_inner operator)
+    (walks_by scene.list place operator (walk_of_operator operator) here refl) part
 
 -- a truth value that is kept is answered where it is no null
 pub kept_answers : (scene : SceneModel) (place : ℕ) (value : Value) → AnswersKept scene place value → (truth : Option Bool) → plain_val value ≡ Some (truth_val truth)

@@ -1,5 +1,5 @@
 -- What a comparison comes to, of two values, of two that are kept, and of two numbers.
-use Rattle.std.proofs.Common.{◌≡◌, ℕ, ℤ, ◌+◌, Bool, Option, Some, None, Ok, slice_get, refl, subst}
+use Rattle.std.proofs.Common.{◌≡◌, ℕ, ℤ, ◌+◌, Bool, Option, Some, None, Ok, slice_get, refl}
 use Rattle.std.specs.Prelude.{IsTrue, ◌↔◌}
 use Rattle.edm_values.specs.Val.{Val, boolean}
 use Rattle.edm_values.specs.declared.datum.Datum.{Datum}
@@ -12,24 +12,21 @@ use Rattle.odata_functions.specs.Comparable.{AreComparableBy, HaveEquality, Have
 use Rattle.odata_functions.specs.Comparison.{ComparesTrue}
 use Rattle.odata_functions.specs.DatumVal.{Reading, datum_val}
 use Rattle.odata_functions.specs.KeptVal.{Contents, kept_val}
-use Rattle.odata_functions.specs.declared.comparison.ComparisonOperator.{ComparisonOperator}
-use Rattle.odata_signatures.specs.declared.operator_class.OperatorClass.{OperatorClass}
-use Rattle.odata_signatures.specs.OperatorTyped.{ClassTyped}
-use Rattle.odata_signatures.specs.TypeView.{expr_type}
+use Rattle.odata_syntax.specs.declared.binary_operator.ComparisonOperator.{ComparisonOperator}
+use Rattle.odata_syntax.specs.declared.binary_operator.BinaryOperator.{BinaryOperator}
 use Rattle.odata_checked_filter.specs.declared.checked_node.CheckedNode.{CheckedNode}
 use Rattle.odata_checked_filter.specs.declared.checked_node.NodeKind.{NodeKind}
 use Rattle.odata_filter_operations.specs.CalculationGives.{number_val}
 use Rattle.odata_filter_operations.specs.Outcome.{gives}
 use Rattle.odata_filter_operations.specs.TruthGives.{truth_val}
 use Rattle.odata_filter_operations.specs.DatumView.{reading_at}
-use Rattle.odata_eval.specs.private.Place.{HasOperatorOf, IsRightOf, PartStands}
+use Rattle.odata_eval.specs.private.Place.{HasOperator, IsRightOf, PartStands}
 use Rattle.odata_eval.specs.private.Scene.{EndsOnceHere}
 use Rattle.odata_eval.specs.private.SceneModel.{SceneModel}
 use Rattle.odata_eval.specs.private.WalkAnswer.{AnswersAtPlace, AnswersDatum, AnswersKept, AnswersNumber, AnswersTruth}
 use Rattle.odata_eval.proofs.meaning.Kinds.{comparable_values}
 use Rattle.odata_eval.proofs.walking.KeptValues.{at_contents, at_types}
 use Rattle.odata_eval.proofs.walking.Parts.{some_there}
-use Rattle.odata_eval.proofs.walking.Spines.{operator_of_class}
 use Rattle.odata_eval.proofs.walking.WalkSteps.{of_sides, sides_there}
 use Rattle.odata_eval.proofs.walking.WalkValues.{made_value}
 
@@ -57,24 +54,21 @@ numbers_comparable ComparisonOperator.Eq left right = (numbers_alike left right)
 numbers_comparable ComparisonOperator.Ne left right = (numbers_alike left right).0
 numbers_comparable _ left right = (numbers_alike left right).1
 
-module _ (scene : SceneModel) (place : ℕ) (comparison : ComparisonOperator) (here : HasOperatorOf scene.list place (OperatorClass.Comparison comparison))
+module _ (scene : SceneModel) (place : ℕ) (comparison : ComparisonOperator) (here : HasOperator scene.list place (BinaryOperator.Comparison comparison))
     (right_place : ℕ) (is_right : IsRightOf scene.list place right_place) where
   module _ (l r : ExprType → Val) (first : AnswersAtPlace scene (place + 1) (λ type. Some (gives (l type))))
       (second : AnswersAtPlace scene right_place (λ type. Some (gives (r type)))) where
     -- the types of the sides are compared, so the values at these are
     comparable_sides : EndsOnceHere scene → PartStands scene place → (s t : ExprType) × AreComparableBy comparison (l s) (r t)
     comparable_sides ends part =
-        let there = operator_of_class scene.list place (OperatorClass.Comparison comparison) here in
-        let found = some_there (λ (f : CheckedNode). f.kind ≡ NodeKind.Binary there.operator) (slice_get scene.list.nodes place) there.here in
-        let sides = sides_there scene place there.operator there.here right_place is_right l r first second ends found.0 found.1.0 part in
-        let compared = subst (λ (c : OperatorClass). ClassTyped c sides.0 sides.1 (expr_type scene.row.schema found.0.edm_type)) there.class_is sides.2.0 in
-        (sides.0, sides.1, comparable_values (slots_of scene.row.schema) comparison sides.0 sides.1 (l sides.0) (r sides.1) compared.0 sides.2.1 sides.2.2)
+        let found = some_there (λ (f : CheckedNode). f.kind ≡ NodeKind.Binary (BinaryOperator.Comparison comparison)) (slice_get scene.list.nodes place) here in
+        let sides = sides_there scene place (BinaryOperator.Comparison comparison) here right_place is_right l r first second ends found.0 found.1.0 part in
+        (sides.0, sides.1, comparable_values (slots_of scene.row.schema) comparison sides.0 sides.1 (l sides.0) (r sides.1) sides.2.0.0 sides.2.1 sides.2.2)
 
     comparison_answers : (answer : Bool) → ((s t : ExprType) → AreComparableBy comparison (l s) (r t))
         → ((s t : ExprType) → IsTrue answer ↔ ComparesTrue comparison (l s) (r t)) → AnswersTruth scene place (Ok (Some answer))
     comparison_answers answer may compared =
-        let there = operator_of_class scene.list place (OperatorClass.Comparison comparison) here in
-        of_sides scene place there.operator there.here right_place is_right (OperatorClass.Comparison comparison) there.class_is
+        of_sides scene place (BinaryOperator.Comparison comparison) here right_place is_right
         l (λ type. Some (gives (r type))) (λ type. Some (gives (boolean answer))) first second
         (λ stop whole s t type Right stands typed given. (gives (r t), (given, (may s t, compared s t))))
 

@@ -17,7 +17,7 @@ use Rattle.edm_entities.specs.Row.{value_of}
 use Rattle.odata_functions.specs.Comparable.{HaveEquality}
 use Rattle.odata_functions.specs.Comparison.{AreEqual}
 use Rattle.odata_functions.specs.DatumVal.{Reading, datum_val}
-use Rattle.odata_functions.specs.declared.comparison.ComparisonOperator.{ComparisonOperator}
+use Rattle.odata_syntax.specs.declared.binary_operator.ComparisonOperator.{ComparisonOperator}
 use Rattle.odata_signatures.specs.CollectionTyped.{IsItemBeside}
 use Rattle.odata_signatures.specs.QuotedNumber.{NumberBeside}
 use Rattle.odata_expression_types.specs.Laws.{OneType}

@@ -9,7 +9,7 @@ use Rattle.edm_entities.specs.HasType.{AllHaveType, HasType}
 use Rattle.edm_entities.specs.Row.{items_of, val_of}
 use Rattle.odata_functions.specs.Comparable.{HaveEquality}
 use Rattle.odata_functions.specs.DatumVal.{datum_val}
-use Rattle.odata_functions.specs.declared.comparison.ComparisonOperator.{ComparisonOperator}
+use Rattle.odata_syntax.specs.declared.binary_operator.ComparisonOperator.{ComparisonOperator}
 use Rattle.odata_signatures.specs.CollectionTyped.{IsComparableWithMembers}
 use Rattle.odata_signatures.specs.HasTyped.{AreFlags}
 use Rattle.odata_filter_operations.specs.LambdaGives.{InGives}

@@ -8,7 +8,7 @@ use Rattle.edm_values.specs.declared.datum.Datum.{Datum}
 use Rattle.edm_values.specs.declared.datum.Datum.TheVariants as datum
 use Rattle.edm_values.specs.declared.value.Value.{Value}
 use Rattle.odata_syntax.specs.Tree.{Tree, binary, has, node}
-use Rattle.odata_syntax.specs.declared.node.BinaryOperator.{BinaryOperator}
+use Rattle.odata_syntax.specs.declared.binary_operator.BinaryOperator.{BinaryOperator}
 use Rattle.csdl_schema.specs.ExprType.{ExprType}
 use Rattle.csdl_schema.specs.SchemaModel.{slots_of, type_name_at}
 use Rattle.edm_entities.specs.HasType.{HasType}
@@ -17,14 +17,12 @@ use Rattle.odata_functions.specs.Comparable.{AreComparableBy}
 use Rattle.odata_functions.specs.Comparison.{ComparesTrue}
 use Rattle.odata_functions.specs.DatumVal.{Reading, datum_val}
 use Rattle.odata_functions.specs.KeptVal.{Contents, kept_val}
-use Rattle.odata_functions.specs.declared.comparison.ComparisonOperator.{ComparisonOperator}
+use Rattle.odata_syntax.specs.declared.binary_operator.ComparisonOperator.{ComparisonOperator}
 use Rattle.odata_signatures.specs.ComparableTypes.{AreComparedBy}
 use Rattle.odata_signatures.specs.ExprTypes.{boolean_type}
 use Rattle.odata_signatures.specs.HasTyped.{AreFlags}
-use Rattle.odata_signatures.specs.OperatorClass.{class_of}
-use Rattle.odata_signatures.specs.OperatorTyped.{ClassTyped, IsEquality}
+use Rattle.odata_signatures.specs.OperatorTyped.{OperatorByTypes, IsEquality}
 use Rattle.odata_signatures.specs.QuotedNumber.{NumberBeside}
-use Rattle.odata_signatures.specs.declared.operator_class.OperatorClass.{OperatorClass}
 use Rattle.odata_expression_types.specs.Laws.{OneType}
 use Rattle.odata_expression_types.specs.Reads.{OfEquality, ReadsNumber}
 use Rattle.odata_expression_types.specs.Sides.{quoted_text}
@@ -36,7 +34,7 @@ use Rattle.odata_filter_operations.specs.CompareGives.{CompareGives}
 use Rattle.odata_eval.specs.Environment.{scope_of}
 use Rattle.odata_filter_operations.specs.HasGives.{HasGives}
 use Rattle.odata_filter_operations.specs.LeftFirst.{After}
-use Rattle.odata_eval.specs.OperatorGives.{ClassGives}
+use Rattle.odata_eval.specs.OperatorGives.{OperatorGives}
 use Rattle.odata_filter_operations.specs.Outcome.{Outcome, gives}
 use Rattle.odata_eval.specs.ReadGives.{GivesMember}
 use Rattle.odata_filter_operations.specs.FaultView.{fault_outcome}
@@ -45,9 +43,7 @@ use Rattle.odata_filter_operations.specs.Members.{IsOfEnumeration}
 use Rattle.odata_eval.specs.private.Place.{HasKind, IsRightOf, PartStands}
 use Rattle.odata_eval.specs.private.Scene.{EndsOnceHere, MeansHere, StandsHere, TypedHere}
 use Rattle.odata_eval.specs.private.SceneModel.{SceneModel, environment_of}
-use Rattle.odata_eval.specs.declared.part.WalkClass.{WalkClass}
 use Rattle.odata_eval.specs.private.WalkAnswer.{AnswersAtPlace, AnswersDatum, AnswersKept, AnswersTruth}
-use Rattle.odata_eval.specs.private.WalkClass.{walk_of_operator}
 use Rattle.odata_eval.proofs.meaning.Kinds.{comparable_values}
 use Rattle.odata_eval.proofs.meaning.Reads.{equality_typed, number_comparable, number_flags, read_has}
 use Rattle.odata_eval.proofs.walking.Compared.{ComparedAnyhow, KeptAnyhow}
@@ -111,15 +107,9 @@ module _ (scene : SceneModel) (place at : ℕ) (Fits : ExprType → Type 0) (Giv
           (gives (value fits.0), (is, given fits.0 type fits.1.1 (value_has scene ends it.operand fits.0 (value fits.0) fits.1.0 is)));
     }
 
--- `eq` and `ne` are taken by the values of both sides
-pub equality_walks : (operator : BinaryOperator) → IsEquality operator → walk_of_operator (class_of operator) ≡ WalkClass.Eager
-equality_walks BinaryOperator.Eq equality = refl
-equality_walks BinaryOperator.Ne equality = refl
-equality_walks _ equality = absurd equality
-
-equality_class : (operator : BinaryOperator) → IsEquality operator → (comparison : ComparisonOperator) × (class_of operator ≡ OperatorClass.Comparison comparison)
-equality_class BinaryOperator.Eq equality = (ComparisonOperator.Eq, refl)
-equality_class BinaryOperator.Ne equality = (ComparisonOperator.Ne, refl)
+pub equality_class : (operator : BinaryOperator) → IsEquality operator → (comparison : ComparisonOperator) × (operator ≡ BinaryOperator.Comparison comparison)
+equality_class (BinaryOperator.Comparison ComparisonOperator.Eq) equality = (ComparisonOperator.Eq, refl)
+equality_class (BinaryOperator.Comparison ComparisonOperator.Ne) equality = (ComparisonOperator.Ne, refl)
 equality_class _ equality = absurd equality
 
 -- ---- the number in a place
@@ -147,15 +137,15 @@ module _ (types : OneType) (scene : SceneModel) (place : ℕ) where
   abbrev pub FlagsWith : ℤ → ExprType → Type 0
   FlagsWith n s = AreFlags s s × HasType (slots_of scene.row.schema) s (member n)
 
-  compared_with : (operator : BinaryOperator) (comparison : ComparisonOperator) (n : ℤ) (quoted : Option (List ℕ)) (s : ExprType) → class_of operator ≡ OperatorClass.Comparison comparison
+  compared_with : (operator : BinaryOperator) (comparison : ComparisonOperator) (n : ℤ) (quoted : Option (List ℕ)) (s : ExprType) → operator ≡ BinaryOperator.Comparison comparison
       → IsEquality operator → NumberBeside (slots_of scene.row.schema) s quoted n → ComparedWith comparison n s
-  compared_with operator comparison n quoted s class_is equality number =
+  compared_with operator comparison n quoted s is_comparison equality number =
       let slots = slots_of scene.row.schema in
       let typed = equality_typed operator s s boolean_type equality (number_comparable slots s quoted n number) refl in
-      let compared = subst (λ (c : OperatorClass). ClassTyped c s s boolean_type) class_is typed in
+      let compared = subst (λ (c : BinaryOperator). OperatorByTypes c s s boolean_type) is_comparison typed in
       (compared.0, read_has slots s quoted n number)
 
-  module _ (operator : BinaryOperator) (number : ℕ) (comparison : ComparisonOperator) (class_is : class_of operator ≡ OperatorClass.Comparison comparison)
+  module _ (operator : BinaryOperator) (number : ℕ) (comparison : ComparisonOperator) (is_comparison : operator ≡ BinaryOperator.Comparison comparison)
       (n : ℤ) (at : slice_get scene.list.values number ≡ Some (Value.Enum n)) where
     -- the right side is read
     abbrev pub BesideRight : Val → Outcome → Type 0
@@ -174,12 +164,12 @@ module _ (types : OneType) (scene : SceneModel) (place : ℕ) where
             typed.left,
             (
               typed.left_typed,
-              compared_with operator comparison n (quoted_text b) typed.left class_is reads.beside.0
+              compared_with operator comparison n (quoted_text b) typed.left is_comparison reads.beside.0
                   (number_at (OfEquality operator (TypedHere scene a)) a b typed.left n (λ t beside. beside.1) typed.left_typed reads),
             ),
           );
           takes = child_takes whole a (first_child a (b ∷ []));
-          means = λ o given. inl (n, reads, subst (λ (c : OperatorClass). After (MeansHere scene a) (λ l. ClassGives c (TypedHere scene whole) l (GivesMember n)) o) (sym class_is) given);
+          means = λ o given. inl (n, reads, subst (λ (c : BinaryOperator). After (MeansHere scene a) (λ l. OperatorGives c (TypedHere scene whole) l (GivesMember n)) o) (sym is_comparison) given);
         })
 
     -- the left side is
@@ -203,7 +193,7 @@ module _ (types : OneType) (scene : SceneModel) (place : ℕ) where
             typed.right,
             (
               typed.right_typed,
-              compared_with operator comparison n (quoted_text a) typed.right class_is reads.beside.0
+              compared_with operator comparison n (quoted_text a) typed.right is_comparison reads.beside.0
                   (number_at (OfEquality operator (TypedHere scene b)) b a typed.right n (λ t beside. beside.1) typed.right_typed reads),
             ),
           );
@@ -213,7 +203,7 @@ module _ (types : OneType) (scene : SceneModel) (place : ℕ) where
             inl (
               n,
               reads,
-              (gives (member n), (refl, subst (λ (c : OperatorClass). ClassGives c (TypedHere scene whole) (member n) (MeansHere scene b) o) (sym class_is) given)),
+              (gives (member n), (refl, subst (λ (c : BinaryOperator). OperatorGives c (TypedHere scene whole) (member n) (MeansHere scene b) o) (sym is_comparison) given)),
             ),
           );
         })
@@ -324,7 +314,7 @@ module _ (types : OneType) (scene : SceneModel) (place : ℕ) where
   made_holds : (value : Value) (held : Datum) → IsDatumOf value held → Holds value (made held)
   made_holds value held stands_for n is s = stands_for (slots_of scene.row.schema) s ∙ kept_holds value n is s
 
-  module _ (operator : BinaryOperator) (number : ℕ) (comparison : ComparisonOperator) (class_is : class_of operator ≡ OperatorClass.Comparison comparison)
+  module _ (operator : BinaryOperator) (number : ℕ) (comparison : ComparisonOperator) (is_comparison : operator ≡ BinaryOperator.Comparison comparison)
       (value : Value) (here : slice_get scene.list.values number ≡ Some value) where
     module _ (held : ExprType → Val) (holds : Holds value held) (other : ExprType → Val) where
       -- the right side is read, and the left one has been answered
@@ -333,16 +323,16 @@ module _ (types : OneType) (scene : SceneModel) (place : ℕ) where
         right_there : (s : ExprType) × AreComparableBy comparison (other s) (held s)
         right_there =
             let there = right_within operator number kind part in
-            let one = one_there scene place (place + 1) (ComparedWith comparison there.0) (BesideRight operator number comparison class_is there.0 there.1.0)
-            (right_ones operator number comparison class_is there.0 there.1.0 kind) other first ends part in
-            (one.0, beside_compared operator number comparison class_is there.0 there.1.0 other held (holds there.0 (value_is value number there.0 here there.1.0)) one.0 one.1.0 one.1.1)
+            let one = one_there scene place (place + 1) (ComparedWith comparison there.0) (BesideRight operator number comparison is_comparison there.0 there.1.0)
+            (right_ones operator number comparison is_comparison there.0 there.1.0 kind) other first ends part in
+            (one.0, beside_compared operator number comparison is_comparison there.0 there.1.0 other held (holds there.0 (value_is value number there.0 here there.1.0)) one.0 one.1.0 one.1.1)
 
         right_comes : (answer : Bool) → ((s : ExprType) → IsTrue answer ↔ ComparesTrue comparison (other s) (held s)) → AnswersAtPlace scene place (λ type. Some (gives (boolean answer)))
         right_comes answer compared =
             let there = right_within operator number kind part in
-            one_answers scene place (place + 1) (ComparedWith comparison there.0) (BesideRight operator number comparison class_is there.0 there.1.0)
-            (right_ones operator number comparison class_is there.0 there.1.0 kind) other first ends (λ type. boolean answer)
-            (λ s type. right_given operator number comparison class_is there.0 there.1.0 other held (holds there.0 (value_is value number there.0 here there.1.0)) answer compared s)
+            one_answers scene place (place + 1) (ComparedWith comparison there.0) (BesideRight operator number comparison is_comparison there.0 there.1.0)
+            (right_ones operator number comparison is_comparison there.0 there.1.0 kind) other first ends (λ type. boolean answer)
+            (λ s type. right_given operator number comparison is_comparison there.0 there.1.0 other held (holds there.0 (value_is value number there.0 here there.1.0)) answer compared s)
 
       -- the left side is read, and the right one has been answered
       module _ (right_place : ℕ) (is_right : IsRightOf scene.list place right_place) (kind : HasKind scene.list place (NodeKind.PairedLeft operator number))
@@ -350,16 +340,16 @@ module _ (types : OneType) (scene : SceneModel) (place : ℕ) where
         left_there : (s : ExprType) × AreComparableBy comparison (held s) (other s)
         left_there =
             let there = left_within operator number kind part in
-            let one = one_there scene place right_place (ComparedWith comparison there.0) (BesideLeft operator number comparison class_is there.0 there.1.0)
-            (left_ones operator number comparison class_is there.0 there.1.0 right_place is_right kind) other second ends part in
-            (one.0, compared_beside operator number comparison class_is there.0 there.1.0 other held (holds there.0 (value_is value number there.0 here there.1.0)) one.0 one.1.0 one.1.1)
+            let one = one_there scene place right_place (ComparedWith comparison there.0) (BesideLeft operator number comparison is_comparison there.0 there.1.0)
+            (left_ones operator number comparison is_comparison there.0 there.1.0 right_place is_right kind) other second ends part in
+            (one.0, compared_beside operator number comparison is_comparison there.0 there.1.0 other held (holds there.0 (value_is value number there.0 here there.1.0)) one.0 one.1.0 one.1.1)
 
         left_comes : (answer : Bool) → ((s : ExprType) → IsTrue answer ↔ ComparesTrue comparison (held s) (other s)) → AnswersAtPlace scene place (λ type. Some (gives (boolean answer)))
         left_comes answer compared =
             let there = left_within operator number kind part in
-            one_answers scene place right_place (ComparedWith comparison there.0) (BesideLeft operator number comparison class_is there.0 there.1.0)
-            (left_ones operator number comparison class_is there.0 there.1.0 right_place is_right kind) other second ends (λ type. boolean answer)
-            (λ s type. left_given operator number comparison class_is there.0 there.1.0 other held (holds there.0 (value_is value number there.0 here there.1.0)) answer compared s)
+            one_answers scene place right_place (ComparedWith comparison there.0) (BesideLeft operator number comparison is_comparison there.0 there.1.0)
+            (left_ones operator number comparison is_comparison there.0 there.1.0 right_place is_right kind) other second ends (λ type. boolean answer)
+            (λ s type. left_given operator number comparison is_comparison there.0 there.1.0 other held (holds there.0 (value_is value number there.0 here there.1.0)) answer compared s)
 
     -- beside a value that is made
     module _ (held : Datum) (is : IsDatumOf value held) (other : Datum) where
@@ -421,8 +411,8 @@ module _ (types : OneType) (scene : SceneModel) (place : ℕ) where
   left_faults operator number right_place is_right kind part fault second =
       let there = left_within operator number kind part in
       let at = there.1.0 in
-      let class = equality_class operator there.1.2 in
-      one_faults scene place right_place (ComparedWith class.0 there.0) (BesideLeft operator number class.0 class.1 there.0 at) (left_ones operator number class.0 class.1 there.0 at right_place is_right kind) fault second
+      let equality = equality_class operator there.1.2 in
+      one_faults scene place right_place (ComparedWith equality.0 there.0) (BesideLeft operator number equality.0 equality.1 there.0 at) (left_ones operator number equality.0 equality.1 there.0 at right_place is_right kind) fault second
 
   module _ (number : ℕ) (value : Value) (here : slice_get scene.list.values number ≡ Some value) (held : Datum) (is : IsDatumOf value held) (other : Datum)
       (kind : HasKind scene.list place (NodeKind.PairedHas number)) (first : AnswersDatum scene (place + 1) (Ok other)) (ends : EndsOnceHere scene) (part : PartStands scene place) where

@@ -5,12 +5,12 @@ use Rattle.std.proofs.lemmas.Bool.{cases_lt}
 use Rattle.edm_values.specs.Val.{Val}
 use Rattle.odata_syntax.specs.Spans.{children_of, in_child, list_of_trees}
 use Rattle.odata_syntax.specs.Tree.{Tree, Trees, any_item, binary, call, count, has, in_list, in_path, it, lambda, literal, logical_not, member, more_trees, name, negation, no_trees, node, shape_of}
-use Rattle.odata_syntax.specs.declared.node.BinaryOperator.{BinaryOperator}
+use Rattle.odata_syntax.specs.declared.binary_operator.BinaryOperator.{BinaryOperator}
+use Rattle.odata_syntax.specs.declared.binary_operator.LogicalOperator.{LogicalOperator}
+use Rattle.odata_syntax.specs.declared.binary_operator.ArithmeticOperator.{ArithmeticOperator}
 use Rattle.csdl_schema.specs.ExprType.{ExprType, collection, single}
-use Rattle.odata_signatures.specs.declared.operator_class.OperatorClass.{OperatorClass}
 use Rattle.odata_signatures.specs.ExprTypes.{IsBooleanOrNull}
-use Rattle.odata_signatures.specs.OperatorClass.{class_of}
-use Rattle.odata_signatures.specs.OperatorTyped.{ClassTyped}
+use Rattle.odata_signatures.specs.OperatorTyped.{OperatorByTypes}
 use Rattle.odata_checked_filter.specs.Calls.{TakesMemory}
 use Rattle.odata_checked_filter.specs.declared.checked_node.CheckedNode.{CheckedNode}
 use Rattle.odata_checked_filter.specs.declared.checked_node.NodeKind.{NodeKind}
@@ -26,7 +26,7 @@ use Rattle.odata_expression_types.specs.Reads.{OfEquality}
 use Rattle.edm_values.specs.Val as val
 use Rattle.odata_filter_operations.specs.Outcome.{Outcome, overflow, divides_by_zero}
 use Rattle.odata_filter_operations.specs.FaultView.{fault_outcome}
-use Rattle.odata_eval.specs.private.Place.{HasKind, HasOperatorOf, IsClassAt, IsNumberOperand, IsOperatorOf, IsRightOf, PartStands, TypedStands}
+use Rattle.odata_eval.specs.private.Place.{HasKind, IsClassAt, IsNumberOperand, IsRightOf, PartStands, TypedStands}
 use Rattle.odata_eval.specs.private.Scene.{MeansHere, StandsHere, TypedHere}
 use Rattle.odata_eval.specs.private.SceneModel.{SceneModel, environment_of}
 use Rattle.odata_filter_operations.specs.Tells.{Tells}
@@ -46,31 +46,9 @@ use Rattle.odata_eval.proofs.walking.ReadSides.{flags_read, left_read, read_faul
 use Rattle.odata_eval.proofs.walking.Unread.{flags_means, operator_means, operator_plain}
 use Rattle.odata_eval.proofs.walking.Parts.{by_kind, found_there, goes_there, some_there, tells_there, there_found}
 
--- which operator of the class it is
-pub record OperatorThere (list : FlatTree) (place : ℕ) (class : OperatorClass) : Type 0 where
-  pub operator : BinaryOperator
-  pub here : HasKind list place (NodeKind.Binary operator)
-  pub class_is : class_of operator ≡ class
-
-pub operator_of_class : (list : FlatTree) (place : ℕ) (class : OperatorClass) → HasOperatorOf list place class → OperatorThere list place class
-operator_of_class list place class is =
-    let found = some_there (λ (f : CheckedNode). IsOperatorOf class f.kind) (slice_get list.nodes place) is in
-    let operator = found.1.1.operator in
-    record {
-      operator = operator;
-      here = there_found (λ (f : CheckedNode). f.kind ≡ NodeKind.Binary operator) (slice_get list.nodes place) found.0 found.1.0 found.1.1.kind_is;
-      class_is = found.1.1.class_is;
-    }
-
-pub class_of_operator : (list : FlatTree) (place : ℕ) (operator : BinaryOperator) (class : OperatorClass) → HasKind list place (NodeKind.Binary operator)
-    → class_of operator ≡ class → HasOperatorOf list place class
-class_of_operator list place operator class here class_is =
-    goes_there (slice_get list.nodes place) (λ (f : CheckedNode). f.kind ≡ NodeKind.Binary operator) (λ (f : CheckedNode). IsOperatorOf class f.kind)
-    (λ found is. record { operator = operator; kind_is = is; class_is = class_is }) here
-
 -- the walk takes the operator's node by its class
 pub walks_by : (list : FlatTree) (place : ℕ) (operator : BinaryOperator) (class : WalkClass) → HasKind list place (NodeKind.Binary operator)
-    → walk_of_operator (class_of operator) ≡ class → IsClassAt list class place
+    → walk_of_operator operator ≡ class → IsClassAt list class place
 walks_by list place operator class here is =
     goes_there (slice_get list.nodes place) (λ (f : CheckedNode). f.kind ≡ NodeKind.Binary operator) (λ (f : CheckedNode). walk_of_kind f.kind ≡ class)
     (λ found kind_is. ap walk_of_kind kind_is ∙ is) here
@@ -81,14 +59,14 @@ kind_walks list place kind class is here =
     (λ found kind_is. ap walk_of_kind kind_is ∙ is) here
 
 -- a node of truth values that is no operator is `not`, and one of numbers `-`
-pub only_not : (kind : NodeKind) → walk_of_kind kind ≡ WalkClass.Logical → ((operator : BinaryOperator) → kind ≡ NodeKind.Binary operator → ⊥) → kind ≡ NodeKind.Not
+pub only_not : (kind : NodeKind) → walk_of_kind kind ≡ WalkClass.Logical → ((operator : LogicalOperator) → kind ≡ NodeKind.Binary (BinaryOperator.Logical operator) → ⊥) → kind ≡ NodeKind.Not
 only_not NodeKind.Not logical other = refl
-only_not (NodeKind.Binary operator) logical other = absurd (other operator refl)
+only_not (NodeKind.Binary (BinaryOperator.Logical operator)) logical other = absurd (other operator refl)
 only_not _ logical other = absurd (cc)
 
-pub only_neg : (kind : NodeKind) → walk_of_kind kind ≡ WalkClass.Numeric → ((operator : BinaryOperator) → kind ≡ NodeKind.Binary operator → ⊥) → kind ≡ NodeKind.Neg
+pub only_neg : (kind : NodeKind) → walk_of_kind kind ≡ WalkClass.Numeric → ((operator : ArithmeticOperator) → kind ≡ NodeKind.Binary (BinaryOperator.Arithmetic operator) → ⊥) → kind ≡ NodeKind.Neg
 only_neg NodeKind.Neg numeric other = refl
-only_neg (NodeKind.Binary operator) numeric other = absurd (other operator refl)
+only_neg (NodeKind.Binary (BinaryOperator.Arithmetic operator)) numeric other = absurd (other operator refl)
 only_neg _ numeric other = absurd (cc)
 
 -- a fault of an operand stays
@@ -122,16 +100,16 @@ AllowedBy WalkClass.Logical type = IsBooleanOrNull type
 AllowedBy WalkClass.Numeric type = IsNumberOperand type
 AllowedBy _ type = Unit {0}
 
-operands_allowed : (class : OperatorClass) (left right type : ExprType) → ClassTyped class left right type
-    → AllowedBy (walk_of_operator class) left × AllowedBy (walk_of_operator class) right
-operands_allowed (OperatorClass.Connective connective) left right type typed = (typed.0, typed.1)
-operands_allowed (OperatorClass.Comparison comparison) left right type typed = (tt, tt)
-operands_allowed (OperatorClass.Arithmetic arithmetic) left right type typed = ((typed.left_number, typed.left_is), (typed.right_number, typed.right_is))
+operands_allowed : (operator : BinaryOperator) (left right type : ExprType) → OperatorByTypes operator left right type
+    → AllowedBy (walk_of_operator operator) left × AllowedBy (walk_of_operator operator) right
+operands_allowed (BinaryOperator.Logical logical) left right type typed = (typed.0, typed.1)
+operands_allowed (BinaryOperator.Comparison comparison) left right type typed = (tt, tt)
+operands_allowed (BinaryOperator.Arithmetic arithmetic) left right type typed = ((typed.left_number, typed.left_is), (typed.right_number, typed.right_is))
 
--- a connective makes a truth value
-connected_type : (class : OperatorClass) (left right type : ExprType) → walk_of_operator class ≡ WalkClass.Logical → ClassTyped class left right type → IsBooleanOrNull type
-connected_type (OperatorClass.Connective connective) left right type logical typed = inl typed.2
-connected_type _ left right type logical typed = absurd (cc)
+-- a logical operator makes a truth value
+logical_type : (operator : BinaryOperator) (left right type : ExprType) → walk_of_operator operator ≡ WalkClass.Logical → OperatorByTypes operator left right type → IsBooleanOrNull type
+logical_type (BinaryOperator.Logical operator) left right type logical typed = inl typed.2
+logical_type _ left right type logical typed = absurd (cc)
 
 -- the first operand of a node: its faults are those of the node
 pub record FirstOperand (scene : SceneModel) (place : ℕ) (class : WalkClass) (tree : Tree) : Type 0 where
@@ -401,12 +379,12 @@ module _ (scene : SceneModel) where
         typed = λ type typed. (typed.operand, (typed.operand_typed, typed.makes.0));
         faults = λ fault. fault_stays fault (TakesMemory operand) (TakesMemory (node from to (logical_not operand))) (MeansHere scene operand) _ (child_takes (node from to (logical_not operand)) operand (first_child operand []));
       })
-  first_of_kind place (NodeKind.Binary operator) inner here = by_kind scene place (NodeKind.Binary operator) here (λ stop tree. FirstOperand scene place (walk_of_operator (class_of operator)) tree)
+  first_of_kind place (NodeKind.Binary operator) inner here = by_kind scene place (NodeKind.Binary operator) here (λ stop tree. FirstOperand scene place (walk_of_operator operator) tree)
       (λ left right stop from to stands. record {
         stop = stands.children.middle;
         operand = left;
         stands = stands.children.left;
-        typed = λ type typed. (typed.left, (typed.left_typed, (operands_allowed (class_of operator) typed.left typed.right type (operator_plain scene place stop from to left right operator here stands type typed)).0));
+        typed = λ type typed. (typed.left, (typed.left_typed, (operands_allowed operator typed.left typed.right type (operator_plain scene place stop from to left right operator here stands type typed)).0));
         faults = λ fault is.
             let whole = node from to (binary operator left right) in
             tells_there (fault_outcome fault) (TakesMemory whole) (TakesMemory whole) (SidesGive operator (TypedHere scene whole) (MeansHere scene left) (MeansHere scene right)) (MeansHere scene whole) (λ takes. takes)
@@ -456,7 +434,7 @@ module _ (scene : SceneModel) where
       (λ operand stop from to stands type typed. inl typed.makes.1)
   truth_of_kind place (NodeKind.Binary operator) logical here =
       by_kind scene place (NodeKind.Binary operator) here (λ stop tree. (type : ExprType) → TypedHere scene tree type → IsBooleanOrNull type)
-      (λ left right stop from to stands type typed. connected_type (class_of operator) typed.left typed.right type logical (operator_plain scene place stop from to left right operator here stands type typed))
+      (λ left right stop from to stands type typed. logical_type operator typed.left typed.right type logical (operator_plain scene place stop from to left right operator here stands type typed))
   truth_of_kind place _ logical here = absurd (cc)
 
   pub logical_stands : (place : ℕ) → IsClassAt scene.list WalkClass.Logical place → PartStands scene place → TypedStands scene place IsBooleanOrNull
@@ -549,7 +527,7 @@ module _ (scene : SceneModel) where
           part.stop part.tree part.stands
 
       module _ (right_place : ℕ) (is_right : IsRightOf scene.list place right_place) where
-        pub right_typed : (class : WalkClass) → walk_of_operator (class_of operator) ≡ class → TypedStands scene right_place (AllowedBy class)
+        pub right_typed : (class : WalkClass) → walk_of_operator operator ≡ class → TypedStands scene right_place (AllowedBy class)
         right_typed class class_is = by_kind scene place (NodeKind.Binary operator) here (λ stop tree. TypedStands scene right_place (AllowedBy class))
             (λ left right stop from to stands. record {
               stop = stop;
@@ -558,12 +536,12 @@ module _ (scene : SceneModel) where
               type_of = stands.top.typed.right;
               typed = stands.top.typed.right_typed;
               allowed = subst (λ (c : WalkClass). AllowedBy c stands.top.typed.right) class_is
-                  (operands_allowed (class_of operator) stands.top.typed.left stands.top.typed.right _ (operator_plain scene place stop from to left right operator here stands _ stands.top.typed)).1;
+                  (operands_allowed operator stands.top.typed.left stands.top.typed.right _ (operator_plain scene place stop from to left right operator here stands _ stands.top.typed)).1;
             })
             part.stop part.tree part.stands
 
         pub right_part : PartStands scene right_place
-        right_part = let walk = walk_of_operator (class_of operator) in typed_part scene right_place (AllowedBy walk) (right_typed walk refl)
+        right_part = let walk = walk_of_operator operator in typed_part scene right_place (AllowedBy walk) (right_typed walk refl)
 
         pub right_further : place < right_place
         right_further = by_kind scene place (NodeKind.Binary operator) here (λ stop tree. place < right_place)

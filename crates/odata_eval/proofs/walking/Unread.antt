@@ -1,12 +1,11 @@
 -- Nodes in which no literal is read: the operands go by their types, and both come to what they are by themselves.
 use Rattle.std.proofs.Common.{ℕ, inl, inr}
 use Rattle.odata_syntax.specs.Tree.{Tree, Trees, binary, has, in_list, node}
-use Rattle.odata_syntax.specs.declared.node.BinaryOperator.{BinaryOperator}
+use Rattle.odata_syntax.specs.declared.binary_operator.BinaryOperator.{BinaryOperator}
 use Rattle.csdl_schema.specs.ExprType.{ExprType}
 use Rattle.csdl_schema.specs.SchemaModel.{slots_of}
 use Rattle.odata_signatures.specs.HasTyped.{AreFlags}
-use Rattle.odata_signatures.specs.OperatorClass.{class_of}
-use Rattle.odata_signatures.specs.OperatorTyped.{ClassTyped}
+use Rattle.odata_signatures.specs.OperatorTyped.{OperatorByTypes}
 use Rattle.odata_expression_types.specs.Reads.{OfEquality, ReadNone, ReadsNone, ReadsNumber}
 use Rattle.odata_checked_filter.specs.declared.checked_node.NodeKind.{NodeKind}
 use Rattle.odata_filter_operations.specs.HasGives.{HasGives}
@@ -28,7 +27,7 @@ module _ (scene : SceneModel) (place stop from to : ℕ) (a : Tree) where
           plain_operator scene.list.values operator operator (ReadsNumber slots (OfEquality operator (TypedHere scene a)) b) (ReadsNumber slots (OfEquality operator (TypedHere scene b)) a)
           (kind_there scene place (NodeKind.Binary operator) here stop from to (binary operator a b) stands)
 
-      pub operator_plain : (type : ExprType) (typed : TypedHere scene (node from to (binary operator a b)) type) → ClassTyped (class_of operator) typed.left typed.right type
+      pub operator_plain : (type : ExprType) (typed : TypedHere scene (node from to (binary operator a b)) type) → OperatorByTypes operator typed.left typed.right type
       operator_plain type typed = elim typed.makes [
         | inl plain ↦ plain
         | inr read ↦ elim read.0.1 [

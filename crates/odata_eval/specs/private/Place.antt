@@ -2,12 +2,10 @@
 use Rattle.std.specs.Prelude.{◌≡◌, ℕ, ◌+◌, Option, IsSomeAnd, slice_get}
 use Rattle.edm_values.specs.declared.primitive.PrimitiveType.{PrimitiveType}
 use Rattle.odata_syntax.specs.Tree.{Tree}
-use Rattle.odata_syntax.specs.declared.node.BinaryOperator.{BinaryOperator}
+use Rattle.odata_syntax.specs.declared.binary_operator.BinaryOperator.{BinaryOperator}
 use Rattle.csdl_schema.specs.ExprType.{ExprType}
 use Rattle.odata_checked_filter.specs.declared.checked_node.NodeKind.{NodeKind}
 use Rattle.odata_signatures.specs.declared.function.Function.{Function}
-use Rattle.odata_signatures.specs.declared.operator_class.OperatorClass.{OperatorClass}
-use Rattle.odata_signatures.specs.OperatorClass.{class_of}
 use Rattle.odata_signatures.specs.ExprTypes.{IsBooleanOrNull, IsNumberOrNull}
 use Rattle.odata_checked_filter.specs.FlatTree.{FlatTree}
 use Rattle.odata_eval.specs.declared.part.WalkClass.{WalkClass}
@@ -52,15 +50,6 @@ HasKind list place kind = IsSomeAnd (slice_get list.nodes place) (λ found. foun
 -- the node there is that operator
 abbrev pub HasOperator : FlatTree → ℕ → BinaryOperator → Type 0
 HasOperator list place operator = HasKind list place (NodeKind.Binary operator)
-
--- the node there is an operator with two operands, of that class
-pub record IsOperatorOf (class : OperatorClass) (kind : NodeKind) : Type 0 where
-  pub operator : BinaryOperator
-  pub kind_is : kind ≡ NodeKind.Binary operator
-  pub class_is : class_of operator ≡ class
-
-abbrev pub HasOperatorOf : FlatTree → ℕ → OperatorClass → Type 0
-HasOperatorOf list place class = IsSomeAnd (slice_get list.nodes place) (λ found. IsOperatorOf class found.kind)
 
 -- the node there calls that function
 abbrev pub HasCall : FlatTree → ℕ → Function → Type 0

@@ -1,6 +1,7 @@
 -- For private clauses: how far a chain of `and` at the top of a filter's list has been asked.
 use Rattle.std.specs.Prelude.{ℕ, ◌<◌, Bool, Option, Some, Result, Ok}
-use Rattle.odata_syntax.specs.declared.node.BinaryOperator.{BinaryOperator}
+use Rattle.odata_syntax.specs.declared.binary_operator.BinaryOperator.{BinaryOperator}
+use Rattle.odata_syntax.specs.declared.binary_operator.LogicalOperator.{LogicalOperator}
 use Rattle.odata_eval.specs.declared.and_chain.PlainTerms.{PlainTerms}
 use Rattle.odata_eval.specs.declared.and_chain.Rest.{Rest}
 use Rattle.odata_filter_operations.specs.declared.fault.EvalFault.{EvalFault}
@@ -12,7 +13,7 @@ use Rattle.odata_eval.specs.private.WalkAnswer.{AnswersTruth}
 -- node behind these
 pub record IsRest (scene : SceneModel) (rest : Rest) : Type 0 where
   pub stands : TruthStands scene rest.term
-  pub ands : (k : ℕ) → k < rest.ands → HasOperator scene.list k BinaryOperator.And
+  pub ands : (k : ℕ) → k < rest.ands → HasOperator scene.list k (BinaryOperator.Logical LogicalOperator.And)
   pub goes_up :
       (answer : Result (Option Bool) EvalFault) → AnswersTruth scene rest.term answer
       → AnswersTruth scene rest.ands answer

@@ -1,17 +1,16 @@
 -- For private clauses: how the walk takes a node.
 use Rattle.std.specs.Prelude.{true, false}
 use Rattle.edm_values.specs.Val.{Val, boolean}
-use Rattle.odata_signatures.specs.OperatorClass.{class_of}
 use Rattle.odata_checked_filter.specs.declared.checked_node.NodeKind.{NodeKind}
-use Rattle.odata_signatures.specs.declared.operator_class.Connective.{Connective}
-use Rattle.odata_signatures.specs.declared.operator_class.OperatorClass.{OperatorClass}
+use Rattle.odata_syntax.specs.declared.binary_operator.LogicalOperator.{LogicalOperator}
+use Rattle.odata_syntax.specs.declared.binary_operator.BinaryOperator.{BinaryOperator}
 use Rattle.odata_eval.specs.declared.part.WalkClass.{WalkClass}
 
--- a connective takes truth values, arithmetic numbers, a comparison the values of both sides
-abbrev pub walk_of_operator : OperatorClass → WalkClass
-walk_of_operator (OperatorClass.Connective connective) = WalkClass.Logical
-walk_of_operator (OperatorClass.Comparison comparison) = WalkClass.Eager
-walk_of_operator (OperatorClass.Arithmetic arithmetic) = WalkClass.Numeric
+-- a logical operator takes truth values, arithmetic numbers, a comparison the values of both sides
+abbrev pub walk_of_operator : BinaryOperator → WalkClass
+walk_of_operator (BinaryOperator.Logical logical) = WalkClass.Logical
+walk_of_operator (BinaryOperator.Comparison comparison) = WalkClass.Eager
+walk_of_operator (BinaryOperator.Arithmetic arithmetic) = WalkClass.Numeric
 
 -- `not` takes a truth value, `-` a number, a step a record, `$count`, `any()`, `any` and `all` a collection, `has` and
 -- `in` the values of both sides, a call those of all arguments; the others have no operand
@@ -35,10 +34,10 @@ walk_of_kind (NodeKind.Call function) = WalkClass.Eager
 walk_of_kind NodeKind.AnyItem = WalkClass.Eager
 walk_of_kind (NodeKind.Lambda quantifier) = WalkClass.Eager
 walk_of_kind NodeKind.Now = WalkClass.Leaf
-walk_of_kind (NodeKind.Binary operator) = walk_of_operator (class_of operator)
+walk_of_kind (NodeKind.Binary operator) = walk_of_operator operator
 
 -- the left truth value alone decides
-abbrev pub IsDecided : Connective → Val → Type 0
-IsDecided Connective.And (boolean false) = Unit {0}
-IsDecided Connective.Or (boolean true) = Unit {0}
-IsDecided connective _ = ⊥
+abbrev pub IsDecided : LogicalOperator → Val → Type 0
+IsDecided LogicalOperator.And (boolean false) = Unit {0}
+IsDecided LogicalOperator.Or (boolean true) = Unit {0}
+IsDecided logical _ = ⊥

@@ -8,7 +8,8 @@ use Rattle.csdl_schema.specs.ExprType.{ExprType, single, primitive}
 use Rattle.edm_values.specs.declared.primitive.PrimitiveType.{PrimitiveType}
 use Rattle.odata_signatures.specs.ComparableTypes.{AreComparable}
 use Rattle.odata_signatures.specs.ExprTypes.{boolean_type, string_type}
-use Rattle.odata_syntax.specs.declared.node.BinaryOperator.{BinaryOperator}
+use Rattle.odata_syntax.specs.declared.binary_operator.BinaryOperator.{BinaryOperator}
+use Rattle.odata_syntax.specs.declared.binary_operator.ComparisonOperator.{ComparisonOperator}
 use Rattle.odata_signatures.specs.OperatorTyped.{OperatorTyped}
 use Rattle.odata_signatures.specs.Side.{quoting}
 use Rattle.odata_expression_types.specs.Laws.{ItemFilterTyped, MixedFilterUntyped, item_slots}
@@ -66,8 +67,8 @@ apart compared = elim compared [ inl numbers ↦ absurd numbers.1 | inr same ↦
 -- by their types, and as no literal beside an enumeration
 pub mixed_filter_untyped : MixedFilterUntyped
 mixed_filter_untyped type typed =
-    let P : ExprType → Type 0 = λ (t : ExprType). OperatorTyped item_slots BinaryOperator.Eq (quoting None t) (quoting (Some (codes "'a'")) typed.right) type in
-    let Q : ExprType → Type 0 = λ (t : ExprType). OperatorTyped item_slots BinaryOperator.Eq (quoting None int32) (quoting (Some (codes "'a'")) t) type in
-    let made : OperatorTyped item_slots BinaryOperator.Eq (quoting None int32) (quoting (Some (codes "'a'")) string_type) type =
+    let P : ExprType → Type 0 = λ (t : ExprType). OperatorTyped item_slots (BinaryOperator.Comparison ComparisonOperator.Eq) (quoting None t) (quoting (Some (codes "'a'")) typed.right) type in
+    let Q : ExprType → Type 0 = λ (t : ExprType). OperatorTyped item_slots (BinaryOperator.Comparison ComparisonOperator.Eq) (quoting None int32) (quoting (Some (codes "'a'")) t) type in
+    let made : OperatorTyped item_slots (BinaryOperator.Comparison ComparisonOperator.Eq) (quoting None int32) (quoting (Some (codes "'a'")) string_type) type =
     subst Q typed.right_typed.2 (subst P (sym (named_one int32 typed.left typed.left_typed)) typed.makes) in
     elim made [ inl compared ↦ apart compared.0 | inr read ↦ elim read.0.1 [ inl none ↦ absurd none.1 | inr none ↦ absurd none.1 ] ]

@@ -10,14 +10,13 @@ use Rattle.odata_syntax.specs.Tree.{Tree, Trees, node, literal, it, name, member
 use Rattle.odata_syntax.specs.declared.node.LiteralKind.{LiteralKind}
 use Rattle.csdl_schema.specs.ExprType.{ExprType, null_type, single, collection, primitive, enumeration, structured}
 use Rattle.csdl_schema.specs.SchemaModel.{PropertyModel, Slots}
-use Rattle.odata_signatures.specs.declared.operator_class.OperatorClass.{OperatorClass}
+use Rattle.odata_syntax.specs.declared.binary_operator.BinaryOperator.{BinaryOperator}
+use Rattle.odata_syntax.specs.declared.binary_operator.ComparisonOperator.{ComparisonOperator}
 use Rattle.odata_signatures.specs.ExprTypes.{IsNumberOrNull, boolean_type, number_or_null}
 use Rattle.odata_expression_types.specs.LiteralValue.{EnumerationLiteral, IntTyped, IsNameAndText, LiteralTyped}
 use Rattle.odata_signatures.specs.CallTyped.{CallTyped}
-use Rattle.odata_signatures.specs.OperatorClass.{class_of}
-use Rattle.odata_signatures.specs.OperatorTyped.{ArithmeticTyped, ClassTyped, IsEquality, NegationTyped, OperatorTyped}
+use Rattle.odata_signatures.specs.OperatorTyped.{ArithmeticTyped, OperatorByTypes, IsEquality, NegationTyped, OperatorTyped}
 use Rattle.odata_signatures.specs.Side.{Side}
-use Rattle.odata_syntax.specs.declared.node.BinaryOperator.{BinaryOperator}
 use Rattle.odata_expression_types.specs.Sides.{Between, side_of}
 use Rattle.odata_expression_types.specs.Typed.{AreTyped, Scope, StepTyped, Typed, PropertyTyped, named_type, variable_type, property_named}
 
@@ -119,19 +118,19 @@ NegationTyped-one operand a b x y =
     ∙ ap (λ (o : Option PrimitiveType). number_or_null (negation_type o)) (one_number_type operand x.number y.number x.operand_is y.operand_is)
     ∙ sym y.type_is
 
-ClassTyped-one : (class : OperatorClass) (l r a b : ExprType) → ClassTyped class l r a → ClassTyped class l r b → a ≡ b
-ClassTyped-one (OperatorClass.Connective connective) l r a b x y = x.2 ∙ sym y.2
-ClassTyped-one (OperatorClass.Comparison comparison) l r a b x y = x.1 ∙ sym y.1
-ClassTyped-one (OperatorClass.Arithmetic arithmetic) l r a b x y = ArithmeticTyped-one l r a b x y
+OperatorByTypes-one : (operator : BinaryOperator) (l r a b : ExprType) → OperatorByTypes operator l r a → OperatorByTypes operator l r b → a ≡ b
+OperatorByTypes-one (BinaryOperator.Logical logical) l r a b x y = x.2 ∙ sym y.2
+OperatorByTypes-one (BinaryOperator.Comparison comparison) l r a b x y = x.1 ∙ sym y.1
+OperatorByTypes-one (BinaryOperator.Arithmetic arithmetic) l r a b x y = ArithmeticTyped-one l r a b x y
 
 -- `eq` and `ne` have type Boolean
-equality_boolean : (operator : BinaryOperator) (l r a : ExprType) → IsEquality operator → ClassTyped (class_of operator) l r a → a ≡ boolean_type
-equality_boolean BinaryOperator.Eq l r a equality x = x.1
-equality_boolean BinaryOperator.Ne l r a equality x = x.1
+equality_boolean : (operator : BinaryOperator) (l r a : ExprType) → IsEquality operator → OperatorByTypes operator l r a → a ≡ boolean_type
+equality_boolean (BinaryOperator.Comparison ComparisonOperator.Eq) l r a equality x = x.1
+equality_boolean (BinaryOperator.Comparison ComparisonOperator.Ne) l r a equality x = x.1
 equality_boolean _ l r a equality x = absurd equality
 
 OperatorTyped-one : (slots : Slots) (operator : BinaryOperator) (l r : Side) (a b : ExprType) → OperatorTyped slots operator l r a → OperatorTyped slots operator l r b → a ≡ b
-OperatorTyped-one slots operator l r a b (inl x) (inl y) = ClassTyped-one (class_of operator) l.type_of r.type_of a b x y
+OperatorTyped-one slots operator l r a b (inl x) (inl y) = OperatorByTypes-one operator l.type_of r.type_of a b x y
 OperatorTyped-one slots operator l r a b (inl x) (inr y) = equality_boolean operator l.type_of r.type_of a y.0.0 x ∙ sym y.1
 OperatorTyped-one slots operator l r a b (inr x) (inl y) = x.1 ∙ sym (equality_boolean operator l.type_of r.type_of b x.0.0 y)
 OperatorTyped-one slots operator l r a b (inr x) (inr y) = x.1 ∙ sym y.1

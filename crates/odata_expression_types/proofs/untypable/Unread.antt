@@ -1,7 +1,7 @@
 -- Operands that are not read have one reason.
 use Rattle.std.proofs.Common.{inl, inr}
 use Rattle.csdl_schema.specs.SchemaModel.{Slots}
-use Rattle.odata_syntax.specs.declared.node.BinaryOperator.{BinaryOperator}
+use Rattle.odata_syntax.specs.declared.binary_operator.BinaryOperator.{BinaryOperator}
 use Rattle.odata_signatures.specs.OperatorTyped.{OfOneSide}
 use Rattle.odata_signatures.specs.QuotedNumber.{IsReadBeside, LacksNumber}
 use Rattle.odata_signatures.specs.Side.{Side}

@@ -5,10 +5,9 @@ use Rattle.edm_values.specs.MomentParts.{MomentParts}
 use Rattle.edm_values.specs.Val.{Val}
 use Rattle.csdl_schema.specs.ExprType.{ExprType}
 use Rattle.csdl_schema.specs.SchemaModel.{Slots}
-use Rattle.odata_functions.specs.declared.comparison.ComparisonOperator.TheVariants.{Eq}
+use Rattle.odata_syntax.specs.declared.binary_operator.ComparisonOperator.TheVariants.{Eq}
 use Rattle.odata_syntax.specs.Tree.{Shape, Tree, Trees, any_item, binary, call, count, has, in_list, in_path, it, lambda, literal, logical_not, member, more_trees, name, negation, no_trees, node}
 use Rattle.odata_syntax.specs.declared.node.Quantifier.TheVariants.{Any}
-use Rattle.odata_signatures.specs.OperatorClass.{class_of}
 use Rattle.odata_expression_types.specs.Reads.{ReadsNumber}
 use Rattle.odata_expression_types.specs.Typed.{Typed}
 use Rattle.odata_filter_operations.specs.CompareGives.{CompareGives}
@@ -43,8 +42,8 @@ module _ (slots : Slots) (root : List ℕ) (now : MomentParts) (e f : Val) (Pass
     costs_same environment (node start stop (negation operand)) none = costs_same environment operand none
     costs_same environment (node start stop (logical_not operand)) none = costs_same environment operand none
     costs_same environment (node start stop (binary operator left right)) none =
-        let Right : (ℕ → Type 0) → Val → ℕ → Type 0 = λ X l. RightCosts (class_of operator) l X in
-        left_first environment left (λ l. RightCosts (class_of operator) l (Costs slots root now e environment right)) (λ l. RightCosts (class_of operator) l (Costs slots root now f environment right)) none.0 (costs_same environment left none.0)
+        let Right : (ℕ → Type 0) → Val → ℕ → Type 0 = λ X l. RightCosts operator l X in
+        left_first environment left (λ l. RightCosts operator l (Costs slots root now e environment right)) (λ l. RightCosts operator l (Costs slots root now f environment right)) none.0 (costs_same environment left none.0)
         (ap Right (costs_same environment right none.1))
     costs_same environment (node start stop (has left right)) none =
         let Right : (ℕ → Type 0) → Val → ℕ → Type 0 = λ X l. X in

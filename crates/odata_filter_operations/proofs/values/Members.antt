@@ -14,7 +14,7 @@ use Rattle.edm_entities.specs.Row.{items_of, val_of}
 use Rattle.odata_functions.specs.Comparable.{HaveEquality}
 use Rattle.odata_functions.specs.Comparison.{AreEqual}
 use Rattle.odata_functions.specs.DatumVal.{Reading, datum_val}
-use Rattle.odata_functions.specs.declared.comparison.ComparisonOperator.{ComparisonOperator}
+use Rattle.odata_syntax.specs.declared.binary_operator.ComparisonOperator.{ComparisonOperator}
 use Rattle.odata_syntax.specs.declared.node.Quantifier.{Quantifier}
 use Rattle.odata_filter_operations.specs.CollectionGives.{members_of}
 use Rattle.odata_filter_operations.specs.CompareGives.{CompareGives}

@@ -2,8 +2,8 @@
 use Rattle.std.proofs.Common.{inl, inr, ℕ, List, Option, Some, None}
 use Rattle.csdl_schema.specs.ExprType.{ExprType, single, enumeration}
 use Rattle.csdl_schema.specs.SchemaModel.{Slots}
-use Rattle.odata_functions.specs.declared.comparison.ComparisonOperator.{ComparisonOperator}
-use Rattle.odata_syntax.specs.declared.node.BinaryOperator.{BinaryOperator}
+use Rattle.odata_syntax.specs.declared.binary_operator.ComparisonOperator.{ComparisonOperator}
+use Rattle.odata_syntax.specs.declared.binary_operator.BinaryOperator.{BinaryOperator}
 use Rattle.odata_signatures.specs.OperatorTyped.{OfOneSide}
 use Rattle.odata_signatures.specs.QuotedNumber.{HasNumber, IsReadBeside}
 use Rattle.odata_signatures.specs.Side.{Side}

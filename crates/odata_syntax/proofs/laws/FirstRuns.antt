@@ -1,7 +1,9 @@
 -- The machine on the tokens of two filters.
 use Rattle.std.proofs.Common.{◌≡◌, refl, [], ◌∷◌, Some, None}
 use Rattle.std.specs.Prelude.{codes}
-use Rattle.odata_syntax.specs.declared.node.BinaryOperator.{BinaryOperator}
+use Rattle.odata_syntax.specs.declared.binary_operator.BinaryOperator.{BinaryOperator}
+use Rattle.odata_syntax.specs.declared.binary_operator.LogicalOperator.{LogicalOperator}
+use Rattle.odata_syntax.specs.declared.binary_operator.ComparisonOperator.{ComparisonOperator}
 use Rattle.odata_syntax.specs.Tree.{node, name}
 use Rattle.odata_syntax.specs.Parse.{IsParse, IsUnended}
 use Rattle.odata_syntax.specs.FirstRun.{first_run_tokens, first_run_tree, active_and_id, name_eq}
@@ -16,7 +18,7 @@ use Rattle.odata_syntax.proofs.machine.Fronts.{run_parsed, unended_fault_at}
 first_run_end : Machine
 first_run_end =
     record {
-      waiting = operation (binary_behind BinaryOperator.Eq (node 23 27 (name (codes "Name")))) ∷ operation (binary_behind BinaryOperator.And active_and_id) ∷ [];
+      waiting = operation (binary_behind (BinaryOperator.Comparison ComparisonOperator.Eq) (node 23 27 (name (codes "Name")))) ∷ operation (binary_behind (BinaryOperator.Logical LogicalOperator.And) active_and_id) ∷ [];
       expected = closed (node 31 34 (literal LiteralKind.Str (codes "'a'")));
     }
 
@@ -35,7 +37,7 @@ pub first_run_parsed : IsParse first_run_tokens first_run_tree
 first_run_parsed = run_parsed first_run_tokens first_run_end first_run_tree first_run_taken first_run_finished first_run_shallow
 
 name_eq_end : Machine
-name_eq_end = record { waiting = operation (binary_behind BinaryOperator.Eq (node 0 4 (name (codes "Name")))) ∷ []; expected = operand }
+name_eq_end = record { waiting = operation (binary_behind (BinaryOperator.Comparison ComparisonOperator.Eq) (node 0 4 (name (codes "Name")))) ∷ []; expected = operand }
 
 name_eq_taken : run name_eq start ≡ Some name_eq_end
 unfolding word_next word_start name_eq_end

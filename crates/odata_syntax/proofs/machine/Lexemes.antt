@@ -5,7 +5,10 @@ use Rattle.std.specs.List.{list_any}
 use Rattle.std.specs.Str.{str_to_ascii_lowercase}
 use Rattle.std.proofs.lemmas.Slice.Eq.{bytes_eq-Decides}
 use Rattle.std.proofs.lemmas.Option.{same_Some, cond_some}
-use Rattle.odata_syntax.specs.declared.node.BinaryOperator.{BinaryOperator}
+use Rattle.odata_syntax.specs.declared.binary_operator.BinaryOperator.{BinaryOperator}
+use Rattle.odata_syntax.specs.declared.binary_operator.LogicalOperator.{LogicalOperator}
+use Rattle.odata_syntax.specs.declared.binary_operator.ComparisonOperator.{ComparisonOperator}
+use Rattle.odata_syntax.specs.declared.binary_operator.ArithmeticOperator.{ArithmeticOperator}
 use Rattle.odata_syntax.specs.declared.node.LiteralKind.{LiteralKind}
 use Rattle.odata_syntax.specs.declared.node.Quantifier.{Quantifier}
 use Rattle.odata_text.specs.declared.token.TokenKind.{TokenKind}
@@ -105,19 +108,19 @@ close_found {p} a = rw a.of_kind refl
 
 operator_next : (operator : BinaryOperator) → word_next (operator_word operator) ≡ Some (Next.Operator operator)
 unfolding word_next
-operator_next BinaryOperator.Or = refl
-operator_next BinaryOperator.And = refl
-operator_next BinaryOperator.Eq = refl
-operator_next BinaryOperator.Ne = refl
-operator_next BinaryOperator.Gt = refl
-operator_next BinaryOperator.Ge = refl
-operator_next BinaryOperator.Lt = refl
-operator_next BinaryOperator.Le = refl
-operator_next BinaryOperator.Add = refl
-operator_next BinaryOperator.Sub = refl
-operator_next BinaryOperator.Mul = refl
-operator_next BinaryOperator.Div = refl
-operator_next BinaryOperator.Mod = refl
+operator_next (BinaryOperator.Logical LogicalOperator.Or) = refl
+operator_next (BinaryOperator.Logical LogicalOperator.And) = refl
+operator_next (BinaryOperator.Comparison ComparisonOperator.Eq) = refl
+operator_next (BinaryOperator.Comparison ComparisonOperator.Ne) = refl
+operator_next (BinaryOperator.Comparison ComparisonOperator.Gt) = refl
+operator_next (BinaryOperator.Comparison ComparisonOperator.Ge) = refl
+operator_next (BinaryOperator.Comparison ComparisonOperator.Lt) = refl
+operator_next (BinaryOperator.Comparison ComparisonOperator.Le) = refl
+operator_next (BinaryOperator.Arithmetic ArithmeticOperator.Add) = refl
+operator_next (BinaryOperator.Arithmetic ArithmeticOperator.Sub) = refl
+operator_next (BinaryOperator.Arithmetic ArithmeticOperator.Mul) = refl
+operator_next (BinaryOperator.Arithmetic ArithmeticOperator.Div) = refl
+operator_next (BinaryOperator.Arithmetic ArithmeticOperator.Mod) = refl
 
 has_next : word_next (codes "has") ≡ Some Next.Has
 unfolding word_next
@@ -304,11 +307,11 @@ first_says (x ∷ xs) text y e =
 
 operators : List Next
 operators =
-    Next.Operator BinaryOperator.Or ∷ Next.Operator BinaryOperator.And ∷ Next.Operator BinaryOperator.Eq
-    ∷ Next.Operator BinaryOperator.Ne ∷ Next.Operator BinaryOperator.Gt ∷ Next.Operator BinaryOperator.Ge
-    ∷ Next.Operator BinaryOperator.Lt ∷ Next.Operator BinaryOperator.Le ∷ Next.Operator BinaryOperator.Add
-    ∷ Next.Operator BinaryOperator.Sub ∷ Next.Operator BinaryOperator.Mul ∷ Next.Operator BinaryOperator.Div
-    ∷ Next.Operator BinaryOperator.Mod ∷ Next.Has ∷ Next.In ∷ []
+    Next.Operator (BinaryOperator.Logical LogicalOperator.Or) ∷ Next.Operator (BinaryOperator.Logical LogicalOperator.And) ∷ Next.Operator (BinaryOperator.Comparison ComparisonOperator.Eq)
+    ∷ Next.Operator (BinaryOperator.Comparison ComparisonOperator.Ne) ∷ Next.Operator (BinaryOperator.Comparison ComparisonOperator.Gt) ∷ Next.Operator (BinaryOperator.Comparison ComparisonOperator.Ge)
+    ∷ Next.Operator (BinaryOperator.Comparison ComparisonOperator.Lt) ∷ Next.Operator (BinaryOperator.Comparison ComparisonOperator.Le) ∷ Next.Operator (BinaryOperator.Arithmetic ArithmeticOperator.Add)
+    ∷ Next.Operator (BinaryOperator.Arithmetic ArithmeticOperator.Sub) ∷ Next.Operator (BinaryOperator.Arithmetic ArithmeticOperator.Mul) ∷ Next.Operator (BinaryOperator.Arithmetic ArithmeticOperator.Div)
+    ∷ Next.Operator (BinaryOperator.Arithmetic ArithmeticOperator.Mod) ∷ Next.Has ∷ Next.In ∷ []
 
 word_next-first : (text : List ℕ) → word_next text ≡ first_next operators text
 unfolding word_next first_next operators next_word

@@ -1,7 +1,10 @@
 -- What the machine has read of an operand, and how it goes on.
 use Rattle.std.proofs.Common.{◌≡◌, ◌≢◌, refl, ap, ℕ, ◌≤◌, ◌<◌, List, [], ◌∷◌, Some, arith}
 use Rattle.std.proofs.lemmas.Bool.{le-leb, lt-leb}
-use Rattle.odata_syntax.specs.declared.node.BinaryOperator.{BinaryOperator}
+use Rattle.odata_syntax.specs.declared.binary_operator.BinaryOperator.{BinaryOperator}
+use Rattle.odata_syntax.specs.declared.binary_operator.LogicalOperator.{LogicalOperator}
+use Rattle.odata_syntax.specs.declared.binary_operator.ComparisonOperator.{ComparisonOperator}
+use Rattle.odata_syntax.specs.declared.binary_operator.ArithmeticOperator.{ArithmeticOperator}
 use Rattle.odata_syntax.specs.declared.node.Quantifier.{Quantifier}
 use Rattle.odata_text.specs.declared.token.TokenKind.{TokenKind}
 use Rattle.odata_syntax.specs.declared.parser.operator.Next.{Next}
@@ -68,19 +71,19 @@ slash_step (open_word {quantifier = quantifier} {base = base} {stop = stop} {tex
 -- Levels.
 
 pub operator_level-bounds : (operator : BinaryOperator) → (or_level ≤ operator_level operator) × (operator_level operator < unary_level)
-operator_level-bounds BinaryOperator.Or = (omega arith, omega arith)
-operator_level-bounds BinaryOperator.And = (omega arith, omega arith)
-operator_level-bounds BinaryOperator.Eq = (omega arith, omega arith)
-operator_level-bounds BinaryOperator.Ne = (omega arith, omega arith)
-operator_level-bounds BinaryOperator.Gt = (omega arith, omega arith)
-operator_level-bounds BinaryOperator.Ge = (omega arith, omega arith)
-operator_level-bounds BinaryOperator.Lt = (omega arith, omega arith)
-operator_level-bounds BinaryOperator.Le = (omega arith, omega arith)
-operator_level-bounds BinaryOperator.Add = (omega arith, omega arith)
-operator_level-bounds BinaryOperator.Sub = (omega arith, omega arith)
-operator_level-bounds BinaryOperator.Mul = (omega arith, omega arith)
-operator_level-bounds BinaryOperator.Div = (omega arith, omega arith)
-operator_level-bounds BinaryOperator.Mod = (omega arith, omega arith)
+operator_level-bounds (BinaryOperator.Logical LogicalOperator.Or) = (omega arith, omega arith)
+operator_level-bounds (BinaryOperator.Logical LogicalOperator.And) = (omega arith, omega arith)
+operator_level-bounds (BinaryOperator.Comparison ComparisonOperator.Eq) = (omega arith, omega arith)
+operator_level-bounds (BinaryOperator.Comparison ComparisonOperator.Ne) = (omega arith, omega arith)
+operator_level-bounds (BinaryOperator.Comparison ComparisonOperator.Gt) = (omega arith, omega arith)
+operator_level-bounds (BinaryOperator.Comparison ComparisonOperator.Ge) = (omega arith, omega arith)
+operator_level-bounds (BinaryOperator.Comparison ComparisonOperator.Lt) = (omega arith, omega arith)
+operator_level-bounds (BinaryOperator.Comparison ComparisonOperator.Le) = (omega arith, omega arith)
+operator_level-bounds (BinaryOperator.Arithmetic ArithmeticOperator.Add) = (omega arith, omega arith)
+operator_level-bounds (BinaryOperator.Arithmetic ArithmeticOperator.Sub) = (omega arith, omega arith)
+operator_level-bounds (BinaryOperator.Arithmetic ArithmeticOperator.Mul) = (omega arith, omega arith)
+operator_level-bounds (BinaryOperator.Arithmetic ArithmeticOperator.Div) = (omega arith, omega arith)
+operator_level-bounds (BinaryOperator.Arithmetic ArithmeticOperator.Mod) = (omega arith, omega arith)
 
 pub operation_level-bounds : (w : Operation) → (or_level ≤ operation_level w) × (operation_level w ≤ primary_level)
 operation_level-bounds (binary_behind operator left) = let bounds = operator_level-bounds operator in (bounds.0, omega arith)

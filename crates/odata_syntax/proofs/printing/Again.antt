@@ -6,7 +6,10 @@ use Rattle.std.proofs.lemmas.Bool.{cases_Bool, ltb-false, ltb-true}
 use Rattle.odata_text.specs.Printing.{Print, print_tokens}
 use Rattle.odata_text.specs.TokenModel.{TokenModel}
 use Rattle.odata_text.specs.declared.token.TokenKind.{TokenKind}
-use Rattle.odata_syntax.specs.declared.node.BinaryOperator.{BinaryOperator}
+use Rattle.odata_syntax.specs.declared.binary_operator.BinaryOperator.{BinaryOperator}
+use Rattle.odata_syntax.specs.declared.binary_operator.LogicalOperator.{LogicalOperator}
+use Rattle.odata_syntax.specs.declared.binary_operator.ComparisonOperator.{ComparisonOperator}
+use Rattle.odata_syntax.specs.declared.binary_operator.ArithmeticOperator.{ArithmeticOperator}
 use Rattle.odata_syntax.specs.declared.node.LiteralKind.{LiteralKind}
 use Rattle.odata_syntax.specs.declared.node.Quantifier.{Quantifier}
 use Rattle.odata_syntax.specs.CanonicalText.{shape_level, tree_level}
@@ -80,19 +83,19 @@ operator_like : (operator : BinaryOperator) (u : TokenModel) → u.kind ≡ Toke
 operator_like operator u kind text = record { word = word_like (operator_word operator) u (same operator) kind text }
   where
     same : (o : BinaryOperator) → IsTrue (same_word (operator_word o) (operator_word o))
-    same BinaryOperator.Or = refl
-    same BinaryOperator.And = refl
-    same BinaryOperator.Eq = refl
-    same BinaryOperator.Ne = refl
-    same BinaryOperator.Gt = refl
-    same BinaryOperator.Ge = refl
-    same BinaryOperator.Lt = refl
-    same BinaryOperator.Le = refl
-    same BinaryOperator.Add = refl
-    same BinaryOperator.Sub = refl
-    same BinaryOperator.Mul = refl
-    same BinaryOperator.Div = refl
-    same BinaryOperator.Mod = refl
+    same (BinaryOperator.Logical LogicalOperator.Or) = refl
+    same (BinaryOperator.Logical LogicalOperator.And) = refl
+    same (BinaryOperator.Comparison ComparisonOperator.Eq) = refl
+    same (BinaryOperator.Comparison ComparisonOperator.Ne) = refl
+    same (BinaryOperator.Comparison ComparisonOperator.Gt) = refl
+    same (BinaryOperator.Comparison ComparisonOperator.Ge) = refl
+    same (BinaryOperator.Comparison ComparisonOperator.Lt) = refl
+    same (BinaryOperator.Comparison ComparisonOperator.Le) = refl
+    same (BinaryOperator.Arithmetic ArithmeticOperator.Add) = refl
+    same (BinaryOperator.Arithmetic ArithmeticOperator.Sub) = refl
+    same (BinaryOperator.Arithmetic ArithmeticOperator.Mul) = refl
+    same (BinaryOperator.Arithmetic ArithmeticOperator.Div) = refl
+    same (BinaryOperator.Arithmetic ArithmeticOperator.Mod) = refl
 
 quantifier_like : (quantifier : Quantifier) (u : TokenModel) → u.kind ≡ TokenKind.Word → u.text ≡ quantifier_word quantifier → IsQuantifier quantifier u
 quantifier_like Quantifier.Any u kind text = record { word = word_like (codes "any") u refl kind text }

@@ -12,7 +12,10 @@ use Rattle.odata_text.specs.Spelling.{Spells}
 use Rattle.odata_text.specs.declared.byte_class.ByteClass.TheVariants.{Space}
 use Rattle.odata_text.specs.declared.token.TokenKind.{TokenKind}
 use Rattle.odata_text.specs.declared.token.TokenKind.TheVariants.{Int, Open, Close, Comma, Slash, Colon}
-use Rattle.odata_syntax.specs.declared.node.BinaryOperator.{BinaryOperator}
+use Rattle.odata_syntax.specs.declared.binary_operator.BinaryOperator.{BinaryOperator}
+use Rattle.odata_syntax.specs.declared.binary_operator.LogicalOperator.{LogicalOperator}
+use Rattle.odata_syntax.specs.declared.binary_operator.ComparisonOperator.{ComparisonOperator}
+use Rattle.odata_syntax.specs.declared.binary_operator.ArithmeticOperator.{ArithmeticOperator}
 use Rattle.odata_syntax.specs.declared.node.LiteralKind.{LiteralKind}
 use Rattle.odata_syntax.specs.declared.node.Quantifier.{Quantifier}
 use Rattle.odata_syntax.specs.CanonicalText.{tree_level}
@@ -35,19 +38,19 @@ letters_dollar : LettersAreIdentifiers → (name : List ℕ) → 0 < length name
 letters_dollar law word some letters = record { front = 36 ∷ []; back = word; whole = refl; is_front = refl; is_back = law word some letters }
 
 operator_spelled : LettersAreIdentifiers → (operator : BinaryOperator) → Spells TokenKind.Word (operator_word operator)
-operator_spelled law BinaryOperator.Or = letters_word law (codes "or") (omega arith) refl
-operator_spelled law BinaryOperator.And = letters_word law (codes "and") (omega arith) refl
-operator_spelled law BinaryOperator.Eq = letters_word law (codes "eq") (omega arith) refl
-operator_spelled law BinaryOperator.Ne = letters_word law (codes "ne") (omega arith) refl
-operator_spelled law BinaryOperator.Gt = letters_word law (codes "gt") (omega arith) refl
-operator_spelled law BinaryOperator.Ge = letters_word law (codes "ge") (omega arith) refl
-operator_spelled law BinaryOperator.Lt = letters_word law (codes "lt") (omega arith) refl
-operator_spelled law BinaryOperator.Le = letters_word law (codes "le") (omega arith) refl
-operator_spelled law BinaryOperator.Add = letters_word law (codes "add") (omega arith) refl
-operator_spelled law BinaryOperator.Sub = letters_word law (codes "sub") (omega arith) refl
-operator_spelled law BinaryOperator.Mul = letters_word law (codes "mul") (omega arith) refl
-operator_spelled law BinaryOperator.Div = letters_word law (codes "div") (omega arith) refl
-operator_spelled law BinaryOperator.Mod = letters_word law (codes "mod") (omega arith) refl
+operator_spelled law (BinaryOperator.Logical LogicalOperator.Or) = letters_word law (codes "or") (omega arith) refl
+operator_spelled law (BinaryOperator.Logical LogicalOperator.And) = letters_word law (codes "and") (omega arith) refl
+operator_spelled law (BinaryOperator.Comparison ComparisonOperator.Eq) = letters_word law (codes "eq") (omega arith) refl
+operator_spelled law (BinaryOperator.Comparison ComparisonOperator.Ne) = letters_word law (codes "ne") (omega arith) refl
+operator_spelled law (BinaryOperator.Comparison ComparisonOperator.Gt) = letters_word law (codes "gt") (omega arith) refl
+operator_spelled law (BinaryOperator.Comparison ComparisonOperator.Ge) = letters_word law (codes "ge") (omega arith) refl
+operator_spelled law (BinaryOperator.Comparison ComparisonOperator.Lt) = letters_word law (codes "lt") (omega arith) refl
+operator_spelled law (BinaryOperator.Comparison ComparisonOperator.Le) = letters_word law (codes "le") (omega arith) refl
+operator_spelled law (BinaryOperator.Arithmetic ArithmeticOperator.Add) = letters_word law (codes "add") (omega arith) refl
+operator_spelled law (BinaryOperator.Arithmetic ArithmeticOperator.Sub) = letters_word law (codes "sub") (omega arith) refl
+operator_spelled law (BinaryOperator.Arithmetic ArithmeticOperator.Mul) = letters_word law (codes "mul") (omega arith) refl
+operator_spelled law (BinaryOperator.Arithmetic ArithmeticOperator.Div) = letters_word law (codes "div") (omega arith) refl
+operator_spelled law (BinaryOperator.Arithmetic ArithmeticOperator.Mod) = letters_word law (codes "mod") (omega arith) refl
 
 quantifier_spelled : LettersAreIdentifiers → (quantifier : Quantifier) → Spells TokenKind.Word (quantifier_word quantifier)
 quantifier_spelled law Quantifier.Any = letters_word law (codes "any") (omega arith) refl

@@ -2,7 +2,10 @@
 use Rattle.std.specs.Prelude.{ℕ, suc, ◌<◌, List, [], ◌∷◌, ◌++◌, if◌then◌else◌, nat_le, ◌==◌, ◌||◌, codes, Option, Some, None, option_and_then}
 use Rattle.std.specs.List.{list_any}
 use Rattle.std.specs.Str.{str_eq_ignore_ascii_case, str_to_ascii_lowercase}
-use Rattle.odata_syntax.specs.declared.node.BinaryOperator.{BinaryOperator}
+use Rattle.odata_syntax.specs.declared.binary_operator.BinaryOperator.{BinaryOperator}
+use Rattle.odata_syntax.specs.declared.binary_operator.LogicalOperator.{LogicalOperator}
+use Rattle.odata_syntax.specs.declared.binary_operator.ComparisonOperator.{ComparisonOperator}
+use Rattle.odata_syntax.specs.declared.binary_operator.ArithmeticOperator.{ArithmeticOperator}
 use Rattle.odata_syntax.specs.declared.node.LiteralKind.{LiteralKind}
 use Rattle.odata_syntax.specs.declared.node.Quantifier.{Quantifier}
 use Rattle.odata_text.specs.declared.token.TokenKind.{TokenKind}
@@ -90,19 +93,19 @@ start_of_kind TokenKind.Colon text = None
 -- the word that stands behind an operand
 unfoldable pub word_next : List ℕ → Option Next
 word_next text =
-    if str_eq_ignore_ascii_case text (codes "or") then Some (Next.Operator BinaryOperator.Or)
-    else if str_eq_ignore_ascii_case text (codes "and") then Some (Next.Operator BinaryOperator.And)
-    else if str_eq_ignore_ascii_case text (codes "eq") then Some (Next.Operator BinaryOperator.Eq)
-    else if str_eq_ignore_ascii_case text (codes "ne") then Some (Next.Operator BinaryOperator.Ne)
-    else if str_eq_ignore_ascii_case text (codes "gt") then Some (Next.Operator BinaryOperator.Gt)
-    else if str_eq_ignore_ascii_case text (codes "ge") then Some (Next.Operator BinaryOperator.Ge)
-    else if str_eq_ignore_ascii_case text (codes "lt") then Some (Next.Operator BinaryOperator.Lt)
-    else if str_eq_ignore_ascii_case text (codes "le") then Some (Next.Operator BinaryOperator.Le)
-    else if str_eq_ignore_ascii_case text (codes "add") then Some (Next.Operator BinaryOperator.Add)
-    else if str_eq_ignore_ascii_case text (codes "sub") then Some (Next.Operator BinaryOperator.Sub)
-    else if str_eq_ignore_ascii_case text (codes "mul") then Some (Next.Operator BinaryOperator.Mul)
-    else if str_eq_ignore_ascii_case text (codes "div") then Some (Next.Operator BinaryOperator.Div)
-    else if str_eq_ignore_ascii_case text (codes "mod") then Some (Next.Operator BinaryOperator.Mod)
+    if str_eq_ignore_ascii_case text (codes "or") then Some (Next.Operator (BinaryOperator.Logical LogicalOperator.Or))
+    else if str_eq_ignore_ascii_case text (codes "and") then Some (Next.Operator (BinaryOperator.Logical LogicalOperator.And))
+    else if str_eq_ignore_ascii_case text (codes "eq") then Some (Next.Operator (BinaryOperator.Comparison ComparisonOperator.Eq))
+    else if str_eq_ignore_ascii_case text (codes "ne") then Some (Next.Operator (BinaryOperator.Comparison ComparisonOperator.Ne))
+    else if str_eq_ignore_ascii_case text (codes "gt") then Some (Next.Operator (BinaryOperator.Comparison ComparisonOperator.Gt))
+    else if str_eq_ignore_ascii_case text (codes "ge") then Some (Next.Operator (BinaryOperator.Comparison ComparisonOperator.Ge))
+    else if str_eq_ignore_ascii_case text (codes "lt") then Some (Next.Operator (BinaryOperator.Comparison ComparisonOperator.Lt))
+    else if str_eq_ignore_ascii_case text (codes "le") then Some (Next.Operator (BinaryOperator.Comparison ComparisonOperator.Le))
+    else if str_eq_ignore_ascii_case text (codes "add") then Some (Next.Operator (BinaryOperator.Arithmetic ArithmeticOperator.Add))
+    else if str_eq_ignore_ascii_case text (codes "sub") then Some (Next.Operator (BinaryOperator.Arithmetic ArithmeticOperator.Sub))
+    else if str_eq_ignore_ascii_case text (codes "mul") then Some (Next.Operator (BinaryOperator.Arithmetic ArithmeticOperator.Mul))
+    else if str_eq_ignore_ascii_case text (codes "div") then Some (Next.Operator (BinaryOperator.Arithmetic ArithmeticOperator.Div))
+    else if str_eq_ignore_ascii_case text (codes "mod") then Some (Next.Operator (BinaryOperator.Arithmetic ArithmeticOperator.Mod))
     else if str_eq_ignore_ascii_case text (codes "has") then Some Next.Has
     else if str_eq_ignore_ascii_case text (codes "in") then Some Next.In
     else None

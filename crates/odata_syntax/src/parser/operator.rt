@@ -10,9 +10,10 @@ ghost use Rattle.odata_syntax.specs.private.MachineView.{machine_of};
 ghost use Rattle.odata_syntax.specs.private.ListSteps.{HasRead, IfTaken, IsSteadyState, IsStepTo};
 ghost use Rattle.odata_syntax.specs.private.ListSteps.{read_tree, waiting_behind};
 
-use crate::BinaryOperator;
+use crate::BinaryOperator::{Arithmetic, Comparison, Logical};
 use crate::level::{self, operator_level};
 use crate::parser::state::{Frame, Pending, Piece, State, Step};
+use crate::{ArithmeticOperator, BinaryOperator, ComparisonOperator, LogicalOperator};
 use odata_text::TokenKind;
 
 /// What a token says after an operand.
@@ -93,13 +94,13 @@ fn two_letters(a: u8, b: u8) -> Option<Binding>
         → IsBinding result (machine_word (x ∷ y ∷ [])) }
 {
     match (a, b) {
-        (b'o', b'r') => Some(with_level(Next::Operator(BinaryOperator::Or))),
-        (b'e', b'q') => Some(with_level(Next::Operator(BinaryOperator::Eq))),
-        (b'n', b'e') => Some(with_level(Next::Operator(BinaryOperator::Ne))),
-        (b'g', b't') => Some(with_level(Next::Operator(BinaryOperator::Gt))),
-        (b'g', b'e') => Some(with_level(Next::Operator(BinaryOperator::Ge))),
-        (b'l', b't') => Some(with_level(Next::Operator(BinaryOperator::Lt))),
-        (b'l', b'e') => Some(with_level(Next::Operator(BinaryOperator::Le))),
+        (b'o', b'r') => Some(with_level(Next::Operator(Logical(LogicalOperator::Or)))),
+        (b'e', b'q') => Some(with_level(Next::Operator(Comparison(ComparisonOperator::Eq)))),
+        (b'n', b'e') => Some(with_level(Next::Operator(Comparison(ComparisonOperator::Ne)))),
+        (b'g', b't') => Some(with_level(Next::Operator(Comparison(ComparisonOperator::Gt)))),
+        (b'g', b'e') => Some(with_level(Next::Operator(Comparison(ComparisonOperator::Ge)))),
+        (b'l', b't') => Some(with_level(Next::Operator(Comparison(ComparisonOperator::Lt)))),
+        (b'l', b'e') => Some(with_level(Next::Operator(Comparison(ComparisonOperator::Le)))),
         (b'i', b'n') => Some(with_level(Next::In)),
         _ => None,
     }
@@ -114,12 +115,12 @@ fn three_letters(a: u8, b: u8, c: u8) -> Option<Binding>
         → IsBinding result (machine_word (x ∷ y ∷ z ∷ [])) }
 {
     match (a, b, c) {
-        (b'a', b'n', b'd') => Some(with_level(Next::Operator(BinaryOperator::And))),
-        (b'a', b'd', b'd') => Some(with_level(Next::Operator(BinaryOperator::Add))),
-        (b's', b'u', b'b') => Some(with_level(Next::Operator(BinaryOperator::Sub))),
-        (b'm', b'u', b'l') => Some(with_level(Next::Operator(BinaryOperator::Mul))),
-        (b'm', b'o', b'd') => Some(with_level(Next::Operator(BinaryOperator::Mod))),
-        (b'd', b'i', b'v') => Some(with_level(Next::Operator(BinaryOperator::Div))),
+        (b'a', b'n', b'd') => Some(with_level(Next::Operator(Logical(LogicalOperator::And)))),
+        (b'a', b'd', b'd') => Some(with_level(Next::Operator(Arithmetic(ArithmeticOperator::Add)))),
+        (b's', b'u', b'b') => Some(with_level(Next::Operator(Arithmetic(ArithmeticOperator::Sub)))),
+        (b'm', b'u', b'l') => Some(with_level(Next::Operator(Arithmetic(ArithmeticOperator::Mul)))),
+        (b'm', b'o', b'd') => Some(with_level(Next::Operator(Arithmetic(ArithmeticOperator::Mod)))),
+        (b'd', b'i', b'v') => Some(with_level(Next::Operator(Arithmetic(ArithmeticOperator::Div)))),
         (b'h', b'a', b's') => Some(with_level(Next::Has)),
         _ => None,
     }

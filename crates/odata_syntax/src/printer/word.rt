@@ -1,25 +1,31 @@
 ghost use Rattle.std.specs.Prelude.{◌≡◌};
 ghost use Rattle.odata_syntax.specs.Lexeme.{operator_word};
 
-use crate::BinaryOperator;
+use crate::{ArithmeticOperator, BinaryOperator, ComparisonOperator, LogicalOperator};
 
 /// The word of an operator, in lower case.
 pub fn operator_word(operator: BinaryOperator) -> &'static str
     ensures { result.now ≡ operator_word operator }
 {
     match operator {
-        BinaryOperator::Or => "or",
-        BinaryOperator::And => "and",
-        BinaryOperator::Eq => "eq",
-        BinaryOperator::Ne => "ne",
-        BinaryOperator::Gt => "gt",
-        BinaryOperator::Ge => "ge",
-        BinaryOperator::Lt => "lt",
-        BinaryOperator::Le => "le",
-        BinaryOperator::Add => "add",
-        BinaryOperator::Sub => "sub",
-        BinaryOperator::Mul => "mul",
-        BinaryOperator::Div => "div",
-        BinaryOperator::Mod => "mod",
+        BinaryOperator::Logical(logical) => match logical {
+            LogicalOperator::Or => "or",
+            LogicalOperator::And => "and",
+        },
+        BinaryOperator::Comparison(comparison) => match comparison {
+            ComparisonOperator::Eq => "eq",
+            ComparisonOperator::Ne => "ne",
+            ComparisonOperator::Gt => "gt",
+            ComparisonOperator::Ge => "ge",
+            ComparisonOperator::Lt => "lt",
+            ComparisonOperator::Le => "le",
+        },
+        BinaryOperator::Arithmetic(arithmetic) => match arithmetic {
+            ArithmeticOperator::Add => "add",
+            ArithmeticOperator::Sub => "sub",
+            ArithmeticOperator::Mul => "mul",
+            ArithmeticOperator::Div => "div",
+            ArithmeticOperator::Mod => "mod",
+        },
     }
 }

@@ -7,9 +7,9 @@ use Rattle.csdl_schema.specs.PathSet.{PropertyPath}
 use Rattle.csdl_schema.specs.SchemaModel.{Slots}
 use Rattle.odata_expression_types.specs.NeededPaths.{IsNeededAmong, Navigates, VariablePaths}
 use Rattle.odata_expression_types.specs.Typed.{Scope, Typed, variable_type, with_variable}
-use Rattle.odata_typing.specs.declared.binary_node.Infix.{Infix}
+use Rattle.odata_checked_filter.specs.declared.checked_node.NodeKind.{NodeKind}
 use Rattle.odata_typing.specs.declared.unary_node.Unary.{Unary}
-use Rattle.odata_typing.specs.private.Forms.{infix_shape, unary_shape}
+use Rattle.odata_typing.specs.private.Forms.{IsInfix, infix_shape, unary_shape}
 use Rattle.odata_typing.specs.private.Judging.{IsIdle}
 use Rattle.odata_typing.specs.private.LawsBelow.{LawsBelow}
 
@@ -29,13 +29,14 @@ idle_over slots root scope start stop Unary.Not operand idle = idle
 idle_over slots root scope start stop Unary.Count operand idle = idle
 idle_over slots root scope start stop Unary.AnyItem operand idle = idle
 
-pub idle_between : (slots : Slots) (root : List ℕ) (scope : Scope) (start stop : ℕ) (form : Infix) (l r : Tree) → IsIdle slots root scope l → IsIdle slots root scope r → IsIdle slots root scope (node start stop (infix_shape form l r))
-idle_between slots root scope start stop (Infix.Operator operator) l r left right paths path (inl needed) = left paths path needed
-idle_between slots root scope start stop (Infix.Operator operator) l r left right paths path (inr needed) = right paths path needed
-idle_between slots root scope start stop Infix.Has l r left right paths path (inl needed) = left paths path needed
-idle_between slots root scope start stop Infix.Has l r left right paths path (inr needed) = right paths path needed
-idle_between slots root scope start stop Infix.InPath l r left right paths path (inl needed) = left paths path needed
-idle_between slots root scope start stop Infix.InPath l r left right paths path (inr needed) = right paths path needed
+pub idle_between : (slots : Slots) (root : List ℕ) (scope : Scope) (start stop : ℕ) (form : NodeKind) (l r : Tree) → IsInfix form → IsIdle slots root scope l → IsIdle slots root scope r → IsIdle slots root scope (node start stop (infix_shape form l r))
+idle_between slots root scope start stop (NodeKind.Binary operator) l r is left right paths path (inl needed) = left paths path needed
+idle_between slots root scope start stop (NodeKind.Binary operator) l r is left right paths path (inr needed) = right paths path needed
+idle_between slots root scope start stop NodeKind.Has l r is left right paths path (inl needed) = left paths path needed
+idle_between slots root scope start stop NodeKind.Has l r is left right paths path (inr needed) = right paths path needed
+idle_between slots root scope start stop NodeKind.InPath l r is left right paths path (inl needed) = left paths path needed
+idle_between slots root scope start stop NodeKind.InPath l r is left right paths path (inr needed) = right paths path needed
+idle_between slots root scope start stop _ l r is left right paths path needed = absurd is
 
 pub idle_list : (slots : Slots) (root : List ℕ) (scope : Scope) (start stop : ℕ) (l : Tree) (items : List Tree) → IsIdle slots root scope l → AreIdle slots root scope items → IsIdle slots root scope (node start stop (in_list l (trees_of_list items)))
 idle_list slots root scope start stop l items left idle paths path (inl needed) = left paths path needed

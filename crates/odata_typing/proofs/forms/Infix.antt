@@ -8,52 +8,62 @@ use Rattle.odata_expression_types.specs.Sides.{Between}
 use Rattle.odata_expression_types.specs.Typed.{OperandsTyped, Scope, Typed}
 use Rattle.odata_checked_filter.specs.FlatTree.{FlatTree}
 use Rattle.odata_checked_filter.specs.Stands.{ChildrenStand, SideBySide, Stands, text_of_shape}
-use Rattle.odata_typing.specs.declared.binary_node.Infix.{Infix}
-use Rattle.odata_typing.specs.private.Forms.{InfixTyped, infix_shape}
+use Rattle.odata_checked_filter.specs.declared.checked_node.NodeKind.{NodeKind}
+use Rattle.odata_typing.specs.private.Forms.{InfixTyped, IsInfix, infix_shape}
 
 pub infix_typed :
-    (slots : Slots) (root : List ℕ) (scope : Scope) (start stop : ℕ) (form : Infix) (left right : Tree) (type : ExprType)
+    (slots : Slots) (root : List ℕ) (scope : Scope) (start stop : ℕ) (form : NodeKind) (left right : Tree) (type : ExprType)
+    → IsInfix form
     → OperandsTyped (Typed slots root scope left) (Typed slots root scope right) (Between (InfixTyped slots form) left right) type
     → Typed slots root scope (node start stop (infix_shape form left right)) type
-infix_typed slots root scope start stop (Infix.Operator operator) left right type typed = typed
-infix_typed slots root scope start stop Infix.Has left right type typed = typed
-infix_typed slots root scope start stop Infix.InPath left right type typed = typed
+infix_typed slots root scope start stop (NodeKind.Binary operator) left right type is typed = typed
+infix_typed slots root scope start stop NodeKind.Has left right type is typed = typed
+infix_typed slots root scope start stop NodeKind.InPath left right type is typed = typed
+infix_typed slots root scope start stop _ left right type is typed = absurd is
 
 pub infix_only :
-    (slots : Slots) (root : List ℕ) (scope : Scope) (start stop : ℕ) (form : Infix) (left right : Tree) (type : ExprType)
+    (slots : Slots) (root : List ℕ) (scope : Scope) (start stop : ℕ) (form : NodeKind) (left right : Tree) (type : ExprType)
+    → IsInfix form
     → Typed slots root scope (node start stop (infix_shape form left right)) type
     → OperandsTyped (Typed slots root scope left) (Typed slots root scope right) (Between (InfixTyped slots form) left right) type
-infix_only slots root scope start stop (Infix.Operator operator) left right type typed = typed
-infix_only slots root scope start stop Infix.Has left right type typed = typed
-infix_only slots root scope start stop Infix.InPath left right type typed = typed
+infix_only slots root scope start stop (NodeKind.Binary operator) left right type is typed = typed
+infix_only slots root scope start stop NodeKind.Has left right type is typed = typed
+infix_only slots root scope start stop NodeKind.InPath left right type is typed = typed
+infix_only slots root scope start stop _ left right type is typed = absurd is
 
-pub infix_children : (form : Infix) (left right : Tree) → children_in_scope (infix_shape form left right) ≡ left ∷ right ∷ []
-infix_children (Infix.Operator operator) left right = refl
-infix_children Infix.Has left right = refl
-infix_children Infix.InPath left right = refl
+pub infix_children : (form : NodeKind) (left right : Tree) → IsInfix form → children_in_scope (infix_shape form left right) ≡ left ∷ right ∷ []
+infix_children (NodeKind.Binary operator) left right is = refl
+infix_children NodeKind.Has left right is = refl
+infix_children NodeKind.InPath left right is = refl
+infix_children _ left right is = absurd is
 
 pub infix_bodiless :
-    (slots : Slots) (root : List ℕ) (scope : Scope) (form : Infix) (left right : Tree) (at : Scope) (body : Tree)
+    (slots : Slots) (root : List ℕ) (scope : Scope) (form : NodeKind) (left right : Tree) (at : Scope) (body : Tree)
+    → IsInfix form
     → ¬ IsConsideredBody slots root scope (infix_shape form left right) at body
-infix_bodiless slots root scope (Infix.Operator operator) left right at body is = is
-infix_bodiless slots root scope Infix.Has left right at body is = is
-infix_bodiless slots root scope Infix.InPath left right at body is = is
+infix_bodiless slots root scope (NodeKind.Binary operator) left right at body between is = is
+infix_bodiless slots root scope NodeKind.Has left right at body between is = is
+infix_bodiless slots root scope NodeKind.InPath left right at body between is = is
+infix_bodiless slots root scope _ left right at body between is = between
 
-pub infix_text : (form : Infix) (left right : Tree) → text_of_shape (infix_shape form left right) ≡ []
-infix_text (Infix.Operator operator) left right = refl
-infix_text Infix.Has left right = refl
-infix_text Infix.InPath left right = refl
+pub infix_text : (form : NodeKind) (left right : Tree) → IsInfix form → text_of_shape (infix_shape form left right) ≡ []
+infix_text (NodeKind.Binary operator) left right is = refl
+infix_text NodeKind.Has left right is = refl
+infix_text NodeKind.InPath left right is = refl
+infix_text _ left right is = absurd is
 
 pub infix_stands :
-    (schema : SchemaModel) (n : ℕ) (scope : Scope) (list : FlatTree) (i j : ℕ) (form : Infix) (left right : Tree)
+    (schema : SchemaModel) (n : ℕ) (scope : Scope) (list : FlatTree) (i j : ℕ) (form : NodeKind) (left right : Tree)
+    → IsInfix form
     → SideBySide (λ middle. Stands schema n scope list i middle left) (λ middle. Stands schema n scope list middle j right)
     → ChildrenStand schema n scope list i j (infix_shape form left right)
-infix_stands schema n scope list i j (Infix.Operator operator) left right stand =
+infix_stands schema n scope list i j (NodeKind.Binary operator) left right is stand =
     record { middle = stand.middle; left = stand.left; right = record { middle = j; left = stand.right; right = refl } }
-infix_stands schema n scope list i j Infix.Has left right stand =
+infix_stands schema n scope list i j NodeKind.Has left right is stand =
     record { middle = stand.middle; left = stand.left; right = record { middle = j; left = stand.right; right = refl } }
-infix_stands schema n scope list i j Infix.InPath left right stand =
+infix_stands schema n scope list i j NodeKind.InPath left right is stand =
     record { middle = stand.middle; left = stand.left; right = record { middle = j; left = stand.right; right = refl } }
+infix_stands schema n scope list i j _ left right is stand = absurd is
 
 -- what is told of what there is, together
 pub both_some : {X : Type 0} (o : Option X) (P Q : X → Type 0) → IfSome o P → IfSome o Q → IfSome o (λ x. P x × Q x)

@@ -3,7 +3,7 @@ use Rattle.std.proofs.Common.{◌≡◌, ◌∙◌, refl, ap, subst, inl, inr, �
 use Rattle.edm_values.specs.declared.value.Value.{Value}
 use Rattle.odata_syntax.specs.Tree.{Tree, trees_of_list}
 use Rattle.csdl_schema.specs.ExprType.{ExprType, single, enumeration}
-use Rattle.odata_functions.specs.declared.comparison.ComparisonOperator.{ComparisonOperator}
+use Rattle.odata_syntax.specs.declared.binary_operator.ComparisonOperator.{ComparisonOperator}
 use Rattle.csdl_schema.specs.SchemaModel.{Slots}
 use Rattle.odata_signatures.specs.CollectionTyped.{InListTyped, IsCollection, IsItemBeside}
 use Rattle.odata_signatures.specs.ComparableTypes.{AreComparable}

@@ -4,7 +4,7 @@ use Rattle.std.specs.Int.{cast_signed as to_z, cast_unsigned as of_z, w64}
 use Rattle.std.specs.Option.{option_map}
 use Rattle.edm_values.specs.declared.value.Value.{Value}
 use Rattle.odata_syntax.specs.Tree.{Tree}
-use Rattle.odata_syntax.specs.declared.node.BinaryOperator.{BinaryOperator}
+use Rattle.odata_syntax.specs.declared.binary_operator.BinaryOperator.{BinaryOperator}
 use Rattle.csdl_schema.specs.ExprType.{ExprType}
 use Rattle.csdl_schema.specs.SchemaModel.{SchemaModel}
 use Rattle.odata_signatures.specs.QuotedNumber.{IsReadBeside, LacksNumber}
@@ -19,14 +19,13 @@ use Rattle.odata_expression_types.specs.declared.refusal.TypeFaultCode.{TypeFaul
 use Rattle.odata_checked_filter.specs.declared.checked_node.NodeKind.{NodeKind}
 use Rattle.odata_checked_filter.specs.ListChanges.{with_value}
 use Rattle.odata_checked_filter.specs.Stands.{IsKindOf}
-use Rattle.odata_typing.specs.declared.binary_node.Infix.{Infix}
 use Rattle.odata_typing.specs.declared.binary_node.OperandTypes.{OperandTypes}
 use Rattle.odata_typing.specs.declared.pairing.Paired.{Paired}
 use Rattle.odata_typing.specs.declared.pairing.Pairing.{Pairing}
 use Rattle.odata_typing.specs.declared.setting.Judged.{Judged}
 use Rattle.odata_typing.specs.declared.setting.Setting.{Setting}
 use Rattle.odata_typing.specs.declared.walk.Walk.{Walk}
-use Rattle.odata_typing.specs.private.Forms.{InfixByTypes, InfixReason, InfixTyped, infix_kind, infix_shape}
+use Rattle.odata_typing.specs.private.Forms.{InfixByTypes, InfixReason, InfixTyped, IsInfix, infix_shape}
 use Rattle.odata_typing.specs.private.Judging.{AreChildren, IsNodeJudged, IsStanding}
 use Rattle.odata_typing.specs.private.LawsBelow.{LawsBelow}
 use Rattle.odata_typing.specs.private.Pairing.{IsPairedIn, IsPairing, OneIsRead, left_side, paired_kind, right_side}
@@ -65,8 +64,8 @@ same_side schema n scope walk i j tree stands type quoted same is =
     ap (λ (t : EdmType). quoting quoted (expr_type schema t)) same
     ∙ ap (λ (q : Option (List ℕ)). quoting q (expr_type schema stands.found.edm_type)) (is ∙ quoted_standing schema n scope walk.list i j tree stands.found stands.stands stands.at)
 
-module _ (laws : LawsBelow) (setting : Setting) (judged : Judged) (old new : Walk) (form : Infix) (l r : Tree) (result : Bool)
-    (ready : IsNodeReady setting old judged) (two : AreTwo setting old judged l r) where
+module _ (laws : LawsBelow) (setting : Setting) (judged : Judged) (old new : Walk) (form : NodeKind) (l r : Tree) (result : Bool)
+    (between : IsInfix form) (ready : IsNodeReady setting old judged) (two : AreTwo setting old judged l r) where
   abbrev left_type : ExprType
   left_type = expr_type setting.schema.now two.left.found.edm_type
 
@@ -93,12 +92,12 @@ module _ (laws : LawsBelow) (setting : Setting) (judged : Judged) (old new : Wal
       let a = standing_kept laws schema n scope 0 0 old mid more (judged.number + 1) two.middle l (inr (omega arith)) two.left in
       let b = standing_kept laws schema n scope 0 0 old mid more two.middle judged.stop r (inr (omega arith)) two.right in
       put_tree setting judged laws old mid new (infix_shape form l r) kind type result ready more fresh goes_on
-      (subst (λ (text : List ℕ). new ≡ walk_put mid judged kind type text) (sym (infix_text form l r)) is)
+      (subst (λ (text : List ℕ). new ≡ walk_put mid judged kind type text) (sym (infix_text form l r between)) is)
       there of_kind
-      (infix_typed slots root scope span.start span.stop form l r (expr_type schema type)
+      (infix_typed slots root scope span.start span.stop form l r (expr_type schema type) between
       (record { left = left_type; right = right_type; left_typed = two.left.typed; right_typed = two.right.typed; makes = makes }))
-      (infix_stands schema n scope mid.list (judged.number + 1) judged.stop form l r (record { middle = two.middle; left = a.stands; right = b.stands }))
-      (λ idle. idle_between slots root scope span.start span.stop form l r (a.idle idle) (b.idle idle))
+      (infix_stands schema n scope mid.list (judged.number + 1) judged.stop form l r between (record { middle = two.middle; left = a.stands; right = b.stands }))
+      (λ idle. idle_between slots root scope span.start span.stop form l r between (a.idle idle) (b.idle idle))
 
   refuse_between :
       (mid : Walk) (code : TypeFaultCode)
@@ -109,28 +108,26 @@ module _ (laws : LawsBelow) (setting : Setting) (judged : Judged) (old new : Wal
       → IsNodeJudged setting judged (infix_shape form l r) old new result
   refuse_between mid code stops is none reason =
       refused_tree setting judged old mid new (infix_shape form l r) code result stops is
-      (refused_between laws (slots_in setting) (root_in setting) (scope_of setting) judged.node.now.span form l r left_type right_type code two.left.typed two.right.typed none reason)
+      (refused_between laws (slots_in setting) (root_in setting) (scope_of setting) judged.node.now.span form l r left_type right_type code between two.left.typed two.right.typed none reason)
 
   -- neither is read, so that the types alone count
   pub judged_between :
-      (made : Option EdmType) (kind : NodeKind) (code : TypeFaultCode)
+      (made : Option EdmType) (code : TypeFaultCode)
       → ¬ OneIsRead IsReadBeside form (side_of l left_type) (side_of r right_type)
-      → kind ≡ infix_kind form
       → InfixReason form right_type code
       → IfSome made (λ type. InfixByTypes form left_type right_type (expr_type setting.schema.now type))
       → IfSome made (IsTypeThere setting.schema.now)
       → IfNone made ((type : ExprType) → ¬ InfixByTypes form left_type right_type type)
       → IfSome made (λ type. result ≡ true)
-      → IfSome made (λ type. new ≡ walk_put old judged kind type [])
+      → IfSome made (λ type. new ≡ walk_put old judged form type [])
       → IfNone made (result ≡ false)
       → IfNone made (new ≡ walk_refused old judged.node.now.span code)
       → IsNodeJudged setting judged (infix_shape form l r) old new result
-  judged_between (Some type) kind code unread kind_is reason typed there none goes_on put stops refused =
-      put_between old (infix_kind form) type (same_more old) ready.ready.fresh goes_on
-      (subst (λ (k : NodeKind). new ≡ walk_put old judged k type []) kind_is put) there
-      (unread_kind laws old.list.values (slots_in setting) (root_in setting) (scope_of setting) l r left_type right_type two.left.typed two.right.typed form unread)
+  judged_between (Some type) code unread reason typed there none goes_on put stops refused =
+      put_between old form type (same_more old) ready.ready.fresh goes_on put there
+      (unread_kind laws old.list.values (slots_in setting) (root_in setting) (scope_of setting) l r left_type right_type two.left.typed two.right.typed form between unread)
       (types_typed (slots_in setting) form l r left_type right_type (expr_type setting.schema.now type) typed)
-  judged_between None kind code unread kind_is reason typed there none goes_on put stops refused =
+  judged_between None code unread reason typed there none goes_on put stops refused =
       refuse_between old code stops refused
       (λ type makes. none type (typed_types laws (slots_in setting) form l r left_type right_type type unread makes))
       (unread_reason laws (slots_in setting) (root_in setting) (scope_of setting) l r left_type right_type two.left.typed two.right.typed judged.node.now.span.start judged.node.now.span.stop form code unread reason)
@@ -168,8 +165,8 @@ module _ (laws : LawsBelow) (setting : Setting) (judged : Judged) (old new : Wal
       (unknown_reason laws slots root scope l r left_type right_type two.left.typed two.right.typed judged.node.now.span.start judged.node.now.span.stop form lacks)
 
 -- the same by the types of the code, and by what the operands quote there
-module _ (laws : LawsBelow) (setting : Setting) (judged : Judged) (old new : Walk) (form : Infix) (l r : Tree) (result : Bool)
-    (ready : IsNodeReady setting old judged) (two : AreTwo setting old judged l r) (types : OperandTypes)
+module _ (laws : LawsBelow) (setting : Setting) (judged : Judged) (old new : Walk) (form : NodeKind) (l r : Tree) (result : Bool)
+    (between : IsInfix form) (ready : IsNodeReady setting old judged) (two : AreTwo setting old judged l r) (types : OperandTypes)
     (same_left : types.left ≡ two.left.found.edm_type) (same_right : types.right ≡ two.right.found.edm_type)
     (quoted_left : option_map (λ spelling. spelling.now) types.left_quoted ≡ quoted_in old.list (judged.number + 1) two.left.found)
     (quoted_right : option_map (λ spelling. spelling.now) types.right_quoted ≡ quoted_in old.list two.middle two.right.found) where
@@ -186,21 +183,20 @@ module _ (laws : LawsBelow) (setting : Setting) (judged : Judged) (old new : Wal
       (subst (λ (s : Side). IsPairing (slots_in setting) form s (right_side setting.schema.now types) pairing) left_is is)
 
   pub infix_unread :
-      (made : Option EdmType) (kind : NodeKind) (code : TypeFaultCode)
+      (made : Option EdmType) (code : TypeFaultCode)
       → IsPairing (slots_in setting) form (left_side setting.schema.now types) (right_side setting.schema.now types) Pairing.Unread
-      → kind ≡ infix_kind form
       → InfixReason form (expr_type setting.schema.now types.right) code
       → IfSome made (λ type. InfixByTypes form (expr_type setting.schema.now types.left) (expr_type setting.schema.now types.right) (expr_type setting.schema.now type))
       → IfSome made (IsTypeThere setting.schema.now)
       → IfNone made ((type : ExprType) → ¬ InfixByTypes form (expr_type setting.schema.now types.left) (expr_type setting.schema.now types.right) type)
       → IfSome made (λ type. result ≡ true)
-      → IfSome made (λ type. new ≡ walk_put old judged kind type [])
+      → IfSome made (λ type. new ≡ walk_put old judged form type [])
       → IfNone made (result ≡ false)
       → IfNone made (new ≡ walk_refused old judged.node.now.span code)
       → IsNodeJudged setting judged (infix_shape form l r) old new result
-  infix_unread made kind code unread kind_is reason typed there none =
+  infix_unread made code unread reason typed there none =
       let schema = setting.schema.now in
-      judged_between laws setting judged old new form l r result ready two made kind code (pairing_is Pairing.Unread unread) kind_is
+      judged_between laws setting judged old new form l r result between ready two made code (pairing_is Pairing.Unread unread)
       (subst (λ (t : EdmType). InfixReason form (expr_type schema t) code) same_right reason)
       (subst (λ (t : EdmType). IfSome made (λ type. InfixByTypes form (expr_type schema two.left.found.edm_type) (expr_type schema t) (expr_type schema type))) same_right
       (subst (λ (t : EdmType). IfSome made (λ type. InfixByTypes form (expr_type schema t) (expr_type schema types.right) (expr_type schema type))) same_left typed))
@@ -218,7 +214,7 @@ module _ (laws : LawsBelow) (setting : Setting) (judged : Judged) (old new : Wal
       → new ≡ walk_put mid judged kind truth_type []
       → IsNodeJudged setting judged (infix_shape form l r) old new result
   infix_number mid paired n place kind is =
-      paired_between laws setting judged old new form l r result ready two mid paired (to_z w64 (of_z w64 n)) place kind
+      paired_between laws setting judged old new form l r result between ready two mid paired (to_z w64 (of_z w64 n)) place kind
       (paired_held (slots_in setting) form paired (side_of l (expr_type setting.schema.now two.left.found.edm_type)) (side_of r (expr_type setting.schema.now two.right.found.edm_type)) n
       (pairing_is (Pairing.Number paired n) is))
 
@@ -227,7 +223,7 @@ module _ (laws : LawsBelow) (setting : Setting) (judged : Judged) (old new : Wal
       → result ≡ false
       → new ≡ walk_refused old judged.node.now.span TypeFaultCode.UnknownEnum
       → IsNodeJudged setting judged (infix_shape form l r) old new result
-  infix_unknown is = unknown_between laws setting judged old new form l r result ready two (pairing_is Pairing.Unknown is)
+  infix_unknown is = unknown_between laws setting judged old new form l r result between ready two (pairing_is Pairing.Unknown is)
 
 -- an operator between operands of which none may be read
 pub operator_unread :
@@ -235,22 +231,22 @@ pub operator_unread :
     (ready : IsNodeReady setting old judged) (two : AreTwo setting old judged l r) (left right : EdmType) (made : Option EdmType)
     → left ≡ two.left.found.edm_type
     → right ≡ two.right.found.edm_type
-    → ((a b : Option (List ℕ)) → ¬ OneIsRead IsReadBeside (Infix.Operator operator) (quoting a (expr_type setting.schema.now left)) (quoting b (expr_type setting.schema.now right)))
-    → IfSome made (λ type. InfixByTypes (Infix.Operator operator) (expr_type setting.schema.now left) (expr_type setting.schema.now right) (expr_type setting.schema.now type))
+    → ((a b : Option (List ℕ)) → ¬ OneIsRead IsReadBeside (NodeKind.Binary operator) (quoting a (expr_type setting.schema.now left)) (quoting b (expr_type setting.schema.now right)))
+    → IfSome made (λ type. InfixByTypes (NodeKind.Binary operator) (expr_type setting.schema.now left) (expr_type setting.schema.now right) (expr_type setting.schema.now type))
     → IfSome made (IsTypeThere setting.schema.now)
-    → IfNone made ((type : ExprType) → ¬ InfixByTypes (Infix.Operator operator) (expr_type setting.schema.now left) (expr_type setting.schema.now right) type)
+    → IfNone made ((type : ExprType) → ¬ InfixByTypes (NodeKind.Binary operator) (expr_type setting.schema.now left) (expr_type setting.schema.now right) type)
     → IfSome made (λ type. result ≡ true)
     → IfSome made (λ type. new ≡ walk_put old judged (NodeKind.Binary operator) type [])
     → IfNone made (result ≡ false)
     → IfNone made (new ≡ walk_refused old judged.node.now.span TypeFaultCode.OperandTypes)
-    → IsNodeJudged setting judged (infix_shape (Infix.Operator operator) l r) old new result
+    → IsNodeJudged setting judged (infix_shape (NodeKind.Binary operator) l r) old new result
 operator_unread laws setting judged old new operator l r result ready two left right made same_left same_right unread typed there none =
     let schema = setting.schema.now in
-    let form : Infix = Infix.Operator operator in
-    judged_between laws setting judged old new form l r result ready two made (NodeKind.Binary operator) TypeFaultCode.OperandTypes
+    let form : NodeKind = NodeKind.Binary operator in
+    judged_between laws setting judged old new form l r result tt ready two made TypeFaultCode.OperandTypes
     (subst (λ (t : EdmType). ¬ OneIsRead IsReadBeside form (side_of l (expr_type schema two.left.found.edm_type)) (side_of r (expr_type schema t))) same_right
     (subst (λ (t : EdmType). ¬ OneIsRead IsReadBeside form (side_of l (expr_type schema t)) (side_of r (expr_type schema right))) same_left (unread (quoted_text l) (quoted_text r))))
-    refl refl
+    refl
     (subst (λ (t : EdmType). IfSome made (λ type. InfixByTypes form (expr_type schema two.left.found.edm_type) (expr_type schema t) (expr_type schema type))) same_right
     (subst (λ (t : EdmType). IfSome made (λ type. InfixByTypes form (expr_type schema t) (expr_type schema right) (expr_type schema type))) same_left typed))
     there

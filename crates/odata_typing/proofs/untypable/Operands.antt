@@ -7,10 +7,10 @@ use Rattle.odata_text.specs.declared.span.Span.{Span}
 use Rattle.csdl_schema.specs.ExprType.{ExprType}
 use Rattle.csdl_schema.specs.SchemaModel.{Slots}
 use Rattle.odata_expression_types.specs.declared.refusal.TypeFaultCode.{TypeFaultCode}
-use Rattle.odata_typing.specs.declared.binary_node.Infix.{Infix}
+use Rattle.odata_checked_filter.specs.declared.checked_node.NodeKind.{NodeKind}
 use Rattle.odata_typing.specs.declared.unary_node.Unary.{Unary}
 use Rattle.odata_typing.specs.private.LawsBelow.{LawsBelow}
-use Rattle.odata_typing.specs.private.Forms.{InfixTyped, UnaryTyped, infix_shape, unary_code, unary_shape}
+use Rattle.odata_typing.specs.private.Forms.{InfixTyped, IsInfix, UnaryTyped, infix_shape, unary_code, unary_shape}
 use Rattle.odata_expression_types.specs.FirstUntypable.{IsFirstUntypable, IsReason, LiteralReason, StepReason}
 use Rattle.odata_expression_types.specs.LiteralValue.{LiteralTyped}
 use Rattle.odata_expression_types.specs.Sides.{Between}
@@ -35,19 +35,20 @@ module _ (laws : LawsBelow) (slots : Slots) (root : List ℕ) (scope : Scope) wh
       (subst P (laws.one_type slots root scope left typed.left l typed.left_typed left_typed) typed.makes))
 
   pub refused_between :
-      (span : Span) (form : Infix) (l r : Tree) (left right : ExprType) (code : TypeFaultCode)
+      (span : Span) (form : NodeKind) (l r : Tree) (left right : ExprType) (code : TypeFaultCode)
+      → IsInfix form
       → Typed slots root scope l left
       → Typed slots root scope r right
       → ((type : ExprType) → ¬ Between (InfixTyped slots form) l r left right type)
       → IsReason slots root scope (node span.start span.stop (infix_shape form l r)) code
       → IsFirstUntypable slots root scope (node span.start span.stop (infix_shape form l r)) (record { code = code; span = span })
-  refused_between span form l r left right code a b refused reason =
+  refused_between span form l r left right code between a b refused reason =
       first_itself laws slots root scope span.start span.stop (infix_shape form l r) (record { code = code; span = span })
-      (infix_bodiless slots root scope form l r)
-      (subst (λ (ts : List Tree). AllByRecursion (IsTyped slots root scope) ts) (sym (infix_children form l r)) ((left, a), ((right, b), tt)))
+      (λ at body. infix_bodiless slots root scope form l r at body between)
+      (subst (λ (ts : List Tree). AllByRecursion (IsTyped slots root scope) ts) (sym (infix_children form l r between)) ((left, a), ((right, b), tt)))
       (λ type typed.
       between_untyped l r left right (Between (InfixTyped slots form) l r) a b refused type
-      (infix_only slots root scope span.start span.stop form l r type typed))
+      (infix_only slots root scope span.start span.stop form l r type between typed))
       reason refl refl
 
   -- a node over one operand, of whose type it makes none

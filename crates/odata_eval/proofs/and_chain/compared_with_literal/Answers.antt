@@ -1,75 +1,58 @@
-use Rattle.std.proofs.Common.{◌≡◌, ◌∙◌, ◌+◌, arith, slice_get, sym}
+use Rattle.std.proofs.Common.{◌≡◌, ◌+◌, arith, slice_get}
 use Rattle.odata_checked_filter.specs.declared.checked_node.CheckedNode.{CheckedNode}
 use Rattle.odata_checked_filter.specs.declared.checked_node.NodeKind.{NodeKind}
-use Rattle.odata_signatures.specs.declared.operator_class.OperatorClass.{OperatorClass}
+use Rattle.odata_syntax.specs.declared.binary_operator.BinaryOperator.{BinaryOperator}
 use Rattle.odata_eval.proofs.walking.AndChains.{left_side}
 use Rattle.odata_eval.proofs.walking.Compared.{kept_compared, may_compare_kept}
 use Rattle.odata_eval.proofs.walking.Leaves.{literal_answers, literal_within, property_answers, property_within}
 use Rattle.odata_eval.proofs.walking.Parts.{part_inside, there_found}
-use Rattle.odata_eval.proofs.walking.Spines.{class_of_operator, right_further, right_part, right_there}
+use Rattle.odata_eval.proofs.walking.Spines.{right_further, right_part, right_there}
 use Rattle.odata_eval.proofs.and_chain.compared_with_literal.Goals as goal
 
 pub right_of-right_place-requires : goal.right_of-right_place-requires
-right_of-right_place-requires c = right_there c.args.scene.now c.args.place c.args.operator c.requires.here c.requires.stands
+right_of-right_place-requires c = right_there c.args.scene.now c.args.place (BinaryOperator.Comparison c.args.comparison) c.requires.here c.requires.stands
 
 pub overflow_add-place : goal.overflow_add-place
 overflow_add-place c =
-    let behind = right_further c.args.scene.now c.args.place c.args.operator c.requires.here c.requires.stands c.right_of-right_place.result c.right_of-right_place.ensures in
+    let behind = right_further c.args.scene.now c.args.place (BinaryOperator.Comparison c.args.comparison) c.requires.here c.requires.stands c.right_of-right_place.result c.right_of-right_place.ensures in
     omega (arith, behind, c.right_of-right_place.type_inv)
 
 pub node-requires : goal.node-requires
-node-requires c = part_inside c.args.scene.now (c.args.place + 1) (left_side c.args.scene.now c.args.place c.args.operator c.requires.here c.requires.stands)
+node-requires c = part_inside c.args.scene.now (c.args.place + 1) (left_side c.args.scene.now c.args.place (BinaryOperator.Comparison c.args.comparison) c.requires.here c.requires.stands)
 
-pub kept_term_at-requires : goal.kept_term_at-requires
-kept_term_at-requires c = record { stands = c.requires.stands; here = c.requires.here }
+pub kept_compared_at-requires : goal.kept_compared_at-requires
+kept_compared_at-requires c = record { stands = c.requires.stands; here = c.requires.here }
 
 pub node-requires-2 : goal.node-requires-2
-node-requires-2 c = part_inside c.args.scene.now c.right_of-right_place.result (right_part c.args.scene.now c.args.place c.args.operator c.requires.here c.requires.stands c.right_of-right_place.result c.right_of-right_place.ensures)
+node-requires-2 c = part_inside c.args.scene.now c.right_of-right_place.result (right_part c.args.scene.now c.args.place (BinaryOperator.Comparison c.args.comparison) c.requires.here c.requires.stands c.right_of-right_place.result c.right_of-right_place.ensures)
 
 pub property-left-requires : goal.property-left-requires
 property-left-requires c =
     property_within c.args.scene.now (c.args.place + 1) c.in-Property.slot
     (there_found (λ (f : CheckedNode). f.kind ≡ NodeKind.Property c.in-Property.slot) (slice_get c.args.scene.now.list.nodes (c.args.place + 1)) c.node.result.now c.node.ensures c.in-Property.is)
-    (left_side c.args.scene.now c.args.place c.args.operator c.requires.here c.requires.stands)
+    (left_side c.args.scene.now c.args.place (BinaryOperator.Comparison c.args.comparison) c.requires.here c.requires.stands)
 
 pub literal-right-requires : goal.literal-right-requires
 literal-right-requires c =
     literal_within c.args.scene.now c.right_of-right_place.result c.in-Literal.kind c.in-Literal.value
     (there_found (λ (f : CheckedNode). f.kind ≡ NodeKind.Literal c.in-Literal.kind c.in-Literal.value) (slice_get c.args.scene.now.list.nodes c.right_of-right_place.result) c.node-2.result.now c.node-2.ensures c.in-Literal.is)
-    (right_part c.args.scene.now c.args.place c.args.operator c.requires.here c.requires.stands c.right_of-right_place.result c.right_of-right_place.ensures)
+    (right_part c.args.scene.now c.args.place (BinaryOperator.Comparison c.args.comparison) c.requires.here c.requires.stands c.right_of-right_place.result c.right_of-right_place.ensures)
 
 pub compare_kept-requires : goal.compare_kept-requires
 compare_kept-requires c =
-    let here = class_of_operator c.args.scene.now.list c.args.place c.args.operator (OperatorClass.Comparison c.in-Comparison.numeric) c.requires.here (sym c.class_of.ensures ∙ c.in-Comparison.is) in
     let left = property_answers c.args.scene.now (c.args.place + 1) c.in-Property.slot
     (there_found (λ (f : CheckedNode). f.kind ≡ NodeKind.Property c.in-Property.slot) (slice_get c.args.scene.now.list.nodes (c.args.place + 1)) c.node.result.now c.node.ensures c.in-Property.is) c.property-left.result.now c.property-left.ensures in
     let right = literal_answers c.args.scene.now c.right_of-right_place.result c.in-Literal.kind c.in-Literal.value
     (there_found (λ (f : CheckedNode). f.kind ≡ NodeKind.Literal c.in-Literal.kind c.in-Literal.value) (slice_get c.args.scene.now.list.nodes c.right_of-right_place.result) c.node-2.result.now c.node-2.ensures c.in-Literal.is) c.literal-right.result.now c.literal-right.ensures in
-    may_compare_kept c.args.scene.now c.args.place c.in-Comparison.numeric here c.right_of-right_place.result c.right_of-right_place.ensures c.property-left.result.now c.literal-right.result.now left right c.ends_once.ensures c.comparisons_are_decided.ensures.any_contents c.requires.stands
+    may_compare_kept c.args.scene.now c.args.place c.args.comparison c.requires.here c.right_of-right_place.result c.right_of-right_place.ensures c.property-left.result.now c.literal-right.result.now left right c.ends_once.ensures c.comparisons_are_decided.ensures.any_contents c.requires.stands
 
-pub returns-in-Comparison : goal.returns-in-Comparison
-returns-in-Comparison c =
-    let here = class_of_operator c.args.scene.now.list c.args.place c.args.operator (OperatorClass.Comparison c.in-Comparison.numeric) c.requires.here (sym c.class_of.ensures ∙ c.in-Comparison.is) in
+pub returns : goal.returns
+returns c =
     let left = property_answers c.args.scene.now (c.args.place + 1) c.in-Property.slot
     (there_found (λ (f : CheckedNode). f.kind ≡ NodeKind.Property c.in-Property.slot) (slice_get c.args.scene.now.list.nodes (c.args.place + 1)) c.node.result.now c.node.ensures c.in-Property.is) c.property-left.result.now c.property-left.ensures in
     let right = literal_answers c.args.scene.now c.right_of-right_place.result c.in-Literal.kind c.in-Literal.value
     (there_found (λ (f : CheckedNode). f.kind ≡ NodeKind.Literal c.in-Literal.kind c.in-Literal.value) (slice_get c.args.scene.now.list.nodes c.right_of-right_place.result) c.node-2.result.now c.node-2.ensures c.in-Literal.is) c.literal-right.result.now c.literal-right.ensures in
-    kept_compared c.args.scene.now c.args.place c.in-Comparison.numeric here c.right_of-right_place.result c.right_of-right_place.ensures c.property-left.result.now c.literal-right.result.now left right c.ends_once.ensures c.comparisons_are_decided.ensures.any_contents c.requires.stands c.compare_kept.result c.compare_kept.ensures
+    kept_compared c.args.scene.now c.args.place c.args.comparison c.requires.here c.right_of-right_place.result c.right_of-right_place.ensures c.property-left.result.now c.literal-right.result.now left right c.ends_once.ensures c.comparisons_are_decided.ensures.any_contents c.requires.stands c.compare_kept.result c.compare_kept.ensures
 
-pub compare_values-requires : goal.compare_values-requires
-compare_values-requires c =
-    let here = class_of_operator c.args.scene.now.list c.args.place c.args.operator (OperatorClass.Comparison c.in-Comparison-class_of.comparison) c.requires.here (sym c.class_of-2.ensures ∙ c.in-Comparison-class_of.is) in
-    let left = property_answers c.args.scene.now (c.args.place + 1) c.in-Property.slot
-    (there_found (λ (f : CheckedNode). f.kind ≡ NodeKind.Property c.in-Property.slot) (slice_get c.args.scene.now.list.nodes (c.args.place + 1)) c.node.result.now c.node.ensures c.in-Property.is) c.property-left.result.now c.property-left.ensures in
-    let right = literal_answers c.args.scene.now c.right_of-right_place.result c.in-Literal.kind c.in-Literal.value
-    (there_found (λ (f : CheckedNode). f.kind ≡ NodeKind.Literal c.in-Literal.kind c.in-Literal.value) (slice_get c.args.scene.now.list.nodes c.right_of-right_place.result) c.node-2.result.now c.node-2.ensures c.in-Literal.is) c.literal-right.result.now c.literal-right.ensures in
-    may_compare_kept c.args.scene.now c.args.place c.in-Comparison-class_of.comparison here c.right_of-right_place.result c.right_of-right_place.ensures c.property-left.result.now c.literal-right.result.now left right c.ends_once.ensures c.comparisons_are_decided.ensures.any_contents c.requires.stands
-
-pub returns-in-Comparison-class_of : goal.returns-in-Comparison-class_of
-returns-in-Comparison-class_of c =
-    let here = class_of_operator c.args.scene.now.list c.args.place c.args.operator (OperatorClass.Comparison c.in-Comparison-class_of.comparison) c.requires.here (sym c.class_of-2.ensures ∙ c.in-Comparison-class_of.is) in
-    let left = property_answers c.args.scene.now (c.args.place + 1) c.in-Property.slot
-    (there_found (λ (f : CheckedNode). f.kind ≡ NodeKind.Property c.in-Property.slot) (slice_get c.args.scene.now.list.nodes (c.args.place + 1)) c.node.result.now c.node.ensures c.in-Property.is) c.property-left.result.now c.property-left.ensures in
-    let right = literal_answers c.args.scene.now c.right_of-right_place.result c.in-Literal.kind c.in-Literal.value
-    (there_found (λ (f : CheckedNode). f.kind ≡ NodeKind.Literal c.in-Literal.kind c.in-Literal.value) (slice_get c.args.scene.now.list.nodes c.right_of-right_place.result) c.node-2.result.now c.node-2.ensures c.in-Literal.is) c.literal-right.result.now c.literal-right.ensures in
-    kept_compared c.args.scene.now c.args.place c.in-Comparison-class_of.comparison here c.right_of-right_place.result c.right_of-right_place.ensures c.property-left.result.now c.literal-right.result.now left right c.ends_once.ensures c.comparisons_are_decided.ensures.any_contents c.requires.stands c.compare_values.result c.compare_values.ensures
+pub returns-in_default : goal.returns-in_default
+returns-in_default c = c.kept_compared_at.ensures.answers

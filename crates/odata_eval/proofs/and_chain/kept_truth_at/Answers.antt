@@ -1,6 +1,7 @@
-use Rattle.std.proofs.Common.{◌≡◌, slice_get}
+use Rattle.std.proofs.Common.{◌≡◌, ◌∙◌, ap, slice_get}
 use Rattle.odata_checked_filter.specs.declared.checked_node.CheckedNode.{CheckedNode}
 use Rattle.odata_checked_filter.specs.declared.checked_node.NodeKind.{NodeKind}
+use Rattle.odata_syntax.specs.declared.binary_operator.BinaryOperator.{BinaryOperator}
 use Rattle.odata_signatures.specs.ExprTypes.{IsBooleanOrNull}
 use Rattle.odata_eval.proofs.walking.AndChains.{kept_answers}
 use Rattle.odata_eval.proofs.walking.KeptValues.{value_kept}
@@ -38,5 +39,6 @@ returns-in-Property c =
 pub compared_with_literal-requires : goal.compared_with_literal-requires
 compared_with_literal-requires c = record {
   stands = typed_part c.args.scene.now c.args.place IsBooleanOrNull c.requires.stands;
-  here = there_found (λ (f : CheckedNode). f.kind ≡ NodeKind.Binary c.in-Binary.operator) (slice_get c.args.scene.now.list.nodes c.args.place) c.node.result.now c.node.ensures c.in-Binary.is;
+  here = there_found (λ (f : CheckedNode). f.kind ≡ NodeKind.Binary (BinaryOperator.Comparison c.in-Comparison.comparison)) (slice_get c.args.scene.now.list.nodes c.args.place) c.node.result.now c.node.ensures
+      (c.in-Binary.is ∙ ap NodeKind.Binary c.in-Comparison.is);
 }

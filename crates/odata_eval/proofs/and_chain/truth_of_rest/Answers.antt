@@ -1,5 +1,5 @@
 use Rattle.std.proofs.Common.{◌≡◌, ◌<◌, ◌≤◌, ◌-◌, Bool, false, true, Option, Some, Ok, Err, arith, subst, sym}
-use Rattle.odata_signatures.specs.declared.operator_class.Connective.{Connective}
+use Rattle.odata_syntax.specs.declared.binary_operator.LogicalOperator.{LogicalOperator}
 use Rattle.odata_filter_operations.specs.TruthGives.{truth_val}
 use Rattle.odata_eval.specs.private.WalkAnswer.{AnswersTruth}
 use Rattle.odata_eval.specs.private.WalkClass.{IsDecided}
@@ -47,7 +47,7 @@ loop-at-preserved-in-Some-true c =
     let within : l.at ≤ c.args.rest.ands = l.invariant.within in
     record {
       within = omega arith;
-      answers = true_answers c.args.scene.now c.args.rest.ands c.requires.rest.ands c.requires.stands l.at above l.invariant.within c.right_of-right_place.result c.right_of-right_place.ensures l.left (told_not c.decides.result (IsDecided Connective.And (truth_val l.left)) c.decides.ensures c.if-decides.false) l.invariant.answers term;
+      answers = true_answers c.args.scene.now c.args.rest.ands c.requires.rest.ands c.requires.stands l.at above l.invariant.within c.right_of-right_place.result c.right_of-right_place.ensures l.left (told_not c.decides.result (IsDecided LogicalOperator.And (truth_val l.left)) c.decides.ensures c.if-decides.false) l.invariant.answers term;
       unbounded = l.invariant.unbounded;
     }
 
@@ -58,7 +58,7 @@ returns-in-Some-false c =
     let is : c.in-Some-false.field-0 ≡ false = cc in
     let term : AnswersTruth c.args.scene.now c.right_of-right_place.result (Ok (Some false)) =
     subst (λ (b : Bool). AnswersTruth c.args.scene.now c.right_of-right_place.result (Ok (Some b))) is c.in-Some-false.ensures in
-    false_answers c.args.scene.now c.args.rest.ands c.requires.rest.ands c.requires.stands l.at above l.invariant.within c.right_of-right_place.result c.right_of-right_place.ensures l.left (told_not c.decides.result (IsDecided Connective.And (truth_val l.left)) c.decides.ensures c.if-decides.false) l.invariant.answers term
+    false_answers c.args.scene.now c.args.rest.ands c.requires.rest.ands c.requires.stands l.at above l.invariant.within c.right_of-right_place.result c.right_of-right_place.ensures l.left (told_not c.decides.result (IsDecided LogicalOperator.And (truth_val l.left)) c.decides.ensures c.if-decides.false) l.invariant.answers term
 
 pub loop-at-preserved : goal.loop-at-preserved
 loop-at-preserved c =
@@ -68,7 +68,7 @@ loop-at-preserved c =
     record {
       within = omega arith;
       answers = subst (λ (r : Option Bool). AnswersTruth c.args.scene.now (l.at - 1) (Ok r)) (sym c.join-left.ensures)
-          (next_answers c.args.scene.now c.args.rest.ands c.requires.rest.ands c.requires.stands l.at above l.invariant.within c.right_of-right_place.result c.right_of-right_place.ensures l.left (told_not c.decides.result (IsDecided Connective.And (truth_val l.left)) c.decides.ensures c.if-decides.false) l.invariant.answers c.in-Ok-term_at.right c.in-Ok-term_at.ensures.answers);
+          (next_answers c.args.scene.now c.args.rest.ands c.requires.rest.ands c.requires.stands l.at above l.invariant.within c.right_of-right_place.result c.right_of-right_place.ensures l.left (told_not c.decides.result (IsDecided LogicalOperator.And (truth_val l.left)) c.decides.ensures c.if-decides.false) l.invariant.answers c.in-Ok-term_at.right c.in-Ok-term_at.ensures.answers);
       unbounded = c.in-Ok-term_at.ensures.unbounded;
     }
 
@@ -76,4 +76,4 @@ pub returns-in-Err-term_at : goal.returns-in-Err-term_at
 returns-in-Err-term_at c =
     let l = c.loop-at in
     let above : 0 < l.at = omega arith in
-    fault_answers c.args.scene.now c.args.rest.ands c.requires.rest.ands c.requires.stands l.at above l.invariant.within c.right_of-right_place.result c.right_of-right_place.ensures l.left (told_not c.decides.result (IsDecided Connective.And (truth_val l.left)) c.decides.ensures c.if-decides.false) l.invariant.answers c.in-Err-term_at.fault c.in-Err-term_at.ensures.answers
+    fault_answers c.args.scene.now c.args.rest.ands c.requires.rest.ands c.requires.stands l.at above l.invariant.within c.right_of-right_place.result c.right_of-right_place.ensures l.left (told_not c.decides.result (IsDecided LogicalOperator.And (truth_val l.left)) c.decides.ensures c.if-decides.false) l.invariant.answers c.in-Err-term_at.fault c.in-Err-term_at.ensures.answers

@@ -1,7 +1,7 @@
 use Rattle.std.proofs.Common.{◌≢◌, pos, ap, arith, FitsSigned, of_z, int_div, int_rem}
 use Rattle.std.proofs.lemmas.Int.{to_z-of_z}
 use Rattle.std.specs.Int.{w64, IsNonZero}
-use Rattle.odata_functions.specs.declared.arithmetic.ArithmeticOperator.TheVariants.{Div}
+use Rattle.odata_syntax.specs.declared.binary_operator.ArithmeticOperator.TheVariants.{Div}
 use Rattle.odata_functions.proofs.Divisions.{division}
 use Rattle.odata_functions.proofs.Numbers.{number_gives, quotient_fits}
 use Rattle.odata_functions.proofs.arithmetic.quotient.Goals as goal

@@ -2,7 +2,7 @@ use Rattle.std.proofs.Common.{◌≢◌, ℤ, pos, sym, ap, subst, FitsSigned, o
 use Rattle.std.proofs.lemmas.Int.{to_z-of_z}
 use Rattle.std.specs.Int.{w64}
 use Rattle.odata_functions.specs.Division.{IsDivision}
-use Rattle.odata_functions.specs.declared.arithmetic.ArithmeticOperator.TheVariants.{Mod}
+use Rattle.odata_syntax.specs.declared.binary_operator.ArithmeticOperator.TheVariants.{Mod}
 use Rattle.odata_functions.proofs.Divisions.{division}
 use Rattle.odata_functions.proofs.Numbers.{number_gives}
 use Rattle.odata_functions.proofs.arithmetic.remainder.Goals as goal
