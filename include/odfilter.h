@@ -20,35 +20,34 @@
  *     if (status >= ODFILTER_TEXT_FAULT && status <= ODFILTER_TYPE_FAULT && answer.length <= sizeof decoded)
  *         printf("%.*s\n%*s^\n", (int)answer.length, decoded, (int)answer.start, "");
  *
- * EVERY CALL answers a status: ODFILTER_OK, or why it did nothing (ODFILTER_ names below). No call ends the
- * program, waits, prints, or keeps anything of its own: there is no global state.
+ * EVERY CALL returns a status: ODFILTER_OK, or why it did nothing (ODFILTER_ names below). No call ends the
+ * program, waits, prints, or stores anything of its own: there is no global state.
  *
- * BYTES that are handed in are lent for the call and no longer. They are not changed, need no NUL at their end,
- * and may have any values; where a call takes a text, bytes that are no UTF-8 are ODFILTER_NOT_UTF8. A length of 0
+ * BYTES are borrowed for the call and no longer. They are not changed, need no NUL at their end, and may have
+ * any values; where a call takes a text, bytes that are not UTF-8 are ODFILTER_NOT_UTF8. A length of 0
  * is an empty text, at any address, NULL too. NULL with another length is ODFILTER_NULL, and so is any other address
  * that is NULL: then nothing is looked at and nothing written. A length is less than 2^63.
  *
- * ROOM is memory of the caller's into which a call writes a text, without a NUL behind it. A text is written whole
- * or not at all: where it has more bytes than the room, the answer is ODFILTER_TOO_SMALL, `length` of the answer
- * is how many are wanted, and the room is as it was. Room of length 0 at any address that is not NULL asks for the
- * length.
+ * A ROOM is the caller's buffer, into which a call writes a text without a NUL after it. A text is written whole or
+ * not at all: where it has more bytes than the buffer, the status is ODFILTER_TOO_SMALL, `length` of the answer is
+ * how many are needed, and the buffer is unchanged. A buffer of length 0 at any address that is not NULL asks for
+ * the length.
  *
- * HANDLES are made by calls that take an `odfilter_handle **`: where they answer ODFILTER_OK it points to the new
- * handle, and else, but for ODFILTER_NULL, to NULL. What stood there before is written over, and not freed: let it
- * be NULL or a handle. All that a call allocates belongs to a handle and goes with it, by odfilter_free and in no
- * other way. A handle that was made out of another keeps what it needs of it, so handles may be freed in any
- * order. A handle of another kind than a call asks for is ODFILTER_OTHER_KIND, and NULL is ODFILTER_NULL. A call
- * that answers another status than ODFILTER_OK leaves the handles that it was given as they were, but for the path
- * that a judge keeps.
+ * HANDLES are made by calls that take an `odfilter_handle **`: where they return ODFILTER_OK it points to the new
+ * handle, and else, but for ODFILTER_NULL, to NULL. What stood there before is overwritten, and not freed: let it
+ * be NULL or a handle. All that a call allocates belongs to a handle and is freed with it, by odfilter_free alone.
+ * A handle that was made from another owns what it needs of it, so handles may be freed in any order. A handle of
+ * another kind than a call requires is ODFILTER_OTHER_KIND, and NULL is ODFILTER_NULL. A call that returns another
+ * status than ODFILTER_OK leaves the handles that it was given unchanged, but for the path that a judge stores.
  *
  * THREADS. Schemas, types and filters are only read: several threads may use one at once. A judge is used by one
  * call at a time, so each thread has its own. A handle is freed when no call uses it. What one thread made may be
- * used and freed by another that came to know of it by a lock, a start or a join of a thread, or a sequentially
+ * used and freed by another that learned of it by a lock, a start or a join of a thread, or a sequentially
  * consistent atomic. No call is for a signal handler, or for the child of a fork of a process with threads.
  *
- * WHAT THE CALLER OWES: an address that is not NULL is that of as many bytes as its length says, or of what its
- * type says; a handle comes from this library and was not freed; room, bytes, handle places and answers of one
- * call do not overlap. 256 KiB of stack suffice for the deepest texts tested.
+ * WHAT THE CALLER GUARANTEES: an address that is not NULL is that of as many bytes as its length says, or of what its
+ * type says; a handle comes from this library and was not freed; buffers, bytes, handle variables and answers of
+ * one call do not overlap. 256 KiB of stack suffice for the deepest texts tested.
  */
 #ifndef ODFILTER_H
 #define ODFILTER_H
@@ -64,14 +63,14 @@ extern "C" {
 
 #define ODFILTER_OK 0u
 #define ODFILTER_NULL 1u           /* an address that may not be NULL is */
-#define ODFILTER_OTHER_KIND 2u     /* a handle of another kind than the call asks for */
-#define ODFILTER_NOT_UTF8 3u       /* a text that is no UTF-8 */
-#define ODFILTER_TOO_SMALL 4u      /* more bytes than the room has: `length` is how many */
-#define ODFILTER_MEMORY 5u         /* an allocation was refused */
+#define ODFILTER_OTHER_KIND 2u     /* a handle of another kind than the call requires */
+#define ODFILTER_NOT_UTF8 3u       /* a text that is not UTF-8 */
+#define ODFILTER_TOO_SMALL 4u      /* more bytes than the buffer has: `length` is how many */
+#define ODFILTER_MEMORY 5u         /* an allocation failed */
 #define ODFILTER_UNKNOWN_TYPE 6u   /* the schema has no entity type of that name */
 #define ODFILTER_NO_FILTER 7u      /* no option of the query is the filter */
 #define ODFILTER_MOMENT_NEEDED 8u  /* the filter calls now(), and the judge has no moment */
-#define ODFILTER_NOT_A_MOMENT 9u   /* the text spells no moment */
+#define ODFILTER_NOT_A_MOMENT 9u   /* the text is not a moment */
 #define ODFILTER_UNKNOWN_NUMBER 10u /* no status or fault has that number */
 
 /* Why a document, a filter or a query is refused: `fault` of the answer is the number of the fault, below. */
@@ -82,15 +81,15 @@ extern "C" {
 #define ODFILTER_QUERY_FAULT 20u   /* `number` */
 
 /* Why a row has no verdict. */
-#define ODFILTER_JSON_FAULT 21u    /* the row is no JSON in UTF-8; `fault` is 0 */
-#define ODFILTER_ROW_FAULT 22u     /* it is no entity of the filter's type; odfilter_path says where */
+#define ODFILTER_JSON_FAULT 21u    /* the row is not JSON in UTF-8; `fault` is 0 */
+#define ODFILTER_ROW_FAULT 22u     /* it is not an entity of the filter's type; odfilter_path says where */
 #define ODFILTER_EVAL_FAULT 23u    /* the filter has no value on it */
 #define ODFILTER_LINE_TOO_LONG 24u /* a line of over 1,048,576 bytes; `fault` is 0 */
 #define ODFILTER_TOO_COSTLY 25u    /* the filter costs more on it than odfilter_set_bound allows; `fault` is 0 */
 
 /* ---- Faults, by their status. The names are those that odfilter_fault_name writes. */
 
-/* ODFILTER_SCHEMA_FAULT. Behind each: the names that it carries. */
+/* ODFILTER_SCHEMA_FAULT. After each: the names that it carries. */
 #define ODFILTER_SCHEMA_NOT_JSON 1u
 #define ODFILTER_SCHEMA_NOT_OBJECT 2u
 #define ODFILTER_SCHEMA_VERSION 3u
@@ -127,7 +126,7 @@ extern "C" {
 #define ODFILTER_TYPE_TYPE_LEFT_OUT 11u
 #define ODFILTER_TYPE_NOT_BOOLEAN 12u
 
-/* ODFILTER_QUERY_FAULT. Behind each: what `number` is. Options are counted from 0, empty ones too. */
+/* ODFILTER_QUERY_FAULT. After each: what `number` is. Options are counted from 0, empty ones too. */
 #define ODFILTER_QUERY_BAD_ESCAPE 1u   /* the byte of the '%' */
 #define ODFILTER_QUERY_NOT_UTF8 2u     /* the option */
 #define ODFILTER_QUERY_REPEATED 3u     /* the option */
@@ -141,7 +140,7 @@ extern "C" {
 #define ODFILTER_ROW_NULL_NOT_ALLOWED 4u
 #define ODFILTER_ROW_OUT_OF_RANGE 5u
 #define ODFILTER_ROW_BAD_TEXT 6u
-#define ODFILTER_ROW_NOT_EXPANDED 8u /* a navigation property over which the filter leads is absent */
+#define ODFILTER_ROW_NOT_EXPANDED 8u /* a navigation property that the filter follows is absent */
 
 /* ODFILTER_EVAL_FAULT */
 #define ODFILTER_EVAL_OVERFLOW 1u
@@ -158,28 +157,28 @@ extern "C" {
 /* A schema, a type, a filter or a judge. */
 typedef struct odfilter_handle odfilter_handle;
 
-/* Bytes that are lent for a call. */
+/* Bytes that are borrowed for a call. */
 typedef struct odfilter_bytes {
     const char *at;
     size_t length;
 } odfilter_bytes;
 
-/* Room for a text. */
+/* A buffer for a text. */
 typedef struct odfilter_room {
     char *at;
     size_t length;
 } odfilter_room;
 
-/* What a call tells beside its status. A call writes all of it, whatever the status (but for ODFILTER_NULL): what
- * the call does not speak of is 0. */
+/* What a call reports besides its status. A call writes all of it, whatever the status (but for ODFILTER_NULL): what
+ * the call does not report is 0. */
 typedef struct odfilter_answer {
     uint32_t fault;   /* the number of the fault, where the status is one of the _FAULT ones; else 0 */
     uint32_t verdict; /* of a judged row */
     size_t start;     /* where the fault is in the filter's text (of a query, decoded): its first byte, from 0 */
-    size_t stop;      /* and the byte behind the last */
+    size_t stop;      /* and the byte after the last */
     uint64_t number;  /* a query's fault's number; the line, from 1, of a run's; odfilter_needs_moment's 0 or 1; a count
                        * or depth of a filter */
-    size_t length;    /* how many bytes were written, or are wanted */
+    size_t length;    /* how many bytes were written, or are needed */
     size_t first;     /* of the two names of a schema's fault, how many bytes the first has */
     uint64_t rows;    /* how many rows a run judged */
     uint64_t kept;    /* how many of them it kept */
@@ -194,17 +193,17 @@ typedef struct odfilter_answer {
 /* Reads a CSDL JSON 4.01 document.
  *
  * ODFILTER_OK: `schema` is a schema. ODFILTER_SCHEMA_FAULT: `fault` says which, and the names that it carries have
- * been written into `names`, one directly behind the other: `length` bytes, of which `first` are the first name.
- * Where the room is smaller than `length`, none was written (the status stays ODFILTER_SCHEMA_FAULT). Bytes that are
- * no UTF-8 are no JSON: ODFILTER_SCHEMA_NOT_JSON.
+ * been written into `names`, one directly after the other: `length` bytes, of which `first` are the first name.
+ * Where the buffer is smaller than `length`, none was written (the status stays ODFILTER_SCHEMA_FAULT). Bytes that
+ * are not UTF-8 are not JSON: ODFILTER_SCHEMA_NOT_JSON.
  * ODFILTER_NULL: any of the four is. ODFILTER_MEMORY. */
 uint32_t odfilter_read_schema(odfilter_bytes document, odfilter_room names, odfilter_handle **schema,
                               odfilter_answer *answer);
 
-/* The entity type of that name, with its namespace or the alias of that.
+/* Finds the entity type of that name, with its namespace or the alias of that.
  *
  * ODFILTER_OK: `type` is the type, with its schema. ODFILTER_UNKNOWN_TYPE. ODFILTER_NULL: any of the three is.
- * ODFILTER_OTHER_KIND: `schema` is no schema. ODFILTER_NOT_UTF8. ODFILTER_MEMORY. */
+ * ODFILTER_OTHER_KIND: `schema` is not a schema. ODFILTER_NOT_UTF8. ODFILTER_MEMORY. */
 uint32_t odfilter_find_type(const odfilter_handle *schema, odfilter_bytes name, odfilter_handle **type);
 
 /* ---- Filters */
@@ -213,47 +212,46 @@ uint32_t odfilter_find_type(const odfilter_handle *schema, odfilter_bytes name, 
  *
  * ODFILTER_OK: `filter` is the filter. ODFILTER_TEXT_FAULT, ODFILTER_SYNTAX_FAULT, ODFILTER_TYPE_FAULT: the filter
  * is refused, `fault`, `start` and `stop` say why and where. ODFILTER_NULL: any of the four is.
- * ODFILTER_OTHER_KIND: `type` is no type. ODFILTER_NOT_UTF8. ODFILTER_MEMORY. */
+ * ODFILTER_OTHER_KIND: `type` is not a type. ODFILTER_NOT_UTF8. ODFILTER_MEMORY. */
 uint32_t odfilter_check(const odfilter_handle *type, odfilter_bytes text, odfilter_handle **filter,
                         odfilter_answer *answer);
 
-/* The same of the one option filter or $filter of a query string, as it stands in a URL behind the '?'.
+/* Checks the one option filter or $filter of a query string, as it stands in a URL after the '?'.
  *
  * Also ODFILTER_QUERY_FAULT: `fault` and `number`. ODFILTER_NO_FILTER. Never ODFILTER_NOT_UTF8. */
 uint32_t odfilter_check_query(const odfilter_handle *type, odfilter_bytes query, odfilter_handle **filter,
                               odfilter_answer *answer);
 
-/* The filter among any options of a whole query, as it stands in a URL after the '?'. Other options are the caller's:
- * only their names are read. A query in which some option is no filter, but would be one for a reader that is less
- * strict (`%20$filter`, `x=1;$filter=..`, `%2524filter`), is refused as ODFILTER_QUERY_DISGUISED.
+/* Checks the filter among any options of a whole query, as it stands in a URL after the '?'. Other options are the
+ * caller's: only their names are read. A query in which some option is not a filter, but would be one for a reader that
+ * is less strict (`%20$filter`, `x=1;$filter=..`, `%2524filter`), is refused as ODFILTER_QUERY_DISGUISED.
  *
  * ODFILTER_OK: `filter` is the filter. ODFILTER_TEXT_FAULT, ODFILTER_SYNTAX_FAULT, ODFILTER_TYPE_FAULT: `fault`, and
  * `start` and `stop` in the decoded text. In each of these cases the decoded text of the filter has `length` bytes and
  * was written into `text`, or, where that is smaller, nothing was (the status stays); piece_start, piece_stop,
  * value_start and value_stop say where the option and its value stand in `query`, so another value can be put there.
  * ODFILTER_QUERY_FAULT: `fault` and `number`; nothing is written. ODFILTER_NO_FILTER. ODFILTER_NULL: any of the five
- * is. ODFILTER_OTHER_KIND: `type` is no type. ODFILTER_MEMORY: where the filter was found before, its text and where it
- * stands are reported as above. Never ODFILTER_NOT_UTF8 or ODFILTER_TOO_SMALL. */
+ * is. ODFILTER_OTHER_KIND: `type` is not a type. ODFILTER_MEMORY: where the filter was found before, its text and
+ * where it stands are reported as above. Never ODFILTER_NOT_UTF8 or ODFILTER_TOO_SMALL. */
 uint32_t odfilter_check_url(const odfilter_handle *type, odfilter_bytes query, odfilter_room text,
                             odfilter_handle **filter, odfilter_answer *answer);
 
-/* Writes the filter's canonical text; the same for what each of its nodes is, a line a node (docs/CLI.md,
- * "explain").
+/* Writes the filter's canonical text; and what each of its nodes is, a line a node (docs/CLI.md, "explain").
  *
- * ODFILTER_OK: `length` bytes have been written. ODFILTER_TOO_SMALL: `length` are wanted. ODFILTER_NULL: any of
- * the three is. ODFILTER_OTHER_KIND: `filter` is no filter. ODFILTER_MEMORY. */
+ * ODFILTER_OK: `length` bytes have been written. ODFILTER_TOO_SMALL: `length` are needed. ODFILTER_NULL: any of
+ * the three is. ODFILTER_OTHER_KIND: `filter` is not a filter. ODFILTER_MEMORY. */
 uint32_t odfilter_canonical(const odfilter_handle *filter, odfilter_room text, odfilter_answer *answer);
 uint32_t odfilter_explain(const odfilter_handle *filter, odfilter_room text, odfilter_answer *answer);
 
-/* Whether the filter calls now(), so that a judge needs a moment for it.
+/* Reports whether the filter calls now(), so that a judge needs a moment for it.
  *
- * ODFILTER_OK: `number` is 1 or 0. ODFILTER_NULL: any of the two is. ODFILTER_OTHER_KIND: `filter` is no filter. */
+ * ODFILTER_OK: `number` is 1 or 0. ODFILTER_NULL: any of the two is. ODFILTER_OTHER_KIND: `filter` is not a filter. */
 uint32_t odfilter_needs_moment(const odfilter_handle *filter, odfilter_answer *answer);
 
-/* How many nodes the filter's tree has; how many lambda operators stand in one another at most, 0 where there is none.
+/* Report how many nodes the filter's tree has, and how deep its lambda operators nest, 0 where there is none.
  * For callers that bound what a filter may cost.
  *
- * ODFILTER_OK: `number`. ODFILTER_NULL: any of the two is. ODFILTER_OTHER_KIND: `filter` is no filter. */
+ * ODFILTER_OK: `number`. ODFILTER_NULL: any of the two is. ODFILTER_OTHER_KIND: `filter` is not a filter. */
 uint32_t odfilter_node_count(const odfilter_handle *filter, odfilter_answer *answer);
 uint32_t odfilter_lambda_depth(const odfilter_handle *filter, odfilter_answer *answer);
 
@@ -261,64 +259,64 @@ uint32_t odfilter_lambda_depth(const odfilter_handle *filter, odfilter_answer *a
  * members of a collection. Each is written once, in the order in which they first stand in the filter, and followed by
  * a line feed; Home, which Home/City names too, comes after that. For callers that allow some properties only.
  *
- * ODFILTER_OK: `number` paths have been written, `length` bytes. ODFILTER_TOO_SMALL: `length` are wanted.
- * ODFILTER_NULL: any of the three is. ODFILTER_OTHER_KIND: `filter` is no filter. ODFILTER_MEMORY. */
+ * ODFILTER_OK: `number` paths have been written, `length` bytes. ODFILTER_TOO_SMALL: `length` are needed.
+ * ODFILTER_NULL: any of the three is. ODFILTER_OTHER_KIND: `filter` is not a filter. ODFILTER_MEMORY. */
 uint32_t odfilter_property_paths(const odfilter_handle *filter, odfilter_room paths, odfilter_answer *answer);
 
 /* ---- Rows */
 
-/* Makes a judge: what lasts from row to row, of any filter. It has no moment and no bound yet. One call at a time
- * uses it.
+/* Makes a judge, which is reused from row to row and for any filter. It has no moment and no bound yet. One call at a
+ * time uses it.
  *
  * ODFILTER_OK: `judge` is a judge. ODFILTER_NULL: it is. ODFILTER_MEMORY. */
 uint32_t odfilter_new_judge(odfilter_handle **judge);
 
 /* Sets the moment that now() stands for, spelled as a moment in a filter: 2026-11-25T09:00:00Z.
  *
- * ODFILTER_OK. ODFILTER_NOT_A_MOMENT: the judge has the moment that it had, if any. ODFILTER_NULL: any of the two
- * is. ODFILTER_OTHER_KIND: `judge` is no judge. ODFILTER_NOT_UTF8. */
+ * ODFILTER_OK. ODFILTER_NOT_A_MOMENT: the judge's moment is unchanged. ODFILTER_NULL: any of the two
+ * is. ODFILTER_OTHER_KIND: `judge` is not a judge. ODFILTER_NOT_UTF8. */
 uint32_t odfilter_set_moment(odfilter_handle *judge, odfilter_bytes moment);
 
 /* Bounds what a filter may cost on a row: how many times it judges the body of an any() or all(), and how many items of
  * lists after `in` it compares within one. Each row has the whole bound. Without this call there is none, and
  * odfilter_filter_lines goes by none.
  *
- * ODFILTER_OK. ODFILTER_NULL: `judge` is. ODFILTER_OTHER_KIND: it is no judge. */
+ * ODFILTER_OK. ODFILTER_NULL: `judge` is. ODFILTER_OTHER_KIND: it is not a judge. */
 uint32_t odfilter_set_bound(odfilter_handle *judge, uint64_t most);
 
 /* Judges a row: one JSON object, of any length. It may have white space around it, line feeds too.
  *
  * ODFILTER_OK: `verdict` is ODFILTER_TRUE, ODFILTER_FALSE or ODFILTER_NO_TRUTH_VALUE. ODFILTER_JSON_FAULT; a row
- * of white space alone is one. ODFILTER_ROW_FAULT: `fault`, and the judge keeps the path, of `length` bytes.
+ * of white space alone is one. ODFILTER_ROW_FAULT: `fault`, and the judge stores the path, of `length` bytes.
  * ODFILTER_EVAL_FAULT: `fault`. ODFILTER_TOO_COSTLY: the row has no verdict within the judge's bound.
- * ODFILTER_MOMENT_NEEDED. ODFILTER_NULL: any of the four is. ODFILTER_OTHER_KIND: `filter` is no filter, or `judge`
- * no judge. ODFILTER_MEMORY. */
+ * ODFILTER_MOMENT_NEEDED. ODFILTER_NULL: any of the four is. ODFILTER_OTHER_KIND: `filter` is not a filter, or
+ * `judge` not a judge. ODFILTER_MEMORY. */
 uint32_t odfilter_judge(const odfilter_handle *filter, odfilter_handle *judge, odfilter_bytes row,
                         odfilter_answer *answer);
 
 /* Judges rows, a line each, and writes those whose verdict is true, unchanged and each followed by a line feed.
- * Lines of spaces, tabs and carriage returns alone are passed over. A room with one byte more than the rows is
+ * Lines of spaces, tabs and carriage returns alone are passed over. A buffer with one byte more than the rows is
  * never too small.
  *
- * ODFILTER_OK: `rows` and `kept`, and `length` bytes have been written. ODFILTER_TOO_SMALL: `length` are wanted.
+ * ODFILTER_OK: `rows` and `kept`, and `length` bytes have been written. ODFILTER_TOO_SMALL: `length` are needed.
  * ODFILTER_JSON_FAULT, ODFILTER_ROW_FAULT, ODFILTER_EVAL_FAULT, ODFILTER_LINE_TOO_LONG: the line `number` is at
  * fault, as by odfilter_judge, and the kept lines before it have been written, `length` bytes, or none where the
- * room is smaller than that. ODFILTER_MEMORY, ODFILTER_MOMENT_NEEDED: none was. ODFILTER_NULL: any of the five is.
+ * buffer is smaller than that. ODFILTER_MEMORY, ODFILTER_MOMENT_NEEDED: none was. ODFILTER_NULL: any of the five is.
  * ODFILTER_OTHER_KIND. */
 uint32_t odfilter_filter_lines(const odfilter_handle *filter, odfilter_handle *judge, odfilter_bytes rows,
                                odfilter_room kept, odfilter_answer *answer);
 
 /* Writes the path of the value at fault, from the row, as Parts/0/Qty, of the last ODFILTER_ROW_FAULT that this
- * judge was in; no bytes where the last row was at no such fault or at one without a path.
+ * judge reported; no bytes where the last row had no such fault or one without a path.
  *
  * ODFILTER_OK: `length` bytes have been written. ODFILTER_TOO_SMALL. ODFILTER_NULL: any of the three is.
- * ODFILTER_OTHER_KIND: `judge` is no judge. */
+ * ODFILTER_OTHER_KIND: `judge` is not a judge. */
 uint32_t odfilter_path(const odfilter_handle *judge, odfilter_room path, odfilter_answer *answer);
 
 /* ---- All handles */
 
-/* Frees a handle, with all that belongs to it, and writes NULL in its place: so a second call for the same place
- * is told.
+/* Frees a handle, with all that belongs to it, and writes NULL in its place: a second call for the same variable
+ * is ODFILTER_NULL.
  *
  * ODFILTER_OK. ODFILTER_NULL: `handle` is, or what it points to. */
 uint32_t odfilter_free(odfilter_handle **handle);
@@ -340,8 +338,8 @@ uint32_t odfilter_fault_name(uint32_t status, uint32_t fault, odfilter_room text
  * checked for, which the sentence names; it may be NULL. The sentence is in English and may change from version to
  * version; programs go by `status` and `fault`.
  *
- * ODFILTER_OK: `length` bytes have been written. ODFILTER_TOO_SMALL: `length` are wanted. ODFILTER_UNKNOWN_NUMBER:
- * there is no such fault. ODFILTER_NULL: an address other than `type` is. ODFILTER_OTHER_KIND: `type` is no type.
+ * ODFILTER_OK: `length` bytes have been written. ODFILTER_TOO_SMALL: `length` are needed. ODFILTER_UNKNOWN_NUMBER:
+ * there is no such fault. ODFILTER_NULL: an address other than `type` is. ODFILTER_OTHER_KIND: `type` is not a type.
  * ODFILTER_NOT_UTF8: `text` is none, and the fault is not of a query. ODFILTER_MEMORY. */
 uint32_t odfilter_fault_text(const odfilter_handle *type, uint32_t status, odfilter_bytes text, odfilter_room sentence,
                              const odfilter_answer *fault, odfilter_answer *answer);

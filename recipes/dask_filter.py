@@ -6,7 +6,7 @@
 ROWS are files of one JSON object a line, or folders, whose files are taken in the order of their names. They are cut
 into blocks at line ends. The kept lines are written to standard output in the order of the input: what one
 `odfilter filter` over all of the files writes. The first row at fault ends the run: what is kept before it is written,
-then `FILE: row 3 Missing Active` is told, with the line in that file. The statuses are those of docs/CLI.md.
+then `FILE: row 3 Missing Active` is reported, with the line in that file. The statuses are those of docs/CLI.md.
 
 A worker that dies loses nothing and doubles nothing: its blocks are judged again, and each is written once. One that
 joins takes part. With none left the run waits for the next.
@@ -19,7 +19,7 @@ and the rows by the same path. Then, with one thread for each core of the worker
     PYTHONPATH=/opt/odfilter recipes/dask_filter.py tcp://HOST:8786 --schema ..  # where the lines are wanted
 
 It is Debian's Python that has dask, so that runs this file. Whoever reaches the port of a scheduler can run programs on
-its workers: keep it within a network that you trust, or behind dask's TLS.
+its workers: keep it within a network that you trust, or use dask's TLS.
 """
 import argparse
 import collections
@@ -42,7 +42,7 @@ Block = collections.namedtuple("Block", "path start stop")
 
 
 class Stop(Exception):
-    """What ends a run early: the line that is told, and the status."""
+    """What ends a run early: the line that is reported, and the status."""
 
     def __init__(self, line, status):
         super().__init__(line)
@@ -171,7 +171,7 @@ def write_kept(answers, out):
 def run(words, out):
     with opened(words.schema) as file:
         document = file.read()
-    # what is refused is told before a worker is asked
+    # what is refused is reported before a worker is asked
     with odfilter.Schema(document) as schema, schema.type(words.type) as of_type, of_type.check(words.filter) as by:
         by.judge(words.now).close()
         if by.needs_moment and words.now is None:

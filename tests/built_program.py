@@ -18,7 +18,7 @@ MEMORY_STEP = 1 << 16
 
 
 def programs():
-    """Both programs, with `--first` the first alone, or the one that stands behind `--program`."""
+    """Both programs, with `--first` the first alone, or the one that stands after `--program`."""
     if "--program" in sys.argv:
         return [sys.argv[sys.argv.index("--program") + 1]]
     return [PROGRAM] if "--first" in sys.argv else [PROGRAM, SECOND]

@@ -71,7 +71,7 @@ class Cluster:
         return subprocess.Popen([*self.recipe(), *words], env=self.env, stdin=subprocess.DEVNULL, **streams)
 
     def run(self, *words):
-        """The answer of a run: its output, what it told, and its status."""
+        """The answer of a run: its output, what it reported, and its status."""
         process = self.start(*words, stdout=subprocess.PIPE, stderr=subprocess.PIPE)
         return answer_of(process)
 

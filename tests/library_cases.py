@@ -1,8 +1,8 @@
 """The suite of cases (crates/conformance/data) and the whole queries of url_cases as questions to a client of the C
 library, and what it answers beside what is wanted.
 
-A client is a program that is given a file of questions and writes an answer to each, one behind another. Both are
-netstrings, `5:hello,`. A question is a word and what stands behind it in QUESTIONS. A client holds one schema, one type
+A client is a program that is given a file of questions and writes an answer to each, one after another. Both are
+netstrings, `5:hello,`. A question is a word and what follows it in QUESTIONS. A client holds one schema, one type
 and one filter at a time, the last that were asked for; where one of them was refused, what needs it is answered by
 `nothing`.
 """
@@ -34,7 +34,7 @@ def netstring(text):
 
 
 def netstrings(wire):
-    """The texts of netstrings that stand one behind another."""
+    """The texts of netstrings that stand one after another."""
     texts, at = [], 0
     while at < len(wire):
         colon = wire.index(b":", at)
@@ -68,7 +68,7 @@ class Questions:
         return self.count - 1
 
     def hold(self, word, given, *over):
-        """Has the client hold a schema, type or filter, over what it stands on, and tells the question's number."""
+        """Has the client hold a schema, type or filter, over what it stands on, and reports the question's number."""
         wanted = (given, *over)
         if self.held.get(word, (None, 0))[0] != wanted:
             for other in {"schema": ["type", "filter"], "type": ["filter"]}.get(word, []):
@@ -139,7 +139,7 @@ class Questions:
         return Later(lambda told: told[asked] == "found")
 
     def of_words(self, case):
-        """A run over lines: what is written and what is told, by a filter's lines in memory."""
+        """A run over lines: what is written and what is reported, by a filter's lines in memory."""
         words = options_of(case)
         self.document = file_of(case, words["--schema"])
         self.case = {"type": words["--type"].decode(), "now": words.get("--now", b"").decode()}

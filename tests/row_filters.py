@@ -51,7 +51,7 @@ def compared(operator, left, right):
 
 
 class Path:
-    """A path to a value, from the row or from a variable, the property path to whose collection is told too."""
+    """A path to a value, from the row or from a variable, the property path to whose collection is reported too."""
 
     def __init__(self, level=0, steps=(), before=()):
         self.level, self.steps, self.before = level, steps, before

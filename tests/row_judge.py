@@ -19,7 +19,7 @@ RANGES |= {"Edm.Int32": (-(2**31), 2**31 - 1), "Edm.Int64": (-(2**63), 2**63 - 1
 # where it is a navigation property, whose target is a Record, or None where it leads to no entity type. The judge does
 # not go by what a document declares of it.
 Property = collections.namedtuple("Property", "name kind many nullable declared target", defaults=(None,))
-# where the judge is in a row: the path that is told, the names of properties that lead there, and what a filter names
+# where the judge is in a row: the path to report, the names of properties that lead there, and what a filter names
 Place = collections.namedtuple("Place", "path names named")
 # the value of a property that is not looked at
 UNSEEN = object()
@@ -209,7 +209,7 @@ def value_of(one, members, place):
         raise Fault("NullNotAllowed", path)
     if not isinstance(tree, list):
         raise Fault("WrongKind", path)
-    # behind a navigation property no item is null, whatever is declared
+    # after a navigation property no item is null, whatever is declared
     nullable = one.nullable and not one.target
     places = (place._replace(path=f"{path}/{number}") for number in range(len(tree)))
     return [single_value(kind, nullable, item, at) for item, at in zip(tree, places)]
@@ -223,7 +223,7 @@ def record_of(kind, members, place):
 
 
 def entity_of(kind, tree, named=NOTHING):
-    """The record of a tree by a filter that names these paths, and what is told of it where it fits none: one of both
+    """The record of a tree by a filter that names these paths, and the fault where it fits none: one of both
     is None."""
     if not isinstance(tree, dict):
         return None, "NotObject"
@@ -246,7 +246,7 @@ def of_line(kind, line, named=NOTHING):
 
 
 def of_collection(kind, text, named=NOTHING):
-    """The records of a collection's entities up to the first at fault, and what is told of that, if there is one."""
+    """The records of a collection's entities up to the first at fault, and that fault, if there is one."""
     try:
         tree = tree_of(text)
     except NoJson:

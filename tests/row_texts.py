@@ -12,7 +12,7 @@ ANY = r"""true false null 0 -0 -1 1 0.0 -0.0 1.5 -1.25e-3 1e0 1E5 1e+2 0e0 1e308
 "\ud83d\ude00" "\"" "\\" "\\\"" "[" "{" "\/\b\f\n\r\t" "é名😀" [] {} [[]] [{}] {"a":[]} [1,2,3] ["a"] [null] [true]
 {"a":1} {"a":{"a":{}}} {"":0} {"a":1,"a":2} {"a":"}"} {"b":"]","\"":["\\"]} [[[[1]]],{"c":[{"d":{}}]}]""".split()
 ANY += ["1" * 300, "1" * 40 + ".5", "0." + "0" * 400 + "1", "1e" + "0" * 30 + "1"]
-# texts in place of a value that are no JSON: words, numbers, texts, arrays and objects, and what is none of these
+# texts instead of a value that are no JSON: words, numbers, texts, arrays and objects, and what is none of these
 WORDS = r"""tru truee true1 truex true_ trueX True TRUE tru\u0065 fals falsee false0 falsey False nul nulll null1 nullx
 Null NULL nil undefined NaN Infinity -Infinity truetrue nullnull t n f true"" true'""".split()
 NUMBERS = r"""01 -01 00 1. .5 1.e5 1e 1e+ 1E- - -- +1 --1 -a 0x10 1_000 1,5 1a 1- 1.5.5 1e5e5 1e1.5 1e400 -1e400 1e309
@@ -36,7 +36,7 @@ NO_TEXTS = r"""
 NO_UTF8 = rb"""
 \xff \xfe \x80 \xbf \xc3 \xe5\x90 \xf0\x9f\x98 \xc0\xaf \xc1\xbf \xe0\x80\xaf \xf0\x80\x80\x80 \xed\xa0\x80
 \xed\xb0\x80 \xf4\x90\x80\x80 \xf8\x88\x80\x80\x80 \xc3\xc3\xa9""".decode("unicode_escape").encode("latin-1").split()
-# what stands behind a row, and in place of one
+# what stands after a row, and instead of one
 TAILS = [b"\x00", b"\xef\xbb\xbf", b" {}", b" null", *rb', } ] x {} // " \ ; 1 :'.split()]
 INSTEAD = [b"\xef\xbb\xbf{}", *rb'null true 1 "a" [] {} "" -0 1e400 tru [{}] { }'.split()]
 
@@ -278,7 +278,7 @@ def faulty(draw, kind, value):
 
 def great(draw, line, more):
     """The line as long as a line may be, and so many bytes longer: by the text that begins with `great`, or by more
-    behind the first brace."""
+    after the first brace."""
     texts = [b"a", b"abcdefgh", "é".encode(), "😀".encode(), rb"\u00e9", rb"\n", rb"\\", b" "]
     place, start, pieces, stop = draw.one_of(
         [

@@ -43,7 +43,7 @@ static inline char *block(size_t length)
     return at;
 }
 
-/* a text in a block of its own, without a NUL behind it */
+/* a text in a block of its own, without a NUL after it */
 static inline odfilter_bytes bytes_of(const char *text)
 {
     odfilter_bytes bytes = {NULL, strlen(text)};

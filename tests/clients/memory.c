@@ -1,5 +1,5 @@
 /* Memory: of each call the first allocation is refused, then the second, and so on until none was; by itself, and with
- * all behind it. And none is made to judge a row of a kind seen before.
+ * all after it. And none is made to judge a row of a kind seen before.
  *
  * It is linked with -Wl,--wrap=malloc,--wrap=realloc, so that the library's calls come here first. */
 #include "checks.h"
@@ -166,7 +166,7 @@ static uint32_t refuse_one(const char *call_name, uint32_t (*call)(void), int (*
     return status;
 }
 
-/* refuses one allocation after another until none was, and tells how often that was told */
+/* refuses one allocation after another until none was, and reports how often that was reported */
 static unsigned long refuse_in_turn(const char *call_name, uint32_t (*call)(void), int (*is_whole)(void))
 {
     unsigned long told = 0;

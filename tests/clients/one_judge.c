@@ -1,5 +1,5 @@
 /* Why each thread has a judge of its own: two threads use one judge here, which is a data race. It is run under helgrind,
- * which has to tell that. */
+ * which has to report that. */
 #define _POSIX_C_SOURCE 200809L
 #include <pthread.h>
 #include <time.h>

@@ -85,7 +85,7 @@ static void names_of_a_fault(void)
     drop(document);
 }
 
-/* kept lines, with a line at fault behind them or none: the status stays that of the fault */
+/* kept lines, with a line at fault after them or none: the status stays that of the fault */
 static void kept_lines(const char *behind, uint32_t end, odfilter_answer told)
 {
     const char *kept = ROW "\n" ROW "\n";

@@ -1,4 +1,4 @@
-/* What is told of rows: verdicts, faults with their paths, lines, moments; and the places of refused filters. */
+/* What is reported of rows: verdicts, faults with their paths, lines, moments; and the places of refused filters. */
 #include "checks.h"
 
 static odfilter_handle *schema, *type, *judge;

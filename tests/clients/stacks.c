@@ -90,7 +90,7 @@ static void begin(const char *start)
     text.open = 0;
 }
 
-/* puts a piece before and one behind, of so many tokens and parentheses, if the limits let it */
+/* puts a piece before and one after, of so many tokens and parentheses, if the limits let it */
 static int put_around(const char *before, const char *behind, size_t tokens, size_t open)
 {
     size_t front = strlen(before), back = strlen(behind);

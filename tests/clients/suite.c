@@ -1,6 +1,6 @@
 /* Answers the questions of tests/library_cases.py by the calls of the library: `suite FILE`. In C99.
  *
- * Each text that is handed in, and all room, is a block of just as many bytes, so that valgrind tells a byte too many.
+ * Each text that is handed in, and all room, is a block of just as many bytes, so valgrind reports a byte too many.
  */
 #include <inttypes.h>
 #include <stdio.h>
@@ -295,7 +295,7 @@ static int is_line(odfilter_bytes row)
     return at < row.length && row.length <= 1048576 && !memchr(row.at, '\n', row.length);
 }
 
-/* whether a run over the row twice, a blank line between, tells what was told of the row by itself */
+/* whether a run over the row twice, a blank line between, reports what was reported of the row by itself */
 static int is_same_in_lines(struct held *held, odfilter_bytes row, uint32_t status, odfilter_answer told)
 {
     size_t length = 2 * row.length + 2, kept = status == ODFILTER_OK && told.verdict == ODFILTER_TRUE ? 2 : 0;

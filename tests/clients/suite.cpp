@@ -1,6 +1,6 @@
 /* Answers the questions of tests/library_cases.py by the calls of the library: `suite FILE`. In C++17: handles free
  * themselves, a status that is no answer is an exception, and each text that is handed in is a block of just as many
- * bytes, so that valgrind tells a byte too many. */
+ * bytes, so that valgrind reports a byte too many. */
 #include <cstdint>
 #include <fstream>
 #include <functional>

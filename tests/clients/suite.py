@@ -1,6 +1,6 @@
 """Answers the questions of tests/library_cases.py by the module odfilter: `suite.py FILE`. In Python.
 
-With a second word `leak` it also makes a judge that nobody frees: what looks for leaks has to tell that.
+With a second word `leak` it also makes a judge that nobody frees: what looks for leaks has to report that.
 """
 import ctypes
 import os
@@ -9,7 +9,7 @@ import sys
 import odfilter
 from library_cases import QUESTIONS, netstring, netstrings
 
-# how many texts stand behind each word
+# how many texts stand after each word
 GIVEN = {word: 2 if word in ("row", "lines") else 0 if word in ("canonical", "explain") else 1 for word in QUESTIONS}
 VERDICTS = {True: "true", False: "false", None: "null"}
 # what is held, each made of the one before; and what answers a question, where that is not the filter

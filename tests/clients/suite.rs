@@ -137,7 +137,7 @@ fn give_up(why: &str) -> ! {
     process::exit(3)
 }
 
-/// A text that is lent. Rust's empty slices have an address that is not null, which is what the header asks.
+/// A text that is borrowed. Rust's empty slices have an address that is not null, which is what the header asks.
 fn bytes(text: &[u8]) -> c::Bytes {
     c::Bytes { at: text.as_ptr() as *const c_char, length: text.len() }
 }

@@ -56,7 +56,7 @@ class Function:
 
 
 class Given(Function):
-    """What an `impl` of a trait gives in place of a clause: a `ghost` of it, as if it were a function."""
+    """What an `impl` of a trait gives instead of a clause: a `ghost` of it, as if it were a function."""
 
     def __init__(self, at, owner, trait, header, clause):
         super().__init__(at, owner, trait, clause.label, False)

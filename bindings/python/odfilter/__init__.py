@@ -74,7 +74,7 @@ class Kept(NamedTuple):
 
 
 class _Bytes(ctypes.Structure):
-    """Bytes that are lent for a call."""
+    """Bytes that a call borrows."""
 
     _fields_ = [("at", ctypes.c_char_p), ("length", ctypes.c_size_t)]
 
@@ -106,7 +106,7 @@ class _Room(ctypes.Structure):
 
 
 class _Answer(ctypes.Structure):
-    """What a call tells beside its status."""
+    """What a call answers besides its status."""
 
     _fields_ = [("fault", ctypes.c_uint32), ("verdict", ctypes.c_uint32), ("start", ctypes.c_size_t)]
     _fields_ += [("stop", ctypes.c_size_t), ("number", ctypes.c_uint64), ("length", ctypes.c_size_t)]
@@ -208,7 +208,7 @@ class Library:
 
 
 def _room_of(size: int) -> tuple[bytearray, _Room]:
-    """Bytes of our own, and them as room, which is lent no longer than they are held."""
+    """A buffer of our own, and as the argument of a call, which must not outlive it."""
     room = bytearray(max(size, 1))
     return room, _Room(ctypes.addressof(ctypes.c_char.from_buffer(room)), size)
 
@@ -302,7 +302,7 @@ class Type(_Held):
         return Filter(self, "check", text, (_lent_text(text, "a filter"),), lambda _: text)
 
     def check_query(self, query: BytesOrText) -> Filter:
-        """The filter of a query string, as it stands in a URL behind the `?`, with no other option of the standard's.
+        """The filter of a query string, as it stands in a URL after the `?`, with no other option of the standard's.
 
         Raises Refused, QueryRefused, NoFilter.
         """
@@ -483,13 +483,13 @@ def _filter_text(query: BytesOrText) -> str:
 
 
 def _names_in(room: bytearray, answer: _Answer) -> tuple[str, ...]:
-    """The names that a schema's fault carries, which stand one directly behind the other."""
+    """The names that a schema's fault carries, one directly after the other."""
     names = room[: answer.first].decode(), room[answer.first : answer.length].decode()
     return names[: _NAMES_OF[answer.fault]]
 
 
 def _lent(given: BytesOrText, what: str) -> _Bytes:
-    """Bytes as they are lent to a call; a str stands for its UTF-8."""
+    """Bytes as a call borrows them; a str stands for its UTF-8."""
     if isinstance(given, str):
         given = given.encode("utf-8", "surrogatepass")
     if isinstance(given, bytes):

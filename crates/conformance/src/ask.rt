@@ -1,4 +1,4 @@
-//! What a case asks of one thing that is given, and what is wanted.
+//! What a case asks about one given thing, and what is expected.
 use crate::case::Case;
 use crate::form::Asked;
 use crate::report::Report;
@@ -137,7 +137,7 @@ fn told_line(case: &Case<'_>, line: &Value) -> Result<String, Trouble> {
     line_and_row_answer(case.alloc, type_of(case)?, line.as_slice())
 }
 
-/// `true` of what fits, in place of its values.
+/// `true` of what fits, instead of its values.
 fn without_values(alloc: Global, told: String) -> Result<String, Trouble> {
     if told.as_str().starts_with("fits ") {
         Ok(String::from_str(alloc, "true")?)
@@ -202,7 +202,7 @@ fn answer(case: &Case<'_>, asked: Asked, given: &Value) -> Result<String, Troubl
     }
 }
 
-/// A wanted answer: a truth value, null, a number, or a text.
+/// An expected answer: a truth value, null, a number, or a text.
 fn plain(alloc: Global, wanted: &Value) -> Result<String, Trouble> {
     match wanted {
         Value::Null | Value::Bool(_) | Value::Number(_) => Ok(wanted.to_string(alloc)?),
@@ -242,7 +242,7 @@ fn held(alloc: Global, wanted: &Value) -> Result<String, Trouble> {
     Ok(format!(in alloc; "fits {texts}")?)
 }
 
-/// The answer that is wanted, as a text.
+/// The answer that is expected, as a text.
 fn wanted_text(alloc: Global, asked: Asked, wanted: &Value) -> Result<String, Trouble> {
     match asked {
         Asked::Refusal | Asked::TextRefusal | Asked::QueryRefusal => {
@@ -271,7 +271,7 @@ fn ask_alike(
     report.compare_at(filter, wanted.as_str(), got.as_str())
 }
 
-/// Compares the answer to what is given with the one that is wanted.
+/// Compares the answer to what is given with the one that is expected.
 pub(crate) fn ask(
     case: &Case<'_>,
     asked: Asked,

@@ -53,7 +53,7 @@ pub(crate) enum Asked {
     Run,
 }
 
-/// Where a case has what is given and what is wanted.
+/// Where a case has what is given and what is expected.
 #[derive(Clone, Copy)]
 pub(crate) enum Shape {
     /// In two members.

@@ -29,7 +29,7 @@ fn look_up(case: &Case<'_>, report: &mut Report) -> Result<(), Trouble> {
     }
 }
 
-/// Asks a case that has what it gives and wants in several members.
+/// Asks a case that has what it gives and expects in several members.
 fn ask_whole(case: &Case<'_>, asked: Asked, report: &mut Report) -> Result<(), Trouble> {
     match asked {
         Asked::LookUps => look_up(case, report),
@@ -64,7 +64,7 @@ fn ask_one(
     }
 }
 
-/// Asks what a case asks, and tells each difference.
+/// Asks what a case asks, and reports each difference.
 fn ask_case(case: &Case<'_>, report: &mut Report) -> Result<(), Trouble> {
     match form_of(case.members) {
         Some((asked, Shape::One(given, wanted))) => ask_one(case, asked, given, wanted, report),
@@ -107,7 +107,7 @@ fn note(case: &Case<'_>, names: &mut BTreeSet<String>) -> Result<(), Trouble> {
     }
 }
 
-/// Asks a case of its own name that tells where it is from.
+/// Asks a case of its own name that reports where it is from.
 fn ask_named(
     case: &Case<'_>,
     names: &mut BTreeSet<String>,

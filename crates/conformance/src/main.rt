@@ -1,5 +1,5 @@
 //! Runs a suite of cases: `conformance FILE..`. A file that ends with `.jsonl` has cases, one a line; any other is a
-//! schema or a row that the cases of later files name. Each difference is told on a line of its own. With a file
+//! schema or a row that the cases of later files name. Each difference is reported on a line of its own. With a file
 //! `times/1000.json` before the cases each filter that takes no memory is evaluated a thousand times.
 #![tactic(auto)]
 

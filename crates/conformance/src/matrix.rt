@@ -11,7 +11,7 @@ use spelled_answers::schemas::fault_of;
 use spelled_answers::trouble::Trouble;
 use std::alloc::Global;
 
-/// What is asked of each filter of a matrix, and what stands before and behind it.
+/// What is asked of each filter of a matrix, and what stands before and after it.
 #[derive(Clone, Copy)]
 pub(crate) struct Cells<'a> {
     alloc: Global,
@@ -21,7 +21,7 @@ pub(crate) struct Cells<'a> {
     behind: &'a str,
 }
 
-/// What stands before or behind each filter of a matrix.
+/// What stands before or after each filter of a matrix.
 fn around<'c>(case: &Case<'c>, name: &str) -> Result<&'c str, Trouble> {
     match case.find(name) {
         Some(text) => word_of(text),

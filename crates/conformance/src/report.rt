@@ -7,7 +7,7 @@ use std::alloc::Global;
 pub struct Report {
     /// A line for each difference.
     pub told: String,
-    /// What stands before each difference of the case at hand.
+    /// What stands before each difference of the current case.
     heading: String,
     has_failed: bool,
     pub passed: u64,
@@ -33,7 +33,7 @@ impl Report {
         Ok(())
     }
 
-    /// Ends the case at hand.
+    /// Ends the current case.
     pub(crate) fn end(&mut self) {
         if self.has_failed {
             self.failed = self.failed.saturating_add(1);
@@ -42,7 +42,7 @@ impl Report {
         }
     }
 
-    /// Tells what is wrong with the case at hand.
+    /// Reports what is wrong with the current case.
     pub(crate) fn tell(&mut self, what: &str) -> Result<(), Trouble> {
         self.has_failed = true;
         self.told.push_str(self.heading.as_str())?;
@@ -57,7 +57,7 @@ impl Report {
         self.tell(what.as_str())
     }
 
-    /// Tells a difference from what is wanted, if there is one.
+    /// Reports a difference from what is expected, if there is one.
     pub(crate) fn compare(&mut self, at: &str, wanted: &str, got: &str) -> Result<(), Trouble> {
         if wanted == got {
             return Ok(());

@@ -137,7 +137,7 @@ fn shown(alloc: Global, bytes: &[u8]) -> Result<String, Trouble> {
     Ok(format!(in alloc; "{:?}", text.as_str())?)
 }
 
-/// Compares a text of a run with the one that the case wants, if it wants one.
+/// Compares a text of a run with the one that the case expects, if it expects one.
 fn compare_text(
     case: &Case<'_>,
     name: &str,
@@ -156,7 +156,7 @@ fn compare_text(
     report.compare(name, wanted.as_str(), got.as_str())
 }
 
-/// Compares what a run says with what the case wants.
+/// Compares what a run says with what the case expects.
 pub(crate) fn compare_run(case: &Case<'_>, report: &mut Report) -> Result<(), Trouble> {
     let words = words_of(case)?;
     let said = said_of(case, words.as_slice())?;

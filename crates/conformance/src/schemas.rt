@@ -58,7 +58,7 @@ fn compare_entities(schema: &Schema, rows: &[Value], report: &mut Report) -> Res
     Ok(())
 }
 
-/// The texts of a list, one behind another.
+/// The texts of a list, one after another.
 pub(crate) fn joined(alloc: Global, texts: &[Value]) -> Result<String, Trouble> {
     let mut line = String::new(alloc);
     let mut is_first = true;
@@ -106,7 +106,7 @@ fn compare_no_slots(schema: &Schema, rows: &[Value], report: &mut Report) -> Res
     Ok(())
 }
 
-/// The number that a text stands for in an enumeration, and that which is wanted.
+/// The number that a text stands for in an enumeration, and that which is expected.
 fn compare_number(
     schema: &Schema,
     enumeration: &str,

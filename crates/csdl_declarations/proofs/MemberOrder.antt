@@ -1,4 +1,5 @@
--- Members of JSON that was read are in the byte order of their names, and so are the declared types and their properties.
+-- Members of JSON that was read are in the byte order of their names, and so are the declared types and their
+-- properties.
 use Rattle.std.proofs.Common.{◌≡◌, ℕ, List, [], ◌∷◌, ◌++◌, map, Option, Some, None, IfSome, option_map, option_and_then, Ordering, Less, Equal, Greater, Bool, true, false, cond, refl, ap, subst, ◌∙◌}
 use Rattle.std.specs.Ordering.{nat_cmp, ordering_reverse, match_ordering}
 use Rattle.std.specs.List.{AllByRecursion, flat_map}

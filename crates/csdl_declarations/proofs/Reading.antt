@@ -57,7 +57,7 @@ declared_kept name k d ms same kept =
 
 -- ---- faults
 
--- a refusal that tells the first of some faults
+-- a refusal that reports the first of some faults
 pub tells_first : (told : Option Fault) (fault : Fault) (faults later : List Fault) → IfSome told (λ t. t ≡ fault) → faults ≡ fault ∷ later → IsFirstOf faults told
 tells_first None fault faults later is first = tt
 tells_first (Some t) fault faults later is first = (later, first ∙ ap (λ f. f ∷ later) (sym is))

@@ -55,7 +55,7 @@ pub record AreByName (types ordered : List TypeDeclaration) : Type 0 where
   pub rising : IsStrictlySortedBy (slice_cmp nat_cmp) (map full_name ordered)
   pub first : (asked : List ℕ) → first_named ordered asked ≡ first_named types asked
 
--- a type goes before those of higher whole names, and in place of one of the same
+-- a type goes before those of higher whole names, and replaces one of the same
 abbrev pub put_type : TypeDeclaration → List TypeDeclaration → List TypeDeclaration
 put_type t [] = t ∷ []
 put_type t (u ∷ us) =
@@ -66,5 +66,6 @@ abbrev pub in_name_order : List TypeDeclaration → List TypeDeclaration
 in_name_order [] = []
 in_name_order (t ∷ ts) = put_type t (in_name_order ts)
 
+-- a document's types in the byte order of their whole names
 abbrev pub types_in_order : Data → List TypeDeclaration
 types_in_order document = in_name_order (types_declared document)

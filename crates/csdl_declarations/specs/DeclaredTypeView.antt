@@ -28,5 +28,6 @@ type_view t = record {
   body = body_view t.body;
 }
 
+-- likewise types one after another
 abbrev pub types_view : List code_type.DeclaredType → List DeclaredType
 types_view ts = map type_view ts

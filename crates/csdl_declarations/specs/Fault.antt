@@ -1,7 +1,7 @@
 -- What may be wrong with a CSDL JSON document.
 use Rattle.std.specs.Prelude.{ℕ, [], ◌∷◌, List, Bool, true, false}
 
--- a fault with the names that it tells; `owner` is a type's whole name
+-- a fault with the names that it reports; `owner` is a type's whole name
 pub data Fault : Type 0 where
   not_json : Fault
   not_object : Fault

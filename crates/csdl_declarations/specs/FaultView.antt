@@ -4,7 +4,7 @@ use Rattle.csdl_declarations.specs.declared.fault.SchemaFault.{SchemaFault}
 use Rattle.csdl_declarations.specs.declared.fault.SchemaFault.TheVariants as code
 use Rattle.csdl_declarations.specs.Fault.{Fault, not_json, not_object, version, bad_type, bad_property, unknown_base, base_cycle, property_twice, bad_enum_member, too_large}
 
--- none where memory was wanting
+-- none when out of memory
 abbrev pub fault_of : SchemaFault → Option Fault
 fault_of code.NotJson = Some not_json
 fault_of code.NotObject = Some not_object
@@ -18,7 +18,7 @@ fault_of (code.BadEnumMember owner name) = Some (bad_enum_member (string_bytes o
 fault_of code.TooLarge = Some too_large
 fault_of code.Memory = None
 
--- the refusal tells this fault, or want of memory
+-- the refusal reports this fault, or running out of memory
 abbrev pub TellsFault : SchemaFault → Fault → Type 0
 TellsFault e fault = IfSome (fault_of e) (λ told. told ≡ fault)
 

@@ -102,5 +102,6 @@ object_faults document =
     ++ (unless (not (nat_lt type_limit (type_count document))) too_large
     ++ flat_map type_faults (types_in_order document)))
 
+-- the faults of a document, the first one first
 abbrev pub declaration_faults : Data → List Fault
 declaration_faults document = if is_object document then object_faults document else not_object ∷ []

@@ -24,7 +24,7 @@ abbrev pub declared_among : Members → List (List ℕ × Data)
 declared_among no_members = []
 declared_among (member k d ms) = if is_read_over k then declared_among ms else (k, d) ∷ declared_among ms
 
--- of a value that is no object, none
+-- of a value that is not an object, none
 abbrev pub declared_of : Option Members → List (List ℕ × Data)
 declared_of None = []
 declared_of (Some ms) = declared_among ms

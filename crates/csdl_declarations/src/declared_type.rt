@@ -1,7 +1,7 @@
 use edm_enumerations::Enumeration;
 
-/// A property as its type declares it (CSDL JSON 4.01, section 7), with the name of its type as it is
-/// written. Of a collection, `nullable` speaks of the items.
+/// A property as its type declares it (CSDL JSON 4.01, section 7). It has the name of its type as it is written. Of a
+/// collection, `nullable` speaks of the items.
 #[derive(Clone, Copy)]
 pub struct PropertyDeclaration<'d> {
     pub name: &'d str,
@@ -11,7 +11,7 @@ pub struct PropertyDeclaration<'d> {
     pub nullable: bool,
 }
 
-/// What a declaration says of its type, names of other types as they are written.
+/// The contents of a type declaration, with names of other types as they are written.
 #[derive(Drop)]
 pub enum TypeBody<'d> {
     /// An entity or complex type (sections 6 and 9), with its own properties in the byte order of names.

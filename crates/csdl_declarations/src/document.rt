@@ -20,9 +20,9 @@ use std::alloc::Global;
 
 const MAX_TYPES: usize = 4096;
 
-/// The types that a CSDL JSON document declares, in the byte order of their whole names.
+/// Reads the types that a CSDL JSON document declares, in the byte order of their whole names.
 ///
-/// A refusal tells the first fault: `NotObject`, `Version`, `BadType` of a namespace, `TooLarge` for more than
+/// A refusal reports the first fault: `NotObject`, `Version`, `BadType` of a namespace, `TooLarge` for more than
 /// 4,096 types, then, in the order of names, `BadType`, `BadProperty` and `BadEnumMember`.
 pub fn declared_types<'d>(
     alloc: Global,

@@ -1,27 +1,27 @@
 use std::alloc::{AllocError, AllocFailed};
 use thiserror::Error;
 
-/// Why a document is no schema. `owner` is the name of a type with its namespace. Shown, a fault is its
-/// name and the names that it tells, as `BadProperty Shop.Order Total`; want of memory is `memory`.
+/// Why a document is not a schema. `owner` is the name of a type with its namespace. A fault is displayed as its name
+/// and the names that it reports, as `BadProperty Shop.Order Total`; running out of memory is `memory`.
 #[derive(Debug, Drop, Error)]
 pub enum SchemaFault {
-    /// The bytes are no JSON text.
+    /// The bytes are not a JSON text.
     #[error("NotJson")]
     NotJson,
-    /// The document is no JSON object.
+    /// The document is not a JSON object.
     #[error("NotObject")]
     NotObject,
     /// `$Version` is neither `4.0` nor `4.01` (CSDL JSON 4.01, section 2).
     #[error("Version")]
     Version,
-    /// A namespace whose value is no object or whose alias is no text of its own (section 4), or a type of
-    /// another shape than its kind's (sections 6 and 9 to 11) or whose name is no identifier.
+    /// A namespace whose value is not an object or whose alias is not a text of its own (section 4), or a type of
+    /// another shape than its kind's (sections 6 and 9 to 11) or whose name is not an identifier.
     #[error("BadType {name}")]
     BadType { name: String },
-    /// A member of a type that is no property (section 7).
+    /// A member of a type that is not a property (section 7).
     #[error("BadProperty {owner} {name}")]
     BadProperty { owner: String, name: String },
-    /// A base type that is not there, or of another kind (sections 6.1 and 9.1).
+    /// A base type that is missing, or of another kind (sections 6.1 and 9.1).
     #[error("UnknownBase {owner}")]
     UnknownBase { owner: String },
     /// A type whose chain of bases does not end.
@@ -30,7 +30,7 @@ pub enum SchemaFault {
     /// A property that two types of a chain of bases declare.
     #[error("PropertyTwice {owner} {name}")]
     PropertyTwice { owner: String, name: String },
-    /// A member of an enumeration whose name is no identifier, or whose value is no number of the underlying
+    /// A member of an enumeration whose name is not an identifier, or whose value is not a number of the underlying
     /// type (section 10.3).
     #[error("BadEnumMember {owner} {name}")]
     BadEnumMember { owner: String, name: String },
@@ -38,7 +38,7 @@ pub enum SchemaFault {
     /// 1,024 properties, inherited ones counted.
     #[error("TooLarge")]
     TooLarge,
-    /// An allocation was refused.
+    /// An allocation failed.
     #[error("memory")]
     Memory,
 }

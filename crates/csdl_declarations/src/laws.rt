@@ -16,8 +16,8 @@ pub fn types_by_name()
     ensures only { (types a b : List TypeDeclaration) → AreByName types a → AreByName types b → a ≡ b }
 {}
 
-/// In JSON that was read, namespaces, what each of them declares and the members of each type are in the order of their
-/// names; so are the types that are declared, by their whole names, and the own properties of each.
+/// JSON that was read is in the order of names. That holds of namespaces, what each of them declares and the members of
+/// each type, of the types that are declared, by their whole names, and of the own properties of each.
 pub fn declared_in_order()
     ensures namespaces { (text : List ℕ) (json : Data) → read text ≡ Some json → DeclaresInOrder json }
     ensures schemas { (text : List ℕ) (json : Data) → read text ≡ Some json

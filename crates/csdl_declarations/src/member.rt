@@ -16,7 +16,7 @@ pub(crate) struct Member<'d> {
     pub(crate) value: &'d Value,
 }
 
-/// The members that declare something, in the byte order of their names; none of a value that is no object.
+/// The members that declare something, in the byte order of their names; none of a value that is not an object.
 pub(crate) fn declared_members<'d>(
     alloc: Global,
     value: &'d Value,

@@ -1,4 +1,4 @@
-//! Refusals with the names that they tell, or `Memory` where these cannot be kept.
+//! Refusals with the names that they report, or `Memory` where these cannot be kept.
 ghost use Rattle.csdl_declarations.specs.Fault as fault;
 ghost use Rattle.csdl_declarations.specs.FaultView.{TellsFault};
 

@@ -79,7 +79,7 @@ first_of_append (x ∷ xs) ys = ap (lesser_name x) (first_of_append xs ys) ∙ b
     by None = refl
     by (Some y) = lesser_name_of x y (first_name ys)
 
--- ---- what is told of each type
+-- ---- what is reported about each type
 
 firsts_at : (types : List PlacedType) (k : ℕ) (ts : List PlacedType) (n : ℕ)
     → slice_get (firsts_from types k ts) n ≡ option_map (λ t. first_name (names_again_at types (k + n))) (slice_get ts n)
@@ -126,7 +126,7 @@ first_of_both (x ∷ xs) ys [] vs here there =
     let clash : Some x ≡ None = here in
     absurd (cc)
 
--- faults behind others count where there are none of these
+-- faults after others count where there are none of these
 first_behind : (faults xs ys : List Fault) → (faults ≡ [] → xs ≡ ys) → first_fault (faults ++ xs) ≡ first_fault (faults ++ ys)
 first_behind [] xs ys same = ap first_fault (same refl)
 first_behind (f ∷ faults) xs ys same = refl

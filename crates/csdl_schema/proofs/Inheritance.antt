@@ -177,7 +177,7 @@ none_kept test (x ∷ xs) none = by (test x) refl none (λ later. none_kept test
 differs : (a b : List ℕ) → pointwise nat_eq a b ≡ false → a ≢ b
 differs a b apart same = false≢true (sym apart ∙ ap (λ v. pointwise nat_eq a v) (sym same) ∙ equal_itself a)
 
--- in order, a name stands at one place
+-- in order, a name has one index
 pub one_place : (ts : List DeclaredType) → IsStrictlySortedBy (slice_cmp nat_cmp) (map (λ u. u.name) ts) → (m n : ℕ) (t u : DeclaredType) → slice_get ts m ≡ Some t → slice_get ts n ≡ Some u
     → t.name ≡ u.name → m ≡ n
 unfolding IsStrictlySortedBy

@@ -77,7 +77,7 @@ module _ (types : List PlacedType) where
         subst (λ ps. AreFirstOf (model_of types) ps (drop own (own_at types owner))) (sym same)
         (first_of (drop own (own_at types owner)) rest (all_dropped (λ e. IsThere (model_of types) e.1) (own_at types owner) own (h.kinds owner)))
 
-    -- a slot of a type is behind what it inherits, and before the end of its own
+    -- a slot of a type is after what it inherits, and before the end of its own
     pub own_within : (n slot own : ℕ) → slot < length (properties_at (model_of types) n) → slot ≡ (chain_in chains n).inherited + own → own < length (own_at types n)
     own_within n slot own within is = by (heir_or_bare types chains h n)
       where

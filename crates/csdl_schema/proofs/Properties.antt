@@ -61,7 +61,7 @@ property_step es new e p rest all added same whole =
     pushed [] = refl
     pushed (f ∷ es) = ap (λ ps. entry_view f ∷ ps) (pushed es)
 
--- the property at an index is put behind those before it
+-- the property at an index is put after those before it
 pub property_put : (kinds : List PropertyKind) (find : Finder) (all : List code.PropertyDeclaration) (i : ℕ) (d : code.PropertyDeclaration) (es new : List (String Global × Property)) (k : String Global) (v : Property)
     → i < length all → string_bytes k ≡ (get_or all i d).name.now → ((get_or all i d).name.now, v) ≡ placed_property kinds find (property_view (get_or all i d))
     → AreRising (map (λ p. p.name) (map property_view all)) → new ≡ insert_entry string_eq es k v

@@ -26,7 +26,7 @@ split_at (y ∷ ys) (suc n) h =
     let lower : n < length ys = omega (arith, h) in
     split_at ys n lower
 
--- an item is put behind those so far
+-- an item is put after those so far
 pub pushed_map : {A B : Type 0} (f : A → B) (xs new : List A) (x : A) (y : B) (rest all : List B) → new ≡ xs ++ x ∷ [] → f x ≡ y → map f xs ++ y ∷ rest ≡ all → map f new ++ rest ≡ all
 pushed_map {A} {B} f xs new x y rest all added same whole = ap (λ zs. map f zs ++ rest) added ∙ pushed xs ∙ ap (λ z. map f xs ++ z ∷ rest) same ∙ whole
   where
@@ -50,7 +50,7 @@ unless_first b fault told fails is = tells_first told fault (unless b fault) [] 
 pub unless_none : (b : Bool) (fault : Fault) → b ≡ true → unless b fault ≡ []
 unless_none b fault holds = ap (λ v. unless v fault) holds
 
--- a fault behind tests that hold
+-- a fault after tests that hold
 pub behind_none : (told : Option Fault) (none faults : List Fault) → none ≡ [] → IsFirstOf faults told → IsFirstOf (none ++ faults) told
 behind_none told none faults is h = subst (λ fs. IsFirstOf (fs ++ faults) told) (sym is) h
 
@@ -105,7 +105,7 @@ owned_step types places es n e b at is =
     by true = refl
     by false = refl
 
--- what is told of a chain is its first name that stands twice
+-- what is reported about a chain is its first name that stands twice
 pub twice_told : (types : List PlacedType) (firsts : List (Option (List ℕ))) (places : List ℕ) (told : Option (List ℕ)) → firsts ≡ firsts_from types 0 types → told ≡ first_told firsts places
     → told ≡ first_name (flat_map (names_again_at types) places)
 twice_told types firsts places told same is = is ∙ ap (λ fs. first_told fs places) same ∙ first_told_is types places

@@ -38,6 +38,6 @@ IsFirstDocumentFault document fault =
     ⊎ ((length document ≤ byte_limit) × (json : Data) × IsJsonOf document json × (later : List Fault)
     × (document_faults json ≡ fault ∷ later))
 
--- what a refusal says: the document's first fault; want of memory says nothing
+-- what a refusal says: the document's first fault; running out of memory says nothing
 abbrev pub IsSchemaFault : List ℕ → SchemaFault → Type 0
 IsSchemaFault document refusal = IfSome (fault_of refusal) (IsFirstDocumentFault document)

@@ -23,8 +23,8 @@ primitive_named name =
     else (if pointwise nat_eq name (codes "Edm.Guid") then Some prim.Guid
     else None)))))))))
 
--- whether a type goes by the asked name: by its namespace or by the alias of it. Names of types hold no dot and no alias
--- is a namespace, so a name goes by what stands before its last dot (section 3.3)
+-- whether a type goes by the asked name: by its namespace or by the alias of it. Names of types hold no dot and no
+-- alias is a namespace, so a name goes by what stands before its last dot (section 3.3)
 abbrev pub goes_by : DeclaredType → List ℕ → Bool
 goes_by t asked = pointwise nat_eq t.name asked || is_text_of t.alias_name asked
 

@@ -1,4 +1,4 @@
--- What a schema says, apart from how it is kept (CSDL JSON 4.01).
+-- What a schema says, apart from how it is stored (CSDL JSON 4.01).
 use Rattle.std.specs.Prelude.{◌≡◌, ◌≢◌, ◌++◌, [], ◌∷◌, ◌||◌, ℕ, zero, suc, List, Bool, true, false, Option, Some, None, IsTrue, if◌then◌else◌, nat_eq, map, length, position, slice_get, option_map, option_and_then}
 use Rattle.std.specs.Ordering.{nat_cmp}
 use Rattle.std.specs.Cmp.Lexicographic.{pointwise, slice_cmp}
@@ -76,7 +76,7 @@ abbrev pub type_properties : (List ℕ → List PropertyModel) → Option TypeMo
 type_properties inherited None = []
 type_properties inherited (Some t) = body_properties inherited t.body
 
--- the properties along a chain of that many types at the most
+-- the properties along a chain of that many types at most
 abbrev pub properties_within : ℕ → List TypeModel → List ℕ → List PropertyModel
 properties_within zero types asked = []
 properties_within (suc n) types asked = type_properties (properties_within n types) (type_called types asked)
@@ -113,6 +113,7 @@ is_text_of (Some text) asked = pointwise nat_eq text asked
 abbrev pub is_named : TypeModel → List ℕ → Bool
 is_named t asked = pointwise nat_eq t.name asked || is_text_of t.alias_name asked
 
+-- it is an entity or complex type
 abbrev pub is_structured : ModelBody → Bool
 is_structured (structured_type is_entity base own) = true
 is_structured (enumeration_type e) = false
@@ -123,6 +124,7 @@ is_entity_type (structured_type is_entity base own) = is_entity
 is_entity_type (enumeration_type e) = false
 is_entity_type (type_definition p) = false
 
+-- it is an enumeration type
 abbrev pub is_enumeration : ModelBody → Bool
 is_enumeration (structured_type is_entity base own) = false
 is_enumeration (enumeration_type e) = true

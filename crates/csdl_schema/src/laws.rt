@@ -25,13 +25,13 @@ pub fn one_answer()
         → StandsFor document a → IsFirstDocumentFault document f → ⊥ }
 {}
 
-/// A schema's types go by the names of the declared ones: the first of a name has the place of the first declared one.
+/// A schema's types go by the names of the declared ones. The first of a name has the index of the first declared one.
 pub fn names_as_declared()
     ensures { (document : List ℕ) (schema : SchemaModel) (stands : StandsFor document schema) (asked : List ℕ)
         → position (λ t. is_named t asked) schema.types ≡ position (λ t. goes_by t asked) (declared_types stands.json) }
 {}
 
-/// The bases of each declared type are a chain that ends within 64 types, and no other list is its chain.
+/// The bases of a declared type are a chain that ends within 64 types. No other list is its chain.
 pub fn bases_end()
     ensures ends { (document : List ℕ) (schema : SchemaModel) (stands : StandsFor document schema)
         (n : ℕ) (t : DeclaredType) → slice_get (declared_types stands.json) n ≡ Some t
@@ -43,7 +43,7 @@ pub fn bases_end()
         → IsBaseChain types t us → IsBaseChain types t vs → us ≡ vs }
 {}
 
-/// What `BaseCycle` tells, by a count: a type has as many bases as there are types exactly where no list is its chain.
+/// `BaseCycle` by a count: a type has as many bases as there are types exactly if no list is its chain.
 pub fn cycles_have_no_chain()
     ensures cycle { (types : List DeclaredType) (n : ℕ) (t : DeclaredType) (bases : List DeclaredType)
         → slice_get types n ≡ Some t → length types ≤ length (bases_of types t) → IsBaseChain types t bases → ⊥ }
@@ -51,8 +51,8 @@ pub fn cycles_have_no_chain()
         → length (bases_of types t) < length types → IsBaseChain types t (bases_of types t) }
 {}
 
-/// What `PropertyTwice` tells of a chain that ends: the name that two types of it have, and that none before it in byte
-/// order has; where no name is told there is none.
+/// `PropertyTwice` of a chain that ends: the least name, in byte order, that two types of it have. Where no name is
+/// reported there is none.
 pub fn least_name_stands_twice()
     ensures least { (types : List DeclaredType) (n : ℕ) (t : DeclaredType) (bases : List DeclaredType) (name : List ℕ)
         → slice_get types n ≡ Some t → IsBaseChain types t bases → first_name (names_twice types t) ≡ Some name
@@ -63,8 +63,8 @@ pub fn least_name_stands_twice()
         → (name : List ℕ) → IsOwnedTwice name (t ∷ bases) → ⊥ }
 {}
 
-/// The slots of a declared type's name are the members of its chain, each once, and those that the types of the chain
-/// have themselves are in the byte order of names. A name that no declared type has, has no slots.
+/// A declared type's slots are the members of its chain, each once. Those that the types of the chain have themselves
+/// are in the byte order of names. A name that no declared type has, has no slots.
 pub fn slots_as_declared()
     ensures members { (document : List ℕ) (schema : SchemaModel) (stands : StandsFor document schema)
         (n : ℕ) (t : DeclaredType) (bases : List DeclaredType)

@@ -1,4 +1,4 @@
-//! Declared types with indexes in place of names.
+//! Declared types with indexes instead of names.
 ghost use Rattle.std.specs.Prelude.{◌≡◌, ◌≤◌, IfOk, IfErr, length, map};
 ghost use Rattle.std.specs.List.{AllByRecursion};
 ghost use Rattle.indexmap.specs.IndexMap.{get_by_text};

@@ -4,7 +4,7 @@ ghost use Rattle.csdl_schema.specs.PropertyView.{target_of};
 use super::ids::{EnumId, TypeId};
 use edm_values::Prim;
 
-/// What a property, or an item of it, is. An opaque one is never looked at.
+/// The kind of a property, or of an item of it. An opaque one is never looked at.
 #[derive(Clone, Copy, Debug, PartialEq, Eq)]
 pub enum PropertyKind {
     Prim(Prim),
@@ -24,7 +24,7 @@ pub struct Property {
 }
 
 impl Property {
-    /// The entity type to which a navigation property leads. One whose `$Type` names no entity type has none.
+    /// Returns the entity type to which a navigation property leads. One whose `$Type` names no entity type has none.
     pub fn target(&self) -> Option<TypeId>
         ensures { result ≡ target_of self.now }
     {

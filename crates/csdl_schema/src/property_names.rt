@@ -115,7 +115,7 @@ fn told_at<'t>(firsts: &[Option<&'t str>], index: usize) -> Option<&'t str>
     }
 }
 
-/// The first of the names that are told of the types at the indexes.
+/// The first of the names that are reported for the types at the indexes.
 fn first_told<'t>(firsts: &[Option<&'t str>], places: &[usize]) -> Option<&'t str>
     ensures { option_map (λ s. s.now) result
         ≡ first_told (map (option_map (λ s. s.now)) firsts.now) places.now }
@@ -127,7 +127,7 @@ fn first_told<'t>(firsts: &[Option<&'t str>], places: &[usize]) -> Option<&'t st
     first
 }
 
-/// The first in byte order of the names that two types of a chain have, from what is told of each.
+/// The first in byte order of the names that two types of a chain have, from what is reported about each.
 pub(crate) fn first_twice<'t>(
     firsts: &[Option<&'t str>],
     index: usize,

@@ -1,11 +1,11 @@
-//! Properties at slots one after another, as a schema lends them.
+//! Properties at slots one after another, as a schema passes them by reference.
 ghost use Rattle.std.specs.Prelude.{◌≡◌, ◌<◌, length, slice_get, Some};
 
 use super::property::Property;
 use indexmap::map::Slice;
 use std::marker::Model;
 
-/// Properties at slots one after another, each with its name, lent by a schema.
+/// Properties at consecutive slots, each with its name, borrowed from a schema.
 #[derive(Drop)]
 pub struct PropertyPiece<'s> {
     entries: Slice<'s, String, Property>,
@@ -31,14 +31,14 @@ impl<'s> PropertyPiece<'s> {
         PropertyPiece { entries }
     }
 
-    /// How many properties there are.
+    /// Returns how many properties there are.
     pub fn len(&self) -> usize
         ensures { result ≡ length self.now }
     {
         self.entries.len()
     }
 
-    /// The name and the property at an index.
+    /// Returns the name and the property at an index.
     pub fn entry(&self, index: usize) -> (&'s str, &'s Property)
         requires { index < length self.now }
         ensures { slice_get self.now index ≡ Some (result.0.now, result.1.now) }

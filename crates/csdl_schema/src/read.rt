@@ -21,13 +21,13 @@ use std::alloc::Global;
 const MAX_BYTES: usize = 1_048_576;
 
 impl Schema {
-    /// The schema that a CSDL JSON document of at most 1,048,576 bytes declares.
+    /// Reads the schema that a CSDL JSON document of at most 1,048,576 bytes declares.
     ///
-    /// A refusal tells the first fault: `TooLarge` for the document's size, `NotJson`, `NotObject`, `Version`,
-    /// `BadType` of a namespace, `TooLarge` for more than 4,096 types; then, in the byte order of types' whole
-    /// names, each type by itself, `BadType`, and its members, `BadProperty` and `BadEnumMember`; at last, in the
-    /// same order, `UnknownBase`, `BaseCycle`, `TooLarge` for more than 64 bases, `PropertyTwice`, and `TooLarge`
-    /// for more than 1,024 properties.
+    /// A refusal reports the first fault in this order: `TooLarge` for the document's size, `NotJson`, `NotObject`,
+    /// `Version`, `BadType` of a namespace, `TooLarge` for more than 4,096 types; then, in the byte order of types'
+    /// whole names, each type by itself, `BadType`, and its members, `BadProperty` and `BadEnumMember`; last, in the
+    /// same order, `UnknownBase`, `BaseCycle`, `TooLarge` for more than 64 bases, `PropertyTwice`, and `TooLarge` for
+    /// more than 1,024 properties.
     pub fn read(alloc: Global, document: &[u8]) -> Result<Schema, SchemaFault>
         ensures accepted { IfOk result (StandsFor document.now) }
         ensures refused { IfErr result (IsSchemaFault document.now) }

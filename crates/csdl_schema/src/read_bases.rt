@@ -26,7 +26,7 @@ fn is_structured_as(wanted: bool, body: &TypeBody<'_>) -> bool
     }
 }
 
-/// The index of the type of that name, if it is an entity type or complex type as wanted.
+/// The index of the type of that name, if it is an entity type or complex type as expected.
 fn base_named(
     types: &[DeclaredType<'_>],
     index_by_name: &IndexMap<String, usize>,

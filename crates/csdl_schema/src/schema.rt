@@ -38,7 +38,7 @@ impl Model for Schema {
 }
 
 impl Schema {
-    /// The index of an entity or complex type, by its name with its namespace or the alias of that.
+    /// Returns the index of an entity or complex type, by its name with its namespace or its alias.
     pub fn type_named(&self, name: &str) -> Option<TypeId>
         ensures { result ≡ index_named self.now name.now }
     {
@@ -54,7 +54,7 @@ impl Schema {
         }
     }
 
-    /// The index of an enumeration, by its name with its namespace or the alias of that.
+    /// Returns the index of an enumeration, by its name with its namespace or its alias.
     pub fn enum_named(&self, name: &str) -> Option<EnumId>
         ensures { result ≡ enumeration_named self.now name.now }
     {
@@ -70,21 +70,21 @@ impl Schema {
         }
     }
 
-    /// Whether this schema has an entity or complex type at that index.
+    /// Returns whether this schema has an entity or complex type at that index.
     pub fn holds(&self, id: TypeId) -> bool
         ensures { IsTrue result ↔ HoldsType self.now id }
     {
         is_structured_at(&self.types, id.index())
     }
 
-    /// Whether the type is there and is an entity type.
+    /// Returns whether the type is there and is an entity type.
     pub fn is_entity(&self, id: TypeId) -> bool
         ensures { IsTrue result ↔ IsEntityAt self.now id }
     {
         is_entity_at(&self.types, id.index())
     }
 
-    /// The type's name with its namespace; `None` where the type is not held.
+    /// Returns the type's name with its namespace; `None` where the schema has no such type.
     pub fn type_name(&self, id: TypeId) -> Option<&str>
         ensures name { option_map (λ name. name.now) result ≡ name_of_kind is_structured self.now id }
         ensures only { IsOneByName is_structured self.now id }
@@ -92,7 +92,7 @@ impl Schema {
         structured_name(&self.types, id.index())
     }
 
-    /// The enumeration's name with its namespace; `None` where the enumeration is not held.
+    /// Returns the enumeration's name with its namespace; `None` where the schema has no such enumeration.
     pub fn enum_name(&self, id: EnumId) -> Option<&str>
         ensures name { option_map (λ name. name.now) result ≡ name_of_kind is_enumeration self.now id }
         ensures only { IsOneByName is_enumeration self.now id }
@@ -100,8 +100,8 @@ impl Schema {
         enumeration_name(&self.types, id.index())
     }
 
-    /// The number that a text stands for in an enumeration, as it is written between the quotes of a literal;
-    /// `None` too where the enumeration is not held.
+    /// Returns the number that the text of a literal, between its quotes, stands for in an enumeration. It is `None`
+    /// too where the schema has no such enumeration.
     pub fn enum_value(&self, id: EnumId, text: &str) -> Option<i64>
         ensures value { IfSome result (IsValueIn (enumeration_at self.now id) text.now) }
         ensures only { (n : ℤ) → IsValueIn (enumeration_at self.now id) text.now n → result ≡ Some n }
@@ -114,7 +114,7 @@ impl Schema {
         }
     }
 
-    /// How many slots the type has, its base's first; 0 where the type is not held.
+    /// Returns how many slots the type has, its base's first; 0 where the schema has no such type.
     pub fn slots(&self, id: TypeId) -> usize
         ensures count { result ≡ length (properties_at self.now id) }
         ensures ordered { AreSlotsInOrder self.now id }
@@ -123,14 +123,14 @@ impl Schema {
         count_slots(&self.types, &self.chains, id.index())
     }
 
-    /// The slot of the property of that name.
+    /// Returns the slot of the property of that name.
     pub fn slot(&self, id: TypeId, name: &str) -> Option<usize>
         ensures { result ≡ slot_named (properties_at self.now id) name.now }
     {
         find_slot(&self.types, &self.chains, id.index(), name)
     }
 
-    /// The name of the property at a slot.
+    /// Returns the name of the property at a slot.
     pub fn slot_name(&self, id: TypeId, slot: usize) -> &str
         requires { slot < length (properties_at self.now id) }
         ensures { slice_get (map (λ p. p.name) (properties_at self.now id)) slot ≡ Some result.now }
@@ -139,7 +139,7 @@ impl Schema {
         name.as_str()
     }
 
-    /// The property at a slot.
+    /// Returns the property at a slot.
     pub fn property(&self, id: TypeId, slot: usize) -> &Property
         requires { slot < length (properties_at self.now id) }
         ensures { IfSome (slice_get (properties_at self.now id) slot) (λ p. IsReadAs self.now p result.now) }
@@ -148,8 +148,8 @@ impl Schema {
         property
     }
 
-    /// The properties at the slots from one on, as far as one type of the chain has them itself; none past the last
-    /// slot. Piece after piece from slot 0 they are those of the whole type, and nothing is copied.
+    /// Returns the properties at the slots from one on, as far as one type of the chain declares them. Past the last
+    /// slot there are none. Piece after piece from slot 0 they are those of the whole type, and nothing is copied.
     pub fn properties_from(&self, id: TypeId, slot: usize) -> PropertyPiece<'_>
         ensures first { AreFirstOf self.now (drop slot (properties_at self.now id)) result }
         ensures some { slot < length (properties_at self.now id) → 0 < length result }

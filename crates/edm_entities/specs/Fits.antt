@@ -37,7 +37,7 @@ pub record FitsRecord
   pub others_absent : (name : List ℕ) → AllByRecursion (λ p. p.name ≢ name) properties → f name ≡ absent
 
 abbrev mutual
-  -- JSON where a type is wanted, the items of a collection being as nullable
+  -- JSON where a type is expected, the items of a collection being as nullable
   pub FitsType : Slots → Bool → ExprType → Data → Val → Type 0
   FitsType slots nullable (single (primitive type)) json value = FitsPrimitive type json value
   FitsType slots nullable (single (enumeration name)) json value =

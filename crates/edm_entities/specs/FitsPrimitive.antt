@@ -31,8 +31,8 @@ FitsNumber type json value = (n : ℤ) × (whole_number json ≡ Some n) × IsNu
 abbrev pub TextMeaning : Type 1
 TextMeaning = List ℕ → Val → Type 0
 
--- a String stands for itself, a text of the other three types for the value of the literal that it spells; a text of JSON
--- is one in UTF-8
+-- a String stands for itself, a text of the other three types for the value of the literal that it spells; a text of
+-- JSON is one in UTF-8
 abbrev pub IsTextValue : PrimitiveType → TextMeaning
 IsTextValue EdmString s value = IsUtf8 s × (value ≡ text s)
 IsTextValue EdmDate s value = (d : civil.Date) × DateValue s d × (value ≡ date d)
@@ -72,7 +72,7 @@ pub data Flaw : Type 0 where
   bad_text : Flaw
   not_expanded : Flaw
 
--- P, at the flaw that JSON of another kind than wanted has
+-- P, at the flaw that JSON of another kind than expected has
 abbrev pub OnWrongKind : Flaw → Type 0 → Type 0
 OnWrongKind wrong_kind P = P
 OnWrongKind flaw P = ⊥
@@ -89,7 +89,7 @@ IsTextFlaw IsText json wrong_kind = as_str json ≡ None
 IsTextFlaw IsText json bad_text = (s : List ℕ) × (as_str json ≡ Some s) × ((value : Val) → ¬ (IsText s value))
 IsTextFlaw IsText json flaw = ⊥
 
--- what is wrong with JSON where a primitive type is wanted
+-- what is wrong with JSON where a primitive type is expected
 abbrev pub IsPrimitiveFlaw : PrimitiveType → Data → Flaw → Type 0
 IsPrimitiveFlaw EdmBoolean json flaw = OnWrongKind flaw (as_bool json ≡ None)
 IsPrimitiveFlaw Byte json flaw = IsNumberFlaw Byte json flaw

@@ -11,8 +11,8 @@ use Rattle.csdl_schema.specs.ExprType.{ExprType, single, collection, SingleType,
 use Rattle.csdl_schema.specs.SchemaModel.{Slots, PropertyType, declared, opaque, navigation}
 use Rattle.edm_values.specs.NumberTypes.{IsNumberOf}
 
--- a value of a primitive type: a number within its range, a text in UTF-8, a date or a moment that a literal can spell, the
--- sixteen bytes of a Guid
+-- a value of a primitive type: a number within its range, a text in UTF-8, a date or a moment that a literal can spell,
+-- the sixteen bytes of a Guid
 abbrev pub IsPrimitiveValue : Val → PrimitiveType → Type 0
 IsPrimitiveValue (boolean b) EdmBoolean = Unit {0}
 IsPrimitiveValue (whole n) type = IsNumberOf type n

@@ -5,7 +5,7 @@ use Rattle.edm_values.specs.declared.value.Value.TheOpen.{Value-F}
 use Rattle.csdl_schema.specs.ExprType.{ExprType, single, collection, SingleType, structured}
 use Rattle.csdl_schema.specs.SchemaModel.{Slots, PropertyModel, PropertyType, declared, opaque, navigation, slots_behind}
 
--- a value, by whether it is null, and whether it holds one value for each slot where a type is wanted
+-- a value, by whether it is null, and whether it holds one value for each slot where a type is expected
 pub record Holding : Type 0 where
   pub is_null : Bool
   pub holds : Slots → ExprType → Bool

@@ -20,8 +20,8 @@ PropertiesByType = List ℕ → List PropertyModel
 abbrev pub ValAtType : Type 0
 ValAtType = PropertiesByType → ExprType → Val
 
--- a property that is never looked at is absent, whatever its slot holds. A navigation property that leads to a target is
--- there, looked at or not
+-- a property that is never looked at is absent, whatever its slot holds. A navigation property that leads to a target
+-- is there, looked at or not
 abbrev pub field_of : PropertiesByType → PropertyType → ValAtType → FieldVal
 field_of properties (declared type) seen = present (seen properties type)
 field_of properties opaque seen = absent
@@ -86,6 +86,7 @@ expanded_by schema expansion = expanded (slots_of schema) (paths_in expansion)
 abbrev pub slots_for : Row → Slots
 slots_for row = expanded_by row.schema row.expansion
 
+-- an entity's value, as a record by the names of its type's properties
 abbrev pub value_of : Row → Val
 value_of row =
     val_of row.value (slots_of row.schema).properties (single (structured (type_name_at row.schema row.type_id)))

@@ -15,7 +15,7 @@ use Rattle.edm_entities.specs.declared.fault.RowFault.TheVariants.{NotObject, Mi
 abbrev pub Path : Type 0
 Path = List (List ℕ)
 
--- what is wrong with JSON itself where a type is wanted, its parts left aside
+-- what is wrong with JSON itself where a type is expected, its parts left aside
 abbrev pub IsFlawHere : Slots → ExprType → Data → Flaw → Type 0
 IsFlawHere slots (single (primitive type)) json flaw = IsPrimitiveFlaw type json flaw
 IsFlawHere slots (single (enumeration name)) json flaw =
@@ -35,8 +35,8 @@ abbrev pub IsExpandedFault : Option Data → Bool → Path → Flaw → (Data �
 IsExpandedFault None takes path flaw P = (path ≡ []) × (flaw ≡ not_expanded)
 IsExpandedFault (Some json) takes path flaw P = IsFoundFault (Some json) takes path flaw P
 
--- the fault of what was found under the name of a property, if that is looked at; of JSON, where a type is wanted whose
--- items are as nullable, what P says
+-- the fault of what was found under the name of a property, if that is looked at; of JSON, where a type is expected
+-- whose items are as nullable, what P says
 abbrev pub IsFaultUnder :
     Slots → Bool → PropertyType → Option Data → Path → Flaw → (Bool → ExprType → Data → Type 0) → Type 0
 IsFaultUnder slots nullable (declared type) found path flaw P =
@@ -83,7 +83,7 @@ pub record IsFirstItem
   pub step_is : step ≡ decimal index
   pub fault : P faulty
 
--- the first fault in JSON, not null, where a type is wanted, and the way to it; by recursion on the way
+-- the first fault in JSON, not null, where a type is expected, and the way to it; by recursion on the way
 abbrev pub IsValueFault : Slots → Bool → Path → ExprType → Data → Flaw → Type 0
 IsValueFault slots nullable [] type json flaw = IsFlawHere slots type json flaw
 IsValueFault slots nullable (step ∷ path) (single (structured name)) json flaw =
@@ -125,7 +125,7 @@ IsRowFault slots type_name json (NotExpanded path) =
     IsFirstFaultAt slots type_name json (string_bytes path) not_expanded
 IsRowFault slots type_name json Memory = ⊥
 
--- want of memory, which says nothing of the row
+-- running out of memory, which says nothing of the row
 abbrev pub IsMemory : RowFault → Type 0
 IsMemory Memory = Unit {0}
 IsMemory _ = ⊥

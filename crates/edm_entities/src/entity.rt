@@ -45,8 +45,8 @@ impl<'s> Entity<'s> {
     ghost use Rattle.edm_entities.specs.RowFaults.{IsRowFault, IsMemory};
     ghost use Rattle.edm_entities.specs.private.KeptRows.{row_kept};
 
-    /// Reads a JSON object as an entity of that type. Members that the type does not declare say nothing, nor do those
-    /// of opaque and navigation properties; the first fault in the order of the slots is answered, depth first.
+    /// Reads a JSON object as an entity of that type. Members that the type does not declare are ignored, and so are
+    /// opaque and navigation properties. The first fault in the order of the slots is returned, depth first.
     pub fn from_json(
         alloc: Global,
         schema: &'s Schema,
@@ -67,8 +67,8 @@ impl<'s> Entity<'s> {
         Entity::expanded_from_json(alloc, schema, type_id, &nothing, row)
     }
 
-    /// The same, of an object in which navigation properties are expanded: those of the paths of that set, which lead
-    /// to a target, are looked at. One that is absent is `NotExpanded`.
+    /// Reads a JSON object, with navigation properties expanded, as an entity. Those on the paths of that set, which
+    /// lead to a target, are read. An absent one is `NotExpanded`.
     pub fn expanded_from_json(
         alloc: Global,
         schema: &'s Schema,
@@ -116,28 +116,28 @@ impl<'s> Entity<'s> {
         }
     }
 
-    /// The schema of its type.
+    /// Returns the schema of its type.
     pub fn schema(&self) -> &'s Schema
         ensures { result.now ≡ self.now.schema }
     {
         self.schema
     }
 
-    /// Its type.
+    /// Returns its type.
     pub fn type_id(&self) -> TypeId
         ensures { result ≡ self.now.type_id }
     {
         self.type_id
     }
 
-    /// What is expanded in it.
+    /// Returns what is expanded in it.
     pub fn expansion(&self) -> &Expansion
         ensures { result.now ≡ self.now.expansion }
     {
         self.kept.expansion()
     }
 
-    /// Its value: a record, with the properties' values by slot.
+    /// Returns its value: a record, with the properties' values by slot.
     pub fn value(&self) -> &Value
         ensures value { result.now ≡ self.now.value }
         ensures entity { IsEntity self.now }

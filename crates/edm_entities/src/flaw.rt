@@ -6,7 +6,7 @@ use super::fault::RowFault;
 use std::alloc::{AllocError, Global};
 use thiserror::Error;
 
-/// What is wrong with a value, before the way to it is told.
+/// What is wrong with a value, before the way to it is reported.
 #[derive(Clone, Copy, Debug, Error)]
 pub(crate) enum ReadFlaw {
     #[error("Missing")]
@@ -40,7 +40,7 @@ pub(crate) fn fault_here(flaw: ReadFlaw) -> ReadFault
     ReadFault { flaw, path: None }
 }
 
-/// The same fault, told from one step further up.
+/// The same fault, reported from one step further up.
 pub(crate) fn fault_below(alloc: Global, step: &str, fault: ReadFault) -> ReadFault
     ensures { IsBelow step.now fault result }
 {

@@ -32,8 +32,8 @@ pub fn what_fits_has_its_type()
         → Fits (expanded slots expansion) type_name json v → HasType slots (single (structured type_name)) v }
 {}
 
-/// What a literal spells lies within its type: a moment has a year 1 to 9999 and an offset of less than a day, a Guid
-/// sixteen bytes.
+/// The value that a literal spells lies within its type. A moment has a year 1 to 9999 and an offset of less than a
+/// day, a Guid sixteen bytes.
 pub fn spelled_values_lie_within()
     ensures moments { (text : List ℕ) (m : MomentParts) → MomentValue text m → IsMoment m.civil m.offset_minutes }
     ensures guids { (text bytes : List ℕ) → GuidValue text bytes → length bytes ≡ 16 }
@@ -45,8 +45,8 @@ pub fn what_has_a_fault_fits_nothing()
         → IsRowFault slots type_name json fault → (v : Val) → ¬ (Fits slots type_name json v) }
 {}
 
-/// At the slot of a property that expressions see an entity holds a value of the property's type, which
-/// its record has under the property's name.
+/// An entity holds a value of the property's type at each slot of a property that expressions see. Its record has that
+/// value under the property's name.
 pub fn a_slot_holds_its_property()
     ensures { (row : Row) (entity : IsEntity row) (slot : ℕ) (p : PropertyModel) (type : ExprType)
         → slice_get (properties_at row.schema row.type_id) slot ≡ Some p
@@ -61,8 +61,7 @@ pub fn one_fault_is_first()
         → (path ≡ path') × (flaw ≡ flaw') }
 {}
 
-/// `{"Active":true,"ID":1,"Name":"a"}` stands for its three values; without `Active` it stands for
-/// none.
+/// `{"Active":true,"ID":1,"Name":"a"}` stands for its three values. Without `Active` it stands for none.
 pub fn example_rows()
     ensures fits { (slots : Slots) (type_name : List ℕ) → slots.properties type_name ≡ item_properties
         → Fits slots type_name item_row (fields item_field) }

@@ -14,7 +14,7 @@ use csdl_schema::{EnumId, Property, Schema};
 use edm_values::{Prim, Value, read_date, read_guid, read_moment};
 use std::alloc::Global;
 
-/// Reads what is wanted as a primitive type.
+/// Reads what is expected as a primitive type.
 pub(crate) fn read_primitive(
     alloc: Global,
     wanted: Prim,
@@ -67,7 +67,7 @@ fn read_number(wanted: Prim, number: JsonNumber) -> Result<Value, ReadFlaw>
     }
 }
 
-/// Reads a text where a primitive type is wanted.
+/// Reads a text where a primitive type is expected.
 #[inline(always)]
 pub(crate) fn read_text(alloc: Global, wanted: Prim, text: &str) -> Result<Value, ReadFlaw>
     ensures fits { (slots : Slots) (type : ExprType)
@@ -96,7 +96,7 @@ pub(crate) fn read_text(alloc: Global, wanted: Prim, text: &str) -> Result<Value
     }
 }
 
-/// Reads what is wanted as a number of an enumeration.
+/// Reads what is expected as a number of an enumeration.
 pub(crate) fn read_member(
     schema: &Schema,
     id: EnumId,

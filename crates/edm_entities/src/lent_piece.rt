@@ -1,4 +1,4 @@
-//! The piece of a type's properties at hand, so that a type is looked up once for each piece and not for each slot.
+//! The current piece of a type's properties, so that a type is looked up once for each piece and not for each slot.
 ghost use Rattle.std.specs.Prelude.{◌≡◌, ◌+◌, ◌<◌, ◌≤◌, ◌↔◌, length, map, slice_get, Some, IfSome, IsTrue};
 ghost use Rattle.csdl_schema.specs.PropertyView.{IsReadAs};
 ghost use Rattle.csdl_schema.specs.SchemaModel.{properties_at};
@@ -6,7 +6,7 @@ ghost use Rattle.edm_entities.specs.private.Lent.{IsLent};
 
 use csdl_schema::{Property, PropertyPiece, Schema, TypeId};
 
-/// The piece of a type's properties that was lent last, and the slot of the first of them.
+/// The piece of a type's properties that was borrowed last, and the slot of the first of them.
 #[derive(Drop)]
 pub(crate) struct LentPiece<'s> {
     pub(crate) first: usize,
@@ -31,7 +31,7 @@ impl<'s> LentPiece<'s> {
         self.first <= slot && slot - self.first < self.piece.len()
     }
 
-    /// The name and the property at a slot; the piece that has it is lent first, where it is not the one at hand.
+    /// The name and the property at a slot; the piece that has it is borrowed first, where it is not the current one.
     #[inline(always)]
     pub(crate) fn at(
         &mut self,

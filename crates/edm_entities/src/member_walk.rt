@@ -8,14 +8,14 @@ ghost use Rattle.edm_entities.specs.private.Members.{IsWalkOf};
 use serde_json::Value;
 use std::collections::btree_map::Iter;
 
-/// The member at hand, and those behind it.
+/// The current member, and those after it.
 #[derive(Drop)]
 pub(crate) struct MemberWalk<'j> {
     pub(crate) at_hand: Option<(&'j String, &'j Value)>,
     pub(crate) rest: Iter<'j, String, Value>,
 }
 
-/// A walk over the members of an object from the first on; none of a value that is no object.
+/// A walk over the members of an object from the first on; none of a value that is not an object.
 pub(crate) fn members_of(json: &Value) -> Option<MemberWalk<'_>>
     ensures object { is_some result ≡ is_some (as_object (view json.now)) }
     ensures walk { IfSome result (IsWalkOf (view json.now)) }
@@ -31,7 +31,7 @@ pub(crate) fn members_of(json: &Value) -> Option<MemberWalk<'_>>
 }
 
 impl<'j> MemberWalk<'j> {
-    /// The value of the member at hand, if that has the name; the walk goes past it then.
+    /// The value of the current member, if that has the name; the walk goes past it then.
     fn take(&mut self, name: &str) -> Option<&'j Value>
         ensures walk { (json : Data) → IsWalkOf json self.old → IsWalkOf json self.new }
         ensures found { (json : Data) → IsWalkOf json self.old

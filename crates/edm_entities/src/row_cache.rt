@@ -1,4 +1,4 @@
-//! What is kept from row to row: values to be filled again, and the order in which members came.
+//! What is reused from row to row: values to be filled again, and the order in which members came.
 ghost use Rattle.std.specs.Prelude.{◌≡◌, string_bytes, take, IfSome};
 
 use super::row_member::Member;
@@ -10,17 +10,17 @@ use std::mem;
 /// How deep values are gone through for their memory.
 const DEPTH: usize = 127;
 
-/// How many texts are kept, and for how many bytes each may have room.
+/// How many texts are cached, and for how many bytes each may have room.
 const TEXTS: usize = 1024;
 
 pub(crate) const TEXT_ROOM: usize = 4096;
 
-/// How many lists are kept, and for how many values each may have room.
+/// How many lists are cached, and for how many values each may have room.
 const LISTS: usize = 64;
 
 const LIST_ROOM: usize = 1024;
 
-/// Texts to be filled again. What they hold says nothing: they are emptied before they are given out.
+/// Texts to be filled again. What they hold is irrelevant: they are emptied before they are given out.
 #[derive(Drop)]
 pub(crate) struct SpareTexts {
     alloc: Global,
@@ -28,7 +28,7 @@ pub(crate) struct SpareTexts {
 }
 
 impl SpareTexts {
-    /// A copy of a text, in a spare one; none where memory was refused.
+    /// A copy of a text, in a spare one; none where an allocation failed.
     #[inline(never)]
     pub(crate) fn copy(&mut self, text: &str) -> Option<String>
         ensures { IfSome result (λ copy. string_bytes copy ≡ text.now) }
@@ -45,8 +45,8 @@ impl SpareTexts {
     }
 }
 
-/// What a reader of rows keeps for the next one: in which order keys came, spare texts and lists, to be filled again,
-/// and the memory in which a text's escapes are told; also which member was found by its name.
+/// What a reader of rows caches for the next one: in which order keys came, spare texts and lists, to be filled again,
+/// and the memory in which a text's escapes are decoded; also which member was found by its name.
 #[derive(Drop)]
 pub(crate) struct RowCache {
     pub(crate) alloc: Global,
@@ -113,12 +113,12 @@ impl RowCache {
         }
     }
 
-    /// Keeps the memory of a value that is not looked at any more.
+    /// Caches the memory of a value that is not looked at any more.
     pub(crate) fn retire(&mut self, value: Value) {
         self.store_value(value, DEPTH);
     }
 
-    /// Keeps a list, and the texts and lists in it, that many levels down. The last are kept first, so that they are
+    /// Caches a list, and the texts and lists in it, that many levels down. The last are cached first, so that they are
     /// given out in their order.
     #[cycle(store)]
     fn store_list(&mut self, list: Vec<Value>, depth: usize) {

@@ -1,4 +1,4 @@
-//! Values without parts, from a row's bytes, each read as its type wants it. Where a text, a number or a truth value
+//! Values without parts, from a row's bytes, each read as its type requires. Where a text, a number or a truth value
 //! stood, one is written over it, so that nothing is let go.
 ghost use Rattle.std.specs.Prelude.{◌≡◌, ◌≢◌, ◌↔◌, Ok, IsTrue};
 ghost use Rattle.serde_json.specs.Data.{Data, string};
@@ -26,7 +26,7 @@ pub(crate) enum Leaf {
     Read,
     /// What came is of another kind, and was not read.
     Other,
-    /// It does not fit, or memory is wanting.
+    /// It does not fit, or an allocation fails.
     Refused,
 }
 
@@ -63,7 +63,7 @@ pub(crate) fn take_primitive(
     }
 }
 
-/// The same of a number type. Most numbers are digits alone, whose value the reader tells.
+/// The same of a number type. Most numbers are digits alone, whose value the reader reports.
 #[inline(always)]
 fn take_number(wanted: Prim, reader: &mut TokenReader<'_>, place: &mut Value) -> Leaf
     ensures read { (slots : Slots) → result ≡ Leaf.Read → ReadsLeaf reader.old reader.new
@@ -181,7 +181,7 @@ fn put_number(wanted: Prim, number: JsonNumber, place: &mut Value) -> bool
     true
 }
 
-/// Whether a number is of a type. Of the two types that most numbers have this is told without a call and its jump by a
+/// Whether a number is of a type. The two types that most numbers have are tested without a call and its jump by a
 /// table: that saves six to twelve instructions a number.
 #[inline(always)]
 fn is_of(wanted: Prim, n: i64) -> bool

@@ -14,7 +14,7 @@ pub(crate) enum Member {
     End,
 }
 
-/// Reads a name and looks it up: a slot is noted, to be tried first the next time. Behind the last member none is
+/// Reads a name and looks it up: a slot is noted, to be tried first the next time. After the last member none is
 /// tried.
 #[inline(always)]
 pub(crate) fn find_member(

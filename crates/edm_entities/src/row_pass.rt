@@ -1,4 +1,4 @@
-//! The walk over what nobody looks at: each value is held to its type, and none is kept.
+//! The walk over what nobody looks at: each value is held to its type, and none is stored.
 ghost use Rattle.std.specs.Prelude.{◌≡◌, ◌⊎◌, ◌∷◌, ◌<◌, ◌≤◌, ℕ, List, [], length, get_or, slice_get, true, false, IfSome, IsTrue, None, Some};
 ghost use Rattle.std.specs.Str.{IsUtf8};
 ghost use Rattle.json.specs.Token.{null};

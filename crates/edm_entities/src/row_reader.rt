@@ -24,8 +24,8 @@ use std::marker::Model;
 /// How deep objects and arrays may nest in a row.
 const DEPTH: usize = 127;
 
-/// Reads lines of JSON as entities, without a tree between them. It is kept from line to line, whatever their types and
-/// schemas are.
+/// Reads lines of JSON as entities, without a tree between them. It is reused from line to line, whatever their types
+/// and schemas are.
 #[derive(Drop)]
 pub struct RowReader {
     cache: RowCache,
@@ -33,7 +33,7 @@ pub struct RowReader {
     row: Value,
 }
 
-// What is kept says nothing of a line, so clauses see nothing of it.
+// What is stored says nothing of a line, so clauses see nothing of it.
 impl Model for RowReader {
     ghost Value = { Unit {0} };
 
@@ -41,7 +41,7 @@ impl Model for RowReader {
 }
 
 impl RowReader {
-    /// A reader that has read nothing yet.
+    /// Creates a reader that has read nothing yet.
     pub fn new(alloc: Global) -> RowReader {
         RowReader {
             cache: RowCache::new(alloc),
@@ -49,15 +49,15 @@ impl RowReader {
         }
     }
 
-    /// What it takes memory from.
+    /// Returns the allocator from which it takes memory.
     pub fn allocator(&self) -> Global {
         self.cache.alloc
     }
 
-    /// Reads a line as an entity of the plan's type, in which that is expanded which the plan expands. A collection that
-    /// the plan passes is held to its type, and empty in the entity. Where it answers none, the line may still be one:
-    /// `Entity::expanded_from_json` says what is wrong with it, if anything is. The entity is borrowed: the next row is
-    /// read into the same memory.
+    /// Reads a line as an entity of the plan's type, with that expanded which the plan expands. A collection that the
+    /// plan passes is checked against its type, and is empty in the entity. If this returns `None`, the line may still
+    /// be an entity: `Entity::expanded_from_json` says what is wrong with it, if anything is. The entity is borrowed:
+    /// the next row is read into the same memory.
     pub fn read<'s>(
         &'s mut self,
         schema: &'s Schema,

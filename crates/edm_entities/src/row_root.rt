@@ -1,4 +1,4 @@
-//! The members of a row itself. A collection that the plan passes is held to its type, and is kept as an empty one.
+//! The members of a row itself. A collection that the plan passes is held to its type, and is stored as an empty one.
 ghost use Rattle.std.specs.Prelude.{◌≡◌, ◌<◌, [], length, get_or, slice_get, true, false, Some, IfSome, IsTrue};
 ghost use Rattle.serde_json.specs.Data.{Data};
 ghost use Rattle.csdl_schema.specs.PropertyView.{property_type};
@@ -66,7 +66,8 @@ pub(crate) fn take_row_members(
     }
 }
 
-/// Reads the next member of a row, and its value into the slot of its name, if there is one; none where it does not fit.
+/// Reads the next member of a row, and its value into the slot of its name, if there is one; none where it does not
+/// fit.
 #[inline(always)]
 fn take_row_member(
     cache: &mut RowCache,
@@ -102,7 +103,7 @@ fn take_row_member(
     }
 }
 
-/// The same of any member, whose name is read and looked up; `found` of the cache tells which it was.
+/// The same of any member, whose name is read and looked up; `found` of the cache reports which it was.
 #[inline(never)]
 fn take_named_row_member(
     cache: &mut RowCache,

@@ -1,4 +1,4 @@
-//! Numbers from a row's tokens, whatever type is wanted.
+//! Numbers from a row's tokens, whatever type is expected.
 ghost use Rattle.std.specs.Prelude.{IfSome};
 ghost use Rattle.json.specs.Token.{number};
 ghost use Rattle.edm_entities.specs.private.RowTokens.{ReadsToken};

@@ -1,5 +1,5 @@
-//! The walk over a row's tokens, straight into the slots of its type. It ends where the row fits no value, and where
-//! memory is wanting. What most rows are, an object of values without parts whose members come in the order of the last
+//! The walk over a row's tokens, straight into the slots of its type. It ends where the row fits no value, and where an
+//! allocation fails. What most rows are, an object of values without parts whose members come in the order of the last
 //! time, is one piece of code (`inline(always)`); arrays and objects within it, and a member that was not expected, are
 //! called apart: that saves a call for each value.
 ghost use Rattle.std.specs.Borrow.{LendsIf, sem};
@@ -31,7 +31,7 @@ use edm_values::{Prim, Value};
 use json_tokens::{KeyMarks, TokenReader};
 use std::mem;
 
-/// What a walk goes by: the types, and how deep values may nest. It is lent, and made anew one level down.
+/// What a walk goes by: the types, and how deep values may nest. It is borrowed, and made anew one level down.
 #[derive(Drop)]
 pub(crate) struct RowScene<'w> {
     pub(crate) schema: &'w Schema,
@@ -47,7 +47,7 @@ pub(crate) struct RowScene<'w> {
 pub(crate) struct OneValue {
     pub(crate) wanted: Wanted,
     pub(crate) nullable: bool,
-    /// The node of the expansion behind it, and where the plan of its type is to be.
+    /// The node of the expansion after it, and where the plan of its type is to be.
     pub(crate) node: Option<usize>,
     pub(crate) record: usize,
 }
@@ -127,7 +127,7 @@ fn take_member(
     }
 }
 
-/// The same of any member, whose name is read and looked up; `found` of the cache tells which it was.
+/// The same of any member, whose name is read and looked up; `found` of the cache reports which it was.
 #[inline(never)]
 #[cycle(row)]
 fn take_named_member(
@@ -412,7 +412,7 @@ pub(crate) fn list_in(place: &mut Value) -> Option<&mut Vec<Value>>
     }
 }
 
-/// Whether there is room for a value behind so many.
+/// Whether there is room for a value after so many.
 #[inline(always)]
 fn has_place(values: &mut Vec<Value>, count: usize) -> bool
     requires { count ≤ length values.old.items }

@@ -19,7 +19,7 @@ abbrev pub number_in : List MemberModel → List ℕ → Option ℤ
 number_in [] asked = None
 number_in (m ∷ ms) asked = if pointwise nat_eq asked m.name then Some m.number else number_in ms asked
 
--- a further member behind the others, if there is none of its name yet
+-- a further member after the others, if there is none of its name yet
 abbrev pub with_member : EnumerationModel → List ℕ → ℤ → EnumerationModel
 with_member e name number =
     if is_some (number_in e.members name) then e

@@ -9,7 +9,7 @@ abbrev pub without_leading_spaces : List ℕ → List ℕ
 without_leading_spaces [] = []
 without_leading_spaces (c ∷ cs) = if c == space then without_leading_spaces cs else c ∷ cs
 
--- a character before what is left of the characters behind it: a space with nothing behind it goes too
+-- a character before what is left of the characters after it: a space with nothing after it goes too
 abbrev pub onto_kept : ℕ → List ℕ → List ℕ
 onto_kept c [] = if c == space then [] else c ∷ []
 onto_kept c (d ∷ ds) = c ∷ d ∷ ds

@@ -30,7 +30,7 @@ impl Model for Enumeration {
 }
 
 impl Enumeration {
-    /// An enumeration without members.
+    /// Creates an enumeration without members.
     pub fn new(alloc: Global, underlying: Prim, is_flags: bool) -> Enumeration
         requires { IsNumberType underlying }
         ensures { result ≡ record { underlying = underlying; is_flags = is_flags; members = [] } }
@@ -42,7 +42,7 @@ impl Enumeration {
         }
     }
 
-    /// An enumeration without members, with room for so many.
+    /// Creates an enumeration without members, with room for so many.
     pub fn with_capacity(
         alloc: Global,
         underlying: Prim,
@@ -61,7 +61,7 @@ impl Enumeration {
         })
     }
 
-    /// Adds a member behind the others. Where there is one of that name, it stays and nothing is added.
+    /// Adds a member after the others. Where there is one of that name, it stays and nothing is added.
     pub fn add_member(&mut self, name: String, number: i64) -> Result<(), AllocError>
         requires { IsNumberOf self.old.underlying number }
         ensures ok { OnOk result (self.new ≡ with_member self.old (string_bytes name) number) }
@@ -74,7 +74,7 @@ impl Enumeration {
         Ok(())
     }
 
-    /// The type of the members' numbers (section 10.1).
+    /// Returns the type of the members' numbers (section 10.1).
     pub fn underlying(&self) -> Prim
         ensures value { result ≡ self.now.underlying }
         ensures number { IsNumberType result }
@@ -82,14 +82,14 @@ impl Enumeration {
         self.underlying
     }
 
-    /// Whether a value may be put together of several members (section 10.2).
+    /// Returns whether a value may combine several members (section 10.2).
     pub fn is_flags(&self) -> bool
         ensures { result ≡ self.now.is_flags }
     {
         self.is_flags
     }
 
-    /// The number of the member of that name.
+    /// Returns the number of the member of that name.
     pub fn number_of(&self, name: &str) -> Option<i64>
         ensures value { result ≡ number_in self.now.members name.now }
         ensures within { IfSome result (IsNumberOf self.now.underlying) }
@@ -97,9 +97,9 @@ impl Enumeration {
         self.numbers_by_name.get(name).copied()
     }
 
-    /// The number that a text stands for, as it is written between the quotes of a literal: a member's name
-    /// or a number, or several with commas between them where this is an enumeration of flags. Spaces round
-    /// each of them say nothing.
+    /// Returns the number that the text of a literal, between its quotes, stands for. It is a member's name or a
+    /// number, or several with commas between them where this is an enumeration of flags. Spaces round each of them are
+    /// ignored.
     pub fn value_of(&self, text: &str) -> Option<i64>
         ensures value { IfSome result (EnumerationValue self.now text.now) }
         ensures only { (n : ℤ) → EnumerationValue self.now text.now n → result ≡ Some n }

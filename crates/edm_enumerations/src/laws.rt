@@ -13,7 +13,7 @@ pub fn texts_have_one_value()
     edm_values::texts_have_one_value();
 }
 
-/// Values in an enumeration of flags, whose members are `Red`, `Green` and `Blue` with the numbers 1, 2 and 4.
+/// Worked values of an enumeration of flags. Its members are `Red`, `Green` and `Blue` with the numbers 1, 2 and 4.
 pub fn values_by_example()
     ensures one { EnumerationValue color (codes "Green") (pos 2) }
     ensures several { EnumerationValue color (codes "Red, Blue") (pos 5) }

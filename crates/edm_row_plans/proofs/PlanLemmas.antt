@@ -15,7 +15,7 @@ pub none_each : {X : Type 0} (Q : ℕ → X → Type 0) (k : ℕ) → IfSome (sl
 none_each Q zero = tt
 none_each Q (suc k) = tt
 
--- one more behind the others
+-- one more after the others
 pub each_push : {X : Type 0} (Q : ℕ → X → Type 0) (items : List X) (x : X) → ((k : ℕ) → IfSome (slice_get items k) (Q k)) → Q (length items) x
     → (k : ℕ) → IfSome (slice_get (items ++ x ∷ []) k) (Q k)
 each_push Q [] x each here zero = here
@@ -30,7 +30,7 @@ long_push (y ∷ items) x = omega (arith, long_push items x)
 pub each_at : {X : Type 0} (Q : ℕ → X → Type 0) (items : List X) (k : ℕ) (x : X) → ((n : ℕ) → IfSome (slice_get items n) (Q n)) → slice_get items k ≡ Some x → Q k x
 each_at Q items k x each at = subst (λ o. IfSome o (Q k)) at (each k)
 
--- a slot by its name and its property, and by what is behind it
+-- a slot by its name and its property, and by what follows it
 pub slot_made : (schema : SchemaModel) (steps : List StepModel) (id : ℕ) (node : Option ℕ) (slot : ℕ) (name : List ℕ) (property : Property) (behind : Option ℕ) (key : Option (List ℕ)) (plan : SlotPlan)
     → (key ≡ Some plan.key) × (plan.property ≡ property) × (plan.node ≡ behind) × (plan.target ≡ target_at steps behind property)
     → IfSome key (λ k. k ≡ name) → slice_get (map (λ p. p.name) (properties_at schema id)) slot ≡ Some name → IfSome (slice_get (properties_at schema id) slot) (λ p. IsReadAs schema p property)

@@ -1,4 +1,5 @@
--- What a walk over a row that is expanded looks at (OData JSON Format 4.01, sections 4.5 and 8; CSDL JSON 4.01, section 7).
+-- What a walk over a row that is expanded looks at (OData JSON Format 4.01, sections 4.5 and 8; CSDL JSON 4.01, section
+-- 7).
 use Rattle.std.specs.Prelude.{ℕ, List, ◌&&◌, Bool, true, false, not, Option, Some, None}
 use Rattle.csdl_schema.specs.ExpansionView.{StepModel, paths_at}
 use Rattle.csdl_schema.specs.SchemaModel.{SchemaModel, Slots, expanded, slots_of}
@@ -9,7 +10,7 @@ use Rattle.edm_row_plans.specs.declared.expansion_node.WalkScene.{WalkScene}
 use Rattle.edm_row_plans.specs.declared.wanted.Wanted.{Wanted}
 use Rattle.edm_row_plans.specs.declared.wanted.Wanted.TheVariants.{Prim, Enum, Complex}
 
--- the types of a schema, where what stands behind a node of an expansion is expanded
+-- the types of a schema, where what stands after a node of an expansion is expanded
 abbrev pub slots_at : SchemaModel → List StepModel → Option ℕ → Slots
 slots_at schema steps node = expanded (slots_of schema) (paths_at steps node)
 
@@ -32,6 +33,7 @@ wanted_with kind.Navigation target = wanted_target target
 abbrev pub wanted_of : PropertyKind → Bool → Option ℕ → Option Wanted
 wanted_of of needed target = wanted_with of (target_if needed target)
 
+-- the property is a navigation property
 abbrev pub navigates : PropertyKind → Bool
 navigates (kind.Prim p) = false
 navigates (kind.Enum e) = false

@@ -2,7 +2,7 @@
 use Rattle.std.specs.Prelude.{ℕ, List, Bool, Option, Some, None, if◌then◌else◌}
 use Rattle.csdl_schema.specs.ExpansionView.{StepModel, next_node}
 
--- the node behind a node, by a step
+-- the node after a node, by a step
 abbrev pub node_behind : List StepModel → Option ℕ → List ℕ → Option ℕ
 node_behind steps None name = None
 node_behind steps (Some node) name = next_node steps node name

@@ -1,4 +1,4 @@
--- Properties whose values are held to their types and not kept.
+-- Properties whose values are held to their types and not stored.
 use Rattle.std.specs.Prelude.{◌≡◌, ℕ, List, Bool, true, false, Some, get_or, map, slice_get}
 use Rattle.csdl_schema.specs.SchemaModel.{PropertyModel, SchemaModel, properties_at}
 use Rattle.edm_row_plans.specs.declared.row_plan.RowPlan.{RowPlan}

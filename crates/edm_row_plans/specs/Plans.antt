@@ -19,7 +19,7 @@ IsSlotNamed schema id name slot property =
 abbrev pub target_at : List StepModel → Option ℕ → Property → Option ℕ
 target_at steps node property = target_if (paths_at steps node []) (target_of property)
 
--- it is a slot of a type behind a node: its name and its property, the node behind that, and the target, if the property
+-- it is a slot of a type after a node: its name and its property, the node after that, and the target, if the property
 -- navigates and is expanded
 pub record IsSlotPlan
     (schema : SchemaModel) (steps : List StepModel) (id : ℕ) (node : Option ℕ) (slot : ℕ) (plan : SlotPlan) : Type 0 where
@@ -27,7 +27,7 @@ pub record IsSlotPlan
   pub behind : plan.node ≡ node_behind steps node plan.key
   pub leads : plan.target ≡ target_at steps plan.node plan.property
 
--- they are the slots of a type behind a node
+-- they are the slots of a type after a node
 pub record ArePlanned
     (schema : SchemaModel) (steps : List StepModel) (id : ℕ) (node : Option ℕ) (slots : List SlotPlan) : Type 0 where
   pub count : length slots ≡ length (properties_at schema id)

@@ -7,7 +7,7 @@ ghost use Rattle.edm_row_plans.specs.Expanded.{node_behind, target_if};
 use csdl_schema::{Expansion, Property, Schema, TypeId};
 use std::alloc::Global;
 
-/// What a walk goes by: the schema, and what is expanded.
+/// The context of a walk: the schema, and what is expanded.
 #[derive(Drop)]
 pub struct WalkScene<'w> {
     pub alloc: Global,
@@ -15,7 +15,7 @@ pub struct WalkScene<'w> {
     pub expansion: &'w Expansion,
 }
 
-/// The node of the expansion behind a step. Nothing is asked where nothing is expanded further on.
+/// Returns the node of the expansion after a step. Nothing is asked where nothing is expanded further on.
 pub fn node_behind(scene: &WalkScene<'_>, node: Option<usize>, name: &str) -> Option<usize>
     ensures { result ≡ node_behind scene.now.expansion.now node name.now }
 {
@@ -35,7 +35,7 @@ fn is_expanded(scene: &WalkScene<'_>, node: Option<usize>) -> bool
     }
 }
 
-/// The entity type of a navigation property that is expanded.
+/// Returns the entity type of a navigation property that is expanded.
 pub fn expanded_target(
     scene: &WalkScene<'_>,
     property: &Property,

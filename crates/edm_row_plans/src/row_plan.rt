@@ -9,8 +9,8 @@ use super::type_plan::{TypePlan, type_plans};
 use csdl_schema::{Expansion, Schema, TypeId};
 use std::alloc::Global;
 
-/// What rows of a type are read by, looked up once in its schema, of which it keeps no borrow: the types that they may
-/// hold, by what is expanded in them. A whole plan has that expanded which it was made for.
+/// The plan by which rows of a type are read, looked up once in its schema. It borrows nothing of the schema. It has
+/// the types that rows may hold, by what is expanded in them. A whole plan has that expanded which it was made for.
 #[derive(Drop)]
 pub struct RowPlan {
     pub type_id: TypeId,
@@ -22,8 +22,8 @@ pub struct RowPlan {
 }
 
 impl RowPlan {
-    /// The plan of an entity type, in which that is expanded. It passes nothing. Where memory is refused it has less of the
-    /// types that a row may hold, or nothing is expanded, and rows are read by way of JSON values.
+    /// Creates the plan of an entity type, with that expanded. It passes nothing. If an allocation fails it has fewer
+    /// of the types that a row may hold, or nothing is expanded, and rows are read through JSON values.
     pub fn new(alloc: Global, schema: &Schema, type_id: TypeId, expansion: &Expansion) -> RowPlan
         requires { HoldsType schema.now type_id }
         ensures schema { IsPlanOf schema.now result }
@@ -65,7 +65,7 @@ impl RowPlan {
         }
     }
 
-    /// From here on collections of the rows' own type are passed, but for those that are kept.
+    /// Passes collections of the rows' own type from here on, but for those that are stored.
     pub fn pass_collections(&mut self)
         ensures schema { (model : SchemaModel) → IsPlanOf model self.old → IsPlanOf model self.new }
         ensures type_id { self.new.type_id ≡ self.old.type_id }
@@ -76,7 +76,7 @@ impl RowPlan {
         put_marks(&mut self.passed, count);
     }
 
-    /// Keeps the properties of that name.
+    /// Has the properties of that name stored.
     pub fn keep(&mut self, schema: &Schema, name: &str)
         ensures schema { (model : SchemaModel) → IsPlanOf model self.old → IsPlanOf model self.new }
         ensures type_id { self.new.type_id ≡ self.old.type_id }
@@ -98,7 +98,7 @@ fn root_slots(plans: &[TypePlan]) -> usize {
     }
 }
 
-/// Puts so many marks behind the others; fewer where memory was refused.
+/// Puts so many marks after the others; fewer where an allocation failed.
 fn put_marks(marks: &mut Vec<bool>, count: usize) {
     for _slot in 0..count {
         if marks.push(true).is_err() {

@@ -1,5 +1,5 @@
 //! The types that a row may hold, looked up once for all rows: a plan has of each slot its name, as it stands in a row,
-//! its property, and what is expanded behind it.
+//! its property, and what is expanded after it.
 ghost use Rattle.std.specs.Prelude.{◌≡◌, ◌<◌, List, length, Some, IfSome, IsTrue};
 ghost use Rattle.csdl_schema.specs.ExpansionView.{StepModel};
 ghost use Rattle.csdl_schema.specs.SchemaModel.{SchemaModel, properties_at};
@@ -21,7 +21,7 @@ const SLOTS: usize = 8_192;
 pub struct SlotPlan {
     pub key: Key,
     pub property: Property,
-    /// The node of the expansion behind it.
+    /// The node of the expansion after it.
     pub node: Option<usize>,
     /// The entity type to which it navigates, if it is expanded.
     pub target: Option<TypeId>,
@@ -29,7 +29,7 @@ pub struct SlotPlan {
     pub record: usize,
 }
 
-/// A type behind a node of the expansion, with its slots in order.
+/// A type after a node of the expansion, with its slots in order.
 #[derive(Drop)]
 pub struct TypePlan {
     pub type_id: TypeId,
@@ -37,7 +37,7 @@ pub struct TypePlan {
     pub slots: Vec<SlotPlan>,
 }
 
-/// A type that rows need, behind a node of the expansion.
+/// A type that rows need, after a node of the expansion.
 #[derive(Drop)]
 struct NeededType {
     type_id: TypeId,
@@ -60,7 +60,7 @@ fn are_same_nodes(node: Option<usize>, other: Option<usize>) -> bool
     }
 }
 
-/// The place of a type among others; behind them, if it is not there.
+/// The index of a type among others; how many there are, if it is not there.
 fn place_among(types: &[NeededType], type_id: TypeId, node: Option<usize>) -> usize {
     for place in 0..types.len() {
         if types[place].type_id == type_id && are_same_nodes(types[place].node, node) {
@@ -96,7 +96,7 @@ fn record_of(
     }
 }
 
-/// A slot, if it has a name and a place.
+/// A slot, if it has a name and an index.
 fn slot_of(
     key: Option<Key>,
     property: Property,
@@ -122,7 +122,7 @@ fn slot_of(
     }
 }
 
-/// The slot of a property behind a node.
+/// The slot of a property after a node.
 fn slot_behind(
     scene: &WalkScene<'_>,
     key: Option<Key>,
@@ -200,7 +200,7 @@ fn type_plan(
 }
 
 /// The plans of a type and of those that its properties need, the type's own first; fewer where they are too many, or
-/// where memory was refused.
+/// where an allocation failed.
 pub fn type_plans(
     alloc: Global,
     schema: &Schema,
@@ -240,7 +240,7 @@ pub fn type_plans(
     plans
 }
 
-/// The plan of a type behind a node, if it is at that place.
+/// Returns the plan of a type after a node, if it is at that index.
 #[inline(always)]
 pub fn plan_at(
     plans: &[TypePlan],

@@ -5,7 +5,7 @@ ghost use Rattle.edm_row_plans.specs.Expanded.{may_hold_null, navigates, wanted_
 use csdl_schema::{EnumId, Property, PropertyKind, TypeId};
 use edm_values::Prim;
 
-/// What a property, or an item of it, is read as.
+/// How a property, or an item of it, is read.
 #[derive(Clone, Copy)]
 pub enum Wanted {
     Prim(Prim),
@@ -13,7 +13,8 @@ pub enum Wanted {
     Complex(TypeId),
 }
 
-/// What a property is read as, if a navigation property leads to that type; one that is not looked at as nothing.
+/// Returns how a property is read, if a navigation property leads to that type. One that is not looked at is read as
+/// nothing.
 #[inline(always)]
 pub fn wanted_with(property: &Property, target: Option<TypeId>) -> Option<Wanted>
     ensures { result ≡ wanted_with property.now.kind target }
@@ -30,6 +31,7 @@ pub fn wanted_with(property: &Property, target: Option<TypeId>) -> Option<Wanted
     }
 }
 
+/// Returns whether a property is a navigation property.
 pub fn navigates(property: &Property) -> bool
     ensures { result ≡ navigates property.now.kind }
 {
@@ -42,7 +44,7 @@ pub fn navigates(property: &Property) -> bool
     }
 }
 
-/// Whether the items of a collection may be null. Those of a navigation property may not.
+/// Returns whether the items of a collection may be null. Those of a navigation property may not.
 pub fn may_hold_null(property: &Property) -> bool
     ensures { result ≡ may_hold_null property.now.kind property.now.nullable }
 {

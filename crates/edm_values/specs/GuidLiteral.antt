@@ -3,7 +3,7 @@ use Rattle.std.specs.Prelude.{◌≡◌, ℕ, ◌+◌, ◌*◌, ◌/◌, ◌%◌
 use Rattle.std.specs.Char.{digit_value, digit_char}
 use Rattle.std.specs.Str.Parse.{AllDigits}
 
--- groups of so many digits with a hyphen (45) behind each, and then the digits that are left
+-- groups of so many digits with a hyphen (45) after each, and then the digits that are left
 abbrev pub digit_groups : List ℕ → List ℕ → List ℕ
 digit_groups [] digits = digits
 digit_groups (size ∷ sizes) digits = take size digits ++ 45 ∷ digit_groups sizes (drop size digits)

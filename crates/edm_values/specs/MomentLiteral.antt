@@ -43,7 +43,7 @@ pub record IsMomentSpelling (text : List ℕ) : Type 0 where
   pub is_seconds : IsSecondsSpelling seconds
   pub is_offset : IsOffsetSpelling offset
 
--- the nanoseconds that one to nine digits behind the dot of a second stand for
+-- the nanoseconds that one to nine digits after the dot of a second stand for
 abbrev pub FractionValue : List ℕ → ℕ → Type 0
 FractionValue digits nanoseconds =
     IsNumeral 10 digits × (length digits ≤ 9) × (nanoseconds ≡ digits_value 10 digits * 10 ^ (9 - length digits))

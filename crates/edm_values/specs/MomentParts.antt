@@ -11,7 +11,7 @@ pub record MomentParts : Type 0 where
 abbrev pub IsFourDigitYear : ℤ → Type 0
 IsFourDigitYear year = IsBetween (pos 1) (pos 9999) year
 
--- less than 24 hours ahead of UTC or behind it
+-- less than 24 hours east of UTC or west of it
 abbrev pub IsOffset : ℤ → Type 0
 IsOffset minutes = IsBetween (neg_ℤ (pos 1439)) (pos 1439) minutes
 

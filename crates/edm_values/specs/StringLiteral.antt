@@ -24,11 +24,11 @@ StringValue spelling value = spelling ≡ string_spelling value
 abbrev pub IsStringSpelling : List ℕ → Type 0
 IsStringSpelling spelling = (value : List ℕ) × StringValue spelling value
 
--- P, unless it was want of memory
+-- P, unless it was running out of memory
 abbrev pub OnForm : LitFault → Type 0 → Type 0
 OnForm Form P = P
 OnForm Memory P = Unit {0}
 
--- what a refusal says of the text; want of memory says nothing
+-- what a refusal says of the text; running out of memory says nothing
 abbrev pub IsStringFault : List ℕ → LitFault → Type 0
 IsStringFault spelling fault = OnForm fault (¬ (IsStringSpelling spelling))

@@ -9,7 +9,7 @@ IsNewYear m =
     IsYmd (pos 2020) (pos 1) (pos 1) m.civil.date × IsHms (pos 0) (pos 0) (pos 0) (pos 0) m.civil.time
     × (m.offset_minutes ≡ pos 0)
 
--- 120 milliseconds into the last minute of a leap day, by a clock five and a half hours behind UTC
+-- 120 milliseconds into the last minute of a leap day, by a clock five and a half hours west of UTC
 abbrev pub IsLeapDay : MomentParts → Type 0
 IsLeapDay m =
     IsYmd (pos 2020) (pos 2) (pos 29) m.civil.date × IsHms (pos 23) (pos 59) (pos 0) (pos 120_000_000) m.civil.time

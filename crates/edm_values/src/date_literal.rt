@@ -7,8 +7,8 @@ use crate::digits::read_two;
 use jiff::civil::Date;
 use std::alloc::AllocError;
 
-/// The value of a Date literal, `YYYY-MM-DD`. `None` where the text is spelled otherwise, and
-/// where the calendar lacks that day; there is no year 0000.
+/// Reads a Date literal, `YYYY-MM-DD`. `None` where the text is spelled otherwise, and where the calendar lacks that
+/// day; there is no year 0000.
 pub fn read_date(text: &str) -> Option<Date>
     ensures value { IfSome result (DateValue text.now) }
     ensures only { (date : PlainDate) → DateValue text.now date → result ≡ Some date }
@@ -55,7 +55,7 @@ fn date_numbers(text: &[u8]) -> Option<(u16, u8, u8)>
     Some((100 * u16::from(century) + u16::from(year), month, day))
 }
 
-/// Appends the spelling of a date, `YYYY-MM-DD`.
+/// Appends the spelling of a date, `YYYY-MM-DD`. After an error the text is unchanged.
 pub fn write_date(out: &mut String, date: Date) -> Result<(), AllocError>
     requires { IsFourDigitYear date.year }
     ensures ok { OnOk result (string_bytes out.new ≡ string_bytes out.old ++ date_spelling date) }

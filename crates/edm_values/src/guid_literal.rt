@@ -6,8 +6,8 @@ use uuid::Uuid;
 
 const LEN: usize = 36;
 
-/// The value of a Guid literal: 32 hexadecimal digits in either case, in groups of 8, 4, 4, 4 and
-/// 12 with hyphens between them. `None` where the text is spelled otherwise.
+/// Reads a Guid literal. It has 32 hexadecimal digits in either case, in groups of 8, 4, 4, 4 and 12 with hyphens
+/// between them. `None` where the text is spelled otherwise.
 pub fn read_guid(text: &str) -> Option<Uuid>
     ensures value { IfSome result (GuidValue text.now) }
     ensures only { (guid : List ℕ) → GuidValue text.now guid → result ≡ Some guid }
@@ -18,7 +18,7 @@ pub fn read_guid(text: &str) -> Option<Uuid>
     Uuid::parse_str(text).ok()
 }
 
-/// Appends the canonical spelling of a Guid, in lower case.
+/// Appends the canonical spelling of a Guid, in lower case. After an error the text is unchanged.
 pub fn write_guid(out: &mut String, guid: Uuid) -> Result<(), AllocError>
     ensures ok { OnOk result (string_bytes out.new ≡ string_bytes out.old ++ guid_spelling guid) }
     ensures err { OnErr result (string_bytes out.new ≡ string_bytes out.old) }

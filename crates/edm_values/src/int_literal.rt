@@ -9,8 +9,8 @@ use std::alloc::AllocError;
 /// The number of so many digits lies within `Edm.Int64`.
 const SHORT: usize = 18;
 
-/// The value of an Int literal: a sign or none, then decimal digits. `None` where the text is
-/// spelled otherwise, and where its number lies outside `Edm.Int64`.
+/// Reads an Int literal: a sign or none, then decimal digits. `None` where the text is spelled otherwise, and where its
+/// number lies outside `Edm.Int64`.
 pub fn read_int(text: &str) -> Option<i64>
     ensures value { IfSome result (IntValue text.now) }
     ensures only { (n : ℤ) → IntValue text.now n → result ≡ Some n }

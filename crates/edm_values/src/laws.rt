@@ -44,8 +44,7 @@ pub fn moments_are_ordered()
     ensures same { (a b : MomentParts) → moment_cmp a b ≡ Equal → a ≡ b }
 {}
 
-/// A moment's canonical spelling has that moment as its value, and each text with a value is
-/// spelled as a moment.
+/// A moment's canonical spelling has that moment as its value. Each text with a value is spelled as a moment.
 pub fn moments_read_back()
     ensures value { (m : MomentParts) → IsMoment m.civil m.offset_minutes
         → MomentValue (moment_spelling m) m }

@@ -54,8 +54,8 @@ impl Model for Moment {
 }
 
 impl Moment {
-    /// The moment at which a clock shows `civil`, `offset_minutes` minutes ahead of UTC. There is
-    /// one for the years 1 to 9999 and the offsets -1439 to 1439.
+    /// Returns the moment at which a clock shows `civil`, `offset_minutes` minutes ahead of UTC. There is one for the
+    /// years 1 to 9999 and the offsets -1439 to 1439.
     pub fn new(civil: DateTime, offset_minutes: i16) -> Option<Moment>
         ensures made { IsSome result ↔ IsMoment civil offset_minutes }
         ensures value { IfSome result (λ m. m
@@ -75,7 +75,7 @@ impl Moment {
         None
     }
 
-    /// The date and time of day on the clock of this moment.
+    /// Returns the date and time of day on the clock of this moment. Its year is 1 to 9999.
     pub fn civil(&self) -> DateTime
         ensures value { result ≡ self.now.civil }
         ensures year { IsFourDigitYear result.date.year }
@@ -83,7 +83,7 @@ impl Moment {
         self.civil
     }
 
-    /// How many minutes the clock of this moment is ahead of UTC.
+    /// Returns how many minutes the clock of this moment is ahead of UTC.
     pub fn offset_minutes(&self) -> i16
         ensures value { result ≡ self.now.offset_minutes }
         ensures within { IsOffset result }
@@ -91,7 +91,7 @@ impl Moment {
         self.offset_minutes
     }
 
-    /// Nanoseconds from 1970-01-01T00:00:00Z to this moment, negative before it.
+    /// Returns the nanoseconds from 1970-01-01T00:00:00Z to this moment, negative before it.
     pub fn instant_nanos(&self) -> i128
         ensures { result ≡ instant self.now }
     {

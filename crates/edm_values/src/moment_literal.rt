@@ -14,9 +14,9 @@ use std::alloc::{AllocError, Global};
 /// A fraction of a second has at most so many digits, down to the nanosecond.
 const FRACTION_DIGITS: u32 = 9;
 
-/// The value of a Moment literal: a date, `T`, `hh:mm`, perhaps `:ss` and a fraction of at most
-/// nine digits, then `Z` or an offset `+hh:mm` or `-hh:mm`. The two letters may be in either case.
-/// `None` where the text is spelled otherwise, and where a part of it is out of its range.
+/// Reads a Moment literal. It has a date, `T`, `hh:mm`, perhaps `:ss` and a fraction of at most nine digits, then `Z`
+/// or an offset `+hh:mm` or `-hh:mm`. The two letters may be in either case. `None` where the text is spelled
+/// otherwise, and where a part of it is out of its range.
 pub fn read_moment(text: &str) -> Option<Moment>
     ensures value { IfSome result (MomentValue text.now) }
     ensures only { (moment : MomentParts) → MomentValue text.now moment → result ≡ Some moment }
@@ -141,8 +141,8 @@ fn clock_time(hour: u8, minute: u8, second: u8, nanosecond: u32) -> Option<Time>
     Time::new(hour as i8, minute as i8, second as i8, nanosecond as i32).ok()
 }
 
-/// Appends the canonical spelling of a moment: with its seconds, a fraction only where it is not
-/// zero and then without last zeros, and `Z` for an offset of zero.
+/// Appends the canonical spelling of a moment. It has its seconds, a fraction only where it is not zero and then
+/// without last zeros, and `Z` for an offset of zero. After an error the text is unchanged.
 pub fn write_moment(out: &mut String, moment: &Moment) -> Result<(), AllocError>
     ensures ok { OnOk result (string_bytes out.new
         ≡ string_bytes out.old ++ moment_spelling moment.now) }

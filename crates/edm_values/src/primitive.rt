@@ -17,7 +17,7 @@ impl PrimitiveType {
     ghost use Rattle.std.specs.Prelude.{◌↔◌, IsTrue};
     ghost use Rattle.edm_values.specs.NumberTypes.{IsNumberType, IsNumberOf, IsIntLiteralType};
 
-    /// Whether the values of this type are whole numbers.
+    /// Returns whether the values of this type are whole numbers.
     pub fn is_number(self) -> bool
         ensures { IsTrue result ↔ IsNumberType self }
     {
@@ -35,8 +35,7 @@ impl PrimitiveType {
         }
     }
 
-    /// Whether a whole number lies within the range of this type; none does if the type is not of
-    /// numbers.
+    /// Returns whether a whole number lies in the range of this type. None lies in a type that is not of numbers.
     pub fn holds_number(self, n: i64) -> bool
         ensures { IsTrue result ↔ IsNumberOf self n }
     {
@@ -54,8 +53,7 @@ impl PrimitiveType {
         }
     }
 
-    /// The type that a whole number has as a literal: `Edm.Int32` where it lies within that, else
-    /// `Edm.Int64`.
+    /// Returns the type of a whole number as a literal: `Edm.Int32` if it lies in that, else `Edm.Int64`.
     pub fn of_int_literal(n: i64) -> PrimitiveType
         ensures { IsIntLiteralType n result }
     {

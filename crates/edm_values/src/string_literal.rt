@@ -27,7 +27,7 @@ impl From<AllocError> for LitFault {
     }
 }
 
-/// The value of a String literal: the text between its quotes, with doubled quotes made single.
+/// Reads a String literal: the text between its quotes, with doubled quotes made single.
 pub fn read_string(alloc: Global, text: &str) -> Result<String, LitFault>
     ensures value { IfOk result (λ value. StringValue text.now (string_bytes value)) }
     ensures fault { IfErr result (IsStringFault text.now) }
@@ -63,7 +63,8 @@ fn merge_doubled_quotes(alloc: Global, inner: &str) -> Result<String, LitFault>
     Ok(value)
 }
 
-/// Appends the spelling of a text: between single quotes, with its own quotes doubled.
+/// Appends the spelling of a text: between single quotes, with its own quotes doubled. After an error the text is
+/// unchanged.
 pub fn write_string(out: &mut String, text: &str) -> Result<(), AllocError>
     ensures ok { OnOk result (string_bytes out.new ≡ string_bytes out.old ++ string_spelling text.now) }
     ensures err { OnErr result (string_bytes out.new ≡ string_bytes out.old) }

@@ -1,6 +1,6 @@
-/// What is at fault, and so which faults a number counts: those of `SchemaFault`, `QueryFault` (and 5 for `Disguised`
-/// of `FindFault`), `TextFault`, `SyntaxFault`, `TypeFaultCode`, `RowFault`, `EvalFault`, each from 1 in the order of
-/// its enum; of `Json` and those after it the number is 0.
+/// The thing at fault, and so which faults a number counts. These are the faults of `SchemaFault`, `QueryFault` (and 5
+/// for `Disguised` of `FindFault`), `TextFault`, `SyntaxFault`, `TypeFaultCode`, `RowFault`, `EvalFault`, each from 1
+/// in the order of its enum; of `Json` and those after it the number is 0.
 #[derive(Clone, Copy, Debug, PartialEq, Eq)]
 pub enum FaultClass {
     Schema,
@@ -14,12 +14,12 @@ pub enum FaultClass {
     Json,
     /// A line that is too long.
     Line,
-    /// A name that is no entity type's.
+    /// A name that is not an entity type's.
     UnknownType,
     /// A query without a filter.
     NoFilter,
     /// A filter that calls `now`, and no moment for it.
     MomentNeeded,
-    /// A text that is no moment.
+    /// A text that is not a moment.
     NotAMoment,
 }

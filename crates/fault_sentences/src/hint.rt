@@ -5,7 +5,7 @@ ghost use Rattle.fault_sentences.specs.Hints.{is_typed_literal, syntax_hint, tex
 use super::fault_class::FaultClass;
 use super::report::Report;
 
-/// What was meant, where a filter's text shows it.
+/// A hint at what was meant, where a filter's text shows it.
 #[derive(Clone, Copy, Debug, PartialEq, Eq)]
 pub enum Hint {
     /// A `+` for a space.
@@ -30,7 +30,7 @@ pub enum Hint {
     Cast,
 }
 
-/// Whether this byte, which is not 0, stands at the place.
+/// Whether this byte, which is not 0, stands at the offset.
 fn is_byte_at(bytes: &[u8], place: usize, byte: u8) -> bool
     requires { 0 < byte }
     ensures { result ≡ (slice_index bytes.now place == byte) }
@@ -163,7 +163,7 @@ fn typing_hint(number: u8, at: &[u8], size: usize) -> Option<Hint>
     }
 }
 
-/// What was meant, where the text of a filter at fault shows it by one of the patterns.
+/// Returns what was meant, where the text of a faulty filter shows it by one of the patterns.
 pub fn hint_about(report: &Report<'_>) -> Option<Hint>
     ensures { result ≡ hint_of report.now.class report.now.number (take report.now.span.start report.now.text.now)
         (drop report.now.span.start report.now.text.now) (report.now.span.stop - report.now.span.start) }

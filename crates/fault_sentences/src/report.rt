@@ -11,7 +11,7 @@ pub struct Report<'t> {
     /// names. Of a schema, `start` is how many bytes of `text` are the first name.
     pub span: Span,
     /// The filter's text, the query, the path of a row's fault, the names of a schema's fault without a gap, the
-    /// name of an unknown type, or the text that is no moment.
+    /// name of an unknown type, or the text that is not a moment.
     pub text: &'t str,
     /// The type that the filter is checked for, if it is to be named.
     pub type_name: Option<&'t str>,

@@ -46,7 +46,7 @@ fn with_hint(alloc: Global, text: String, hint: Option<Hint>) -> Result<String, 
     }
 }
 
-/// A sentence in English about a fault, and one about what was meant if the filter's text shows it. `None` if the class
+/// Returns a sentence in English about a fault, and one about what was meant if the text shows it. `None` if the class
 /// has no fault of that number. What it says may change; programs go by the class and the number.
 pub fn fault_sentence(alloc: Global, report: &Report<'_>) -> Result<Option<String>, AllocError>
     ensures { IfOk result (λ sentence. is_some sentence ≡ is_known report.now.class report.now.number) }

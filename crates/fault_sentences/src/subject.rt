@@ -14,7 +14,7 @@ pub struct Subject<'t> {
 /// At most so many bytes of a text are shown.
 const EXCERPT_LIMIT: usize = 60;
 
-/// The bytes of a text between two places; nothing if no characters begin and end there.
+/// The bytes of a text between two offsets; nothing if no characters begin and end there.
 fn part(text: &str, start: usize, stop: usize) -> &str {
     match text.get(start..stop) {
         Some(part) => part,

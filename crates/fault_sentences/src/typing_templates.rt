@@ -6,7 +6,7 @@ use super::report::Report;
 use super::subject::subject_of;
 use super::template::Template;
 
-/// Of a name that is no property, by whether it is a path, and whether its type is to be named.
+/// Of a name that is not a property, by whether it is a path, and whether its type is to be named.
 fn property_template(is_path: bool, is_type_named: bool) -> Template {
     if is_path {
         ("", "The path '", "' leads to no property.")

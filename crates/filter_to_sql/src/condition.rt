@@ -10,16 +10,16 @@ use odata_syntax::Quantifier::Any;
 use odata_typing::{Checked, NodeKind};
 use std::alloc::{AllocError, Global};
 
-/// What a filter asks of the row `r`, where the column of a property is `c` with the number of its slot, a collection is an
-/// array, and a range variable goes by its name. Other forms than these are left out: null, truth values, whole numbers,
-/// texts, properties, members, variables, `not`, `and`, `or`, `eq`, `ne`, `gt`, `lt` and `any`; and none that leads over
-/// navigation properties, whose entities are rows of other tables. Texts are in OData's order where columns have the
-/// collation "C".
+/// What a filter asks of the row `r`, where the column of a property is `c` with the number of its slot, a collection
+/// is an array, and a range variable goes by its name. Other forms than these are left out: null, truth values, whole
+/// numbers, texts, properties, members, variables, `not`, `and`, `or`, `eq`, `ne`, `gt`, `lt` and `any`; and none that
+/// leads over navigation properties, whose entities are rows of other tables. Texts are in OData's order where columns
+/// have the collation "C".
 pub fn condition(alloc: Global, filter: &Checked<'_>) -> Result<Option<String>, AllocError> {
     if !Expansion::none(alloc).covers(filter.expansion()) {
         return Ok(None);
     }
-    // From the last node to the first: what the children of a node came to lies on top, that of the first one uppermost.
+    // From the last node to the first: what the children of a node made lies on top, that of the first one uppermost.
     let mut parts = Vec::new(alloc);
     for place in (0..filter.nodes().len()).rev() {
         let (kind, text) = (filter.nodes()[place].kind, filter.text(place));
@@ -36,7 +36,7 @@ pub fn condition(alloc: Global, filter: &Checked<'_>) -> Result<Option<String>, 
     Ok(parts.pop())
 }
 
-/// A node's SQL, made of what its children came to; `None` where it is left out. `eq` and `ne` take null for a value, `gt`
+/// A node's SQL, made of its children's results; `None` where it is left out. `eq` and `ne` take null for a value, `gt`
 /// and `lt` are false beside it, and `any` over null is null.
 fn part_of(
     alloc: Global,

@@ -22,7 +22,7 @@ window_is_ascii n d i fits room is k from to =
 pub ascii_joined : (d : List ℕ) (i j : ℕ) → AsciiBetween d 0 i → AsciiBetween d i j → AsciiBetween d 0 j
 ascii_joined d i j first more k from to = ⊎_elim (λ before. first k from before) (λ behind. more k behind to) (cases_lt k i)
 
--- all bytes are of ASCII, where those up to a place and the last sixteen are
+-- all bytes are of ASCII, where those up to an offset and the last sixteen are
 pub all_ascii : (d : List ℕ) (i last : ℕ) → last + 16 ≡ length d → last ≤ i → AsciiBetween d 0 i → AsciiBetween d last (last + 16) → IsAscii d
 all_ascii d i last there reach first final k =
     ⊎_elim (λ within. ascii_joined d last (last + 16) (λ m from to. first m from (omega (arith, reach, to))) final k (omega arith) (omega (arith, within, there)))

@@ -142,7 +142,7 @@ escaped_text d i j told within opened closed is =
       lexed = ap (lex between) (from_byte d i 34 within opened) ∙ text_there (drop (i + 1) d) told (lex between (drop (j + 1) d)) some closed.passed;
     }
 
--- ---- places within a text
+-- ---- offsets within a text
 
 pub after_backslash_passed : (d : List ℕ) (i : ℕ) → i < length d → get_or d i 32 ≡ 92 → lex in_string (drop (i + 2) d) ≡ lex in_string (drop i d)
 after_backslash_passed d i within is = go (drop (i + 1) d) (drop_more_two d i) (from_byte d i 92 within is)
@@ -160,7 +160,7 @@ after_other_passed d i within quote backslash =
 
 -- ---- a quote with no backslash before it
 
--- within a text, or behind a backslash in it
+-- within a text, or after a backslash in it
 abbrev mode_in : Bool → Mode
 mode_in true = in_escape
 mode_in false = in_string

@@ -1,4 +1,4 @@
--- Lemmas on words that stand at a place, and on names.
+-- Lemmas on words that stand at an offset, and on names.
 use Rattle.std.proofs.Common.{◌≡◌, ℕ, zero, suc, ◌+◌, ◌*◌, ◌%◌, ◌^◌, ◌≤◌, Bool, true, false, cond, eqb, List, [], ◌∷◌, ◌++◌, length, take, drop, get_or, map, refl, sym, ap, ◌∙◌, arith, append_assoc, length-drop}
 use Rattle.std.proofs.lemmas.Bool.{eqb-true}
 use Rattle.std.proofs.lemmas.List.{drop-drop, take-append-drop, take-take, take_all}
@@ -77,7 +77,7 @@ key_there turn d i j k name may passed plain stands behind colon =
     ap (punctuate (place_of turn)) (sym passed.same ∙ ap (lex between) parts ∙ quoted_lexed name r (escape_on_plain true name plain) ∙ ap (λ ls. token (string name) ∷ ls) (sym there))
     ∙ begins_key (place_of turn) name (drop (k + 1) d) may
 
--- the same, where the colon stands behind the name
+-- the same, where the colon stands after the name
 pub member_there : (turn : Turn) (d : List ℕ) (i j : ℕ) (name : List ℕ) → may_begin_at turn ≡ true → PassesSpaces d i j → PlainBetween name 0 (length name) → StandsAt d j (name_with_colon name)
     → tokens_left turn (drop i d) ≡ key name ∷ tokens_left Fresh (drop (j + length (name_with_colon name)) d)
 member_there turn d i j name may passed plain stands =

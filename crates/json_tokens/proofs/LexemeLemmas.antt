@@ -21,7 +21,7 @@ use Rattle.json_tokens.specs.TokenReading.{place_of, tokens_left}
 use Rattle.json_tokens.specs.declared.lexeme.Turn.{Turn}
 use Rattle.json_tokens.specs.declared.lexeme.Turn.TheVariants.{Fresh, AfterValue, AfterComma}
 
--- ---- bytes at places
+-- ---- bytes at offsets
 
 pub from_byte : (d : List ℕ) (i x : ℕ) → i < length d → get_or d i 32 ≡ x → drop i d ≡ x ∷ drop (i + 1) d
 from_byte d i x within is = drop_more d i 32 within ∙ ap (λ y. y ∷ drop (i + 1) d) is
@@ -193,7 +193,7 @@ whole_number s each some starts =
       | inr none ↦ digits_are_number s some each none
     ]
 
--- the bytes from one place to the other
+-- the bytes from one offset to the other
 abbrev pub cut : List ℕ → ℕ → ℕ → List ℕ
 cut d i j = take (j - i) (drop i d)
 
@@ -210,7 +210,7 @@ first_cut d i p order room =
     let same : i + 0 ≡ i = omega arith in
     get_or-take (p - i) (drop i d) 0 0 (omega arith) ∙ get_or-drop i d 0 0 ∙ ap (λ k. get_or d k 0) same
 
--- digits from one place to the other, of which the first is 0 only where it is the only one, are a number
+-- digits from one offset to the other, of which the first is 0 only where it is the only one, are a number
 pub cut_number : (d : List ℕ) (i j : ℕ) → i < j → j ≤ length d → DigitsBetween d i j → (get_or d i 0 ≡ 48 → j ≡ i + 1) → IsNumber (cut d i j)
 cut_number d i j order room digits starts =
     let long = cut_long d i j (omega arith) room in
@@ -254,7 +254,7 @@ closing_byte x small is = go (or_cases _ _ told)
     go (inl none) = absurd (true≢false (sym none ∙ ap (λ y. not (y == 125)) is))
     go (inr some) = which (or_cases _ _ some)
 
--- ---- places
+-- ---- offsets
 
 pub one_more_space : (d : List ℕ) (i j : ℕ) → j < length d → is_space (get_or d j 32) ≡ true → PassesSpaces d i j → PassesSpaces d i (j + 1)
 one_more_space d i j within white passed =

@@ -75,7 +75,7 @@ marks_of-set words index within =
           ∙ sym (get_or-set_other (marks_of words) index k true false other ∙ get_or-marks_of words k (omega arith))
     ])
 
--- the test of a bit tells the mark
+-- the test of a bit shows the mark
 pub mark-tested : (words : List ℕ) (index : ℕ) → index < 64 * length words
     → nat_eq (bit_and (get_or words (index / 64) 0 / 2 ^ (index % 64)) 1) 1 ≡ get_or (marks_of words) index false
 mark-tested words index within =

@@ -1,4 +1,5 @@
--- Numbers without a sign and without an exponent: they are numbers of JSON, and those of at most 300 digits have values.
+-- Numbers without a sign and without an exponent: they are numbers of JSON, and those of at most 300 digits have
+-- values.
 use Rattle.std.proofs.Common.{◌≡◌, ℕ, zero, suc, ◌+◌, ◌-◌, ◌*◌, ◌^◌, ◌<◌, ◌≤◌, List, [], ◌∷◌, ◌++◌, length, take, drop, get_or, Bool, true, false, cond, ◌==◌, ◌&&◌, Some, nat_lt, slice_index, inl, inr, refl, sym, ap, ◌∙◌, subst, arith, lit<, append-nil, length-append, le_trans, le_of_eq, le_of_lt, lt_of_lt_of_le, le-mul_of_pos_right, mul-one}
 use native.Mathlib.Nat.{pow-le-pow_right}
 use lib.Dec.{T}
@@ -129,7 +130,7 @@ fraction_number whole fraction w some starts f more =
       },
     )
 
--- ---- from one place to the other
+-- ---- from one offset to the other
 
 cut_fraction : (d : List ℕ) (i p e : ℕ) → i ≤ p → p + 1 ≤ e → e ≤ length d → get_or d p 32 ≡ 46 → cut d i e ≡ cut d i p ++ 46 ∷ cut d (p + 1) e
 cut_fraction d i p e order more room point =

@@ -1,4 +1,4 @@
--- Lemmas on texts with escapes that are told piece by piece.
+-- Lemmas on texts with escapes that are decoded piece by piece.
 use Rattle.std.proofs.Common.{◌≡◌, ◌⊎◌, ℕ, suc, ◌+◌, ◌-◌, ◌<◌, ◌≤◌, List, [], ◌∷◌, ◌++◌, length, take, drop, get_or, true, false, cond, ◌==◌, ◌||◌, nat_lt, Option, None, Some, option_and_then, inl, inr, refl, sym, ap, ◌∙◌, subst, arith, append_assoc}
 use Rattle.std.proofs.lemmas.Bool.{cond-false, ne_eqb, not-true, or_parts}
 use Rattle.std.proofs.lemmas.List.{append-nil, drop-drop, drop_more, get_or_default, take-append-drop}
@@ -11,7 +11,7 @@ use Rattle.json.specs.Written.{PlainBetween}
 use Rattle.json_tokens.specs.private.Escapes.{EscapesAt, TellsTo, told_and_rest}
 use Rattle.json_tokens.proofs.LexemeLemmas.{taken_plain, within_byte}
 
--- ---- what a text begins with, and what is behind it
+-- ---- what a text begins with, and what follows it
 
 pub nothing_before : (rest : Option (List ℕ)) → prepend [] rest ≡ rest
 nothing_before None = refl
@@ -144,7 +144,7 @@ plain_told d told i j further plain_there ended =
       same = ap (prepend told) (ap (content plain) parts ∙ plain_run run (drop j d) all) ∙ one_behind_other told run (content plain (drop j d));
     }
 
--- at the closing quote all is told
+-- at the closing quote all is decoded
 pub all_told : (d told : List ℕ) (i : ℕ) → i < length d → get_or d i 0 ≡ 34 → told_and_rest told d i ≡ Some told
 all_told d told i within closed =
     let here : drop i d ≡ 34 ∷ drop (i + 1) d = drop_more d i 0 within ∙ ap (λ x. x ∷ drop (i + 1) d) closed in

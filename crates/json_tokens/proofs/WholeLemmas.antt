@@ -60,7 +60,7 @@ few_digits d i n so_far few =
     let low : n < 10 ^ length s = subst (λ k. k < 10 ^ length s) (sym so_far.value) (digits_value-lt 10 s so_far.all) in
     lt_of_lt_of_le low (pow-le-pow_right (lit< tt) long)
 
--- the number that digits at a place write, where a value ends behind them
+-- the number that digits at an offset write, where a value ends after them
 pub whole_there : (d : List ℕ) (i count n next : ℕ) (turn : Turn) → i < length d → (get_or d i 0 ≡ 48 → count ≡ 1) → WritesWhole (drop i d) count n → 0 < count → EndsValue d (i + count) next turn
     → (s : List ℕ) × BeginsToken d i (number s) next turn × IsWhole s n
 whole_there d i count n next turn within starts writes some ended =

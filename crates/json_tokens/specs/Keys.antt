@@ -7,7 +7,7 @@ use Rattle.json_tokens.specs.declared.key.Key.TheInside.{Inside}
 abbrev pub quoted_name : List ℕ → List ℕ
 quoted_name name = 34 ∷ (name ++ 34 ∷ [])
 
--- a name in its quotes, and the colon behind it
+-- a name in its quotes, and the colon after it
 abbrev pub name_with_colon : List ℕ → List ℕ
 name_with_colon name = quoted_name name ++ 58 ∷ []
 

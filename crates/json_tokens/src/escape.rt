@@ -38,7 +38,7 @@ fn unit_at(bytes: &[u8], place: usize) -> Option<u32>
     }
 }
 
-/// What a backslash and a byte behind it stand for, where no digits follow.
+/// What a backslash and a byte after it stand for, where no digits follow.
 #[inline(always)]
 fn told_by_byte(byte: u8) -> Option<u8>
     ensures value { IfSome result (λ told. short_escape byte ≡ Some told) }
@@ -55,7 +55,7 @@ fn told_by_byte(byte: u8) -> Option<u8>
     }
 }
 
-/// The character that an escape stands for, from behind its backslash on, and the place behind it.
+/// The character that an escape stands for, from after its backslash on, and the offset after it.
 #[inline(always)]
 pub(crate) fn escape_at(bytes: &[u8], place: usize) -> Option<(char, usize)>
     requires { place ≤ length bytes.now }

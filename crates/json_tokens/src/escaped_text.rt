@@ -1,5 +1,5 @@
-//! Texts with escapes, one by one: their closing quote is looked for, and what stands between is told into a text kept
-//! for it. A text with surrogates is read by `json`'s reader.
+//! Texts with escapes, one by one: their closing quote is looked for, and what stands between is decoded into a text
+//! kept for it. A text with surrogates is read by `json`'s reader.
 ghost use Rattle.std.specs.Prelude.{◌≡◌, ◌≢◌, ◌⊎◌, ℕ, suc, ◌<◌, ◌≤◌, length, get_or, drop, false, Some, string_bytes, IfSome, IsTrue};
 ghost use Rattle.std.specs.Str.{IsCharBoundary};
 ghost use Rattle.json.specs.Lex.{in_string, lex};
@@ -13,7 +13,7 @@ use super::scratch::Scratch;
 use json::{Reader, Token};
 use memchr::memchr;
 
-/// The place behind a byte of a text, or behind a backslash and what it escapes.
+/// The offset after a byte of a text, or after a backslash and what it escapes.
 #[inline(always)]
 fn past_byte(bytes: &[u8], place: usize) -> usize
     requires within { place < length bytes.now }
@@ -28,7 +28,7 @@ fn past_byte(bytes: &[u8], place: usize) -> usize
     }
 }
 
-/// Whether a backslash stands before a place.
+/// Whether a backslash stands before an offset.
 #[inline(always)]
 fn is_behind_backslash(bytes: &[u8], place: usize) -> bool
     requires { place ≤ length bytes.now }
@@ -55,7 +55,7 @@ fn first_quote(bytes: &[u8], from: usize) -> Option<usize>
     Some(from + place)
 }
 
-/// The quote that closes a text, from a place within it on.
+/// The quote that closes a text, from an offset within it on.
 fn quote_after(bytes: &[u8], from: usize) -> Option<usize>
     requires { from ≤ length bytes.now }
     ensures { IfSome result (ClosesText bytes.now from) }
@@ -81,7 +81,7 @@ fn quote_by_bytes(bytes: &[u8], from: usize) -> Option<usize>
     None
 }
 
-/// Tells the escape at a place behind what was told; the place behind it.
+/// Decodes the escape at an offset, after what was decoded before; the offset after it.
 #[inline(always)]
 fn tell_escape(quoted: &str, place: usize, told: &mut String) -> Option<usize>
     requires within { place < length quoted.now }
@@ -97,7 +97,7 @@ fn tell_escape(quoted: &str, place: usize, told: &mut String) -> Option<usize>
     }
 }
 
-/// Whether a byte ends what stands for itself, and is no control character.
+/// Whether a byte ends what stands for itself, and is not a control character.
 #[inline(always)]
 fn ends_plain(byte: u8) -> bool
     ensures { IsTrue result → (byte ≡ 34) ⊎ (byte ≡ 92) }
@@ -105,7 +105,7 @@ fn ends_plain(byte: u8) -> bool
     byte == b'"' || byte == b'\\'
 }
 
-/// Tells what stands at a place up to the next escape, or to the closing quote.
+/// Decodes what stands at an offset up to the next escape, or to the closing quote.
 #[inline(always)]
 fn tell_plain(quoted: &str, place: usize, told: &mut String) -> Option<usize>
     requires { IsCharBoundary quoted.now place }
@@ -122,7 +122,7 @@ fn tell_plain(quoted: &str, place: usize, told: &mut String) -> Option<usize>
     }
 }
 
-/// Tells what stands at a place, which is no quote.
+/// Decodes what stands at an offset, which is not a quote.
 #[inline(always)]
 fn tell_piece(quoted: &str, place: usize, told: &mut String) -> Option<usize>
     requires within { place < length quoted.now }
@@ -136,7 +136,7 @@ fn tell_piece(quoted: &str, place: usize, told: &mut String) -> Option<usize>
     }
 }
 
-/// Tells what a text in its quotes stands for; false where it has surrogates or wrong escapes, or memory is wanting.
+/// Decodes a text in its quotes; false where it has surrogates or wrong escapes, or an allocation fails.
 #[inline(always)]
 fn tell(quoted: &str, told: &mut String) -> bool
     requires { get_or quoted.now 0 32 ≡ 34 }
@@ -172,7 +172,7 @@ fn told_by_json<'t>(quoted: &'t str, scratch: &'t mut json::Scratch) -> Option<&
     }
 }
 
-/// What a text in its quotes stands for; none where its escapes are none, or memory is wanting.
+/// What a text in its quotes stands for; none where its escapes are none, or an allocation fails.
 fn unescaped<'t>(quoted: &'t str, scratch: &'t mut Scratch) -> Option<&'t str>
     requires { get_or quoted.now 0 32 ≡ 34 }
     ensures { IfSome result (λ told. content plain (drop 1 quoted.now) ≡ Some told.now) }
@@ -183,7 +183,7 @@ fn unescaped<'t>(quoted: &'t str, scratch: &'t mut Scratch) -> Option<&'t str>
     told_by_json(quoted, &mut scratch.of_json)
 }
 
-/// The text that begins with the quote at a place, and the place behind its closing quote.
+/// The text that begins with the quote at an offset, and the offset after its closing quote.
 #[inline(never)]
 pub(crate) fn escaped_at<'t>(
     text: &'t str,

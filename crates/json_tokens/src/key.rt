@@ -7,8 +7,8 @@ use super::lexeme::plain_end;
 use std::alloc::Global;
 use std::marker::Model;
 
-/// A name with its quotes, which is compared with a text where it stands, mostly with its colon at once. Only a name that
-/// is written as it is makes one.
+/// A name with its quotes, compared with a text at an offset, mostly with its colon at once. Only a name that is
+/// written as it is makes one.
 #[derive(Drop)]
 pub struct Key {
     name: String,
@@ -31,7 +31,8 @@ impl Model for Key {
 }
 
 impl Key {
-    /// The key of a name; none where the name has quotes, backslashes or control characters, or memory was refused.
+    /// Creates the key of a name. Returns none where the name has quotes, backslashes or control characters, or an
+    /// allocation failed.
     pub fn new(alloc: Global, name: &str) -> Option<Key>
         ensures { IfSome result (λ key. key ≡ name.now) }
     {
@@ -63,7 +64,7 @@ impl Key {
         self.quoted.as_bytes()
     }
 
-    /// The name with its quotes and the colon behind it.
+    /// The name with its quotes and the colon after it.
     #[inline(always)]
     pub(crate) fn with_colon(&self) -> &[u8]
         ensures named { result.now ≡ name_with_colon self.now }

@@ -6,7 +6,7 @@ use std::marker::Model;
 
 const WORDS: usize = 16;
 
-/// How many keys have a mark.
+/// The number of keys that have a mark.
 pub const MARKS: usize = 1024;
 
 /// A mark for each key, a bit of a word.
@@ -29,7 +29,7 @@ impl Model for KeyMarks {
 }
 
 impl KeyMarks {
-    /// The marks while no key came.
+    /// Creates the marks while no key came.
     #[inline(always)]
     pub fn new() -> KeyMarks
         ensures { result ≡ replicate MARKS false }
@@ -46,7 +46,7 @@ impl KeyMarks {
         self.words[index / 64 % WORDS] |= 1 << (index % 64);
     }
 
-    /// Whether the key came.
+    /// Returns whether the key came.
     #[inline(always)]
     pub fn has(&self, index: usize) -> bool
         requires { index < MARKS }
@@ -55,7 +55,8 @@ impl KeyMarks {
         self.words[index / 64 % WORDS] >> (index % 64) & 1 == 1
     }
 
-    /// Whether the first so many keys came. It is told of fewer than 64 keys, and where none came of those behind them.
+    /// Returns whether the first so many keys came. True is returned only for fewer than 64 keys, and where none after
+    /// them came.
     #[inline(always)]
     pub fn are_first(&self, count: usize) -> bool
         ensures first { IsTrue result → (k : ℕ) → k < count → get_or self.now k false ≡ true }
@@ -65,7 +66,7 @@ impl KeyMarks {
     }
 }
 
-/// Whether the lowest so many bits of a word are set, and no other. It is told of fewer than 64.
+/// Whether the lowest so many bits of a word are set, and no other. True is returned only for fewer than 64.
 #[inline(always)]
 fn has_just_lowest(word: u64, count: usize) -> bool
     ensures { IsTrue result ↔ ((count < 64) × ((k : ℕ) → k < 64 → (bit_at word k == 1) ≡ nat_lt k count)) }

@@ -1,10 +1,10 @@
-//! The order in which keys came so far. It says nothing of a key: it only tells which of an object's to try first.
+//! The order in which keys came so far. It says nothing of a key: it only says which of an object's to try first.
 
-/// How many places are kept. Two keys may share one; then the other key is tried.
+/// How many slots are stored. Two keys may share one; then the other key is tried.
 const PLACES: usize = 1024;
 
-/// Behind each key, by its index among those that are known, the one that came next the last time; objects are told
-/// apart by how many keys are known of them.
+/// The key that came next after each key the last time, by its index among those that are known. Objects are reported apart
+/// by how many keys are known of them.
 #[derive(Drop)]
 pub struct KeyOrder {
     next: [usize; PLACES],
@@ -12,7 +12,7 @@ pub struct KeyOrder {
 }
 
 impl KeyOrder {
-    /// An order in which no key came yet.
+    /// Creates an order in which no key came yet.
     pub fn new() -> KeyOrder {
         KeyOrder {
             next: [0; PLACES],
@@ -20,20 +20,20 @@ impl KeyOrder {
         }
     }
 
-    /// Stands before the first key of an object, of whose keys so many are known: the place before those behind its
-    /// keys.
+    /// Moves before the first key of an object, of whose keys so many are known. That is the slot before those after
+    /// its keys.
     #[inline(always)]
     pub fn begin(&mut self, count: usize) {
         self.place = count.wrapping_mul(64).wrapping_sub(1);
     }
 
-    /// Stands behind the key at that index.
+    /// Moves after the key at that index.
     #[inline(always)]
     pub fn pass(&mut self, count: usize, index: usize) {
         self.place = count.wrapping_mul(64).wrapping_add(index);
     }
 
-    /// The key that came next the last time.
+    /// Returns the key that came next the last time.
     #[inline(always)]
     pub fn likely(&self) -> usize {
         self.next[self.place % PLACES]

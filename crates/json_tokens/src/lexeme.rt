@@ -1,4 +1,4 @@
-//! Lexemes of a text, straight from its bytes: each step goes from a place to the one behind it.
+//! Lexemes of a text, straight from its bytes: each step goes from an offset to the one after it.
 ghost use Rattle.std.specs.Prelude.{◌≡◌, ◌≢◌, ◌+◌, ◌<◌, ◌≤◌, length, get_or, map, None, IfSome, IsTrue};
 ghost use Rattle.std.specs.Simd.Lanes.{mask_l};
 ghost use Rattle.json.specs.Word.{is_space};
@@ -45,7 +45,7 @@ impl Turn {
     }
 }
 
-/// The byte at a place, or a space past the end.
+/// The byte at an offset, or a space past the end.
 #[inline(always)]
 pub(crate) fn byte_at(bytes: &[u8], place: usize) -> u8
     ensures { result ≡ get_or bytes.now place 32 }
@@ -64,7 +64,7 @@ fn is_space(byte: u8) -> bool
     (byte == b' ') | (byte == b'\t') | (byte == b'\n') | (byte == b'\r')
 }
 
-/// The first place from there on that has no white space: mostly this one or the next, so the loop stands apart.
+/// The first offset from there on without white space: mostly this one or the next, so the loop stands apart.
 #[inline(always)]
 pub(crate) fn past_spaces(bytes: &[u8], from: usize) -> usize
     requires { from ≤ length bytes.now }
@@ -143,7 +143,7 @@ fn plain_run_8(bytes: &[u8], place: usize) -> usize
     }
 }
 
-/// The first place from there on that has a quote, a backslash or a control character.
+/// The first offset from there on with a quote, a backslash or a control character.
 #[inline(always)]
 fn plain_end_slowly(bytes: &[u8], from: usize) -> usize
     requires { from ≤ length bytes.now }
@@ -193,7 +193,7 @@ pub(crate) fn plain_end(bytes: &[u8], from: usize) -> usize
     plain_end_of_few(bytes, place)
 }
 
-/// The text without escapes that begins with the quote at a place, and the place behind its closing quote.
+/// The text without escapes that begins with the quote at an offset, and the offset after its closing quote.
 #[inline(always)]
 fn plain_text_at(text: &str, place: usize) -> Option<(&str, usize)>
     requires { get_or text.now place 32 ≡ 34 }
@@ -207,8 +207,8 @@ fn plain_text_at(text: &str, place: usize) -> Option<(&str, usize)>
     Some((&text[place + 1..end], end + 1))
 }
 
-/// The text that begins with the quote at a place, its escapes told in the scratch, and the place behind its closing
-/// quote.
+/// The text that begins with the quote at an offset, its escapes decoded in the scratch, and the offset after its
+/// closing quote.
 #[inline(always)]
 pub(crate) fn text_at<'t>(
     text: &'t str,
@@ -225,7 +225,7 @@ pub(crate) fn text_at<'t>(
 }
 
 /// Passes the comma that may follow a value: mostly it stands there, so it is looked for first. A closing brace and a
-/// closing bracket differ by one bit, and are asked for at once, which also keeps them behind the comma; white space is
+/// closing bracket differ by one bit, and are asked for at once, which also keeps them after the comma; white space is
 /// passed apart.
 #[inline(always)]
 pub(crate) fn value_end(bytes: &[u8], from: usize) -> Option<(usize, Turn)>
@@ -264,7 +264,7 @@ fn value_end_past_spaces(bytes: &[u8], from: usize) -> Option<(usize, Turn)>
     }
 }
 
-/// The key that begins with the quote at a place, and the place of what stands behind its colon.
+/// The key that begins with the quote at an offset, and the offset of what follows its colon.
 #[inline(always)]
 pub(crate) fn key_at<'t>(
     text: &'t str,
@@ -286,7 +286,7 @@ pub(crate) fn key_at<'t>(
     Some((key, next))
 }
 
-/// The text that begins with the quote at a place, the place to go on from, and what may come there.
+/// The text that begins with the quote at an offset, the offset to go on from, and what may come there.
 #[inline(always)]
 pub(crate) fn text_value<'t>(
     text: &'t str,
@@ -305,7 +305,7 @@ pub(crate) fn text_value<'t>(
     }
 }
 
-/// The first place from there on that has no digit.
+/// The first offset from there on without a digit.
 #[inline(always)]
 pub(crate) fn digits_end(bytes: &[u8], from: usize) -> usize
     requires { from ≤ length bytes.now }
@@ -319,7 +319,7 @@ pub(crate) fn digits_end(bytes: &[u8], from: usize) -> usize
     place
 }
 
-/// The first place from there on that has no byte of a number.
+/// The first offset from there on without a byte of a number.
 #[inline(always)]
 fn number_end(bytes: &[u8], from: usize) -> usize
     requires { from ≤ length bytes.now }
@@ -391,7 +391,7 @@ fn false_at(text: &str, place: usize) -> Option<(bool, usize, Turn)>
     }
 }
 
-/// The truth value at a place, the place to go on from, and what may come there.
+/// The truth value at an offset, the offset to go on from, and what may come there.
 #[inline(always)]
 pub(crate) fn truth_at(text: &str, place: usize) -> Option<(bool, usize, Turn)>
     ensures { IfSome result (λ found. BeginsToken text.now place (boolean found.0) found.1 found.2) }
@@ -402,7 +402,7 @@ pub(crate) fn truth_at(text: &str, place: usize) -> Option<(bool, usize, Turn)>
     }
 }
 
-/// A null at a place: the place to go on from, and what may come there.
+/// A null at an offset: the offset to go on from, and what may come there.
 #[inline(always)]
 pub(crate) fn null_at(text: &str, place: usize) -> Option<(usize, Turn)>
     ensures { IfSome result (λ found. BeginsToken text.now place null found.0 found.1) }
@@ -417,7 +417,7 @@ pub(crate) fn null_at(text: &str, place: usize) -> Option<(usize, Turn)>
     Some((next, turn))
 }
 
-/// The token at a place where a value may begin, the place to go on from, and what may come there.
+/// The token at an offset where a value may begin, the offset to go on from, and what may come there.
 #[inline(always)]
 pub(crate) fn token_at<'t>(
     text: &'t str,

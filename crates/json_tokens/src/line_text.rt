@@ -5,7 +5,7 @@ ghost use Rattle.json_tokens.specs.private.Lexemes.{AsciiBetween};
 
 use std::simd::prelude::*;
 
-/// Whether sixteen bytes from a place on are of ASCII.
+/// Whether sixteen bytes from an offset on are of ASCII.
 #[inline(always)]
 fn is_ascii_16(bytes: &[u8], place: usize) -> bool
     requires { place + 16 ≤ length bytes.now }
@@ -29,7 +29,7 @@ fn is_ascii_64(bytes: &[u8], place: usize) -> bool
         == 0
 }
 
-/// A place before which all bytes are of ASCII, sixty-four at a time: that saves 93 instructions in a line of 490
+/// An offset before which all bytes are of ASCII, sixty-four at a time: that saves 93 instructions in a line of 490
 /// bytes.
 #[inline(always)]
 fn ascii_by_64(bytes: &[u8]) -> usize
@@ -60,7 +60,7 @@ fn is_ascii(bytes: &[u8]) -> bool
     is_ascii_16(bytes, last)
 }
 
-/// A line as a text, if it is one in UTF-8.
+/// Returns a line as a text, if it is UTF-8.
 #[inline(always)]
 pub fn text_of_line(line: &[u8]) -> Option<&str>
     ensures { IfSome result (λ text. (text.now ≡ line.now) × IsUtf8 line.now) }

@@ -9,7 +9,7 @@ use super::whole::digits_of;
 use fast_float::Numeral;
 use serde_json::Number;
 
-/// The whole number that a text of digits alone writes, as most numbers are.
+/// Returns the whole number that a text of digits alone writes, as most numbers are.
 #[inline(always)]
 pub fn whole_of_digits(text: &str) -> Option<i64>
     ensures { IfSome result (λ n. (m : Num) × (number_of text.now ≡ Some m) × (as_integer m ≡ Some n)) }
@@ -24,7 +24,7 @@ pub fn whole_of_digits(text: &str) -> Option<i64>
     }
 }
 
-/// The number that a token writes; none where it is too large for a float.
+/// Returns the number that a token writes; none where it is too large for a float.
 #[inline(never)]
 pub fn number_of_text(text: &str) -> Option<Number>
     ensures { option_map number_view result ≡ number_of text.now }

@@ -1,4 +1,4 @@
-//! Whether bytes stand at a place: some that are as long as two words are the same where their first word and their
+//! Whether bytes stand at an offset: some that are as long as two words are the same where their first word and their
 //! last one are, so that a name is compared with two loads and without a loop.
 ghost use Rattle.std.specs.Prelude.{◌≡◌, ◌+◌, ◌<◌, ◌≤◌, drop, length, take, IsTrue};
 ghost use Rattle.json_tokens.specs.private.Lexemes.{StandsAt};
@@ -26,7 +26,7 @@ fn are_equal_16(lanes: u8x16, others: u8x16) -> bool
     lanes.simd_eq(others).to_bitmask() == 0xffff
 }
 
-/// Whether four bytes from a place on are those of the word from another on.
+/// Whether four bytes from an offset on are those of the word from another on.
 #[inline(always)]
 fn are_same_4(bytes: &[u8], place: usize, word: &[u8], from: usize) -> bool
     requires { (place + 4 ≤ length bytes.now) × (from + 4 ≤ length word.now) }
@@ -62,7 +62,7 @@ fn are_same_16(bytes: &[u8], place: usize, word: &[u8], from: usize) -> bool
     )
 }
 
-/// Whether a word of four to eight bytes stands at a place.
+/// Whether a word of four to eight bytes stands at an offset.
 #[inline(always)]
 fn stands_by_4(bytes: &[u8], place: usize, word: &[u8]) -> bool
     requires long { (4 ≤ length word.now) × (length word.now ≤ 8) }
@@ -104,7 +104,7 @@ fn stands_whole(bytes: &[u8], place: usize, word: &[u8]) -> bool
     &bytes[place..place + word.len()] == word
 }
 
-/// Whether these bytes stand at a place.
+/// Whether these bytes stand at an offset.
 #[inline(always)]
 pub(crate) fn stands_at(bytes: &[u8], place: usize, word: &[u8]) -> bool
     ensures { IsTrue result → StandsAt bytes.now place word.now }

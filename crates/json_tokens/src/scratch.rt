@@ -1,7 +1,7 @@
-//! The memory that texts with escapes are told into.
+//! The memory that texts with escapes are decoded into.
 use std::alloc::Global;
 
-/// Room for a text with escapes. One is kept and lent to each read.
+/// Room for a text with escapes. One is stored, and each read borrows it.
 #[derive(Drop)]
 pub struct Scratch {
     pub(crate) told: String,
@@ -9,6 +9,7 @@ pub struct Scratch {
 }
 
 impl Scratch {
+    /// Creates an empty buffer.
     pub fn new(alloc: Global) -> Scratch {
         Scratch {
             told: String::new(alloc),

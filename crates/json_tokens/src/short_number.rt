@@ -11,7 +11,7 @@ use super::lexeme::{Turn, byte_at, digits_end, value_end};
 /// A number of so many bytes is below 10^300, which a float holds.
 const LONGEST: usize = 300;
 
-/// The place behind a point and digits, and the same place where no point stands.
+/// The offset after a point and digits, and the same offset where no point stands.
 #[inline(always)]
 fn fraction_end(bytes: &[u8], from: usize) -> Option<usize>
     requires { from ≤ length bytes.now }
@@ -27,7 +27,7 @@ fn fraction_end(bytes: &[u8], from: usize) -> Option<usize>
     Some(end)
 }
 
-/// The place behind such a number. Of some digits the first is 0 only where it is the only one.
+/// The offset after such a number. Of some digits the first is 0 only where it is the only one.
 #[inline(always)]
 fn short_number_end(bytes: &[u8], from: usize) -> Option<usize>
     requires { from ≤ length bytes.now }
@@ -46,7 +46,7 @@ fn short_number_end(bytes: &[u8], from: usize) -> Option<usize>
     Some(end)
 }
 
-/// Such a number at a place: the place to go on from, and what may come there.
+/// Such a number at an offset: the offset to go on from, and what may come there.
 #[inline(always)]
 pub(crate) fn short_number_value(bytes: &[u8], place: usize) -> Option<(usize, Turn)>
     requires { place ≤ length bytes.now }

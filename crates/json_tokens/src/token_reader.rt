@@ -20,8 +20,8 @@ use super::whole::whole_value;
 use json::{Invalid, Token};
 use std::marker::Model;
 
-/// Reads the tokens of a JSON text one by one (RFC 8259). A clause sees those that are still to come. Where a call
-/// answers none the text may still be JSON, and may also be none; nothing was read then, and another call may do.
+/// Reads the tokens of a JSON text one by one (RFC 8259). A clause sees those that are still to come. If a call returns
+/// none, the text may still be JSON, or not; nothing was read then, and another call may succeed.
 #[derive(Drop)]
 pub struct TokenReader<'a> {
     text: &'a str,
@@ -44,7 +44,7 @@ impl<'a> Model for TokenReader<'a> {
 }
 
 impl<'a> TokenReader<'a> {
-    /// A reader at the first token of a text.
+    /// Creates a reader at the first token of a text.
     #[inline(always)]
     pub fn new(text: &'a str) -> TokenReader<'a>
         ensures { result ≡ tokens text.now }
@@ -56,7 +56,7 @@ impl<'a> TokenReader<'a> {
         }
     }
 
-    /// The next token, where a value may begin. The scratch is for a text with escapes, here and below.
+    /// Reads the next token, where a value may begin. The scratch is for a text with escapes, here and below.
     #[inline(always)]
     pub fn next<'t>(&mut self, scratch: &'t mut Scratch) -> Option<Token<'t>>
     where
@@ -78,7 +78,7 @@ impl<'a> TokenReader<'a> {
         }
     }
 
-    /// A key, or none at the brace that closes an object.
+    /// Reads a key, or none at the brace that closes an object.
     #[inline(always)]
     pub fn next_key<'t>(&mut self, scratch: &'t mut Scratch) -> Result<Option<&'t str>, Invalid>
     where
@@ -106,7 +106,7 @@ impl<'a> TokenReader<'a> {
         Ok(Some(key))
     }
 
-    /// Takes a member's name and its colon, if they are next. Mostly the colon stands behind the name, and both are
+    /// Takes a member's name and its colon, if they are next. Mostly the colon stands after the name, and both are
     /// compared at once, which saves ten instructions a member.
     #[inline(always)]
     pub fn take_key(&mut self, key: &Key) -> bool
@@ -145,7 +145,7 @@ impl<'a> TokenReader<'a> {
         true
     }
 
-    /// The text that is next.
+    /// Takes the text that is next.
     #[inline(always)]
     pub fn take_text<'t>(&mut self, scratch: &'t mut Scratch) -> Option<&'t str>
     where
@@ -168,8 +168,8 @@ impl<'a> TokenReader<'a> {
         }
     }
 
-    /// The digits of the number that is next, with its sign, fraction and exponent. Who asks has mostly found that it is
-    /// not a whole one, so that is not looked for again, which saves some seventy instructions.
+    /// Takes the digits of the number that is next, with its sign, fraction and exponent. The caller has mostly found
+    /// that it is not a whole one, so that is not looked for again, which saves some seventy instructions.
     #[inline(always)]
     pub fn take_number(&mut self) -> Option<&'a str>
         ensures taken { IfSome result (λ s. self.old ≡ number s.now ∷ self.new) }
@@ -190,8 +190,8 @@ impl<'a> TokenReader<'a> {
         }
     }
 
-    /// Passes the number that is next, where it has no sign, no exponent and at most 300 bytes: then it has a value,
-    /// which nobody asks for. That saves some five hundred instructions where it has a fraction.
+    /// Passes the number that is next, if it has no sign, no exponent and at most 300 bytes. Then it has a value, which
+    /// no caller needs. That saves some five hundred instructions where it has a fraction.
     #[inline(always)]
     pub fn pass_number(&mut self) -> bool
         ensures passed { IsTrue result → (s : List ℕ) × (self.old ≡ number s ∷ self.new) × IsSome (number_of s) }
@@ -212,7 +212,7 @@ impl<'a> TokenReader<'a> {
         }
     }
 
-    /// The number that is next, where at most 18 digits alone write it.
+    /// Takes the number that is next, where at most 18 digits alone write it.
     #[inline(always)]
     pub fn take_whole(&mut self) -> Option<u64>
         ensures taken { IfSome result (λ n. (s : List ℕ) × (self.old ≡ number s ∷ self.new) × IsWhole s n) }
@@ -233,7 +233,7 @@ impl<'a> TokenReader<'a> {
         }
     }
 
-    /// The truth value that is next.
+    /// Takes the truth value that is next.
     #[inline(always)]
     pub fn take_truth(&mut self) -> Option<bool>
         ensures taken { IfSome result (λ b. self.old ≡ boolean b ∷ self.new) }
@@ -342,7 +342,7 @@ impl<'a> TokenReader<'a> {
         true
     }
 
-    /// Whether nothing follows.
+    /// Returns whether nothing follows.
     #[inline(always)]
     pub fn is_at_end(&self) -> bool
         ensures { IsTrue result → self.now ≡ [] }

@@ -1,4 +1,4 @@
-//! Numbers of digits alone, whose value is told while they are read.
+//! Numbers of digits alone, whose value is computed while they are read.
 ghost use Rattle.std.specs.Prelude.{ℕ, ◌<◌, List, length, IfSome};
 ghost use Rattle.json.specs.Token.{number};
 ghost use Rattle.json_tokens.specs.WholeNumbers.{IsWhole};
@@ -25,7 +25,7 @@ pub(crate) fn digits_of(bytes: &[u8]) -> Option<(u64, usize)>
     Some((number, place))
 }
 
-/// The number of digits alone at a place, the place to go on from, and what may come there.
+/// The number of digits alone at an offset, the offset to go on from, and what may come there.
 #[inline(always)]
 pub(crate) fn whole_value(text: &str, place: usize) -> Option<(u64, usize, Turn)>
     requires { place < length text.now }

@@ -1,8 +1,8 @@
--- What devices tell of their calls, and what a run makes of them. A call is a read, a write or a flush.
+-- What devices report about their calls, and what a run makes of them. A call is a read, a write or a flush.
 use Rattle.std.specs.Prelude.{◌≡◌}
 use Rattle.line_filter.specs.declared.calls.Calls.{Calls}
 
--- behind one more call, which did its work
+-- after one more call, which did its work
 abbrev pub after_work : Calls → Calls
 after_work Calls.Untold = Calls.Untold
 after_work Calls.Unfailing = Calls.Unfailing
@@ -11,7 +11,7 @@ after_work Calls.Flushed = Calls.Behind
 after_work Calls.Failed = Calls.Behind
 after_work Calls.Behind = Calls.Behind
 
--- behind one more call, a flush that did its work
+-- after one more call, a flush that did its work
 abbrev pub after_flush : Calls → Calls
 after_flush Calls.Untold = Calls.Untold
 after_flush Calls.Unfailing = Calls.Unfailing
@@ -20,7 +20,7 @@ after_flush Calls.Flushed = Calls.Behind
 after_flush Calls.Failed = Calls.Behind
 after_flush Calls.Behind = Calls.Behind
 
--- behind one more call, which failed; so no device that tells that it never fails has such a call
+-- after one more call, which failed; so no device that reports that it never fails has such a call
 abbrev pub after_failure : Calls → Calls
 after_failure Calls.Untold = Calls.Untold
 after_failure Calls.Unfailing = Calls.Failed
@@ -29,7 +29,7 @@ after_failure Calls.Flushed = Calls.Behind
 after_failure Calls.Failed = Calls.Behind
 after_failure Calls.Behind = Calls.Behind
 
--- no call has failed and none was a flush, as far as it is told
+-- no call has failed and none was a flush, as far as it is reported
 abbrev pub IsWell : Calls → Type 0
 IsWell Calls.Untold = Unit {0}
 IsWell Calls.Unfailing = Unit {0}

@@ -5,7 +5,7 @@ use Rattle.line_filter.specs.declared.finding.Finding.{Finding}
 use Rattle.line_filter.specs.declared.stop.Stop.{Stop}
 use Rattle.line_filter.specs.declared.tally.Tally.{Tally}
 
--- it is no fault
+-- it is not a fault
 abbrev pub IsFaultless : {F : Type 0} → Finding F → Type 0
 IsFaultless Finding.TooLong = ⊥
 IsFaultless Finding.PassedOver = Unit {0}
@@ -77,8 +77,8 @@ pub record StopsBefore {X F : Type 0} (items : Items X F) (text : List ℕ) (num
   pub counted : number ≡ length before + 1
   pub passes : Passes items.sieve before text tally
 
--- Memory was refused for the item of this number; those before it came in whole, none is at fault, and the text is that
--- of the kept ones among them.
+-- An allocation failed for the item of this number; those before it came in whole, none is at fault, and the text is
+-- that of the kept ones among them.
 pub record StopsOn {X F : Type 0} (items : Items X F) (text : List ℕ) (number : ℕ) : Type 0 where
   pub before : List X
   pub here : X
@@ -106,8 +106,8 @@ Stops items text (Stop.Read line) = StopsBefore items text line
 Stops items text Stop.Write = StopsWithin items text
 Stops items text (Stop.Memory line) = StopsBefore items text line
 
--- that, where it is said too for which item memory was refused; `Lacks` says of a text and a number that this item did
--- not come
+-- that, where it is said too for which item an allocation failed; `Lacks` says of a text and a number that this item
+-- did not come
 abbrev pub StopsWith : {X F : Type 0} → Items X F → (List ℕ → ℕ → Type 0) → List ℕ → Stop F → Type 0
 StopsWith items Lacks text (Stop.Fault line fault) = StopsAt items text line (Finding.Judged (Judgment.Fault fault))
 StopsWith items Lacks text (Stop.TooLong line) = StopsAt items text line Finding.TooLong
@@ -119,7 +119,7 @@ StopsWith items Lacks text (Stop.Memory line) = Lacks text line ⊎ StopsOn item
 abbrev pub StopsHeld : {X F : Type 0} → Items X F → List ℕ → Stop F → Type 0
 StopsHeld items text stop = StopsWith items (λ text line. ⊥) text stop
 
--- the stop is told of an item, and of no device
+-- the stop is that of an item, not of a device
 abbrev pub IsOfItem : {F : Type 0} → Stop F → Type 0
 IsOfItem (Stop.Read line) = ⊥
 IsOfItem Stop.Write = ⊥

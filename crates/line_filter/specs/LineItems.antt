@@ -16,7 +16,7 @@ IsFoundOf judge line Finding.PassedOver = (length line ≤ longest_line) × IsBl
 IsFoundOf judge line (Finding.Judged judgment) =
     (length line ≤ longest_line) × (IsBlank line → ⊥) × judge line judgment
 
--- a kept line is written with its bytes unchanged, and LF behind it
+-- a kept line is written with its bytes unchanged, and LF after it
 abbrev pub line_sieve : {F : Type 0} → LineJudge F → Sieve (List ℕ) F
 line_sieve judge = record { finds = IsFoundOf judge; text_of = text_of_line }
 

@@ -14,11 +14,11 @@ pub record LineSource (R : Type 0) : Type 0 where
   pub unread : ℕ
   pub course : Course
 
--- what is left: the bytes not given yet, and all that the reader still has, where it tells that
+-- what is left: the bytes not given yet, and all that the reader still has, where it reports that
 abbrev pub left_of : {R : Type 0} → (R → Option (List ℕ)) → LineSource R → Option (List ℕ)
 left_of remaining source = prepend_known source.waiting (remaining source.reader)
 
--- The first line of these bytes, and what stands behind it, past its LF if it has one.
+-- The first line of these bytes, and what follows it, past its LF if it has one.
 pub record IsFirstLine (bytes line rest : List ℕ) : Type 0 where
   pub first : lines_of bytes ≡ line ∷ lines_of rest
   pub behind : (bytes ≡ line ++ 10 ∷ rest) ⊎ ((bytes ≡ line) × (rest ≡ []))
@@ -38,10 +38,10 @@ WhereKnown None new P = ⊤
 WhereKnown (Some bytes) None P = ⊥
 WhereKnown (Some bytes) (Some rest) P = P bytes rest
 
--- the line is the first one of what was left, and what stands behind it is left now
+-- the line is the first one of what was left, and what follows it is left now
 abbrev pub GivesLine : Option (List ℕ) → Option (List ℕ) → List ℕ → Type 0
 GivesLine old new line = WhereKnown old new (λ bytes rest. IsFirstLine bytes line rest)
 
--- it has come to the end: nothing waits, and the reader told its end
+-- it has reached the end: nothing waits, and the reader reported its end
 abbrev pub IsOver : {R : Type 0} → LineSource R → Type 0
 IsOver source = (source.course ≡ Course.AtEnd) × (source.waiting ≡ [])

@@ -36,13 +36,14 @@ abbrev pub IsReadOut : {R : Type 0} → (R → Option (List ℕ)) → LineSource
 IsReadOut remaining old new = (new.unread ≡ 0) × IfSome (remaining old.reader) (λ bytes. old.unread ≤ length bytes)
 
 -- Why no more was read: the last read failed; or each did its work, and as many bytes were read as may be, or it had
--- been told before.
+-- been reported before.
 abbrev pub WhyUnread : {R : Type 0} → (R → Calls) → (R → Option (List ℕ)) → LineSource R → LineSource R → Type 0
 WhyUnread calls remaining old new =
     FailsLast (calls old.reader) (calls new.reader)
     ⊎ (ReadWell calls old new × (IsReadOut remaining old new ⊎ (old.course ≡ Course.Failed LineFault.Read)))
 
--- which reads a run made before this stop: a stop for want of reads says why, and before any other each did its work
+-- which reads a run made before this stop: a stop for a line that did not come says why, and before any other each did
+-- its work
 abbrev pub ReadsUntil :
     {R F : Type 0} → (R → Calls) → (R → Option (List ℕ)) → LineSource R → LineSource R → Stop F → Type 0
 ReadsUntil calls remaining old new (Stop.Read line) = WhyUnread calls remaining old new

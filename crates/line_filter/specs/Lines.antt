@@ -12,11 +12,11 @@ abbrev pub lines_of : List ℕ → List (List ℕ)
 lines_of [] = []
 lines_of (b ∷ bs) = if b == 10 then [] ∷ lines_of bs else with_first b (lines_of bs)
 
--- a line and the LF behind it
+-- a line and the LF after it
 abbrev pub text_of_line : List ℕ → List ℕ
 text_of_line line = line ++ 10 ∷ []
 
--- each line and the LF behind it
+-- each line and the LF after it
 abbrev pub text_of_lines : List (List ℕ) → List ℕ
 text_of_lines lines = flat_map text_of_line lines
 

@@ -5,13 +5,13 @@ use Rattle.line_filter.specs.declared.finding.Finding.{Finding}
 use Rattle.line_filter.specs.Kept.{IsFaultless}
 use Rattle.line_filter.specs.LineItems.{LineJudge}
 
--- the judgment, whatever a fault tells
+-- the judgment, whatever a fault reports
 abbrev pub kind_of : {F : Type 0} → Judgment F → Judgment (Unit {0})
 kind_of Judgment.Kept = Judgment.Kept
 kind_of Judgment.LeftOut = Judgment.LeftOut
 kind_of (Judgment.Fault fault) = Judgment.Fault tt
 
--- what was found, whatever a fault tells
+-- what was found, whatever a fault reports
 abbrev pub kind_found : {F : Type 0} → Finding F → Finding (Unit {0})
 kind_found Finding.TooLong = Finding.TooLong
 kind_found Finding.PassedOver = Finding.PassedOver

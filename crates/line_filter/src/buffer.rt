@@ -101,7 +101,7 @@ impl Buffer {
         }
     }
 
-    /// Gives the line of this length, behind which an LF stands.
+    /// Gives the line of this length, after which an LF stands.
     pub fn give_line(&mut self, count: usize)
         requires { count < length self.old.waiting }
         ensures line { self.new.line ≡ take count self.old.waiting }
@@ -156,7 +156,7 @@ impl Buffer {
         self.bytes.resize(wanted, 0)
     }
 
-    /// One read of at most so many bytes behind those that wait. It answers how many came; none mean the reader's end.
+    /// One read of at most so many bytes after those that wait. It returns how many came; none mean the reader's end.
     pub fn fill<R: Read, S: Reads<R>>(
         &mut self,
         reader: &mut R,
@@ -184,7 +184,7 @@ impl Buffer {
     }
 }
 
-/// One read into these bytes, from the one place to the other.
+/// One read into these bytes, from the one offset to the other.
 fn read_at<R: Read, S: Reads<R>>(
     reader: &mut R,
     bytes: &mut [u8],

@@ -1,13 +1,13 @@
-//! What a device tells of its calls.
+//! What a device reports about its calls.
 ghost use Rattle.std.specs.Prelude.{◌≡◌};
 ghost use Rattle.line_filter.specs.DeviceCalls.{after_work, after_flush, after_failure};
 
-/// What a device tells of its calls so far. A call is a read, a write or a flush.
+/// A device's record of its calls so far. A call is a read, a write or a flush.
 #[derive(Clone, Copy, Debug, PartialEq, Eq)]
 pub enum Calls {
-    /// It tells nothing.
+    /// It reports nothing.
     Untold,
-    /// None of its calls ever fails; of flushes nothing is told.
+    /// None of its calls ever fails; of flushes nothing is reported.
     Unfailing,
     /// No call has failed, and none was a flush.
     Well,
@@ -15,12 +15,12 @@ pub enum Calls {
     Flushed,
     /// The last call has failed, the first one to do so, and none was a flush.
     Failed,
-    /// A call came behind a flush or a failed one.
+    /// A call came after a flush or a failed one.
     Behind,
 }
 
 impl Calls {
-    /// Behind one more call, which did its work.
+    /// Returns the calls with one more, which did its work.
     pub fn worked(self) -> Calls
         ensures { result ≡ after_work self }
     {
@@ -32,7 +32,7 @@ impl Calls {
         }
     }
 
-    /// Behind one more call, a flush that did its work.
+    /// Returns the calls with one more, a flush that did its work.
     pub fn flushed(self) -> Calls
         ensures { result ≡ after_flush self }
     {
@@ -44,7 +44,7 @@ impl Calls {
         }
     }
 
-    /// Behind one more call, which failed.
+    /// Returns the calls with one more, which failed.
     pub fn failed(self) -> Calls
         ensures { result ≡ after_failure self }
     {

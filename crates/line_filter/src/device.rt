@@ -1,4 +1,4 @@
-//! How devices are called, and what they tell of their calls. Whatever is said of failed calls is said by this.
+//! How devices are called, and what they report about their calls. Whatever is said of failed calls is said by this.
 ghost use Rattle.std.specs.Prelude.{◌≡◌, ◌<◌, ◌≤◌, [], length, IfOk, OnErr, OnOk};
 ghost use Rattle.std.specs.Io.{ReadsAtMost, WritesAtMost};
 ghost use Rattle.std.specs.Io.KnownBytes.{Keeps, ReadConsumes, WriteAppends};
@@ -19,12 +19,12 @@ pub struct NotRead;
 #[error("write")]
 pub struct NotWritten;
 
-/// How a reader is read, and what it tells of its calls. Every error is a failure, an interrupted call too.
+/// The way to read a reader, and what it reports about its calls. Every error is a failure, an interrupted call too.
 ///
-/// What it tells must be the device's own record, made where the device is called and nowhere else: the clauses are
+/// What it reports must be the device's own record, made where the device is called and nowhere else: the clauses are
 /// worth as much as that.
 pub trait Reads<R: Read> {
-    // What the reader tells of its calls so far.
+    // What the reader reports about its calls so far.
     ghost calls: { R → Calls };
 
     /// Calls `read` once, for some bytes, and for 65,536 at most. Nothing of what is kept is held back by then.
@@ -38,12 +38,12 @@ pub trait Reads<R: Read> {
         ensures failed { OnErr result (calls reader.new ≡ after_failure (calls reader.old)) };
 }
 
-/// How a writer is written to and flushed, and what it tells of its calls. Every error is a failure, an interrupted
-/// call too.
+/// The way to write to a writer and flush it, and what it reports about its calls. Every error is a failure, an
+/// interrupted call too.
 ///
-/// As with [`Reads`], what it tells must be the device's own record.
+/// As with [`Reads`], what it reports must be the device's own record.
 pub trait Writes<W: Write> {
-    // What the writer tells of its calls so far.
+    // What the writer reports about its calls so far.
     ghost calls: { W → Calls };
 
     /// Calls `write` once, for some bytes. Where it takes none of them it has failed.

@@ -20,7 +20,7 @@ use super::walk::{Progress, keep_lines};
 use std::alloc::Global;
 use std::io::{Read, Write};
 
-/// What a run answers once its lines have been judged.
+/// What a run returns once its lines have been judged.
 fn finish<F: Drop, W: Write, T: Writes<W>>(
     progress: Progress<F>,
     out: &mut W,
@@ -45,15 +45,14 @@ fn finish<F: Drop, W: Write, T: Writes<W>>(
 
 /// Judges each line as it comes and writes those that are kept, unchanged and each followed by LF.
 ///
-/// A line of spaces, tabs and CRs alone is passed over. The first line at fault ends the run: `TooLong`, or `Fault`
-/// with what the judge answered. Where a read fails, or memory is refused, the lines that are complete are judged
-/// first, and then the answer is `Read` or `Memory`. A write that fails or takes no byte is `Write`, and so is a failed
-/// flush; it comes once, where the run would be `Ok`. An interrupted call has failed. At most 2^63 - 1 bytes are read,
-/// 65,536 at a time. What is kept of the lines that came is written before more is read, or as soon as it is more than
-/// 65,536 bytes.
+/// A line of spaces, tabs and CRs alone is skipped. The first faulty line ends the run with `TooLong`, or with `Fault`
+/// and what the judge returned. If a read or an allocation fails, the complete lines are judged first, and then the
+/// result is `Read` or `Memory`. `Write` reports a write that fails or takes no byte, and a failed flush; the one flush
+/// comes where the run would be `Ok`. An interrupted call has failed. At most 2^63 - 1 bytes are read, 65,536 at a
+/// time. Kept lines are written before more is read, or as soon as they are more than 65,536 bytes.
 ///
-/// How the devices are called, and what they tell of it, is `S` and `T`. That one failed is told only where it did, by
-/// its last call; and it is told which line did not come.
+/// `S` and `T` say how the devices are called, and what they report of it. A failure is reported only if the device's
+/// last call failed, and with the number of the line that did not come.
 pub fn filter_reader<R: Read, S: Reads<R>, J: Judge, W: Write, T: Writes<W>>(
     alloc: Global,
     judge: &mut J,
@@ -79,11 +78,11 @@ pub fn filter_reader<R: Read, S: Reads<R>, J: Judge, W: Write, T: Writes<W>>(
     }
 }
 
-/// Judges the lines of bytes that stand in memory, and puts those that are kept after what a vector holds, unchanged and
-/// each followed by LF.
+/// Judges the lines of bytes in memory, and appends those that are kept to a vector. They are unchanged and each
+/// followed by LF.
 ///
-/// Lines are judged as by [`filter_reader`]. No device is called, so the answer is neither `Read` nor `Write`: where a
-/// kept line finds no room it is `Memory`, and the vector has the kept lines before it.
+/// Lines are judged as by [`filter_reader`]. No device is called, so the result is neither `Read` nor `Write`. If an
+/// allocation for a kept line fails it is `Memory`, and the vector has the kept lines before it.
 pub fn filter_bytes<J: Judge>(
     judge: &mut J,
     bytes: &[u8],
@@ -107,11 +106,11 @@ pub fn filter_bytes<J: Judge>(
     }
 }
 
-/// Judges the items of a list one by one, and writes the places of those that are kept, counted from 0, in decimal and
-/// each followed by LF.
+/// Judges the items of a list one by one, and writes the indexes of those that are kept. They are counted from 0, in
+/// decimal and each followed by LF.
 ///
-/// The first item at fault ends the run with `Fault`, whose number is the item's place plus one. A write that fails or
-/// takes no byte is `Write`, and so is a failed flush. Up to 65,536 bytes are held back before they are written.
+/// The first faulty item ends the run with `Fault`, whose number is the item's index plus one. `Write` reports a write
+/// that fails or takes no byte, and a failed flush. Up to 65,536 bytes are held back before they are written.
 pub fn filter_places<J: JudgeItem, W: Write, T: Writes<W>>(
     alloc: Global,
     judge: &J,

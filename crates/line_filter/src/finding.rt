@@ -8,7 +8,7 @@ use std::alloc::AllocError;
 /// The most bytes that a line may have before its LF.
 pub const LONGEST_LINE: usize = 1_048_576;
 
-/// What is found of any item. A line that is too long or blank is not judged; items of other kinds may all be.
+/// The finding about an item. A line that is too long or blank is not judged; items of other kinds may all be.
 #[derive(Debug, Drop)]
 pub enum Finding<F> {
     TooLong,

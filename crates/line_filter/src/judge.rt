@@ -4,7 +4,7 @@ ghost use Rattle.line_filter.specs.Places.{ItemJudge};
 
 use std::alloc::AllocError;
 
-/// What a judge says of an item: of a line that is neither too long nor blank, or of what stands in a list.
+/// The judgment of an item. The item is a line that is neither too long nor blank, or what stands in a list.
 #[derive(Debug, Drop)]
 pub enum Judgment<F> {
     Kept,
@@ -20,7 +20,7 @@ pub trait Judge {
     // What may be said of a line. It depends on the line alone.
     ghost says: { Self → LineJudge Self.Fault };
 
-    /// Judges one line, without its LF. `Err` says that memory was refused, and ends the run.
+    /// Judges one line, without its LF. `Err` says that an allocation failed, and ends the run.
     fn judge(&mut self, line: &[u8]) -> Result<Judgment<Self::Fault>, AllocError>
         ensures said { IfOk result (says self.old line.now) }
         ensures same { SaysTheSame (says self.old) (says self.new) };
@@ -37,7 +37,7 @@ pub trait JudgeItem {
     // What may be said of an item. It depends on the item alone.
     ghost says: { Self → ItemJudge Self.Item Self.Fault };
 
-    /// Judges one item. `Err` says that memory was refused, and ends the run.
+    /// Judges one item. `Err` says that an allocation failed, and ends the run.
     fn judge_item(&self, item: &Self::Item) -> Result<Judgment<Self::Fault>, AllocError>
         ensures { IfOk result (says self.now item.now) };
 }

@@ -9,17 +9,17 @@ ghost use Rattle.line_filter.specs.Once.{IsFaulty, JudgesOnce, kind_found};
 use super::judge::Judge;
 use std::io::{Read, Write};
 
-/// A slice of bytes tells, as a reader, what remains of it: all its bytes. A vector of bytes tells, as a writer, what
-/// it holds. So what [`filter_reader`](super::filter_reader) says of readers and writers that tell their bytes holds
-/// of these.
+/// A slice of bytes reports, as a reader, what remains of it: all its bytes. A vector of bytes reports, as a writer,
+/// what it holds. So what [`filter_reader`](super::filter_reader) says of readers and writers that report their bytes
+/// holds of these.
 pub fn slices_tell_their_bytes(bytes: &[u8], out: &Vec<u8>)
     ensures reader { ⟦<&'static [u8] as Read>⟧.remaining bytes.entry ≡ Some bytes.now }
     ensures writer { ⟦<Vec<u8> as Write>⟧.contents out.now ≡ Some out.now.items }
 {}
 
-/// Where the judge says judgments of one kind of each line, one kind is found of a line, one line of an input is the
-/// first at fault, and none where all pass. One text is kept, of all lines or of those before the first at fault; all
-/// lines have one tally.
+/// At most one line of an input is the first at fault. That is where the judge says judgments of one kind of each line;
+/// then one kind is found of a line, and none is at fault where all pass. One text is kept, of all lines or of those
+/// before the first at fault; all lines have one tally.
 pub fn lines_stop_once<J: Judge>(judge: &J)
     requires { JudgesOnce (J.says judge.now) }
     ensures found { (line : List ℕ) (f g : FindingModel J.Fault)

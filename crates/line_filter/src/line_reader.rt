@@ -17,7 +17,7 @@ use std::io::Read;
 use std::marker::Model;
 use thiserror::Error;
 
-/// The most bytes that are read: behind them the next read counts as failed.
+/// The most bytes that are read: after them the next read counts as failed.
 const MOST_BYTES: usize = 0x7fff_ffff_ffff_ffff;
 
 /// Why there is no next line.
@@ -29,7 +29,7 @@ pub enum LineFault {
     /// A read failed, or 2^63 - 1 bytes were read.
     #[error("a read failed")]
     Read,
-    /// Memory was refused.
+    /// An allocation failed.
     #[error("out of memory")]
     Memory,
 }
@@ -50,7 +50,7 @@ pub enum Next {
     Fault(LineFault),
 }
 
-/// Gives the lines of a reader one by one, each lent from the one buffer that it keeps.
+/// Gives the lines of a reader one by one, each borrowed from its one buffer.
 ///
 /// It asks the reader for at most 65,536 bytes at a time, and only when it holds no whole line.
 #[derive(Drop)]
@@ -74,7 +74,7 @@ impl<R: Read> Model for LineReader<R> {
 }
 
 impl<R: Read> LineReader<R> {
-    /// It takes no memory before the first line is asked for.
+    /// Creates a reader of lines. It takes no memory before the first line is asked for.
     pub fn new(alloc: Global, reader: R) -> LineReader<R>
         ensures reader { result.reader ≡ reader }
         ensures waiting { result.waiting ≡ [] }
@@ -91,7 +91,7 @@ impl<R: Read> LineReader<R> {
         }
     }
 
-    /// The length of the buffer, in bytes.
+    /// Returns the length of the buffer, in bytes. It is at most 1,114,112.
     pub fn held(&self) -> usize
         ensures length { result ≡ self.now.held }
         ensures bounded { result ≤ most_held }
@@ -99,14 +99,14 @@ impl<R: Read> LineReader<R> {
         self.buffer.held()
     }
 
-    /// The reader beneath, to look at.
+    /// Returns the reader beneath, to look at.
     pub fn reader(&self) -> &R
         ensures { result.now ≡ self.now.reader }
     {
         &self.reader
     }
 
-    /// How many bytes may still be given, so how many lines at the most.
+    /// How many bytes may still be given, so how many lines at most.
     pub(crate) fn to_come(&self) -> usize
         ensures exact { result ≡ bytes_to_come self.now }
         ensures few { result < 2 ^ 64 - 1 }
@@ -121,7 +121,7 @@ impl<R: Read> LineReader<R> {
         self.buffer.line()
     }
 
-    /// Gives the line that is held whole, if there is one, or tells that the line is too long.
+    /// Gives the line that is held whole, if there is one, or reports that the line is too long.
     fn give_held(&mut self) -> Option<Next>
         requires { self.old.course ≡ Course.Open }
         ensures given { MatchOption result (IsNoWholeLine self.old.waiting × (self.new ≡ self.old))
@@ -148,7 +148,7 @@ impl<R: Read> LineReader<R> {
         Some(Next::Line)
     }
 
-    /// Gives what waits behind the last LF, once the reader has come to its end.
+    /// Gives what waits after the last LF, once the reader has reached its end.
     fn give_last(&mut self) -> Next
         requires { self.old.course ≡ Course.AtEnd }
         ensures given { Gives R.remaining self.old self.new result }
@@ -224,10 +224,10 @@ impl<R: Read> LineReader<R> {
         }
     }
 
-    /// The next line without its LF, or `None` where no byte is left.
+    /// Reads the next line without its LF, or `None` if no byte is left.
     ///
-    /// `TooLong` comes once more than 1,048,576 bytes of a line are held, whatever would follow. After a fault every
-    /// call answers the same fault, and after the end every call answers `None`.
+    /// `TooLong` is returned once more than 1,048,576 bytes of a line are held, whatever would follow. After a fault
+    /// every call returns the same fault, and after the end every call returns `None`.
     pub fn next_line(&mut self) -> Result<Option<&[u8]>, LineFault>
         ensures* left { sem 𝓛 (Rests (the_row R.row R.Read) self.entry (λ new. MatchResult result
             (λ next. MatchOption next (IsOver new × Keeps (left_of R.remaining self.old) (left_of R.remaining new))

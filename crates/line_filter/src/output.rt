@@ -10,8 +10,8 @@ use std::io::Write;
 /// How many bytes are held back before they are written together.
 const HELD_BACK: usize = 65_536;
 
-/// Writes all the bytes, by as many calls as the writer wants. Unlike `write_all`, it takes every error as one, an
-/// interrupted write too, and calls nothing behind it.
+/// Writes all the bytes, by as many calls as the writer needs. Unlike `write_all`, it takes every error as a failure,
+/// an interrupted write too, and calls nothing after it.
 pub fn write_out<W: Write, T: Writes<W>>(out: &mut W, bytes: &[u8]) -> Result<(), NotWritten>
     ensures ok { OnOk result (Appends (W.contents out.old) (W.contents out.new) bytes.now) }
     ensures err { OnErr result (WritesFront (W.contents out.old) (W.contents out.new) bytes.now) }
@@ -41,7 +41,7 @@ pub fn release<W: Write, T: Writes<W>>(out: &mut W, held: &mut Vec<u8>) -> Resul
     Ok(())
 }
 
-/// Writes what is held back, unless so many bytes more may be held beside it.
+/// Writes what is held back, unless so many bytes more may be held with it.
 fn make_room<W: Write, T: Writes<W>>(
     out: &mut W,
     held: &mut Vec<u8>,
@@ -58,7 +58,7 @@ fn make_room<W: Write, T: Writes<W>>(
     Ok(())
 }
 
-/// Holds the bytes back behind those that are held, or writes them where memory to hold them is refused.
+/// Holds the bytes back after those that are held, or writes them where memory to hold them cannot be had.
 pub fn hold<W: Write, T: Writes<W>>(
     out: &mut W,
     held: &mut Vec<u8>,

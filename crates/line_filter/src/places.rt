@@ -72,7 +72,7 @@ fn judge_items<J: JudgeItem, W: Write, T: Writes<W>>(
     })
 }
 
-/// Judges the items up to the first fault, and writes the places of the kept ones.
+/// Judges the items up to the first fault, and writes the indexes of the kept ones.
 pub fn write_kept_places<J: JudgeItem, W: Write, T: Writes<W>>(
     alloc: Global,
     judge: &J,

@@ -10,8 +10,8 @@ use std::io;
 use std::io::{Read, Write};
 use std::marker::Model;
 
-/// A device, and what became of its calls. A call is added where the device is called, and none can be taken back; who
-/// needs the device afterwards lends it.
+/// A device, and what became of its calls. A call is added where the device is called, and none can be taken back. To
+/// use the device afterwards, pass it by reference.
 #[derive(Debug, Drop)]
 pub struct Recorded<D> {
     device: D,
@@ -27,7 +27,7 @@ impl<D> Model for Recorded<D> {
 }
 
 impl<D> Recorded<D> {
-    /// A device of which no call was made yet.
+    /// Creates a record of a device that has not been called yet.
     pub fn new(device: D) -> Recorded<D>
         ensures { result ≡ record { device = device; calls = Calls.Well } }
     {
@@ -37,7 +37,7 @@ impl<D> Recorded<D> {
         }
     }
 
-    /// What became of its calls so far.
+    /// Returns what became of its calls so far.
     pub fn calls(&self) -> Calls
         ensures { result ≡ self.now.calls }
     {

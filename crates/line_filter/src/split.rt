@@ -3,7 +3,7 @@ ghost use Rattle.line_filter.specs.Lines.{lines_of};
 
 use memchr::memchr;
 
-/// The first line and what stands behind it and its LF.
+/// The first line and what follows it and its LF.
 pub fn first_line(bytes: &[u8]) -> (&[u8], &[u8])
     requires { 0 < length bytes.now }
     ensures lines { lines_of bytes.now ≡ result.0.now ∷ lines_of result.1.now }

@@ -17,7 +17,7 @@ pub enum Stop<F> {
     /// A write or the last flush failed.
     #[error("a write failed")]
     Write,
-    /// Memory was refused in this line, or while it was read.
+    /// An allocation failed in this line, or while it was read.
     #[error("out of memory in line {line}")]
     Memory { line: u64 },
 }

@@ -9,7 +9,7 @@ use super::device::{NotRead, NotWritten, Reads, Writes};
 use super::recorded::Recorded;
 use std::io::{Read, Sink, Write};
 
-/// For any reader and any writer. Nothing is told of their calls.
+/// The strategy for any reader and any writer. Nothing is reported about their calls.
 #[derive(Debug, Drop)]
 pub struct Untold;
 
@@ -44,7 +44,7 @@ impl<W: Write> Writes<W> for Untold {
     }
 }
 
-/// For devices that cannot fail: bytes in memory, and a writer that takes all and keeps nothing.
+/// The strategy for devices that cannot fail. They are bytes in memory, and a writer that takes all and keeps nothing.
 #[derive(Debug, Drop)]
 pub struct Unfailing;
 
@@ -79,7 +79,7 @@ impl Writes<Sink> for Unfailing {
     }
 }
 
-/// For devices that keep what became of their calls.
+/// The strategy for devices that keep what became of their calls.
 #[derive(Debug, Drop)]
 pub struct ByRecord;
 

@@ -50,7 +50,7 @@ fn next_line<R: Read, S: Reads<R>, W: Write, T: Writes<W>>(
     }
 }
 
-/// What a run answers where the line of this number does not come.
+/// What a run returns where the line of this number does not come.
 fn fault_stop<F>(fault: LineFault, line: u64) -> Stop<F>
     ensures { result ≡ fault_stop fault line }
 {

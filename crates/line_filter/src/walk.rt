@@ -13,7 +13,7 @@ use super::stop::Stop;
 use super::tally::Tally;
 use std::alloc::AllocError;
 
-/// How many lines passed, what they counted, and the stop behind them.
+/// How many lines passed, what they counted, and the stop after them.
 #[derive(Drop)]
 pub struct Progress<F> {
     pub lines: u64,
@@ -21,7 +21,7 @@ pub struct Progress<F> {
     pub stop: Option<Stop<F>>,
 }
 
-/// Puts a line and LF after what a vector holds, or nothing where memory is refused.
+/// Puts a line and LF after what a vector holds, or nothing where an allocation fails.
 fn put_line(line: &[u8], out: &mut Vec<u8>) -> Result<(), AllocError>
     ensures ok { OnOk result (out.new.items ≡ out.old.items ++ text_of_line line.now) }
     ensures err { OnErr result (out.new.items ≡ out.old.items) }

@@ -1,4 +1,4 @@
--- What a filter needs beside an entity (OData URL Conventions 4.01, section 5.1.1).
+-- What a filter needs besides an entity (OData URL Conventions 4.01, section 5.1.1).
 use Rattle.std.specs.Prelude.{◌≡◌, ℕ, List, [], ◌∷◌, Contains, codes}
 use Rattle.odata_syntax.specs.Spans.{IsWithin}
 use Rattle.odata_syntax.specs.Tree.{Tree, Trees, call, shape_of}

@@ -22,11 +22,12 @@ pub record Filter : Type 0 where
   pub list : FlatTree
   pub expansion : List StepModel
 
+-- a filter of these parts
 abbrev pub filter_of : SchemaModel → ℕ → FlatTree → List StepModel → Filter
 filter_of schema filtered list expansion =
     record { schema = schema; filtered = filtered; list = list; expansion = expansion }
 
--- what is kept of a filter apart from its schema, with that schema
+-- what is stored of a filter apart from its schema, with that schema
 abbrev pub filter_in : SchemaModel → StoredParts → Filter
 filter_in schema parts =
     record { schema = schema; filtered = parts.filtered; list = parts.list; expansion = parts.expansion }
@@ -35,6 +36,7 @@ filter_in schema parts =
 abbrev pub slots_for_filter : Filter → Slots
 slots_for_filter filter = expanded (slots_of filter.schema) (paths_in filter.expansion)
 
+-- the tree that a filter's list stands for
 abbrev pub tree_of_filter : Filter → Tree
 tree_of_filter filter = tree_of_nodes filter.list
 

@@ -6,8 +6,8 @@ use Rattle.odata_signatures.specs.Functions.{row_of}
 use Rattle.odata_checked_filter.specs.declared.checked_node.CheckedNode.{CheckedNode}
 use Rattle.odata_checked_filter.specs.declared.checked_node.NodeKind.{NodeKind}
 
--- the nodes, the values of their literals, and a text beside each node: a literal's spelling, a name (of a lambda operator
--- that of its variable), else nothing; and the text of the filter, of which these are parts
+-- the nodes, the values of their literals, and a text beside each node: a literal's spelling, a name (of a lambda
+-- operator that of its variable), else nothing; and the text of the filter, of which these are parts
 pub record FlatTree : Type 0 where
   pub nodes : List CheckedNode
   pub values : List Value
@@ -41,7 +41,7 @@ pub record PlacedTree : Type 0 where
   pub place : ℕ
   pub tree : Tree
 
--- of trees one behind another, those that start before a place
+-- of trees one after another, those that start before an index
 abbrev pub trees_before : ℕ → List PlacedTree → List Tree
 trees_before stop [] = []
 trees_before stop (t ∷ ts) = if nat_lt t.place stop then t.tree ∷ trees_before stop ts else []
@@ -51,13 +51,13 @@ abbrev pub trees_from : ℕ → List PlacedTree → List PlacedTree
 trees_from stop [] = []
 trees_from stop (t ∷ ts) = if nat_lt t.place stop then trees_from stop ts else t ∷ ts
 
--- a node's tree: its children are the trees behind it that start before it stops
+-- a node's tree: its children are the trees after it that start before it stops
 abbrev pub tree_at : List (List ℕ) → ℕ → CheckedNode → List PlacedTree → Tree
 tree_at texts i found behind =
     node found.span.start found.span.stop
     (shape_of_kind found.kind (unwrap_or (slice_get texts i) []) (trees_before found.stop behind))
 
--- the trees of the nodes from the i-th on, one behind another
+-- the trees of the nodes from the i-th on, one after another
 abbrev pub forest : List (List ℕ) → ℕ → List CheckedNode → List PlacedTree
 forest texts i [] = []
 forest texts i (found ∷ rest) =

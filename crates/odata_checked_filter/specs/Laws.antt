@@ -62,7 +62,7 @@ item_list =
 abbrev pub ItemListStands : Type 0
 ItemListStands = tree_of_nodes item_list ≡ active_and_id
 
--- what stands for a tree outside the places where a list has changed stands for it still
+-- what stands for a tree outside the indexes where a list has changed stands for it still
 abbrev pub KeptStands : Type 0
 KeptStands =
     (schema : SchemaModel) (n : ℕ) (scope : Scope) (old new : FlatTree) (i j from to : ℕ) (tree : Tree)
@@ -71,7 +71,7 @@ KeptStands =
     → Stands schema n scope old from to tree
     → Stands schema n scope new from to tree
 
--- where a node is put, the list changes in that place alone
+-- where a node is put, the list changes at that index alone
 abbrev pub PutChanges : Type 0
 PutChanges =
     (list : FlatTree) (place : ℕ) (put : CheckedNode) (text : List ℕ)

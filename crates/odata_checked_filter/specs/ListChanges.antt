@@ -1,4 +1,4 @@
--- How a list of nodes changes while its nodes are put in their places.
+-- How a list of nodes changes while its nodes are put at their indexes.
 use Rattle.std.specs.Prelude.{◌≡◌, ◌⊎◌, ◌<◌, ◌≤◌, ℕ, List, [], ◌∷◌, ◌++◌, Some, length, replicate, slice_get, slice_set}
 use Rattle.edm_values.specs.declared.value.Value.{Value}
 use Rattle.odata_signatures.specs.declared.edm_type.EdmType.{EdmType}
@@ -10,7 +10,7 @@ use Rattle.odata_checked_filter.specs.FlatTree.{FlatTree}
 abbrev pub no_nodes : FlatTree
 no_nodes = record { nodes = []; values = []; texts = []; source = [] }
 
--- what stands in a place before its node is put there
+-- what stands at an index before its node is put there
 abbrev pub nothing_yet : CheckedNode
 nothing_yet = record { kind = NodeKind.It; span = record { start = 0; stop = 0 }; edm_type = EdmType.Null; stop = 0 }
 
@@ -23,12 +23,13 @@ with_room list source count =
 abbrev pub with_value : FlatTree → Value → FlatTree
 with_value list value = record list { values = list.values ++ value ∷ [] }
 
--- with another node and another text in that place
+-- with another node and another text at that index
 abbrev pub node_put : FlatTree → ℕ → CheckedNode → List ℕ → FlatTree
 node_put list place put text =
     record list { nodes = slice_set list.nodes place put; texts = slice_set list.texts place text }
 
--- outside the places from the i-th up to the j-th all stands as it stood, and values have only been put after the others
+-- outside the indexes from the i-th up to the j-th all stands as it stood, and values have only been put after the
+-- others
 pub record IsKeptOutside (i j : ℕ) (old new : FlatTree) : Type 0 where
   pub nodes : (k : ℕ) → (k < i) ⊎ (j ≤ k) → slice_get new.nodes k ≡ slice_get old.nodes k
   pub texts : (k : ℕ) → (k < i) ⊎ (j ≤ k) → slice_get new.texts k ≡ slice_get old.texts k

@@ -8,7 +8,7 @@ use Rattle.odata_expression_types.specs.PreOrder.{pre_order}
 use Rattle.odata_expression_types.specs.Typed.{Scope, Typed}
 use Rattle.odata_checked_filter.specs.Stands.{InBody}
 
--- of two parts one behind the other, the number is that of a node of the first, which has so many, or of the second
+-- of two parts one after the other, the number is that of a node of the first, which has so many, or of the second
 abbrev pub InEither : ℕ → (ℕ → Type 0) → (ℕ → Type 0) → ℕ → Type 0
 InEither size First Second k = ((k < size) × First k) ⊎ ((j : ℕ) × (k ≡ size + j) × Second j)
 
@@ -46,7 +46,7 @@ abbrev mutual
       (λ j. InBody scope variable (Typed slots root scope base)
       (λ inner. IsNode slots root inner body j at part)) k
 
-  -- likewise of trees one behind another
+  -- likewise of trees one after another
   pub IsNodeAmong : Slots → List ℕ → Scope → Trees → ℕ → Scope → Tree → Type 0
   IsNodeAmong slots root scope no_trees k at part = ⊥
   IsNodeAmong slots root scope (more_trees tree trees) k at part =

@@ -55,7 +55,7 @@ unseen seen [] = []
 unseen seen (text ∷ texts) =
     if list_any (pointwise nat_eq text) seen then unseen seen texts else text ∷ unseen (seen ++ text ∷ []) texts
 
--- the paths of the properties that the nodes of a tree name, each once, in the order of the first node that does. A node
--- that names none has the empty path, which is left out
+-- the paths of the properties that the nodes of a tree name, each once, in the order of the first node that does. A
+-- node that names none has the empty path, which is left out
 abbrev pub property_paths : Tree → List (List ℕ)
 property_paths tree = unseen ([] ∷ []) (map path_text (node_paths [] [] tree))

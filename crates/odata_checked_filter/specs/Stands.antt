@@ -29,7 +29,7 @@ pub record IsValueOf (slots : Slots) (kind : LiteralKind) (spelling : List ℕ) 
   pub plain : plain_val value ≡ Some val
   pub value_of : LiteralValue slots kind spelling val
 
--- the kind of a literal's node: it has the place of the literal's value
+-- the kind of a literal's node: it has the index of the literal's value
 abbrev pub IsLiteralNode : Slots → List Value → LiteralKind → List ℕ → NodeKind → Type 0
 IsLiteralNode slots values kind spelling (NodeKind.Literal k place) =
     (k ≡ kind) × IsSomeAnd (slice_get values place) (IsValueOf slots kind spelling)
@@ -59,7 +59,7 @@ pub record IsUnreadNode (plain : NodeKind) (Unread : Type 0) (k : NodeKind) : Ty
   pub kind_is : k ≡ plain
   pub none : Unread
 
--- a node in which a literal is read as a number, which stands in a place of the values
+-- a node in which a literal is read as a number, which stands at an index of the values
 pub record IsPairedNode (values : List Value) (paired : ℕ → NodeKind) (Reads : ℤ → Type 0) (k : NodeKind) : Type 0 where
   pub place : ℕ
   pub number : ℤ
@@ -67,7 +67,7 @@ pub record IsPairedNode (values : List Value) (paired : ℕ → NodeKind) (Reads
   pub number_at : slice_get values place ≡ Some (Value.Enum number)
   pub reads : Reads number
 
--- the kind of an operator's node: by itself, or with the place of the number of its right side or of its left one
+-- the kind of an operator's node: by itself, or with the index of the number of its right side or of its left one
 abbrev pub IsOperatorNode : List Value → BinaryOperator → (ℤ → Type 0) → (ℤ → Type 0) → NodeKind → Type 0
 IsOperatorNode values operator ReadsRight ReadsLeft k =
     IsUnreadNode (NodeKind.Binary operator) (((n : ℤ) → ¬ ReadsRight n) × ((n : ℤ) → ¬ ReadsLeft n)) k
@@ -81,19 +81,19 @@ IsFlagsNode values ReadsRight k =
     IsUnreadNode NodeKind.Has ((n : ℤ) → ¬ ReadsRight n) k
     ⊎ IsPairedNode values (λ place. NodeKind.PairedHas place) ReadsRight k
 
--- in a place of the values stands the number of an item that is read; for any other one null
+-- at an index of the values stands the number of an item that is read; for any other one null
 abbrev pub IsItemNumber : List Value → Slots → (ExprType → Type 0) → Tree → ℕ → Type 0
 IsItemNumber values slots Beside item place =
     ((n : ℤ) × ReadsNumber slots Beside item n × (slice_get values place ≡ Some (Value.Enum n)))
     ⊎ (ReadsNone slots Beside item × (slice_get values place ≡ Some Value.Null))
 
--- likewise for each item, one behind another
+-- likewise for each item, one after another
 abbrev pub AreItemNumbers : List Value → Slots → (ExprType → Type 0) → Trees → ℕ → Type 0
 AreItemNumbers values slots Beside no_trees place = Unit {0}
 AreItemNumbers values slots Beside (more_trees item items) place =
     IsItemNumber values slots Beside item place × AreItemNumbers values slots Beside items (place + 1)
 
--- a node of `in` with the place from which on these stand
+-- a node of `in` with the index from which on these stand
 pub record IsNumberedList
     (values : List Value) (slots : Slots) (Beside : ExprType → Type 0) (items : Trees) (k : NodeKind) : Type 0 where
   pub place : ℕ
@@ -146,7 +146,7 @@ pub record IsTop
   pub typed :
       Typed (slots_of schema) (type_name_at schema n) scope (node start stop shape) (expr_type schema found.edm_type)
 
--- a node, and what stands behind it for its children
+-- a node, and what follows it for its children
 pub record HasTop (Top Children : Type 0) : Type 0 where
   pub top : Top
   pub children : Children
@@ -164,7 +164,7 @@ pub record InBody (scope : Scope) (variable : List ℕ) (Base : ExprType → Typ
   pub binds : BindsVariable scope variable Base member_type
   pub body : Body (with_variable scope variable (single member_type))
 
--- parts one behind another, from one place up to another
+-- parts one after another, from one index up to another
 abbrev pub InLine : List (ℕ → ℕ → Type 0) → ℕ → ℕ → Type 0
 InLine [] i j = i ≡ j
 InLine (Part ∷ parts) i j = SideBySide (λ middle. Part i middle) (λ middle. InLine parts middle j)
@@ -208,7 +208,7 @@ abbrev mutual
   tree_parts schema n scope list (more_trees tree trees) =
       (λ i j. Stands schema n scope list i j tree) ∷ tree_parts schema n scope list trees
 
--- the nodes from the i-th up to the j-th stand for the children of the shape, one behind another
+-- the nodes from the i-th up to the j-th stand for the children of the shape, one after another
 abbrev pub ChildrenStand : SchemaModel → ℕ → Scope → FlatTree → ℕ → ℕ → Shape → Type 0
 ChildrenStand schema n scope list i j shape = InLine (child_parts schema n scope list shape) i j
 

@@ -18,7 +18,7 @@ primitive_name PrimitiveType.Date = codes "Edm.Date"
 primitive_name PrimitiveType.DateTimeOffset = codes "Edm.DateTimeOffset"
 primitive_name PrimitiveType.Guid = codes "Edm.Guid"
 
--- that of the type of one value, as the schema tells it; no text where the schema has no such type
+-- that of the type of one value, as the schema has it; no text where the schema has no such type
 abbrev pub value_type_text : SchemaModel → ValueType → List ℕ
 value_type_text schema (ValueType.Prim p) = primitive_name p
 value_type_text schema (ValueType.Enum id) = unwrap_or (name_of_kind is_enumeration schema id) []

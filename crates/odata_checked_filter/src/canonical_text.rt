@@ -20,11 +20,11 @@ use std::alloc::{AllocError, Global};
 /// What is still to be written.
 #[derive(Clone, Copy, Debug)]
 pub(crate) enum Part {
-    /// The node at a place, in parentheses where it binds less tightly than needed.
+    /// The node at an index, in parentheses where it binds less tightly than needed.
     Operand { place: usize, needed: u8 },
-    /// What the node at a place has after its first operand.
+    /// What the node at an index has after its first operand.
     Joint { place: usize },
-    /// Further arguments, from a place up to another, each after a comma.
+    /// Further arguments, from an index up to another, each after a comma.
     Further { place: usize, stop: usize },
     /// The end of a group.
     Close,
@@ -156,7 +156,7 @@ fn write_operand(
     Ok(())
 }
 
-/// Writes what the operand at a place has before its first operand, and puts the rest on the stack. The level that the
+/// Writes what the operand at an index has before its first operand, and puts the rest on the stack. The level that the
 /// first operand, which is the next node, needs; none where that waits, or there is none.
 fn write_front(
     list: &NodeList,

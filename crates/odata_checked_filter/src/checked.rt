@@ -57,7 +57,8 @@ impl<'s> Model for Checked<'s> {
 }
 
 impl<'s> Checked<'s> {
-    /// The filter of a list that stands for a tree of type Boolean or Null, with what that needs of navigation.
+    /// Creates the filter of a list that stands for a tree of type Boolean or Null. It stores what that needs of
+    /// navigation.
     pub fn new(
         schema: &'s Schema,
         filtered_type: TypeId,
@@ -70,7 +71,7 @@ impl<'s> Checked<'s> {
         Checked::of(schema, filtered_type, KeptList::Own(list, expansion))
     }
 
-    /// The same, wherever the list is kept.
+    /// The same, wherever the list is stored.
     pub(crate) fn of(schema: &'s Schema, filtered_type: TypeId, list: KeptList<'s>) -> Checked<'s>
         requires { IsFilter (filter_of schema.now filtered_type (list_in list) (expansion_in list)) }
         ensures { result ≡ filter_of schema.entry.now filtered_type (list_in list.entry) (expansion_in list.entry) }
@@ -82,14 +83,14 @@ impl<'s> Checked<'s> {
         }
     }
 
-    /// The schema that the filter was checked against.
+    /// Returns the schema that the filter was checked against.
     pub fn schema(&self) -> &'s Schema
         ensures { result.now ≡ self.now.schema }
     {
         self.schema
     }
 
-    /// The type of the entities that it filters.
+    /// Returns the type of the entities that it filters.
     pub fn filtered_type(&self) -> TypeId
         ensures same { result ≡ self.now.filtered }
         ensures held { HoldsType self.now.schema result }
@@ -97,7 +98,7 @@ impl<'s> Checked<'s> {
         self.filtered_type
     }
 
-    /// The paths of its nodes that end with a navigation property: what a row must have expanded.
+    /// Returns the paths of its nodes that end with a navigation property: what a row must have expanded.
     pub fn expansion(&self) -> &Expansion
         ensures same { result.now ≡ self.now.expansion }
         ensures right { IsFilter self.now }
@@ -105,7 +106,7 @@ impl<'s> Checked<'s> {
         self.list.expansion()
     }
 
-    /// The nodes of the tree in pre-order, each with its kind, its span, its type and where it stops.
+    /// Returns the tree's nodes in pre-order, each with its kind, its span, its type and where it stops.
     pub fn nodes(&self) -> &[CheckedNode]
         ensures same { result.now ≡ self.now.list.nodes }
         ensures right { IsFilter self.now }
@@ -113,8 +114,8 @@ impl<'s> Checked<'s> {
         self.list().nodes()
     }
 
-    /// The text beside a node: a literal's spelling, a name, of a lambda operator the name of its range variable, else
-    /// nothing.
+    /// Returns the text of a node: a literal's spelling, a name, or nothing. Of a lambda operator it is the name of its
+    /// range variable.
     pub fn text(&self, node: usize) -> &str
         requires { node < length self.now.list.nodes }
         ensures { slice_get self.now.list.texts node ≡ Some result.now }
@@ -122,7 +123,7 @@ impl<'s> Checked<'s> {
         self.list().text(node)
     }
 
-    /// The values, to which the nodes of literals have the places.
+    /// Returns the values of the literals, at the indexes that their nodes name.
     pub fn values(&self) -> &[Value]
         ensures { result.now ≡ self.now.list.values }
     {
@@ -145,14 +146,14 @@ impl<'s> Checked<'s> {
         self.nodes().get(number)
     }
 
-    /// How many nodes the tree has.
+    /// Returns how many nodes the tree has.
     pub fn node_count(&self) -> usize
         ensures { result ≡ length (pre_order (tree_of_filter self.now)) }
     {
         self.nodes().len()
     }
 
-    /// The type of a node, numbered from 0 in pre-order. `None` past the last node.
+    /// Returns the type of a node, numbered from 0 in pre-order. `None` past the last node.
     pub fn type_of(&self, node: usize) -> Option<EdmType>
         ensures inside { IsSome result ↔ (node < length (pre_order (tree_of_filter self.now))) }
         ensures typed { IfSome result (λ t. IsTypeAt self.now node (expr_type self.now.schema t)) }
@@ -163,7 +164,7 @@ impl<'s> Checked<'s> {
         }
     }
 
-    /// The span of a node, numbered from 0 in pre-order. `None` past the last node.
+    /// Returns the span of a node, numbered from 0 in pre-order. `None` past the last node.
     pub fn span_of(&self, node: usize) -> Option<Span>
         ensures { result ≡ option_map span_of_tree (slice_get (pre_order (tree_of_filter self.now)) node) }
     {
@@ -173,8 +174,9 @@ impl<'s> Checked<'s> {
         }
     }
 
-    /// The slot of a node that names a property, numbered from 0 in pre-order: for a name its slot in the filtered type,
-    /// for a step that in the type of what stands before the slash. `None` for every other node and past the last one.
+    /// Returns the slot of a node that names a property, numbered from 0 in pre-order. It is a slot of the filtered
+    /// type for a name, and of the type of what stands before the slash for a step. `None` for every other node and
+    /// past the last one.
     pub fn slot_of(&self, node: usize) -> Option<usize>
         ensures found { IfSome result (IsSlotAt self.now node) }
         ensures none { IfNone result ((slot : ℕ) → ¬ IsSlotAt self.now node slot) }
@@ -190,8 +192,8 @@ impl<'s> Checked<'s> {
         }
     }
 
-    /// The level of a node that names a range variable: how many variables were in scope where its lambda operator
-    /// bound it. `None` for every other node and past the last one.
+    /// Returns the level of a node that names a range variable. That is how many variables were in scope where its
+    /// lambda operator bound it. `None` for every other node and past the last one.
     pub fn level_of(&self, node: usize) -> Option<usize>
         ensures { result ≡ level_at self.now node }
     {
@@ -204,7 +206,7 @@ impl<'s> Checked<'s> {
         }
     }
 
-    /// The canonical text of the filter, as `print` gives it of its tree.
+    /// Returns the canonical text of the filter, as `print` gives it of its tree.
     pub fn canonical(&self, alloc: Global) -> Result<String, AllocError>
         ensures { IfOk result (λ text. IsCanonicalText (tree_of_filter self.now) (string_bytes text)) }
     {
@@ -213,16 +215,16 @@ impl<'s> Checked<'s> {
         text_of_list(alloc, self.list())
     }
 
-    /// A line a node, in pre-order: two spaces for each node around it, its span, what it is called and its type. Each
-    /// line ends with a line feed.
+    /// Returns a line for each node, in pre-order: its span, what it is called and its type. Two spaces stand before
+    /// that for each node around it. Each line ends with a line feed.
     pub fn explain(&self, alloc: Global) -> Result<String, AllocError>
         ensures { IfOk result (λ text. IsExplanation self.now (string_bytes text)) }
     {
         explanation_of(alloc, self)
     }
 
-    /// The greatest number of lambda operators with a body that stand in one another, 0 where there is none. What judging
-    /// a row takes may grow with the product of so many lengths of its collections.
+    /// Returns the greatest depth of lambda operators with a body in one another, 0 where there is none. The cost of a
+    /// row may grow with the product of so many lengths of its collections.
     pub fn lambda_depth(&self) -> usize
         ensures { result ≡ lambda_depth (tree_of_filter self.now) }
     {
@@ -230,18 +232,18 @@ impl<'s> Checked<'s> {
         deepest(list, 0, list.nodes().len())
     }
 
-    /// The properties that the filter reads, by their paths from the filtered entity on: a property of that type by its
-    /// name, as `Name`, a step by its base's path and its name, as `Home/City`, and what a range variable leads to by its
-    /// collection's path, as `Parts/Qty` of `Parts/any(p:p/Qty gt 1)`. Each stands once, in the order of the first node
-    /// that names it in pre-order, so `Home`, which a node of `Home/City` names too, comes after that. The only error is
-    /// out of memory.
+    /// Returns the properties that the filter reads, by their paths from the filtered entity on. A property of that
+    /// type has its name, as `Name`, a step its base's path and its name, as `Home/City`, and what a range variable
+    /// leads to its collection's path, as `Parts/Qty` of `Parts/any(p:p/Qty gt 1)`. Each stands once, in the order of
+    /// the first node that names it in pre-order, so `Home`, which a node of `Home/City` names too, comes after that.
+    /// The only error is out of memory.
     pub fn property_paths(&self, alloc: Global) -> Result<Vec<String>, AllocError>
         ensures { IfOk result (λ paths. map string_bytes paths.items ≡ property_paths (tree_of_filter self.now)) }
     {
         paths_of_list(alloc, self.list())
     }
 
-    /// Whether evaluating the filter makes texts.
+    /// Returns whether evaluating the filter makes texts.
     pub fn takes_memory(&self) -> bool
         ensures { IsTrue result ↔ TakesMemory (tree_of_filter self.now) }
     {
@@ -249,7 +251,7 @@ impl<'s> Checked<'s> {
         any_maker(self.nodes())
     }
 
-    /// Whether the filter asks for the moment of its evaluation.
+    /// Returns whether the filter needs the moment of its evaluation.
     pub fn uses_now(&self) -> bool
         ensures { IsTrue result ↔ UsesNow (tree_of_filter self.now) }
     {

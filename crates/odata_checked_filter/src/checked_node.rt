@@ -2,10 +2,10 @@ use odata_signatures::{EdmType, Function};
 use odata_syntax::{BinaryOperator, LiteralKind, Quantifier};
 use odata_text::Span;
 
-/// What a node is, with what its evaluation needs beside its children.
+/// The kind of a node, with what its evaluation needs besides its children.
 #[derive(Clone, Copy, Debug, PartialEq, Eq)]
 pub enum NodeKind {
-    /// A literal, by the place of its value in the list of values.
+    /// A literal, by the index of its value in the list of values.
     Literal {
         kind: LiteralKind,
         value: usize,
@@ -24,26 +24,26 @@ pub enum NodeKind {
     Member {
         slot: usize,
     },
-    /// `$count`, behind the slash.
+    /// `$count`, after the slash.
     Count,
-    /// `any()`, behind the slash.
+    /// `any()`, after the slash.
     AnyItem,
-    /// `any(v:..)` or `all(v:..)`, behind the slash. What stands before that and its body stand behind it, and the name
+    /// `any(v:..)` or `all(v:..)`, after the slash. What stands before that and its body stand after it, and the name
     /// of its range variable stands beside it.
     Lambda {
         quantifier: Quantifier,
     },
     /// `now()`, the moment of the evaluation.
     Now,
-    /// `-`. Its operand stands behind it.
+    /// `-`. Its operand stands after it.
     Neg,
     /// `not`.
     Not,
-    /// An operator. Its operands stand behind it.
+    /// An operator. Its operands stand after it.
     Binary {
         operator: BinaryOperator,
     },
-    /// `eq` or `ne`, whose right operand is a String literal that is read beside an enumeration, by the place of its
+    /// `eq` or `ne`, whose right operand is a String literal that is read beside an enumeration, by the index of its
     /// number in the list of values.
     PairedRight {
         operator: BinaryOperator,
@@ -54,22 +54,22 @@ pub enum NodeKind {
         operator: BinaryOperator,
         number: usize,
     },
-    /// `has`. Its operands stand behind it.
+    /// `has`. Its operands stand after it.
     Has,
-    /// `has`, whose right operand is such a literal, by the place of its number.
+    /// `has`, whose right operand is such a literal, by the index of its number.
     PairedHas {
         number: usize,
     },
-    /// `in` before a list. Its operand and the items stand behind it.
+    /// `in` before a list. Its operand and the items stand after it.
     InList,
-    /// The same behind an enumeration. In the list of values stand from the place on one value for each item: the number
+    /// The same after an enumeration. In the list of values stand from the index on one value for each item: the number
     /// of such a literal, and null for any other item.
     PairedList {
         numbers: usize,
     },
-    /// `in` before a path. Its operands stand behind it.
+    /// `in` before a path. Its operands stand after it.
     InPath,
-    /// A call of any function but `now`. Its arguments stand behind it.
+    /// A call of any function but `now`. Its arguments stand after it.
     Call {
         function: Function,
     },
@@ -84,7 +84,7 @@ pub struct CheckedNode {
     pub span: Span,
     /// The type of its value.
     pub edm_type: EdmType,
-    /// The number of the first node behind its last descendant.
+    /// The number of the first node after its last descendant.
     pub stop: usize,
 }
 

@@ -17,7 +17,7 @@ use odata_syntax::Quantifier;
 use odata_text::Span;
 use std::alloc::{AllocError, Global};
 
-/// The lines of the filter's nodes in pre-order. A node lies as deep as many nodes before it stop behind it, so that
+/// The lines of the filter's nodes in pre-order. A node lies as deep as many nodes before it stop after it, so that
 /// the walk recurses nowhere.
 pub(crate) fn explanation_of(alloc: Global, checked: &Checked<'_>) -> Result<String, AllocError>
     ensures { IfOk result (λ text. IsExplanation checked.now (string_bytes text)) }
@@ -31,7 +31,7 @@ pub(crate) fn explanation_of(alloc: Global, checked: &Checked<'_>) -> Result<Str
     Ok(text)
 }
 
-/// Puts the line of the node at a place behind the others. `around` is where the nodes stop that lie around the last
+/// Puts the line of the node at an index after the others. `around` is where the nodes stop that lie around the last
 /// one, and that one itself.
 fn push_line(
     checked: &Checked<'_>,
@@ -54,7 +54,7 @@ fn push_line(
     Ok(())
 }
 
-/// Of the nodes that stop there, those that lie around the one at a place.
+/// Of the nodes that stop there, those that lie around the one at an index.
 fn forget_stopped(around: &mut Vec<usize>, place: usize)
     ensures { around.new.items ≡ still_around place around.old.items }
 {
@@ -161,7 +161,7 @@ fn quantifier_label(quantifier: Quantifier) -> &'static str
     }
 }
 
-/// A word, and a name behind it.
+/// A word, and a name after it.
 fn push_named(text: &mut String, word: &str, name: &str) -> Result<(), AllocError>
     ensures { OnOk result (string_bytes text.new ≡ string_bytes text.old ++ (word.now ++ name.now)) }
 {

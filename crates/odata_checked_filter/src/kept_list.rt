@@ -5,7 +5,7 @@ ghost use Rattle.odata_checked_filter.specs.private.KeptLists.{expansion_in, lis
 use super::node_list::NodeList;
 use csdl_schema::Expansion;
 
-/// The list and the expansion of a filter: its own, or those that are kept elsewhere.
+/// The list and the expansion of a filter: its own, or those that are stored elsewhere.
 #[derive(Drop)]
 pub(crate) enum KeptList<'s> {
     Own(NodeList, Expansion),

@@ -6,7 +6,7 @@ ghost use Rattle.odata_checked_filter.specs.private.LambdaLines.{AreInLine, IsLi
 use super::checked_node::{CheckedNode, NodeKind};
 use super::node_list::NodeList;
 
-/// The greatest number of lambda operators that stand in one another among the nodes from one place up to another. All
+/// The greatest number of lambda operators that stand in one another among the nodes from one index up to another. All
 /// nodes are gone through once. What stands in a lambda operator is gone through by a further call, so as many calls
 /// wait as operators stand in one another, however deep other nodes do.
 pub(crate) fn deepest(list: &NodeList, from: usize, stop: usize) -> usize

@@ -19,8 +19,8 @@ pub fn a_list_is_read_as_its_tree()
     ensures { ItemListStands }
 {}
 
-/// A law: a node that is put in its place before its children stands for its tree there, and what stands elsewhere in the
-/// list stands there still.
+/// A law: a node that is put before its children stands for its tree there. What stands elsewhere in the list stands
+/// there still.
 pub fn nodes_stand_where_they_are_put()
     ensures kept { KeptStands }
     ensures changes { PutChanges }
@@ -35,8 +35,9 @@ pub fn numbers_have_one_type_and_slot()
     trees_have_one_type();
 }
 
-/// A law: a filter and the filter of its canonical text have as many nodes, the same type at each, and the same paths
-/// in their expansions. So an entity that has all expanded which the one needs has all which the other needs.
+/// A law: a filter and the filter of its canonical text have the same types, node by node. They have as many nodes, and
+/// the same paths in their expansions. So an entity that has all expanded which the one needs has all which the other
+/// needs.
 pub fn canonical_texts_keep_filters()
     ensures count { OfCanonicalTexts HaveAsManyNodes }
     ensures types { OfCanonicalTexts HaveSameTypesAt }

@@ -1,5 +1,5 @@
-//! A checked filter: a tree as one list of its nodes, each with its type, and what is asked of it (OData URL Conventions
-//! 4.01, section 5.1.1).
+//! A checked filter: a tree as one list of its nodes, each with its type, and what is asked of it (OData URL
+//! Conventions 4.01, section 5.1.1).
 #![tactic(auto)]
 
 mod called;

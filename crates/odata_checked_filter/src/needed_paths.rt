@@ -47,7 +47,7 @@ enum VariableNode {
     Fewer(usize),
 }
 
-/// Where a path of steps ends: at that node of the expansion. It begins in that place of the list.
+/// Where a path of steps ends: at that node of the expansion. It begins at that index of the list.
 #[derive(Clone, Copy)]
 struct PathEnd {
     node: usize,
@@ -71,7 +71,7 @@ struct LambdaPlaces {
     stop: usize,
 }
 
-/// The paths that a list of a filter needs, as a set.
+/// Returns the paths that a list of a filter needs, as a set.
 pub fn expansion_of(
     alloc: Global,
     schema: &Schema,
@@ -104,7 +104,7 @@ fn without_idle_steps(alloc: Global, expansion: Expansion) -> Expansion
     }
 }
 
-/// Puts what the nodes from one place up to another need into the set. What stands in a lambda operator is gone through
+/// Puts what the nodes from one index up to another need into the set. What stands in a lambda operator is gone through
 /// by a further call, so as many calls wait as operators stand in one another.
 #[cycle(expand)]
 fn expand(
@@ -173,7 +173,7 @@ fn need_class(kind: NodeKind) -> NeedClass
     }
 }
 
-/// Where the base of the lambda operator in a place stands, and behind that its body.
+/// Where the base of the lambda operator at an index stands, and after that its body.
 fn lambda_places(list: &NodeList, place: usize) -> LambdaPlaces
     requires { place + 1 < length list.now.nodes }
     ensures { ArePlacesOf list.now place result }

@@ -9,9 +9,9 @@ use odata_text::Span;
 use std::alloc::{AllocError, Global};
 use std::marker::Model;
 
-/// Nodes in pre-order, with the values of their literals, and a text beside each node: a literal's spelling, a name, of
-/// a lambda operator the name of its range variable, and nothing for other operators. The texts are ranges of one copy
-/// of the filter's text.
+/// The nodes of a tree in pre-order, with the values of their literals and their texts. The text of a node is a
+/// literal's spelling, a name, of a lambda operator the name of its range variable, and nothing for other operators.
+/// The texts are ranges of one copy of the filter's text.
 #[derive(Drop)]
 pub struct NodeList {
     nodes: Vec<CheckedNode>,
@@ -20,7 +20,7 @@ pub struct NodeList {
     source: String,
 }
 
-/// What stands in a place of the list before its node is put there.
+/// What stands at an index of the list before its node is put there.
 const NOTHING_YET: CheckedNode = CheckedNode {
     kind: NodeKind::It,
     span: NOWHERE,
@@ -55,7 +55,7 @@ impl Model for NodeList {
 }
 
 impl NodeList {
-    /// A list without nodes.
+    /// Creates a list without nodes.
     #[inline(always)]
     pub fn new(alloc: Global) -> NodeList
         ensures { result ≡ no_nodes }
@@ -68,8 +68,8 @@ impl NodeList {
         }
     }
 
-    /// Fills the list with `count` placeholder nodes, whose texts are empty ranges of `source`. After an error the list is
-    /// unchanged.
+    /// Fills the list with `count` placeholder nodes, whose texts are empty ranges of `source`. After an error the list
+    /// is unchanged.
     #[inline(always)]
     pub fn make_room(&mut self, alloc: Global, source: &str, count: usize) -> Result<(), AllocError>
         ensures ok { OnOk result (self.new ≡ with_room self.old source.now count) }
@@ -87,7 +87,7 @@ impl NodeList {
         Ok(())
     }
 
-    /// The nodes.
+    /// Returns the nodes.
     pub fn nodes(&self) -> &[CheckedNode]
         ensures same { result.now ≡ self.now.nodes }
         ensures beside { length self.now.texts ≡ length self.now.nodes }
@@ -95,7 +95,7 @@ impl NodeList {
         self.nodes.as_slice()
     }
 
-    /// The node at a place.
+    /// Returns the node at an index.
     pub fn node(&self, place: usize) -> CheckedNode
         requires { place < length self.now.nodes }
         ensures { slice_get self.now.nodes place ≡ Some result }
@@ -103,7 +103,7 @@ impl NodeList {
         self.nodes[place]
     }
 
-    /// The text beside a node.
+    /// Returns the text beside a node.
     pub fn text(&self, place: usize) -> &str
         requires { place < length self.now.nodes }
         ensures { slice_get self.now.texts place ≡ Some result.now }
@@ -119,14 +119,14 @@ impl NodeList {
         self.source.len()
     }
 
-    /// The values of its literals.
+    /// Returns the values of its literals.
     pub fn values(&self) -> &[Value]
         ensures { result.now ≡ self.now.values }
     {
         self.values.as_slice()
     }
 
-    /// Puts a value after the others.
+    /// Puts a value after the others. After an error the list is unchanged.
     pub fn push_value(&mut self, value: Value) -> Result<(), AllocError>
         ensures ok { OnOk result (self.new ≡ with_value self.old value) }
         ensures err { OnErr result (self.new ≡ self.old) }
@@ -137,7 +137,7 @@ impl NodeList {
         }
     }
 
-    /// Puts a node in its place, with the range of its text.
+    /// Puts a node at its index, with the range of its text.
     #[inline(always)]
     pub fn put(&mut self, place: usize, node: CheckedNode, text: Span)
         requires place { place < length self.old.nodes }
@@ -148,7 +148,7 @@ impl NodeList {
         self.texts[place] = text;
     }
 
-    /// Puts a node in its place, without a text.
+    /// Puts a node at its index, without a text.
     #[inline(always)]
     pub fn put_nameless(&mut self, place: usize, node: CheckedNode)
         requires { place < length self.old.nodes }

@@ -45,7 +45,7 @@ pub(crate) fn paths_of_list(alloc: Global, list: &NodeList) -> Result<Vec<String
     Ok(found)
 }
 
-/// Puts the paths of the nodes from one place up to another after those found, in pre-order, each that is not among
+/// Puts the paths of the nodes from one index up to another after those found, in pre-order, each that is not among
 /// them yet. What stands in a lambda operator is gone through by further calls, so as many calls wait as operators
 /// stand in one another.
 fn put_paths(
@@ -81,7 +81,7 @@ fn put_paths(
     Ok(())
 }
 
-/// The text of the path of the node at a place, empty where it names no property.
+/// The text of the path of the node at an index, empty where it names no property.
 fn path_at(
     scene: &PathScene<'_>,
     place: usize,

@@ -7,8 +7,8 @@ use super::node_list::NodeList;
 use csdl_schema::{Expansion, Schema, TypeId};
 use std::marker::Model;
 
-/// A filter apart from its schema. Who keeps both, each for as long as the other, puts them together to ask something of
-/// the filter; that it is one with this schema is for the keeper to show.
+/// A filter apart from its schema. A caller that stores both, each for as long as the other, combines them to ask
+/// something of the filter; that it belongs to this schema is for the caller to show.
 #[derive(Drop)]
 pub struct StoredFilter {
     filtered_type: TypeId,
@@ -30,7 +30,7 @@ impl Model for StoredFilter {
 }
 
 impl StoredFilter {
-    /// What is kept of a filter of that type.
+    /// Creates what is stored of a filter of that type.
     pub fn new(filtered_type: TypeId, list: NodeList, expansion: Expansion) -> StoredFilter
         ensures { result ≡ record { filtered = filtered_type; list = list; expansion = expansion } }
     {
@@ -41,7 +41,7 @@ impl StoredFilter {
         }
     }
 
-    /// The filter with its schema. It is lent its list, so that nothing is copied, and several may be there at once.
+    /// Returns the filter with its schema. It borrows its list, so nothing is copied, and several may exist at once.
     pub fn with_schema<'s>(&'s self, schema: &'s Schema) -> Checked<'s>
         requires { IsFilter (filter_in schema.now self.now) }
         ensures { result ≡ filter_in schema.entry.now self.entry.now }

@@ -1,4 +1,4 @@
--- What a tree comes to: at most one outcome, and one where it has a type.
+-- What a tree evaluates to: at most one outcome, and one where it has a type.
 pub mod AllTrees
 pub mod ArgumentForms
 pub mod AtPaths

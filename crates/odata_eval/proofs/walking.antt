@@ -1,4 +1,4 @@
--- The walk of a filter's list: what stands in a place, and what is answered there.
+-- The walk of a filter's list: what stands at an index, and what is answered there.
 pub mod AndChains
 pub mod BaseSteps
 pub mod CallSteps

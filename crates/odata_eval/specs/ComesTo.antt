@@ -26,6 +26,7 @@ item_members id title active asked =
     else if pointwise nat_eq asked (codes "Active") then present (boolean active)
     else absent
 
+-- an item with these values, as a record
 abbrev pub item_value : ℤ → List ℕ → Bool → Val
 item_value id title active = fields (item_members id title active)
 

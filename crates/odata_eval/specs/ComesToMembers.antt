@@ -39,7 +39,7 @@ tagged tags = fields (λ asked. if pointwise nat_eq asked (codes "Tags") then pr
 abbrev pub text_and_null : Val
 text_and_null = items (item (text (codes "a")) (item null no_items))
 
--- what a tree of that shape comes to there, and nothing else; the places of its nodes say nothing
+-- what a tree of that shape evaluates to there, and nothing else; the places of its nodes do not matter
 abbrev pub ComesToOn : Val → Shape → Outcome → Type 0
 ComesToOn tags shape outcome =
     (root : List ℕ) (now : MomentParts) (o : Outcome)
@@ -49,9 +49,11 @@ ComesToOn tags shape outcome =
 abbrev pub null_literal : Tree
 null_literal = node 0 0 (literal LiteralKind.Null (codes "null"))
 
+-- the name alone, as a tree
 abbrev pub named : List ℕ → Tree
 named word = node 0 0 (name word)
 
+-- `1 div 0`
 abbrev pub one_div_zero : Tree
 one_div_zero =
     node 0 0 (binary (BinaryOperator.Arithmetic ArithmeticOperator.Div)

@@ -12,7 +12,7 @@ use Rattle.odata_filter_operations.specs.declared.fault.EvalFault.{EvalFault}
 abbrev pub CostsOn : Row → MomentParts → Tree → ℕ → Type 0
 CostsOn row now = Costs (slots_of row.schema) (type_name_at row.schema row.type_id) now (value_of row) []
 
--- an answer says that the bound was kept, or that more was asked for; want of memory says neither
+-- an answer says that the bound was kept, or that more was asked for; running out of memory says neither
 abbrev pub IsWithin : ℕ → ℕ → Result Verdict EvalStop → Type 0
 IsWithin most n (Ok verdict) = n ≤ most
 IsWithin most n (Err EvalStop.TooCostly) = most < n

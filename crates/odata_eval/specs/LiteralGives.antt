@@ -1,4 +1,4 @@
--- What a literal comes to (OData URL Conventions 4.01, section 5.1.1.14).
+-- What a literal evaluates to (OData URL Conventions 4.01, section 5.1.1.14).
 use Rattle.std.specs.Prelude.{ℕ, List}
 use Rattle.csdl_schema.specs.SchemaModel.{Slots}
 use Rattle.odata_syntax.specs.declared.node.LiteralKind.{LiteralKind}

@@ -1,4 +1,4 @@
--- What an expression comes to on an entity (OData URL Conventions 4.01, section 5.1.1).
+-- What an expression evaluates to on an entity (OData URL Conventions 4.01, section 5.1.1).
 use Rattle.std.specs.Prelude.{◌≡◌, ℕ, zero, suc, List, [], ◌∷◌, length}
 use Rattle.edm_values.specs.Val as val
 use Rattle.edm_values.specs.Val.{Val}
@@ -27,7 +27,7 @@ use Rattle.odata_filter_operations.specs.Outcome.{NoOutcome, Outcome, gives}
 use Rattle.odata_eval.specs.ReadGives.{GivesMember, UnlessRead}
 use Rattle.odata_filter_operations.specs.TruthGives.{NotGives}
 
--- an operator between two trees of these types and outcomes; one that is read beside the other comes to its number
+-- an operator between two trees of these types and outcomes; one that is read beside the other evaluates to its number
 abbrev pub BinaryGives :
     Slots → BinaryOperator → (ExprType → Type 0) → (ExprType → Type 0) → Tree → Tree → (Outcome → Type 0)
     → (Outcome → Type 0) → Outcome → Type 0
@@ -87,7 +87,7 @@ abbrev mutual
       (LambdaGives quantifier (Typed slots root (scope_of environment) base)
       (λ type v. Means slots root now entity (bound_over environment variable type v) body))
 
-  -- the item of a list in a place, beside an operand of one of these types
+  -- the item of a list at an index, beside an operand of one of these types
   pub ItemMeans :
       Slots → List ℕ → MomentParts → Val → Environment → (ExprType → Type 0) → Trees → ℕ → Outcome → Type 0
   ItemMeans slots root now entity environment Beside no_trees place = NoOutcome

@@ -1,4 +1,4 @@
--- What a tree comes to on an entity, with no variables around it.
+-- What a tree evaluates to on an entity, with no variables around it.
 use Rattle.std.specs.Prelude.{[], ◌≡◌}
 use Rattle.edm_values.specs.MomentParts.{MomentParts}
 use Rattle.odata_syntax.specs.Tree.{Tree}

@@ -1,4 +1,4 @@
--- Members and items taken one by one come to the same (OData URL Conventions 4.01, section 5.1.1.13).
+-- Members and items taken one by one evaluate to the same (OData URL Conventions 4.01, section 5.1.1.13).
 use Rattle.std.specs.Prelude.{◌≡◌, ◌↔◌, ℕ, List, true, false, length}
 use Rattle.edm_values.specs.MomentParts.{MomentParts}
 use Rattle.edm_values.specs.Val.{Val, null, boolean, Vals, no_items, item}
@@ -41,7 +41,7 @@ ItemsGo Item l no_trees o = o ≡ gives (undecided_val Any)
 ItemsGo Item l (more_trees tree more) o =
     After (After (Item tree) (CompareGives Eq l)) (GoesOn Any (ItemsGo Item l more)) o
 
--- the same is said by places: of a body over the members of a collection
+-- the same is said by indexes: of a body over the members of a collection
 abbrev pub MembersOneByOne : Type 0
 MembersOneByOne =
     (slots : Slots) (root : List ℕ) (now : MomentParts) (entity : Val) (environment : Environment)

@@ -1,4 +1,4 @@
--- What an operator comes to (OData URL Conventions 4.01, sections 5.1.1.1 and 5.1.1.2).
+-- What an operator evaluates to (OData URL Conventions 4.01, sections 5.1.1.1 and 5.1.1.2).
 use Rattle.edm_values.specs.Val.{Val}
 use Rattle.odata_syntax.specs.declared.binary_operator.BinaryOperator.{BinaryOperator}
 use Rattle.csdl_schema.specs.ExprType.{ExprType}

@@ -1,4 +1,4 @@
--- Where no String literal is read beside an enumeration, operands come to what they are by themselves (OData URL
+-- Where no String literal is read beside an enumeration, operands evaluate to what they are by themselves (OData URL
 -- Conventions 4.01, section 5.1.1.1).
 use Rattle.std.specs.Prelude.{◌↔◌, ℕ, List}
 use Rattle.edm_values.specs.MomentParts.{MomentParts}
@@ -37,7 +37,7 @@ FlagsAlone =
     ↔ After (Means slots root now entity environment left)
     (λ l. After (Means slots root now entity environment right) (HasGives l)) o
 
--- an item of a list behind an operand
+-- an item of a list after an operand
 abbrev pub ItemsAlone : Type 0
 ItemsAlone =
     (slots : Slots) (root : List ℕ) (now : MomentParts) (entity : Val) (environment : Environment)

@@ -12,7 +12,7 @@ verdict_val Verdict.True = boolean true
 verdict_val Verdict.False = boolean false
 verdict_val Verdict.Null = null
 
--- the outcome that an answer tells; none for want of memory
+-- the outcome that an answer reports; none when out of memory
 abbrev pub told_outcome : Result Verdict EvalFault → Option Outcome
 told_outcome (Ok verdict) = Some (gives (verdict_val verdict))
 told_outcome (Err fault) = fault_outcome fault

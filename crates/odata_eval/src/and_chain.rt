@@ -22,7 +22,7 @@ use odata_syntax::{BinaryOperator, ComparisonOperator, LogicalOperator};
 /// The terms of a chain of `and` that are left to ask, where those before them are true.
 #[derive(Clone, Copy)]
 pub(crate) struct Rest {
-    /// The place of the next one.
+    /// The index of the next one.
     pub term: usize,
     /// How many `and`s stand above the one that joins it; at the leftmost term, above the term.
     pub ands: usize,
@@ -31,7 +31,7 @@ pub(crate) struct Rest {
 /// What comes of the plain terms of a chain.
 #[derive(Clone, Copy)]
 pub(crate) enum PlainTerms {
-    /// The whole chain comes to this.
+    /// The whole chain evaluates to this.
     Decide(bool),
     /// They are true, and these terms are left.
     Leave(Rest),
@@ -62,7 +62,7 @@ pub(crate) fn ask_plain_terms(scene: &Scene<'_, '_, '_>) -> PlainTerms
     PlainTerms::Decide(true)
 }
 
-/// What the chain comes to by the terms that are left. Those behind a false one are left out together.
+/// What the chain evaluates to by the terms that are left. Those after a false one are left out together.
 #[inline(always)]
 pub(crate) fn truth_of_rest(
     scene: &Scene<'_, '_, '_>,
@@ -97,7 +97,7 @@ pub(crate) fn truth_of_rest(
     Ok(left)
 }
 
-/// The place of the first node that is no `and`.
+/// The index of the first node that is no `and`.
 #[inline(always)]
 fn ands_end(scene: &Scene<'_, '_, '_>) -> usize
     requires stands { TruthStands scene.now 0 }

@@ -20,8 +20,8 @@ use odata_checked_filter::Checked;
 use odata_filter_operations::EvalFault;
 use std::alloc::Global;
 
-/// What the filter says of the entity, within a bound: how many bodies of lambda operators, and items of lists within
-/// them, it may ask for. Where it costs more, evaluation stops there with `TooCostly`.
+/// Evaluates the filter on the entity, within a bound on its cost. The bound is on the bodies of lambda operators, and
+/// the items of lists within them, that it evaluates. If it costs more, evaluation stops with `TooCostly`.
 pub fn evaluate_within(
     alloc: Global,
     checked: &Checked<'_>,

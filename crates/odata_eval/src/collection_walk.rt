@@ -16,7 +16,7 @@ use odata_filter_operations::{EvalFault, among, flags_of};
 use odata_functions::{compare, comparisons_are_decided};
 use odata_syntax::ComparisonOperator;
 
-/// What `has` comes to.
+/// What `has` evaluates to.
 #[cycle(evaluate)]
 pub(crate) fn flags_at<'e>(
     scene: &Scene<'e, '_, '_>,
@@ -35,7 +35,7 @@ pub(crate) fn flags_at<'e>(
     }
 }
 
-/// What `in` before a path comes to.
+/// What `in` before a path evaluates to.
 #[cycle(evaluate)]
 pub(crate) fn among_at<'e>(
     scene: &Scene<'e, '_, '_>,
@@ -54,7 +54,7 @@ pub(crate) fn among_at<'e>(
     }
 }
 
-/// What `in` before a list comes to. The items are evaluated from the left until one is equal.
+/// What `in` before a list evaluates to. The items are evaluated from the left until one is equal.
 #[cycle(evaluate)]
 pub(crate) fn listed_at<'e>(
     scene: &Scene<'e, '_, '_>,

@@ -31,7 +31,7 @@ pub(crate) fn verdict_of(truth: Option<bool>) -> Verdict
     }
 }
 
-/// What the filter says of the entity. `now` is the moment that `now()` stands for. `Memory` is answered only where the
+/// Evaluates the filter on the entity. `now` is the moment that `now()` stands for. `Memory` is returned only where the
 /// filter makes texts.
 pub fn evaluate(
     alloc: Global,

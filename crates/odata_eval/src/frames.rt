@@ -1,4 +1,4 @@
-//! The range variables around a place, with their values.
+//! The range variables around a node, with their values.
 ghost use Rattle.csdl_schema.specs.SchemaModel.{SchemaModel, slots_of};
 ghost use Rattle.odata_eval.specs.private.Frames.{IsAtLevel, environment_in, frames_in};
 

@@ -32,7 +32,7 @@ fn is_undecided(quantifier: Quantifier, truth: Option<bool>) -> bool
     }
 }
 
-/// What the operator comes to where no member decides.
+/// What the operator evaluates to where no member decides.
 fn undecided(quantifier: Quantifier) -> bool
     ensures { boolean result ≡ undecided_val quantifier }
 {
@@ -46,7 +46,7 @@ struct Body {
     place: usize,
 }
 
-/// What a lambda operator comes to, whose base has been answered. Over null it is null.
+/// What a lambda operator evaluates to, whose base has been answered. Over null it is null.
 #[cycle(evaluate)]
 pub(crate) fn lambda_at<'e>(
     scene: &Scene<'e, '_, '_>,
@@ -78,7 +78,7 @@ pub(crate) fn lambda_at<'e>(
     }
 }
 
-/// What it comes to over members. Members behind the one that decides, or has a fault, are left out.
+/// What it evaluates to over members. Members after the one that decides, or has a fault, are left out.
 #[cycle(evaluate)]
 fn members_at<'f>(
     scene: &'f Scene<'f, '_, '_>,

@@ -34,10 +34,10 @@ use odata_signatures::{
 use odata_syntax::{canonical_texts_read_back, one_tree};
 use odata_text::one_list_of_any_length;
 
-/// A law: an expression that has a type has exactly one outcome on every value of the filtered type in which all is
-/// expanded that it needs, at every moment and whatever the range variables around it hold, each a value of its type at
-/// a path: a value of its type at its path, or the fault of an arithmetic operator. Nothing is asked of what is not
-/// needed.
+/// A law: an expression that has a type has exactly one outcome on every value at paths. The value is of the filtered
+/// type and has all expanded that the expression needs, at every moment and whatever the range variables around it
+/// hold, each a value of its type at a path. The outcome is a value of its type at its path, or the fault of an
+/// arithmetic operator. Nothing is asked of what is not needed.
 pub fn typed_trees_end_once_at_paths()
     ensures { TypedEndsOnceAtPaths }
 {
@@ -56,14 +56,15 @@ pub fn typed_trees_end_once_at_paths()
     unread_operands_go_by_types();
 }
 
-/// A law: so it has apart from paths, where each value is of its type whatever is needed in it.
+/// A law: a typed expression has one outcome apart from paths. There each value is of its type whatever is needed in
+/// it.
 pub fn typed_trees_end_once()
     ensures { TypedEndsOnce }
 {
     typed_trees_end_once_at_paths();
 }
 
-/// A law: so it has on every entity of that type.
+/// A law: a typed expression has one outcome on every entity of that type.
 pub fn typed_trees_end_once_on_entities()
     ensures { EndsOnceOnEntities }
 {
@@ -71,8 +72,7 @@ pub fn typed_trees_end_once_on_entities()
     what_fits_has_its_type();
 }
 
-/// A law: an expression that has a type has exactly one cost on every entity, which is none where no lambda operator
-/// stands in it.
+/// A law: a typed expression has exactly one cost on every entity. It is none where no lambda operator stands in it.
 pub fn typed_trees_cost_once_on_entities()
     ensures once { CostsOnceOnEntities }
     ensures nothing { CostsNothingWithoutLambdas }
@@ -93,8 +93,8 @@ pub fn typed_trees_cost_once_on_entities()
     unread_operands_go_by_types();
 }
 
-/// A law: a value of a type has that type at every path, whatever is needed, and no other value has it where all is
-/// needed; so have the values of variables, at any paths, and what some JSON fits as an entity.
+/// A law: a value of a type has that type at every path, whatever is needed. So have the values of variables, at any
+/// paths, and what some JSON fits as an entity. No other value has it where all is needed.
 pub fn values_have_types_at_paths()
     ensures values { HaveTypesAtEveryPath }
     ensures all_needed { AreAllNeededAlike }
@@ -104,8 +104,8 @@ pub fn values_have_types_at_paths()
     what_fits_has_its_type();
 }
 
-/// A law: so an expression that has a type ends once on every entity of the filtered type, with range variables at
-/// paths of their own, where all is needed that it needs.
+/// A law: a typed expression ends once on every entity, with range variables at paths of their own. That is where all
+/// is needed that it needs.
 pub fn entities_end_once_at_paths()
     ensures { EndsOnceAtPathsOnEntities }
 {
@@ -113,23 +113,23 @@ pub fn entities_end_once_at_paths()
     values_have_types_at_paths();
 }
 
-/// A law: the members of a collection and the items of a list, taken one by one from the first on, come to what the
-/// definitions say by their places.
+/// A law: members and items taken one by one evaluate to what the definitions say by their indexes. They are the
+/// members of a collection and the items of a list, from the first on.
 pub fn one_by_one()
     ensures members { MembersOneByOne }
     ensures compared { ComparedOneByOne }
     ensures items { ItemsOneByOne }
 {}
 
-/// A law: an operator, `has` and an item of a list of which no String literal is read beside an enumeration come to what
-/// their operands alone make.
+/// A law: an operator, `has` and an item of a list evaluate to what their operands alone make. That is where no String
+/// literal of them is read beside an enumeration.
 pub fn unread_operands_stand_alone()
     ensures operands { OperandsAlone }
     ensures flags { FlagsAlone }
     ensures items { ItemsAlone }
 {}
 
-/// A law: a tree and its normal form have the same outcomes, and so has the tree of its canonical text, on every value and
+/// A law: a tree, its normal form and the tree of its canonical text have the same outcomes. That is on every value and
 /// whatever the range variables around hold.
 pub fn canonical_texts_keep_outcomes()
     ensures normal { NormalFormsKeepOutcomes }
@@ -141,9 +141,9 @@ pub fn canonical_texts_keep_outcomes()
     one_tree();
 }
 
-/// What the definitions say of `Active and ID eq 1 and Name eq 'a'` on the items `{"ID":1,"Name":"a","Active":true}`,
-/// `{"ID":1,"Name":"b","Active":true}` and `{"ID":2,"Name":"a","Active":false}` where no type is an enumeration, and of
-/// `false and Missing` on any value.
+/// Worked outcomes of `Active and ID eq 1 and Name eq 'a'` and of `false and Missing`. The first is on the items
+/// `{"ID":1,"Name":"a","Active":true}`, `{"ID":1,"Name":"b","Active":true}` and `{"ID":2,"Name":"a","Active":false}`
+/// where no type is an enumeration, the second on any value.
 pub fn first_run_comes_to()
     ensures kept { ComesTo first_run_tree (item_value (pos 1) (codes "a") true) (gives (boolean true)) }
     ensures other_name { ComesTo first_run_tree (item_value (pos 1) (codes "b") true) (gives (boolean false)) }
@@ -160,8 +160,8 @@ pub fn first_run_comes_to()
     quoted_texts_have_one_number();
 }
 
-/// What the definitions say of `any`, `all`, `in`, `$count` and `any()` on the members `'a'` and null of a property `Tags`,
-/// on none, and where it is null: `t` and `u` are range variables.
+/// Worked outcomes of `any`, `all`, `in`, `$count` and `any()`. The members are `'a'` and null of a property `Tags`, or
+/// none, or it is null: `t` and `u` are range variables.
 pub fn members_come_to()
     ensures some { ComesToOn text_and_null (over_tags Any is_null) (gives (boolean true)) }
     ensures not_all { ComesToOn text_and_null (over_tags All is_null) (gives (boolean false)) }
@@ -190,9 +190,9 @@ pub fn members_come_to()
     quoted_texts_have_one_number();
 }
 
-/// What the definitions say that filters on the same members cost: `any` asks for the second member's body, `all` for the
-/// first one's alone; an operator in another one for its own each time; a list within a body for its items; nothing is
-/// asked for over null, over none, and after a fault.
+/// Worked costs of filters on the same members. `any` asks for the second member's body, `all` for the first one's
+/// alone; an operator in another one for its own each time; a list within a body for its items; nothing is asked for
+/// over null, over none, and after a fault.
 pub fn members_cost()
     ensures some { CostsOnTags text_and_null (over_tags Any is_null) 2 }
     ensures not_all { CostsOnTags text_and_null (over_tags All is_null) 1 }

@@ -1,4 +1,4 @@
-//! What a checked filter comes to on an entity (OData URL Conventions 4.01, section 5.1.1).
+//! What a checked filter evaluates to on an entity (OData URL Conventions 4.01, section 5.1.1).
 #![tactic(auto)]
 
 mod and_chain;

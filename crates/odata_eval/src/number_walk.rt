@@ -13,7 +13,7 @@ use odata_filter_operations::{EvalFault, calculated, kept_number, negated, numbe
 use odata_functions::operands_lie_within_promotion;
 use odata_syntax::{ArithmeticOperator, BinaryOperator};
 
-/// What a node of numbers comes to.
+/// What a node of numbers evaluates to.
 #[cycle(evaluate)]
 pub(crate) fn number_at(scene: &Scene<'_, '_, '_>, place: usize) -> Result<Option<i64>, EvalFault>
     requires stands { PartStands scene.now place }
@@ -30,7 +30,7 @@ pub(crate) fn number_at(scene: &Scene<'_, '_, '_>, place: usize) -> Result<Optio
     answer
 }
 
-/// The same, where most of these nodes stand: two of them on a kept value, or one, are taken at once.
+/// The same, where most of these nodes stand: two of them on a stored value, or one, are taken at once.
 #[cycle(evaluate)]
 #[inline(always)]
 pub(crate) fn number_chain_at(
@@ -51,7 +51,7 @@ pub(crate) fn number_chain_at(
     }
 }
 
-/// The same, where the first operand is likely a value that is kept.
+/// The same, where the first operand is likely a stored value.
 #[cycle(evaluate)]
 #[inline(always)]
 fn number_on_leaf_at(scene: &Scene<'_, '_, '_>, place: usize) -> Result<Option<i64>, EvalFault>
@@ -67,7 +67,7 @@ fn number_on_leaf_at(scene: &Scene<'_, '_, '_>, place: usize) -> Result<Option<i
     }
 }
 
-/// What a node of a number type or Null comes to, where a value is likely that is kept.
+/// What a node of a number type or Null evaluates to, where a stored value is likely.
 #[cycle(evaluate)]
 #[inline(always)]
 fn number_operand_at(scene: &Scene<'_, '_, '_>, place: usize) -> Result<Option<i64>, EvalFault>
@@ -97,7 +97,7 @@ fn made_number_at(scene: &Scene<'_, '_, '_>, place: usize) -> Result<Option<i64>
     }
 }
 
-/// What a node of numbers comes to, whose first operand has been answered.
+/// What a node of numbers evaluates to, whose first operand has been answered.
 #[cycle(evaluate)]
 #[inline(always)]
 fn numeric_at(
@@ -124,7 +124,7 @@ fn numeric_at(
     }
 }
 
-/// What an arithmetic operator comes to.
+/// What an arithmetic operator evaluates to.
 #[cycle(evaluate)]
 #[inline(always)]
 fn calculated_at(

@@ -30,7 +30,7 @@ fn equality_of(operator: BinaryOperator) -> ComparisonOperator
     }
 }
 
-/// What `eq` or `ne` comes to, whose right operand stands for the number in a place of the values.
+/// What `eq` or `ne` evaluates to, whose right operand stands for the number at an index of the values.
 pub(crate) fn compared_right<'e>(
     scene: &Scene<'e, '_, '_>,
     place: usize,
@@ -74,8 +74,8 @@ pub(crate) fn compared_left_at<'e>(
     }
 }
 
-/// What `eq` or `ne` comes to as a truth value, whose right operand stands for the number in a place of the values. A left
-/// one that is kept is compared where it is.
+/// What `eq` or `ne` evaluates to as a truth value, whose right operand stands for the number at an index of the
+/// values. A left one that is kept is compared where it is.
 #[cycle(evaluate)]
 #[inline(always)]
 pub(crate) fn right_read_truth_at(
@@ -118,7 +118,7 @@ pub(crate) fn left_read_truth_at(
     }
 }
 
-/// Whether the comparison with that number on the right is true of a left operand that is kept.
+/// Whether the comparison with that number on the right is true of a stored left operand.
 #[inline(always)]
 fn compared_kept_right(
     scene: &Scene<'_, '_, '_>,
@@ -138,7 +138,7 @@ fn compared_kept_right(
     compare_kept(equality_of(operator), left, scene.literal(number))
 }
 
-/// Whether the comparison with that number on the left is true of a right operand that is kept.
+/// Whether the comparison with that number on the left is true of a stored right operand.
 #[inline(always)]
 fn compared_kept_left(
     scene: &Scene<'_, '_, '_>,
@@ -158,7 +158,7 @@ fn compared_kept_left(
     compare_kept(equality_of(operator), scene.literal(number), right)
 }
 
-/// What `has` comes to, whose right operand stands for the number in a place of the values.
+/// What `has` evaluates to, whose right operand stands for the number at an index of the values.
 pub(crate) fn flags_right<'e>(
     scene: &Scene<'e, '_, '_>,
     place: usize,
@@ -176,8 +176,8 @@ pub(crate) fn flags_right<'e>(
     flags_of(left, &right)
 }
 
-/// What `in` comes to before a list, for whose items values stand from a place on. The items are evaluated from the left
-/// until one is equal.
+/// What `in` evaluates to before a list, for whose items values stand from an index on. The items are evaluated from
+/// the left until one is equal.
 #[cycle(evaluate)]
 pub(crate) fn numbered_at<'e>(
     scene: &Scene<'e, '_, '_>,
@@ -217,7 +217,7 @@ pub(crate) fn numbered_at<'e>(
     Ok(Datum::Bool(false))
 }
 
-/// What an item comes to, for which a value stands in a place: the number there, or what the item is by itself.
+/// What an item evaluates to, for which a value stands at an index: the number there, or what the item is by itself.
 #[cycle(evaluate)]
 fn numbered_item_at<'e>(
     scene: &Scene<'e, '_, '_>,

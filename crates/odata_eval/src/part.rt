@@ -1,4 +1,4 @@
-//! What stands in a place of a filter's list.
+//! What stands at an index of a filter's list.
 ghost use Rattle.std.specs.Prelude.{◌≡◌, ◌<◌, ◌≤◌, ◌↔◌, ℕ, IfNone, IfSome, IsTrue, length};
 
 use super::scene::Scene;
@@ -97,7 +97,7 @@ pub(crate) fn arithmetic_operator(kind: NodeKind) -> Option<ArithmeticOperator>
     }
 }
 
-/// What stands in a place. Most often it is a property, a literal or a variable.
+/// What stands at an index. Most often it is a property, a literal or a variable.
 #[inline(always)]
 pub(crate) fn part_at<'e>(scene: &Scene<'e, '_, '_>, place: usize) -> Part<'e>
     requires stands { PartStands scene.now place }
@@ -137,7 +137,7 @@ fn leaf_at<'e>(scene: &Scene<'e, '_, '_>, place: usize) -> &'e Value
     }
 }
 
-/// How the walk takes the node in a place.
+/// How the walk takes the node at an index.
 #[inline(always)]
 pub(crate) fn class_at(scene: &Scene<'_, '_, '_>, place: usize) -> WalkClass
     requires { place < length scene.now.list.nodes }
@@ -146,7 +146,7 @@ pub(crate) fn class_at(scene: &Scene<'_, '_, '_>, place: usize) -> WalkClass
     walk_of_kind(scene.node(place).kind)
 }
 
-/// Whether the walk takes the node in a place so. There is none past the end.
+/// Whether the walk takes the node at an index so. There is none past the end.
 pub(crate) fn is_class_at(scene: &Scene<'_, '_, '_>, place: usize, class: WalkClass) -> bool
     ensures { IsTrue result ↔ IsClassAt scene.now.list class place }
 {
@@ -156,7 +156,7 @@ pub(crate) fn is_class_at(scene: &Scene<'_, '_, '_>, place: usize, class: WalkCl
     }
 }
 
-/// The place of the first node from a place on that the walk does not take so. In pre-order these nodes are the left
+/// The index of the first node from an index on that the walk does not take so. In pre-order these nodes are the left
 /// spine of a tree: each but the first is the first operand of the one before.
 pub(crate) fn spine_bottom(scene: &Scene<'_, '_, '_>, top: usize, class: WalkClass) -> usize
     ensures below { top ≤ result }
@@ -171,7 +171,7 @@ pub(crate) fn spine_bottom(scene: &Scene<'_, '_, '_>, top: usize, class: WalkCla
     place
 }
 
-/// The place of a node's second child, where its first one stops.
+/// The index of a node's second child, where its first one stops.
 pub(crate) fn right_of(scene: &Scene<'_, '_, '_>, place: usize) -> usize
     requires { (right : ℕ) × IsRightOf scene.now.list place right }
     ensures { IsRightOf scene.now.list place result }
@@ -180,7 +180,7 @@ pub(crate) fn right_of(scene: &Scene<'_, '_, '_>, place: usize) -> usize
     nodes[place + 1].stop
 }
 
-/// The place behind a node and its descendants.
+/// The index after a node and its descendants.
 pub(crate) fn stop_of(scene: &Scene<'_, '_, '_>, place: usize) -> usize
     requires { place < length scene.now.list.nodes }
     ensures { IsStopOf scene.now.list place result }

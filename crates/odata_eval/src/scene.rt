@@ -21,7 +21,7 @@ use odata_signatures::EdmType;
 use std::alloc::Global;
 use std::marker::Model;
 
-/// A filter, an entity of its type, a moment and range variables, with what the walk reads of them at hand.
+/// A filter, an entity of its type, a moment and range variables, with what the walk reads of them looked up.
 #[derive(Drop)]
 pub(crate) struct Scene<'e, 'c, 'r> {
     checked: &'e Checked<'c>,
@@ -53,8 +53,8 @@ impl<'e, 'c, 'r> Model for Scene<'e, 'c, 'r> {
 }
 
 impl<'e, 'c, 'r> Scene<'e, 'c, 'r> {
-    /// The scene of a filter, an entity and a moment, without variables. `now_value` is the moment as a value, which the
-    /// caller keeps.
+    /// The scene of a filter, an entity and a moment, without variables. `now_value` is the moment as a value, which
+    /// the caller keeps.
     pub(crate) fn of(
         alloc: Global,
         checked: &'e Checked<'c>,
@@ -108,7 +108,7 @@ impl<'e, 'c, 'r> Scene<'e, 'c, 'r> {
         }
     }
 
-    /// The variable of the lambda operator in a place. It has the type of the members of the operator's base.
+    /// The variable of the lambda operator at an index. It has the type of the members of the operator's base.
     pub(crate) fn variable_bound(&self, place: usize) -> RangeVariable<'e>
         requires { IsOverMembers self.now.list place }
         ensures { IsVariableOf self.now.list place result }
@@ -157,7 +157,7 @@ impl<'e, 'c, 'r> Scene<'e, 'c, 'r> {
         self.nodes
     }
 
-    /// The node in a place.
+    /// The node at an index.
     pub(crate) fn node(&self, place: usize) -> &'e CheckedNode
         requires { place < length self.now.list.nodes }
         ensures { slice_get self.now.list.nodes place ≡ Some result.now }

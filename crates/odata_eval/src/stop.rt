@@ -1,7 +1,7 @@
 use odata_filter_operations::EvalFault;
 use thiserror::Error;
 
-/// Why a bounded evaluation has no verdict. It is shown by its name.
+/// Why a bounded evaluation has no verdict. It is displayed by its name.
 #[derive(Clone, Copy, Debug, PartialEq, Eq, Error)]
 pub enum EvalStop {
     /// The filter has no value on the entity.

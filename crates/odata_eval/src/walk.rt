@@ -1,6 +1,6 @@
-//! The walk of a filter's list: each function goes by the place of a node. A chain of nodes, each the first operand of
-//! the one before, lies in the list as nodes one behind another, so the walk goes down it to its first value and up again
-//! by counting, and long chains take no stack.
+//! The walk of a filter's list: each function goes by the index of a node. A chain of nodes, each the first operand of
+//! the one before, lies in the list as nodes one after another, so the walk goes down it to its first value and up
+//! again by counting, and long chains take no stack.
 //!
 //! What is asked at each node is marked to be inlined, so that an answer is not passed on through memory.
 ghost use Rattle.std.specs.Prelude.{◌≡◌, ◌+◌, IfOk, None, Ok};
@@ -35,7 +35,7 @@ use odata_functions::{compare, comparisons_are_decided, not3, operands_lie_withi
 use odata_signatures::{Function, calls_have_one_type};
 use odata_syntax::{BinaryOperator, ComparisonOperator, LogicalOperator};
 
-/// What a node of type Boolean or Null comes to on an entity of the filtered type.
+/// What a node of type Boolean or Null evaluates to on an entity of the filtered type.
 #[cycle(evaluate)]
 pub(crate) fn truth_at(
     scene: &Scene<'_, '_, '_>,
@@ -159,7 +159,7 @@ fn numbers_truth_at(
     }
 }
 
-/// The same, of a call. Two values that are kept are taken where they are.
+/// The same, of a call. Two stored values are taken where they are.
 #[cycle(evaluate)]
 #[inline(always)]
 fn called_truth_at(
@@ -234,7 +234,7 @@ pub(crate) fn made_truth_at(
     }
 }
 
-/// What a node of truth values comes to, whose first operand has been answered.
+/// What a node of truth values evaluates to, whose first operand has been answered.
 #[cycle(evaluate)]
 fn logical_at(
     scene: &Scene<'_, '_, '_>,
@@ -297,7 +297,7 @@ pub(crate) fn term_at(
     }
 }
 
-/// What a logical operator comes to. The right side of a decided one is left out.
+/// What a logical operator evaluates to. The right side of a decided one is left out.
 #[cycle(evaluate)]
 fn connected_at(
     scene: &Scene<'_, '_, '_>,
@@ -322,7 +322,7 @@ fn connected_at(
     }
 }
 
-/// What a node comes to: a value that is kept where it is, or one that is made.
+/// What a node evaluates to: a stored value, which stays where it is, or one that is made.
 #[cycle(evaluate)]
 pub(crate) fn counted_at<'e>(
     scene: &Scene<'e, '_, '_>,
@@ -365,7 +365,7 @@ pub(crate) fn operand_at<'e>(
     }
 }
 
-/// What a node comes to that takes the values of all its operands.
+/// What a node evaluates to that takes the values of all its operands.
 #[cycle(evaluate)]
 fn eager_at<'e>(
     scene: &Scene<'e, '_, '_>,
@@ -434,7 +434,7 @@ fn made_at<'e>(
     }
 }
 
-/// What a comparison comes to.
+/// What a comparison evaluates to.
 #[cycle(evaluate)]
 fn compared_at<'e>(
     scene: &Scene<'e, '_, '_>,
@@ -462,7 +462,7 @@ fn compared_at<'e>(
     }
 }
 
-/// What a call comes to, whose first argument has been answered.
+/// What a call evaluates to, whose first argument has been answered.
 #[cycle(evaluate)]
 fn called_at<'e>(
     scene: &Scene<'e, '_, '_>,

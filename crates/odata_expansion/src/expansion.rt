@@ -28,7 +28,7 @@ impl Model for Expansion {
 }
 
 impl Expansion {
-    /// The set without paths.
+    /// Creates the set without paths.
     pub fn none(alloc: Global) -> Expansion
         ensures { (path : PropertyPath) → paths_in result path ≡ false }
     {
@@ -38,14 +38,14 @@ impl Expansion {
         }
     }
 
-    /// Whether the set has no steps, and so no paths.
+    /// Returns whether the set has no steps, and so no paths.
     pub fn is_empty(&self) -> bool
         ensures { result ≡ (length self.now == 0) }
     {
         self.steps.is_empty()
     }
 
-    /// Whether the path of these names is in the set. The empty path never is.
+    /// Returns whether the path of these names is in the set. The empty path never is.
     pub fn needs(&self, path: &[&str]) -> bool
         ensures { result ≡ paths_in self.now (map (λ name. name.now) path.now) }
     {
@@ -59,15 +59,15 @@ impl Expansion {
         self.is_needed(node)
     }
 
-    /// Whether each path of the other set is in this one.
+    /// Returns whether each path of the other set is in this one.
     pub fn covers(&self, other: &Expansion) -> bool
         ensures { IsTrue result ↔ Covers (paths_in self.now) (paths_in other.now) }
     {
         covers(self.steps.as_slice(), other.steps.as_slice())
     }
 
-    /// Puts the path of these names into the set. The empty path, and one that is in the set, change nothing; nor does a
-    /// refusal, which is want of memory.
+    /// Puts the path of these names into the set. The empty path, and one that is in the set, change nothing; nor does
+    /// a refusal, which is running out of memory.
     pub fn add(&mut self, path: &[&str]) -> Result<(), AllocError>
         ensures added { OnOk result ((asked : PropertyPath) → paths_in self.new asked
             ≡ with_path (paths_in self.old) (map (λ name. name.now) path.now) asked) }
@@ -81,7 +81,7 @@ impl Expansion {
         Ok(())
     }
 
-    /// The same set again.
+    /// Copies the set.
     pub fn copy(&self, alloc: Global) -> Result<Expansion, AllocError>
         ensures { IfOk result (λ copy. copy ≡ self.now) }
     {
@@ -89,22 +89,22 @@ impl Expansion {
         Ok(Expansion { alloc, steps })
     }
 
-    /// The node to which the step of that name leads from a node, the start being node 0. Where it answers none, no path of
-    /// the set goes on there.
+    /// Returns the node to which the step of that name leads from a node, the start being node 0. Where it returns
+    /// none, no path of the set goes on there.
     pub fn next_node(&self, node: usize, name: &str) -> Option<usize>
         ensures { result ≡ next_node self.now node name.now }
     {
         next_of(self.steps.as_slice(), node, name)
     }
 
-    /// Whether the path to a node is in the set.
+    /// Returns whether the path to a node is in the set.
     pub fn is_needed(&self, node: usize) -> bool
         ensures { result ≡ is_needed_at self.now node }
     {
         is_marked(self.steps.as_slice(), node)
     }
 
-    /// The node to which a step of that name leads, which is put there where there is none. The set stays as it is.
+    /// Returns the node to which a step of that name leads, and adds it where there is none. The set stays as it is.
     pub fn step_on(&mut self, node: usize, name: &str) -> Result<usize, AllocError>
         requires { IsReached self.old node }
         ensures leads { IfOk result (λ next. (path : PropertyPath)

@@ -1,5 +1,5 @@
-//! Steps between the nodes of an expansion, one behind another. Node 0 is the start, and the step at an index leads to the
-//! node with the next number.
+//! Steps between the nodes of an expansion, one after another. Node 0 is the start, and the step at an index leads to
+//! the node with the next number.
 ghost use Rattle.std.specs.Prelude.{◌≡◌, ◌≤◌, ◌↔◌, [], true, false, length, map, nat_eq, IfOk, IsTrue};
 ghost use Rattle.std.specs.Cmp.Lexicographic.{pointwise};
 ghost use Rattle.odata_expansion.specs.PathSet.{PropertyPath, Covers};

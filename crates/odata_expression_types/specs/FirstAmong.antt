@@ -1,4 +1,5 @@
--- The first fault among trees in one scope, and among the children of a node (OData URL Conventions 4.01, section 5.1.1).
+-- The first fault among trees in one scope, and among the children of a node (OData URL Conventions 4.01, section
+-- 5.1.1).
 use Rattle.std.specs.Prelude.{◌≤◌, ℕ, List}
 use Rattle.odata_syntax.specs.Tree.{Tree, shape_of, start_of}
 use Rattle.csdl_schema.specs.SchemaModel.{Slots}

@@ -1,4 +1,4 @@
--- Where and why a tree is no filter (OData URL Conventions 4.01, section 5.1.1).
+-- Where and why a tree is not a filter (OData URL Conventions 4.01, section 5.1.1).
 use Rattle.std.specs.Prelude.{◌≡◌, ◌⊎◌, ℕ, ◌≤◌, List, [], None, Some, MatchOption}
 use Rattle.odata_syntax.specs.Tree.{Tree, node, literal, it, name, member, count, binary, has, in_list, in_path, call, any_item, lambda, start_of, stop_of}
 use Rattle.odata_syntax.specs.declared.node.LiteralKind.{LiteralKind}
@@ -55,8 +55,8 @@ abbrev pub LiteralReason : LiteralKind → TypeFaultCode → Type 0
 LiteralReason LiteralKind.EnumLit code = code ≡ TypeFaultCode.UnknownEnum
 LiteralReason _ code = code ≡ TypeFaultCode.LiteralRange
 
--- why operands do not go together: a String literal among them is read and stands for no number of the enumeration beside
--- it; else their types do not
+-- why operands do not go together: a String literal among them is read and stands for no number of the enumeration
+-- beside it; else their types do not
 abbrev pub OperandReason : Type 0 → TypeFaultCode → Type 0
 OperandReason Lacks code =
     (Lacks × (code ≡ TypeFaultCode.UnknownEnum)) ⊎ ((¬ Lacks) × (code ≡ TypeFaultCode.OperandTypes))
@@ -137,7 +137,7 @@ pub record IsNotBoolean (slots : Slots) (root : List ℕ) (tree : Tree) (len : �
   pub starts : fault.span.start ≡ 0
   pub stops : fault.span.stop ≡ len
 
--- why the tree of a text of this length is no filter
+-- why the tree of a text of this length is not a filter
 abbrev pub IsTypeFault : Slots → List ℕ → Tree → ℕ → TypeFault → Type 0
 IsTypeFault slots root tree len fault =
     IsFirstUntypable slots root [] tree fault ⊎ IsNotBoolean slots root tree len fault

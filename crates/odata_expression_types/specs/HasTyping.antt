@@ -18,6 +18,7 @@ pub record HasTyping (slots : Slots) (root : List ℕ) (text : List ℕ) (tree :
   pub typed : Typed slots root [] tree type_of
   pub truth : IsBooleanOrNull type_of
 
+-- no tree makes the text a filter of the type
 abbrev pub HasNoTyping : Slots → List ℕ → List ℕ → Type 0
 HasNoTyping slots root text = (tree : Tree) → ¬ HasTyping slots root text tree
 
@@ -27,14 +28,14 @@ pub record HasTypeFault (slots : Slots) (root : List ℕ) (text : List ℕ) (fau
   pub has_tree : HasTree text tree
   pub fault_of : IsTypeFault slots root tree (length text) fault
 
--- why a text is no filter of the type root
+-- why a text is not a filter of the type root
 abbrev pub IsRefusal : Slots → List ℕ → List ℕ → Refusal → Type 0
 IsRefusal slots root text (Refusal.Text fault) = IsTextFault text fault
 IsRefusal slots root text (Refusal.Syntax fault) = HasSyntaxFault text fault
 IsRefusal slots root text (Refusal.Typing fault) = HasTypeFault slots root text fault
 IsRefusal slots root text Refusal.Memory = ⊥
 
--- P, unless it was want of memory
+-- P, unless it was running out of memory
 abbrev pub UnlessMemory : Refusal → Type 0 → Type 0
 UnlessMemory (Refusal.Text fault) P = P
 UnlessMemory (Refusal.Syntax fault) P = P

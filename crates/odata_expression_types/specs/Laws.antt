@@ -77,7 +77,7 @@ FirstItself =
     → fault.span.stop ≡ stop
     → IsFirstUntypable slots root scope (node start stop shape) fault
 
--- of an expression at most one untypable node starts in a place
+-- of an expression at most one untypable node starts at an offset
 abbrev pub OneUntypableStart : Type 0
 OneUntypableStart =
     (slots : Slots) (root : List ℕ) (scope : Scope) (tree : Tree) (at at' : Scope) (part part' : Tree)
@@ -87,7 +87,7 @@ OneUntypableStart =
     → start_of part ≡ start_of part'
     → (at ≡ at') × (part ≡ part')
 
--- a text is refused for one reason at most, in one place
+-- a text is refused for one reason at most, at one span
 abbrev pub OneRefusal : Type 0
 OneRefusal =
     (slots : Slots) (root text : List ℕ) (a b : Refusal)
@@ -95,7 +95,7 @@ OneRefusal =
     → IsRefusal slots root text b
     → a ≡ b
 
--- a text that is refused is no filter
+-- a text that is refused is not a filter
 abbrev pub RefusedIsUntyped : Type 0
 RefusedIsUntyped =
     (slots : Slots) (root text : List ℕ) (refusal : Refusal) → IsRefusal slots root text refusal

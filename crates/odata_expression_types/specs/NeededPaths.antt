@@ -1,5 +1,5 @@
--- Over which navigation properties an expression leads, by their paths from the filtered entity on (OData URL Conventions
--- 4.01, sections 5.1.1.13 to 5.1.1.15 and 5.1.3).
+-- Over which navigation properties an expression leads, by their paths from the filtered entity on (OData URL
+-- Conventions 4.01, sections 5.1.1.13 to 5.1.1.15 and 5.1.3).
 use Rattle.std.specs.Prelude.{◌≡◌, ◌⊎◌, ◌++◌, ℕ, List, [], ◌∷◌, Option, None, Some, IsSomeAnd, if◌then◌else◌, nat_eq, unwrap_or}
 use Rattle.std.specs.Cmp.Lexicographic.{pointwise}
 use Rattle.odata_syntax.specs.Tree.{Tree, Trees, node, literal, it, name, member, count, negation, logical_not, binary, has, in_list, in_path, call, any_item, lambda, more_trees, no_trees}
@@ -54,7 +54,8 @@ pub record BodyNeeds
   pub body_needs : Body (with_variable scope variable (single member_type))
 
 abbrev mutual
-  -- the path is that of a node of the tree, and ends with a navigation property; the variables in scope have these paths
+  -- the path is that of a node of the tree, and ends with a navigation property; the variables in scope have these
+  -- paths
   pub IsNeeded : Slots → List ℕ → Scope → VariablePaths → Tree → PropertyPath → Type 0
   IsNeeded slots root scope paths (node start stop (literal kind spelling)) path = ⊥
   IsNeeded slots root scope paths (node start stop it) path = ⊥

@@ -25,10 +25,11 @@ abbrev mutual
   nodes_below (any_item base) = pre_order base
   nodes_below (lambda quantifier base variable body) = pre_order base ++ pre_order body
 
-  -- the nodes of trees one behind another
+  -- the nodes of trees one after another
   pub nodes_among : Trees → List Tree
   nodes_among no_trees = []
   nodes_among (more_trees tree trees) = pre_order tree ++ nodes_among trees
 
+-- where a tree starts and stops
 abbrev pub span_of_tree : Tree → Span
 span_of_tree tree = record { start = start_of tree; stop = stop_of tree }

@@ -18,7 +18,7 @@ pub record ReadsNumber (slots : Slots) (Beside : ExprType → Type 0) (tree : Tr
 abbrev pub ReadsNone : Slots → (ExprType → Type 0) → Tree → Type 0
 ReadsNone slots Beside tree = (n : ℤ) → ¬ ReadsNumber slots Beside tree n
 
--- likewise each of trees one behind another
+-- likewise each of trees one after another
 abbrev pub ReadNone : Slots → (ExprType → Type 0) → Trees → Type 0
 ReadNone slots Beside no_trees = Unit {0}
 ReadNone slots Beside (more_trees tree trees) = ReadsNone slots Beside tree × ReadNone slots Beside trees

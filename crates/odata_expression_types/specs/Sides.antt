@@ -1,4 +1,4 @@
--- What an operator is told of its operands (OData URL Conventions 4.01, section 5.1.1.1).
+-- What an operator learns of its operands (OData URL Conventions 4.01, section 5.1.1.1).
 use Rattle.std.specs.Prelude.{ℕ, List, [], ◌∷◌, Option, Some, None}
 use Rattle.odata_syntax.specs.Tree.{Tree, Trees, node, literal, more_trees}
 use Rattle.odata_syntax.specs.declared.node.LiteralKind.{LiteralKind}
@@ -14,7 +14,7 @@ quoted_text _ = None
 abbrev pub side_of : Tree → ExprType → Side
 side_of tree type = quoting (quoted_text tree) type
 
--- likewise trees one behind another, of these types
+-- likewise trees one after another, of these types
 abbrev pub sides_of : Trees → List ExprType → List Side
 sides_of (more_trees tree trees) (type ∷ types) = side_of tree type ∷ sides_of trees types
 sides_of _ _ = []

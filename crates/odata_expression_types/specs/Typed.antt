@@ -138,7 +138,7 @@ abbrev mutual
   Typed slots root scope (node start stop (lambda quantifier base variable body)) type =
       LambdaTyped scope variable (Typed slots root scope base) (λ at. Typed slots root at body) type
 
-  -- trees one behind another have these types
+  -- trees one after another have these types
   pub AreTyped : Slots → List ℕ → Scope → Trees → List ExprType → Type 0
   AreTyped slots root scope no_trees [] = Unit {0}
   AreTyped slots root scope (more_trees tree trees) (type ∷ types) =

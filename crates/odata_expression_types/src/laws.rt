@@ -9,7 +9,8 @@ use odata_syntax::{
 };
 use odata_text::{one_reading, tokens_are_spelled};
 
-/// A law: a tree has at most one type. The contract says it, and the body has nothing to do but to cite what it rests on.
+/// A law: a tree has at most one type. The contract says it, and the body has nothing to do but to cite what it rests
+/// on.
 pub fn trees_have_one_type()
     ensures { OneType }
 {
@@ -29,8 +30,8 @@ pub fn enumeration_literals_have_one_name()
     ensures { OneNameAndText }
 {}
 
-/// A law: the canonical spelling of an enumeration literal has the pieces of its text, whatever that is, without their
-/// outer spaces and with a comma between each two.
+/// A law: the canonical spelling of an enumeration literal has the pieces of its text. They stand without their outer
+/// spaces and with a comma between each two, whatever the text is.
 pub fn enumeration_literals_are_spelled_by_pieces()
     ensures { SpelledByPieces }
 {}
@@ -42,8 +43,8 @@ pub fn typed_trees_are_clear()
     calls_have_one_type();
 }
 
-/// A law: the first fault below a node, among its children that are judged, is the first of its tree; where these have
-/// types, the node itself is at fault.
+/// A law: the first fault among a node's judged children is the first of its tree. Where these have types, the node
+/// itself is at fault.
 pub fn children_come_first()
     ensures below { FirstBelow }
     ensures itself { FirstItself }
@@ -51,7 +52,7 @@ pub fn children_come_first()
     calls_have_one_type();
 }
 
-/// A law: of an expression at most one untypable node starts in a place, so the first one is the only one there.
+/// A law: at most one untypable node of an expression starts at an offset. So the first one is the only one there.
 pub fn untypable_nodes_start_apart()
     ensures { OneUntypableStart }
 {
@@ -61,7 +62,7 @@ pub fn untypable_nodes_start_apart()
     spans_take_bytes();
 }
 
-/// A law: a text is refused for one reason at most, and then it is no filter.
+/// A law: a text is refused for one reason at most, and then it is not a filter.
 pub fn texts_have_one_refusal()
     ensures one { OneRefusal }
     ensures untyped { RefusedIsUntyped }
@@ -80,8 +81,8 @@ pub fn quoting_trees_are_texts()
     ensures { QuotingIsText }
 {}
 
-/// A law: where no operand of an operator is read beside a value of an enumeration, the reason why it has no type is
-/// `OperandTypes`.
+/// A law: the fault of an operator is `OperandTypes` where no operand is read beside an enumeration. It is the reason
+/// why the operator has no type.
 pub fn unread_operands_have_one_reason()
     ensures { UnreadReason }
 {}
@@ -91,7 +92,8 @@ pub fn texts_have_few_nodes()
     ensures { FewNodes }
 {}
 
-/// A law: of an item with the properties Active, ID and Name, `Active and ID eq 1 and Name eq 'a'` has type Boolean.
+/// A law: `Active and ID eq 1 and Name eq 'a'` has type Boolean. That is of an item with the properties Active, ID and
+/// Name.
 pub fn a_filter_of_items_is_boolean()
     ensures { ItemFilterTyped }
 {}

@@ -1,5 +1,5 @@
-//! Which type a tree has, which of its nodes are judged, and where and why a text is no filter (OData URL Conventions
-//! 4.01, section 5.1.1).
+//! Which type a tree has, which of its nodes are judged, and where and why a text is not a filter (OData URL
+//! Conventions 4.01, section 5.1.1).
 #![tactic(auto)]
 
 mod laws;

@@ -2,10 +2,10 @@ use odata_syntax::SyntaxFault;
 use odata_text::{Span, TextFault};
 use thiserror::Error;
 
-/// Why a node has no type. It is shown by its name.
+/// Why a node has no type. It is displayed by its name.
 #[derive(Clone, Copy, Debug, PartialEq, Eq, Error)]
 pub enum TypeFaultCode {
-    /// A name that is no property of its type.
+    /// A name that is not a property of its type.
     #[error("UnknownProperty")]
     UnknownProperty,
     /// A call of no known function.
@@ -20,7 +20,7 @@ pub enum TypeFaultCode {
     /// Operands of types that their operator does not take.
     #[error("OperandTypes")]
     OperandTypes,
-    /// No collection, where one is asked for.
+    /// An operand that is not a collection, where one is required.
     #[error("NotCollection")]
     NotCollection,
     /// A lambda operator whose variable is in scope already.
@@ -45,7 +45,7 @@ pub enum TypeFaultCode {
 
 /// The first node that has no type, by its span, and why. For `NotBoolean` the span is the whole text.
 ///
-/// It is shown as `OperandTypes 0..9`.
+/// It is displayed as `OperandTypes 0..9`.
 #[derive(Clone, Copy, Debug, PartialEq, Eq, Error)]
 #[error("{code} {span}")]
 pub struct TypeFault {
@@ -53,7 +53,7 @@ pub struct TypeFault {
     pub span: Span,
 }
 
-/// Why a text is refused as a filter. It is shown as the fault of the text is.
+/// Why a text is refused as a filter. It is displayed as the fault of the text is.
 #[derive(Clone, Copy, Debug, PartialEq, Eq, Error)]
 pub enum Refusal {
     #[error(transparent)]

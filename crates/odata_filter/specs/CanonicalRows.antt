@@ -49,22 +49,25 @@ SaySameOfRows filter again =
     (now : MomentParts) (row : List ℕ) (said : Judgment BadRow)
     → JudgesRow filter now row said ↔ JudgesRow again now row said
 
+-- of each JSON value they say the same
 abbrev pub SaySameOfValues : Filter → Filter → Type 0
 SaySameOfValues filter again =
     (now : MomentParts) (json : Data) (said : Judgment BadRow)
     → JudgesValue filter now json said ↔ JudgesValue again now json said
 
+-- of each row by itself they have the same answers
 abbrev pub AnswerRowsAlike : Filter → Filter → Type 0
 AnswerRowsAlike filter again =
     (now : MomentParts) (row : List ℕ) (answer : Result Verdict NoVerdict)
     → TellsRow filter now row answer ↔ TellsRow again now row answer
 
--- of every input they keep the same lines and count the same, or stop at the same line after the same text
+-- of every input they keep the same lines and count the same
 abbrev pub KeepSameLines : Filter → Filter → Type 0
 KeepSameLines filter again =
     (now : MomentParts) (bytes written : List ℕ) (tally : Tally)
     → Filters (rows_of filter now bytes) written tally ↔ Filters (rows_of again now bytes) written tally
 
+-- of every input they stop at the same fault, after the same text
 abbrev pub StopAlike : Filter → Filter → Type 0
 StopAlike filter again =
     (now : MomentParts) (bytes written : List ℕ) (fault : RunFault)
@@ -77,6 +80,7 @@ KeepSameItems filter again =
     → OfCollection filter now document (λ items. Filters items written tally)
     ↔ OfCollection again now document (λ items. Filters items written tally)
 
+-- likewise of every collection
 abbrev pub StopCollectionsAlike : Filter → Filter → Type 0
 StopCollectionsAlike filter again =
     (now : MomentParts) (document written : List ℕ) (fault : RunFault)

@@ -13,7 +13,7 @@ use Rattle.odata_filter.specs.RowJudgment.{JudgesValue}
 use Rattle.odata_filter.specs.RunStops.{StopsBy}
 use Rattle.odata_checked_filter.specs.Filter.{Filter}
 
--- the array that a JSON object has as its member `value`; its other members say nothing
+-- the array that a JSON object has as its member `value`; its other members are ignored
 abbrev pub array_of : Data → Option ItemsData
 array_of json = option_and_then as_array (get (codes "value") json)
 
@@ -27,7 +27,7 @@ pub record IsCollectionOf (document : List ℕ) (items : List Data) : Type 0 whe
 abbrev pub IsNoCollection : List ℕ → Type 0
 IsNoCollection document = IsNoJson document ⊎ ((json : Data) × IsJsonOf document json × (array_of json ≡ None))
 
--- the items, each at its place and judged by the filter
+-- the items, each at its index and judged by the filter
 abbrev pub entities_of : Filter → MomentParts → List Data → Items (Placed Data) BadRow
 entities_of filter now items = places (JudgesValue filter now) items
 
@@ -36,8 +36,8 @@ abbrev pub OfCollection : Filter → MomentParts → List ℕ → (Items (Placed
 OfCollection filter now document P =
     (items : List Data) × IsCollectionOf document items × P (entities_of filter now items)
 
--- What a fault says of a document and of the text that was written: that it is no collection; that memory was refused
--- while it was read, or at an item; or the stop that the fault tells of its items.
+-- What a fault says of a document and of the text that was written: that it is not a collection; that an allocation
+-- failed while it was read, or at an item; or the stop that the fault reports about its items.
 abbrev pub StopsCollection : Filter → MomentParts → List ℕ → List ℕ → RunFault → Type 0
 StopsCollection filter now document text RunFault.NotACollection = IsNoCollection document × (text ≡ [])
 StopsCollection filter now document text (RunFault.Memory line) =

@@ -55,7 +55,7 @@ app_of_verb Filter = filter_app
 abbrev pub with_version : App → App
 with_version a = record a { top = record a.top { has_version = true } }
 
--- the command wants one of its subcommands
+-- the command requires one of its subcommands
 abbrev pub with_required_subcommand : App → App
 with_required_subcommand a = record a { top = record a.top { subcommand_required = true } }
 
@@ -88,7 +88,7 @@ matches_if_verb (Some entered) =
     else if bytes_eq entered.0 (codes "check") then entered.1
     else if bytes_eq entered.0 (codes "explain") then entered.1 else []
 
--- what the words say behind their verb, option by option
+-- what the words say after their verb, option by option
 abbrev pub verb_matches : List Text → List Row
 verb_matches words = matches_if_verb (subcommand_of odfilter_app words)
 

@@ -12,15 +12,15 @@ use Rattle.odata_filter.specs.declared.run_fault.RunFault.{RunFault}
 use Rattle.odata_filter.specs.RowJudgment.{JudgesRow, rows_of}
 use Rattle.odata_filter.specs.RunStops.{run_stop}
 
--- the stop that a fault tells of the lines of a reader, of which this waits and which has that left; where a line did
+-- the stop that a fault reports of the lines of a reader, of which this waits and which has that left; where a line did
 -- not come, it is the line of that number
 abbrev pub StopsLines : Filter → MomentParts → List ℕ → List ℕ → Option (List ℕ) → List ℕ → RunFault → Type 0
 StopsLines filter now bytes waiting known text fault =
     IsSomeAnd (run_stop fault)
     (StopsWith (rows_of filter now bytes) (LacksLine (JudgesRow filter now) bytes waiting known) text)
 
--- the line of that number did not come, of a reader of which nothing is seen any more: some bytes of the line waited, and
--- it may have had more
+-- the line of that number did not come, of a reader of which nothing is seen any more: some bytes of the line waited,
+-- and it may have had more
 abbrev pub LacksRow : Filter → MomentParts → List ℕ → List ℕ → ℕ → Type 0
 LacksRow filter now bytes text line =
     (waiting : List ℕ) × (known : Option (List ℕ)) × LacksLine (JudgesRow filter now) bytes waiting known text line

@@ -13,7 +13,7 @@ use Rattle.odata_filter_operations.specs.declared.fault.EvalFault.{EvalFault}
 use Rattle.odata_filter.specs.RowsOnce.{flaw_told}
 use Rattle.odata_filter.specs.declared.fault_number.FaultKind.{FaultKind}
 
--- why a document is no schema
+-- why a document is not a schema
 abbrev pub schema_number : SchemaFault → ℕ
 schema_number SchemaFault.NotJson = 1
 schema_number SchemaFault.NotObject = 2
@@ -65,7 +65,7 @@ type_number TypeFaultCode.UnknownEnum = 10
 type_number TypeFaultCode.TypeLeftOut = 11
 type_number TypeFaultCode.NotBoolean = 12
 
--- why a row is no entity of its type
+-- why a row is not an entity of its type
 abbrev pub row_number : RowFault → ℕ
 row_number RowFault.NotObject = 1
 row_number (RowFault.Missing path) = 2
@@ -82,8 +82,8 @@ evaluation_number EvalFault.Overflow = 1
 evaluation_number EvalFault.DivideByZero = 2
 evaluation_number EvalFault.Memory = 3
 
--- the names of a kind's faults in the order of their numbers; want of memory has none, or the empty one where others
--- follow
+-- the names of a kind's faults in the order of their numbers; running out of memory has none, or the empty one where
+-- others follow
 abbrev pub names_of : FaultKind → List (List ℕ)
 names_of FaultKind.Schema =
     codes "NotJson" ∷ codes "NotObject" ∷ codes "Version" ∷ codes "BadType" ∷ codes "BadProperty"

@@ -57,13 +57,13 @@ IsTruthOrFault (gives value) = ⊥
 IsTruthOrFault overflow = Unit {0}
 IsTruthOrFault divides_by_zero = Unit {0}
 
--- On the value the filter comes to this outcome, which is one of those five, and to no other.
+-- On the value the filter evaluates to this outcome, which is one of those five, and to no other.
 pub record ComesToOne (filter : Filter) (now : MomentParts) (value : Val) (outcome : Outcome) : Type 0 where
   pub known : IsTruthOrFault outcome
   pub related : FilterMeans filter now value outcome
   pub only : (other : Outcome) → FilterMeans filter now value other → other ≡ outcome
 
--- a filter that `check` accepts comes to one outcome on every entity of its type, at every moment of the years 1 to
+-- a filter that `check` accepts evaluates to one outcome on every entity of its type, at every moment of the years 1 to
 -- 9999
 abbrev pub HaveOneOutcome : Type 0
 HaveOneOutcome =
@@ -71,7 +71,7 @@ HaveOneOutcome =
     → IsCheckedOf text filter → IsMoment now.civil now.offset_minutes → ConformsTo filter value
     → (outcome : Outcome) × ComesToOne filter now value outcome
 
--- what `evaluate` says of its answer tells that outcome, unless memory was refused
+-- what `evaluate` says of its answer reports that outcome, unless an allocation failed
 abbrev pub AreAnswered : Type 0
 AreAnswered =
     (text : List ℕ) (filter : Filter) (now : MomentParts) (row : Row) (answer : Result Verdict EvalFault)
@@ -131,7 +131,8 @@ StopAtFaults =
     → StopsBy (rows_of filter now bytes) written fault
     → (number : ℕ) × (finding : Finding BadRow) × StopsBehind filter now bytes written number finding
 
--- a text that is refused, by anything but want of memory, is no filter, and there is one refusal of it: its first fault
+-- a text that is refused, by anything but running out of memory, is not a filter, and there is one refusal of it: its
+-- first fault
 abbrev pub AreRefusedOnce : Type 0
 AreRefusedOnce =
     (slots : Slots) (root text : List ℕ) (refusal : Refusal) → IsRefusal slots root text refusal

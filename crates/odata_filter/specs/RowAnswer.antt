@@ -1,5 +1,5 @@
--- What is told of a row that is judged by itself (OData JSON Format 4.01, sections 4.5 and 7; OData URL Conventions 4.01,
--- section 5.1.1).
+-- What is reported about a row that is judged by itself (OData JSON Format 4.01, sections 4.5 and 7; OData URL
+-- Conventions 4.01, section 5.1.1).
 use Rattle.std.specs.Prelude.{◌≡◌, ◌≢◌, ◌⊎◌, ◌<◌, ℕ, List, [], length, slice_get, unwrap_or, IfSome, Option, Some, None, Result, Ok, Err, IsTrue}
 use Rattle.serde_json.specs.Data.{Data}
 use Rattle.edm_values.specs.MomentParts.{MomentParts}
@@ -27,8 +27,8 @@ pub record PassesNone (filter : Filter) (Passed : Names) : Type 0 where
       ((name : List ℕ) → ¬ Passed name)
       ⊎ ((place : ℕ) → IfSome (slice_get filter.list.nodes place) (λ node. node.kind ≢ NodeKind.It))
 
--- the plan is of the filter's schema and type, and a whole one has that expanded which the filter needs; it passes nothing
--- that the filter names
+-- the plan is of the filter's schema and type, and a whole one has that expanded which the filter needs; it passes
+-- nothing that the filter names
 pub record IsPlanOfFilter (filter : Filter) (plan : RowPlan) : Type 0 where
   pub schema : IsPlanOf filter.schema plan
   pub type_id : plan.type_id ≡ filter.filtered
@@ -41,14 +41,14 @@ pub record HasVerdict (filter : Filter) (now : MomentParts) (row : List ℕ) (ve
   pub is_json : IsJsonOf row json
   pub outcome : HasOutcome filter now json (gives (verdict_val verdict))
 
--- what is told of a row: its verdict, or what is wrong with it, which is what is said of a line at fault; want of memory
--- says nothing
+-- what is reported about a row: its verdict, or what is wrong with it, which is what is said of a line at fault;
+-- running out of memory says nothing
 abbrev pub TellsRow : Filter → MomentParts → List ℕ → Result Verdict NoVerdict → Type 0
 TellsRow filter now row (Ok verdict) = HasVerdict filter now row verdict
 TellsRow filter now row (Err (NoVerdict.Bad bad)) = JudgesRow filter now row (Judgment.Fault bad)
 TellsRow filter now row (Err NoVerdict.Memory) = Unit {0}
 
--- what is said of the row as a line: it is kept where the verdict is true; nothing for want of memory
+-- what is said of the row as a line: it is kept where the verdict is true; nothing when out of memory
 abbrev pub judgment_told : Result Verdict NoVerdict → Option (Judgment BadRow)
 judgment_told (Ok Verdict.True) = Some Judgment.Kept
 judgment_told (Ok Verdict.False) = Some Judgment.LeftOut
@@ -56,7 +56,7 @@ judgment_told (Ok Verdict.Null) = Some Judgment.LeftOut
 judgment_told (Err (NoVerdict.Bad bad)) = Some (Judgment.Fault bad)
 judgment_told (Err NoVerdict.Memory) = None
 
--- the same verdict, or the same fault; want of memory goes with any
+-- the same verdict, or the same fault; running out of memory goes with any
 abbrev pub AreSameAnswer : Result Verdict NoVerdict → Result Verdict NoVerdict → Type 0
 AreSameAnswer (Ok v) (Ok w) = v ≡ w
 AreSameAnswer (Err (NoVerdict.Bad f)) (Err (NoVerdict.Bad g)) = AreSameJudgment (Judgment.Fault f) (Judgment.Fault g)

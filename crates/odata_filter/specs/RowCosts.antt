@@ -1,5 +1,5 @@
--- What a filter costs on a row, and what is reported of a row within a bound (OData JSON Format 4.01, sections 4.5 and 7;
--- OData URL Conventions 4.01, section 5.1.1).
+-- What a filter costs on a row, and what is reported about a row within a bound (OData JSON Format 4.01, sections 4.5
+-- and 7; OData URL Conventions 4.01, section 5.1.1).
 use Rattle.std.specs.Prelude.{◌≡◌, ◌<◌, ◌≤◌, ℕ, List, [], Result, Ok, Err}
 use Rattle.serde_json.specs.Data.{Data}
 use Rattle.edm_values.specs.MomentParts.{MomentParts}
@@ -37,8 +37,8 @@ pub record RowCostIs (filter : Filter) (now : MomentParts) (row : List ℕ) (Hol
   pub is_json : IsJsonOf row json
   pub cost_is : CostIs filter now json Holds
 
--- a verdict, or a fault of arithmetic, only where the cost is within the bound; `TooCostly` only where it is not; what is no
--- entity has no cost
+-- a verdict, or a fault of arithmetic, only where the cost is within the bound; `TooCostly` only where it is not; what
+-- is no entity has no cost
 abbrev pub ReportsRowWithin : Filter → MomentParts → List ℕ → ℕ → Result Verdict RowStop → Type 0
 ReportsRowWithin filter now row most (Ok verdict) =
     TellsRow filter now row (Ok verdict) × RowCostIs filter now row (λ cost. cost ≤ most)

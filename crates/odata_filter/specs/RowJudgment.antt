@@ -17,7 +17,7 @@ use Rattle.odata_filter_operations.specs.Outcome.{Outcome, gives}
 use Rattle.odata_filter_operations.specs.FaultView.{fault_outcome}
 use Rattle.odata_checked_filter.specs.Filter.{Filter, slots_for_filter, tree_of_filter}
 
--- what a filter comes to on a value of its type
+-- what a filter evaluates to on a value of its type
 abbrev pub FilterMeans : Filter → MomentParts → Val → Outcome → Type 0
 FilterMeans filter now value =
     Means (slots_of filter.schema) (type_name_at filter.schema filter.filtered) now value [] (tree_of_filter filter)

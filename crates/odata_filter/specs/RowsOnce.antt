@@ -6,8 +6,8 @@ use Rattle.edm_entities.specs.declared.fault.RowFault.{RowFault}
 use Rattle.odata_filter.specs.declared.bad_row.BadRow.{BadRow}
 use Rattle.odata_filter.specs.declared.run_fault.RunFault.{RunFault}
 
--- the bytes of a fault's path and what is wrong there; a row that is no object has no path, and neither has want of
--- memory, which is no fault of a row
+-- the bytes of a fault's path and what is wrong there; a row that is not an object has no path, and running out of
+-- memory, which is not a fault of a row, has neither
 abbrev pub flaw_told : RowFault → Option (List ℕ × Flaw)
 flaw_told RowFault.NotObject = None
 flaw_told (RowFault.Missing path) = Some (string_bytes path, missing)

@@ -87,7 +87,7 @@ HasCheckedFilter plan document = (filter : Filter) × IsPlanFilter plan document
 abbrev pub HasQueryFault : Plan → Type 0
 HasQueryFault plan = IsSomeAnd plan.query (λ given. (fault : QueryFault) × IsQueryFault given.now fault)
 
--- The plan names a type, and its text is no filter of that, or its query has a fault.
+-- The plan names a type, and its text is not a filter of that, or its query has a fault.
 pub record HasNoFilter (plan : Plan) (document : List ℕ) : Type 0 where
   pub schema : SchemaModel
   pub index : ℕ
@@ -110,8 +110,8 @@ HasNoType plan document =
     ⊎ ((schema : SchemaModel) × StandsFor document schema
     × ((index : ℕ) → index_named schema plan.named.now ≡ Some index → ¬ IsEntityAt schema index))
 
--- What a run reads and writes: what its rows had to give, unknown where their reader does not tell, and none where
--- their file cannot be opened; and what standard output held before and after, where it tells that.
+-- What a run reads and writes: what its rows had to give, unknown where their reader does not report, and none where
+-- their file cannot be opened; and what standard output held before and after, where it reports that.
 pub record Streams : Type 0 where
   pub rows : Option (Option (List ℕ))
   pub old : Option (List ℕ)
@@ -184,13 +184,14 @@ pub record IsRefusedLine (text : List ℕ) : Type 0 where
   pub told : List ℕ
   pub line : text ≡ codes "refused " ++ (told ++ 10 ∷ [])
 
--- what a verb that reads no rows tells of a filter
+-- what a verb that reads no rows reports about a filter
 abbrev pub TellsOf : Verb → Filter → List ℕ → Type 0
 TellsOf Check = IsAccepted
 TellsOf Explain = IsExplanation
 TellsOf ByRows = λ filter text. ⊥
 
--- the text that such a verb writes: what it tells of the plan's filter, or, where there is none, the line of a refusal
+-- the text that such a verb writes: what it reports of the plan's filter, or, where there is none, the line of a
+-- refusal
 abbrev pub IsToldBy : Verb → Plan → List ℕ → List ℕ → Type 0
 IsToldBy verb plan document text =
     ((filter : Filter) × IsPlanFilter plan document filter × TellsOf verb filter text)
@@ -216,13 +217,14 @@ status_number at_fault = 4
 status_number without_device = 5
 status_number without_memory = 6
 
--- what a run by a verb says that is done: all rows were filtered, or the filter was told, or each of its nodes
+-- what a run by a verb says that is done: all rows were filtered, or the filter was written, or each of its nodes
 abbrev pub Completes : Verb → Plan → List ℕ → Streams → Type 0
 Completes ByRows plan document streams = ByFilter FiltersAll plan document streams
 Completes Check plan document streams = TellsFilter IsAccepted plan document streams
 Completes Explain plan document streams = TellsFilter IsExplanation plan document streams
 
--- nothing was written where there is no filter; to a verb that reads no rows that is an answer, and its line was written
+-- nothing was written where there is no filter; to a verb that reads no rows that is an answer, and its line was
+-- written
 abbrev pub RefusalSays : Verb → Streams → Type 0
 RefusalSays ByRows streams = WroteNothing streams
 RefusalSays verb streams = Writes streams.old streams.new IsRefusedLine
@@ -238,13 +240,14 @@ StopsAtRow ByRows plan document streams =
     ByFilter StopsAtFault plan document streams ⊎ ReadsNoCollection plan document streams
 StopsAtRow verb plan document streams = ⊥
 
--- there is a filter, with its moment where rows are read; or there is none, and standard output did not take that answer
+-- there is a filter, with its moment where rows are read; or there is none, and standard output did not take that
+-- answer
 abbrev pub LacksDevice : Verb → Plan → List ℕ → Type 0
 LacksDevice ByRows plan document = HasReadyFilter plan document
 LacksDevice verb plan document = HasCheckedFilter plan document ⊎ HasNoFilter plan document
 
--- What each says: the run is done; the text is no filter; the plan is none, or its query has no filter, or it gives no
--- moment and its filter asks for it; there is no such entity type; a row is at fault; a device failed, and of rows
+-- What each says: the run is done; the text is not a filter; the plan is none, or its query has no filter, or it gives
+-- no moment and its filter asks for it; there is no such entity type; a row is at fault; a device failed, and of rows
 -- nothing is said; nothing is said.
 abbrev pub StatusSays : Status → Verb → Plan → List ℕ → Streams → Type 0
 StatusSays complete verb plan document streams = Completes verb plan document streams
@@ -256,8 +259,8 @@ StatusSays at_fault verb plan document streams = StopsAtRow verb plan document s
 StatusSays without_device verb plan document streams = LacksDevice verb plan document
 StatusSays without_memory verb plan document streams = Unit {0}
 
--- a beginning of the text of the kept rows among some first ones of which none is at fault; by a verb that reads no rows,
--- a beginning of the text that it writes
+-- a beginning of the text of the kept rows among some first ones of which none is at fault; by a verb that reads no
+-- rows, a beginning of the text that it writes
 abbrev pub BeginsBy : Verb → Plan → List ℕ → Streams → Type 0
 BeginsBy ByRows plan document streams = ByFilter BeginsKept plan document streams
 BeginsBy verb plan document streams =

@@ -5,7 +5,7 @@ use Rattle.line_filter.specs.declared.stop.Stop.{Stop}
 use Rattle.odata_filter.specs.declared.bad_row.BadRow.{BadRow}
 use Rattle.odata_filter.specs.declared.run_fault.RunFault.{RunFault}
 
--- the stop that it tells; none where a document is no collection
+-- the stop that it reports; none where a document is not a collection
 abbrev pub run_stop : RunFault → Option (Stop BadRow)
 run_stop (RunFault.Json line) = Some (Stop.Fault line BadRow.NotJson)
 run_stop (RunFault.Row line fault) = Some (Stop.Fault line (BadRow.NoEntity fault))
@@ -16,6 +16,6 @@ run_stop (RunFault.Read line) = Some (Stop.Read line)
 run_stop RunFault.Write = Some Stop.Write
 run_stop (RunFault.Memory line) = Some (Stop.Memory line)
 
--- it tells a stop, and that says this of the rows and of the text that was written
+-- it reports a stop, and that says this of the rows and of the text that was written
 abbrev pub StopsBy : {X : Type 0} → Items X BadRow → List ℕ → RunFault → Type 0
 StopsBy rows text fault = IsSomeAnd (run_stop fault) (Stops rows text)

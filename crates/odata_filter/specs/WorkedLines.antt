@@ -14,7 +14,7 @@ without_filter = without_schema ++ codes "--schema=s" ∷ []
 abbrev pub whole : List Text
 whole = without_filter ++ codes "--filter" ∷ codes "true" ∷ codes "--rows=r" ∷ []
 
--- with a query in place of a filter
+-- with a query instead of a filter
 abbrev pub with_query : List Text
 with_query = without_filter ++ codes "--query=x" ∷ []
 

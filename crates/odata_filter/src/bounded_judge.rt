@@ -33,8 +33,9 @@ pub enum RowStop {
     TooCostly,
 }
 
-/// Judges rows by a filter, each within a bound: how many bodies of lambda operators, and items of lists within them, the
-/// filter may ask for on the row. The plan is that of the filter ([`row_plan_of`](crate::row_plan_of)).
+/// Judges rows by a filter, each within a bound on its cost. The bound is on the bodies of lambda operators, and the
+/// items of lists within them, that the filter evaluates on the row. The plan is that of the filter
+/// ([`row_plan_of`](crate::row_plan_of)).
 #[derive(Drop)]
 pub struct BoundedJudge<'c, 's> {
     pub checked: &'c Checked<'s>,
@@ -44,7 +45,7 @@ pub struct BoundedJudge<'c, 's> {
 }
 
 impl BoundedJudge<'_, '_> {
-    /// What the filter says of a row, one JSON object, as [`judge_row`](crate::judge_row) says it without a bound.
+    /// Judges a row, one JSON object, as [`judge_row`](crate::judge_row) does without a bound.
     pub fn judge(&self, reader: &mut RowReader, row: &[u8]) -> Result<Verdict, RowStop>
         requires { IsPlanOfFilter self.now.checked.now self.now.plan.now }
         ensures { ReportsRowWithin self.now.checked.now self.now.moment.now row.now self.now.most result }
@@ -120,7 +121,7 @@ impl BoundedJudge<'_, '_> {
     }
 }
 
-/// What a filter's answer to an entity reports of its row.
+/// What a filter's answer to an entity reports about its row.
 fn reported(answer: Result<Verdict, EvalStop>) -> Result<Verdict, RowStop>
     ensures { result ≡ stop_reported answer }
 {

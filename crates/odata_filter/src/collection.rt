@@ -55,7 +55,8 @@ fn read_document(alloc: Global, document: &[u8]) -> Result<Value, RunFault>
     }
 }
 
-/// [`filter_collection`], by how the writer's calls are told. It tells that the writer failed only where it did.
+/// Filters as [`filter_collection`] does, by how the writer's calls are reported. It reports that the writer failed
+/// only if it did.
 pub fn filter_collection_by<W: Write, T: Writes<W>>(
     alloc: Global,
     checked: &Checked<'_>,
@@ -89,12 +90,12 @@ pub fn filter_collection_by<W: Write, T: Writes<W>>(
     }
 }
 
-/// Reads a collection of entities, a JSON object whose member `value` is an array of them, and writes the place of each
-/// whose outcome is true, counted from 0, in decimal and followed by LF.
+/// Reads a collection of entities and writes the index of each whose outcome is true. The collection is a JSON object
+/// whose member `value` is an array of them; an index is counted from 0, in decimal and followed by LF.
 ///
-/// Its other members are read over. A document that is no JSON or no such object is `NotACollection`. The first faulty
-/// item ends the run: `Row` or `Arithmetic`, with its place plus one. A failed write, or a last flush that fails, is
-/// `Write`. Memory that is refused while the document is read is `Memory` with 0 for the line.
+/// Its other members are skipped. A document that is not JSON or not such an object is `NotACollection`. The first
+/// faulty item ends the run with `Row` or `Arithmetic` and its index plus one. A failed write, or a failed last flush,
+/// is `Write`. `Memory` with 0 for the line reports an allocation that fails while the document is read.
 pub fn filter_collection<W: Write>(
     alloc: Global,
     checked: &Checked<'_>,

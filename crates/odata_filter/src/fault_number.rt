@@ -12,7 +12,7 @@ use odata_syntax::SyntaxFault;
 use odata_text::{QueryFault, Span, TextFault};
 use odata_typing::{Refusal, TypeFaultCode};
 
-/// What has numbered faults.
+/// The kinds of things that have numbered faults.
 #[derive(Clone, Copy, Debug, PartialEq, Eq)]
 pub enum FaultKind {
     Schema,
@@ -29,7 +29,7 @@ pub trait Numbered {
     // Its number.
     ghost number_of: { Self → ℕ };
 
-    /// The number, from 1 in the order of the enum. It stays what it is: what comes later has a further one.
+    /// Returns the number, from 1 in the order of the enum. It stays what it is: what comes later has a further one.
     fn number(&self) -> u8
         ensures { result ≡ number_of self.now };
 }
@@ -198,7 +198,7 @@ const ROW_NAMES: &[&str] = &[
 
 const EVALUATION_NAMES: &[&str] = &["Overflow", "DivideByZero"];
 
-/// The names of the faults of a kind, in the order of their numbers; an empty one for want of memory, where others
+/// The names of the faults of a kind, in the order of their numbers; an empty one when out of memory, where others
 /// follow.
 fn names(kind: FaultKind) -> &'static [&'static str]
     ensures { map (λ name. name.now) result.now ≡ names_of kind }
@@ -214,8 +214,8 @@ fn names(kind: FaultKind) -> &'static [&'static str]
     }
 }
 
-/// The name of the fault of that number, as the fault is shown by it. `None` where there is none of the number, or it is
-/// want of memory.
+/// Returns the name of the fault of that number, as the fault is displayed. `None` if there is none of the number, or
+/// it is running out of memory.
 pub fn fault_name(kind: FaultKind, number: u8) -> Option<&'static str>
     ensures { option_map (λ name. name.now) result ≡ name_at (names_of kind) number }
 {
@@ -228,7 +228,7 @@ pub fn fault_name(kind: FaultKind, number: u8) -> Option<&'static str>
     }
 }
 
-/// Where in its text a filter is refused. `None` for want of memory.
+/// Returns where in its text a filter is refused. `None` when out of memory.
 pub fn refusal_span(refusal: &Refusal) -> Option<Span>
     ensures { result ≡ span_told refusal.now }
 {
@@ -251,7 +251,8 @@ pub fn refusal_span(refusal: &Refusal) -> Option<Span>
     }
 }
 
-/// The path to the value at fault, as `Parts/0/Qty`. `None` for a row that is no object, and for want of memory.
+/// Returns the path to the value at fault, as `Parts/0/Qty`. `None` for a row that is not an object, and when out of
+/// memory.
 pub fn row_fault_path(fault: &RowFault) -> Option<&str>
     ensures { option_map (λ path. path.now) result ≡ path_told fault.now }
 {

@@ -15,9 +15,9 @@ use odata_typing::Checked;
 use std::alloc::Global;
 use std::io::{Read, Write};
 
-/// [`filter_lines`] over a reader of lines that is lent, by how its reads and the writer's calls are told.
+/// Filters as [`filter_lines`] does, over a borrowed reader of lines and with reported calls.
 ///
-/// It tells which line did not come, and that a device failed only where one did.
+/// It reports which line did not come, and that a device failed only where one did.
 pub fn filter_lines_by<R: Read, S: Reads<R>, W: Write, T: Writes<W>>(
     alloc: Global,
     checked: &Checked<'_>,
@@ -44,12 +44,13 @@ pub fn filter_lines_by<R: Read, S: Reads<R>, W: Write, T: Writes<W>>(
     }
 }
 
-/// Reads rows, one JSON object a line, and writes those whose outcome is true, unchanged and each followed by LF.
+/// Reads rows, one JSON object a line, and writes those whose outcome is true. They are unchanged and each followed by
+/// LF.
 ///
-/// Lines are judged as they come, and what is kept of them is written before more is read. A blank line is passed over.
-/// The first faulty line ends the run: `LineTooLong`, `Json`, `Row` or `Arithmetic`, with its number from 1. Where a read
-/// fails, or memory is refused, the lines that were complete are judged first: `Read` has a number one above that of the
-/// complete lines, of which the kept ones have been written. A failed write, or a last flush that fails, is `Write`.
+/// Lines are judged as they come, and the kept ones are written before more is read. A blank line is skipped. The first
+/// faulty line ends the run with `LineTooLong`, `Json`, `Row` or `Arithmetic` and its number, from 1. If a read or an
+/// allocation fails, the complete lines are judged first: `Read` has a number one above that of the complete lines, of
+/// which the kept ones have been written. A failed write, or a failed last flush, is `Write`.
 pub fn filter_lines<R: Read + Drop, W: Write>(
     alloc: Global,
     checked: &Checked<'_>,
@@ -70,8 +71,8 @@ pub fn filter_lines<R: Read + Drop, W: Write>(
     filter_lines_by::<R, Untold, W, Untold>(alloc, checked, now, &mut lines, out)
 }
 
-/// [`filter_lines`] over rows that stand in memory. What it keeps goes after what `out` has already. It answers neither
-/// `Read` nor `Write`: where `out` has no room for a kept line it is `Memory`, by the number of that line.
+/// Filters as [`filter_lines`] does, over rows in memory. Kept rows are appended to `out`. It returns neither `Read`
+/// nor `Write`. If an allocation for a kept line fails it is `Memory`, by the number of that line.
 pub fn filter_slice(
     alloc: Global,
     checked: &Checked<'_>,

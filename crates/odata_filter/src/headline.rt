@@ -1,4 +1,4 @@
-//! What the crates below come to together, as the contract of a function that does nothing but cite laws.
+//! What the crates below guarantee together, as the contract of a function that does nothing but cite laws.
 ghost use Rattle.odata_filter.specs.CanonicalRows.{HaveSameEntities, HaveSameOutcomes, KeepSameItems, KeepSameLines};
 ghost use Rattle.odata_filter.specs.CanonicalRows.{OfBoth, SaySameOfRows, SaySameOfValues, StopAlike};
 ghost use Rattle.odata_filter.specs.CanonicalRows.{StopCollectionsAlike, AnswerRowsAlike};
@@ -14,9 +14,9 @@ use odata_text::tokens_are_spelled;
 use odata_typing::texts_have_one_refusal;
 
 /// The headline. A filter that `check` accepts for an entity type has exactly one outcome on every entity of that type,
-/// at every moment: true, false, null, overflow or division by zero. `evaluate` answers it; `filter_lines` writes just the
-/// rows on which it is true, in order, up to the first line at fault. A text that `check` refuses has no typing, and its
-/// place and reason are those of its one first fault.
+/// at every moment: true, false, null, overflow or division by zero. `evaluate` returns it; `filter_lines` writes just
+/// the rows on which it is true, in order, up to the first line at fault. A text that `check` refuses has no typing,
+/// and its span and reason are those of its one first fault.
 pub fn filters_keep_what_is_true()
     ensures outcome { HaveOneOutcome }
     ensures answered { AreAnswered }
@@ -33,9 +33,9 @@ pub fn filters_keep_what_is_true()
     texts_have_one_refusal();
 }
 
-/// What `check` accepts for the canonical text of a filter keeps what the filter keeps: it has the same outcomes, judges
-/// each row alike, and keeps the same lines of every input and the same items of every collection, or stops alike. An
-/// entity that is expanded for the one is expanded for the other.
+/// The filter of a canonical text keeps what the filter keeps. It is what `check` accepts for that text: it has the
+/// same outcomes, judges each row alike, and keeps the same lines of every input and the same items of every
+/// collection, or stops alike. An entity that is expanded for the one is expanded for the other.
 pub fn canonical_texts_keep_rows()
     ensures entities { OfBoth HaveSameEntities }
     ensures outcomes { OfBoth HaveSameOutcomes }

@@ -28,7 +28,7 @@ use line_filter::lines_stop_once;
 use odata_typing::Checked;
 use std::alloc::Global;
 
-/// Of a line a filter has one judgment at most. Of `Json`, `Row`, `Arithmetic` and `LineTooLong` at most one holds of
+/// A filter has one judgment of a line at most. Of `Json`, `Row`, `Arithmetic` and `LineTooLong` at most one holds of
 /// rows, at one line, and none where all of them pass. One text is kept, of all rows or of those before the first at
 /// fault; all rows have one tally.
 pub fn rows_stop_once(alloc: Global, checked: &Checked<'_>, now: &Moment)
@@ -50,7 +50,7 @@ pub fn rows_stop_once(alloc: Global, checked: &Checked<'_>, now: &Moment)
     lines_stop_once(&judge);
 }
 
-/// Of a row one verdict or one fault is told, and that is what is said of the row as a line.
+/// One verdict or one fault is reported about a row, and that is what is said of the row as a line.
 pub fn rows_are_told_once()
     ensures one { (filter : Filter) (now : MomentParts) (row : List ℕ) (a b : Result Verdict NoVerdict)
         → TellsRow filter now row a → TellsRow filter now row b → AreSameAnswer a b }
@@ -63,9 +63,9 @@ pub fn rows_are_told_once()
     one_fault_is_first();
 }
 
-/// Of a JSON value a filter has one judgment at most. Of `NotACollection`, `Row` and `Arithmetic` at most one holds of a
-/// document, at one item, and none where it is a collection all of whose items pass. One text is kept, of all items or
-/// of those before the first at fault; all items have one tally.
+/// A filter has one judgment of a JSON value at most. Of `NotACollection`, `Row` and `Arithmetic` at most one holds of
+/// a document, at one item, and none where it is a collection all of whose items pass. One text is kept, of all items
+/// or of those before the first at fault; all items have one tally.
 pub fn collections_stop_once(checked: &Checked<'_>, now: &Moment)
     ensures judged { (json : Data) (j k : Judgment BadRow) → JudgesValue checked.now now.now json j
         → JudgesValue checked.now now.now json k → AreSameJudgment j k }
@@ -84,8 +84,8 @@ pub fn collections_stop_once(checked: &Checked<'_>, now: &Moment)
     one_fault_is_first();
 }
 
-/// Of a writer that tells that it never fails `Write` is not said. Of such a reader `Read` is said only where it had as
-/// many bytes as may be read, or where it had been said before.
+/// `Write` is not said of a writer that reports that it never fails. Of such a reader `Read` is said only where it had
+/// as many bytes as may be read, or where it had been said before.
 pub fn unfailing_devices_never_fail<R>()
     ensures write { ¬ (WritesUntilFault Calls.Unfailing Calls.Unfailing RunFault.Write) }
     ensures read { (remaining : R → Option (List ℕ)) (old new : LineSource R) (bytes : List ℕ) (line : ℕ)

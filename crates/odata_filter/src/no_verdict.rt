@@ -4,10 +4,10 @@ use thiserror::Error;
 /// Why a row has no verdict.
 #[derive(Debug, Drop, Error)]
 pub enum NoVerdict {
-    /// The row is no JSON or no entity, or the filter has no value on it.
+    /// The row is not JSON or not an entity, or the filter has no value on it.
     #[error("{0}")]
     Bad(BadRow),
-    /// Memory was refused, which says nothing of the row.
+    /// An allocation failed, which says nothing of the row.
     #[error("memory")]
     Memory,
 }

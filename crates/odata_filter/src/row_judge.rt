@@ -67,7 +67,7 @@ impl RowJudge<'_, '_> {
         evaluate(self.alloc, self.checked, entity, self.moment)
     }
 
-    /// Judges a row by way of a tree.
+    /// Judges a row through a tree.
     #[inline(never)]
     pub(crate) fn judge_by_tree(&self, row: &[u8]) -> Result<Verdict, NoVerdict>
         ensures { TellsRow self.now.checked.now self.now.moment.now row.now result }
@@ -84,7 +84,7 @@ impl RowJudge<'_, '_> {
         }
     }
 
-    /// Judges a row: without a tree where it is an entity, else by way of one.
+    /// Judges a row: without a tree where it is an entity, else through one.
     pub(crate) fn judge_bytes(
         &self,
         plan: &RowPlan,
@@ -100,7 +100,7 @@ impl RowJudge<'_, '_> {
         }
     }
 
-    /// Judges a row that is an entity, without a tree. Where it answers none, the row goes by way of one: so it does
+    /// Judges a row that is an entity, without a tree. Where it returns none, the row goes through one: so it does
     /// also where the plan is not whole.
     #[inline(always)]
     pub(crate) fn judge_read(
@@ -124,7 +124,7 @@ impl RowJudge<'_, '_> {
     }
 }
 
-/// What a fault of the filter says of its row. Want of memory says nothing of it.
+/// What a fault of the filter says of its row. Running out of memory says nothing of it.
 pub(crate) fn told_fault(fault: EvalFault) -> NoVerdict
     ensures { result ≡ fault_told fault }
 {
@@ -155,7 +155,7 @@ pub(crate) fn judged_by(verdict: Verdict) -> Judgment<BadRow>
     }
 }
 
-/// What is kept of rows by what is told of each.
+/// What is kept of rows by what is reported about each.
 pub(crate) fn judgment_of(
     answer: Result<Verdict, NoVerdict>,
 ) -> Result<Judgment<BadRow>, AllocError>

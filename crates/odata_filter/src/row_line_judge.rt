@@ -37,8 +37,8 @@ impl<'c, 's> Model for RowLineJudge<'c, 's> {
 }
 
 impl<'c, 's> RowLineJudge<'c, 's> {
-    /// A judge of lines by that filter, at that moment. It holds a row reader, and is made in place: a copy would take as
-    /// much stack again.
+    /// A judge of lines by that filter, at that moment. It holds a row reader, and is made in place: a copy would take
+    /// as much stack again.
     #[inline(always)]
     pub fn new(alloc: Global, checked: &'c Checked<'s>, moment: &'c Moment) -> RowLineJudge<'c, 's>
         ensures filter { result.filter ≡ checked.now }

@@ -16,8 +16,8 @@ use odata_eval::Verdict;
 use odata_typing::Checked;
 use std::alloc::Global;
 
-/// What rows are read by, of the filter's schema and type, and with what it needs of navigation. Collections that the
-/// filter does not name are passed.
+/// Returns the plan by which rows of the filter's type are read. It covers what the filter needs of navigation, and
+/// passes collections that the filter does not name.
 pub fn row_plan_of(alloc: Global, checked: &Checked<'_>) -> RowPlan
     ensures plan { IsPlanOfFilter checked.now result }
     ensures expansion { (result.expansion ≡ checked.now.expansion)
@@ -92,11 +92,11 @@ fn keep_named(plan: &mut RowPlan, checked: &Checked<'_>)
     }
 }
 
-/// What the filter says of a row, one JSON object as a line of [`filter_lines`](crate::filter_lines) is one.
+/// Judges a row, one JSON object as a line of [`filter_lines`](crate::filter_lines) is one.
 ///
-/// The row may be of any length: it is in memory as it is, and no reader's buffer has to hold it. A blank one is no JSON.
-/// The plan is made once for the filter ([`row_plan_of`]). The reader says nothing of the row; it is kept from row to row, so that one of
-/// a kind seen before takes no memory.
+/// The row may have any length: it is in memory, so no reader's buffer has to hold it. A blank row is not JSON. Make
+/// the plan once for the filter ([`row_plan_of`]). Pass one reader for all rows: it changes no result, and a row of a
+/// kind seen before then takes no memory.
 pub fn judge_row(
     checked: &Checked<'_>,
     now: &Moment,

@@ -10,10 +10,10 @@ use thiserror::Error;
 /// Why a run over rows ended early. Lines are counted from 1.
 #[derive(Debug, Drop, Error)]
 pub enum RunFault {
-    /// The line is not UTF-8, or no JSON that `serde_json` reads.
+    /// The line is not UTF-8, or not JSON that `serde_json` reads.
     #[error("row {line} Json")]
     Json { line: u64 },
-    /// The line's value is no entity of the filtered type.
+    /// The line's value is not an entity of the filtered type.
     #[error("row {line} {fault}")]
     Row { line: u64, fault: RowFault },
     /// The filter has no value on the line's entity.
@@ -31,7 +31,7 @@ pub enum RunFault {
     /// A write or the last flush failed.
     #[error("write")]
     Write,
-    /// Memory was refused in this line, or while it was read.
+    /// An allocation failed in this line, or while it was read.
     #[error("memory")]
     Memory { line: u64 },
 }

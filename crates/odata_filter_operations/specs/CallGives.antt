@@ -1,4 +1,4 @@
--- What a call of a function comes to (OData URL Conventions 4.01, sections 5.1.1.4 to 5.1.1.8).
+-- What a call of a function evaluates to (OData URL Conventions 4.01, sections 5.1.1.4 to 5.1.1.8).
 use Rattle.std.specs.Prelude.{◌≡◌, ℕ, List, [], ◌∷◌, Bool, true, false}
 use Rattle.edm_values.specs.MomentParts.{MomentParts}
 use Rattle.edm_values.specs.Val.{Val, null}
@@ -22,7 +22,7 @@ UnlessNull false Gives o = Gives o
 abbrev pub CallGives : MomentParts → Function → List Val → Outcome → Type 0
 CallGives now function values = UnlessNull (has_null values) (FunctionGives now function values)
 
--- the function of that name, behind its arguments
+-- the function of that name, after its arguments
 pub record CallMeans
     (now : MomentParts) (asked : List ℕ) (Arguments : (List Val → Outcome → Type 0) → Outcome → Type 0) (o : Outcome)
     : Type 0 where

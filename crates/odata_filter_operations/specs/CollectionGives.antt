@@ -5,7 +5,7 @@ use Rattle.edm_values.specs.declared.primitive.PrimitiveType.TheVariants.{Int64}
 use Rattle.odata_filter_operations.specs.CalculationGives.{GivesNumber}
 use Rattle.odata_filter_operations.specs.Outcome.{Outcome, gives}
 
--- the members one behind another
+-- the members one after another
 abbrev pub members_of : Vals → List Val
 members_of no_items = []
 members_of (item v more) = v ∷ members_of more

@@ -29,7 +29,7 @@ reading_at slots type = record {
   items_of = λ held. items_at slots type (map val_of held);
 }
 
--- the outcome that an answer tells, what it holds standing for such a value; none for want of memory
+-- the outcome that an answer reports, what it holds standing for such a value; none when out of memory
 abbrev pub answer_outcome : {Held : Type 0} → (Held → Val) → Result Held EvalFault → Option Outcome
 answer_outcome stands_for (Ok held) = Some (gives (stands_for held))
 answer_outcome stands_for (Err fault) = fault_outcome fault
@@ -40,7 +40,7 @@ HasSlot datum.Null slot = Unit {0}
 HasSlot (datum.Record held) slot = slot < length held.now
 HasSlot _ slot = ⊥
 
--- what stands for a kept value, at any type
+-- what stands for a stored value, at any type
 abbrev pub IsDatumOf : Value → Datum → Type 0
 IsDatumOf value made =
     (slots : Slots) (type : ExprType) → datum_val (reading_at slots type) made ≡ val_of value slots.properties type

@@ -3,7 +3,7 @@ use Rattle.std.specs.Prelude.{Option, Some, None}
 use Rattle.odata_filter_operations.specs.declared.fault.EvalFault.{EvalFault}
 use Rattle.odata_filter_operations.specs.Outcome.{Outcome, overflow, divides_by_zero}
 
--- the outcome that a fault tells; none for want of memory
+-- the outcome that a fault reports; none when out of memory
 abbrev pub fault_outcome : EvalFault → Option Outcome
 fault_outcome EvalFault.Overflow = Some overflow
 fault_outcome EvalFault.DivideByZero = Some divides_by_zero

@@ -1,4 +1,4 @@
--- What `has` comes to (OData URL Conventions 4.01, section 5.1.1.1.10).
+-- What `has` evaluates to (OData URL Conventions 4.01, section 5.1.1.1.10).
 use Rattle.std.specs.Prelude.{◌≡◌}
 use Rattle.edm_values.specs.Val.{Val, null, member}
 use Rattle.odata_functions.specs.Bits.{HasBits}

@@ -1,4 +1,4 @@
--- What `any`, `all` and `in` come to (OData URL Conventions 4.01, sections 5.1.1.1.11, 5.1.1.13.1 and 5.1.1.13.2).
+-- What `any`, `all` and `in` evaluate to (OData URL Conventions 4.01, sections 5.1.1.1.11, 5.1.1.13.1 and 5.1.1.13.2).
 use Rattle.std.specs.Prelude.{◌≡◌, ℕ, IsSomeAnd, length, slice_get}
 use Rattle.edm_values.specs.Val.{Val, null, items, Vals}
 use Rattle.csdl_schema.specs.ExprType.{ExprType, collection, single}
@@ -12,7 +12,7 @@ use Rattle.odata_filter_operations.specs.LeftFirst.{After}
 use Rattle.odata_filter_operations.specs.Outcome.{Outcome, gives}
 use Rattle.odata_filter_operations.specs.QuantifierGives.{QuantifierGives}
 
--- the body at the member in a place
+-- the body at the member of an index
 abbrev pub MemberGives : (Val → Outcome → Type 0) → Vals → ℕ → Outcome → Type 0
 MemberGives Body values place o = IsSomeAnd (slice_get (members_of values) place) (λ v. Body v o)
 

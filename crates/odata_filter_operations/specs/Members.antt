@@ -29,7 +29,7 @@ MayBeAmong slots type of_members left datum.Null = Unit {0}
 MayBeAmong slots type of_members left (datum.List held) = MayBeMember slots type of_members left held.now
 MayBeAmong slots type of_members left _ = ⊥
 
--- the value equals what is kept, or does not, at whatever types
+-- the value equals what is stored, or does not, at whatever types
 abbrev pub Equals : Datum → Value → Type 0
 Equals left found =
     (slots : Slots) (s t : ExprType) → AreEqual (datum_val (reading_at slots s) left) (val_of found slots.properties t)
@@ -38,12 +38,12 @@ abbrev pub Differs : Datum → Value → Type 0
 Differs left found =
     (slots : Slots) (s t : ExprType) → ¬ (AreEqual (datum_val (reading_at slots s) left) (val_of found slots.properties t))
 
--- none of the members before a place equals it
+-- none of the members before an index equals it
 abbrev pub DiffersBefore : Datum → List Value → ℕ → Type 0
 DiffersBefore left members place =
     (k : ℕ) → k < place → (found : Value) → slice_get members k ≡ Some found → Differs left found
 
--- the first one that equals it stands in that place
+-- the first one that equals it has that index
 pub record FirstEqual (left : Datum) (members : List Value) : Type 0 where
   pub place : ℕ
   pub found : Value

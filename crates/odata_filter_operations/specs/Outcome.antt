@@ -1,4 +1,4 @@
--- What an expression comes to on one entity (OData URL Conventions 4.01, section 5.1.1).
+-- What an expression evaluates to on one entity (OData URL Conventions 4.01, section 5.1.1).
 use Rattle.edm_values.specs.Val.{Val}
 
 -- a value, or the fault of an arithmetic operator

@@ -25,21 +25,21 @@ abbrev pub undecided_val : Quantifier → Val
 undecided_val Any = boolean false
 undecided_val All = boolean true
 
--- the body comes to a value that does not decide
+-- the body evaluates to a value that does not decide
 abbrev pub Passes : Quantifier → (Outcome → Type 0) → Type 0
 Passes quantifier Body = (v : Val) × Body (gives v) × IsUndecided quantifier v
 
--- at some place the body decides or has a fault, and at no earlier one it does
+-- at some index the body decides or has a fault, and at no earlier one it does
 pub record DecidesAtPlace (quantifier : Quantifier) (At : ℕ → Outcome → Type 0) (o : Outcome) : Type 0 where
   pub place : ℕ
   pub here : After (At place) (DecisionGives quantifier) o
   pub earlier : (k : ℕ) → k < place → Passes quantifier (At k)
 
--- at none of so many places it does
+-- at none of so many indexes it does
 pub record PassesAll (quantifier : Quantifier) (count : ℕ) (At : ℕ → Outcome → Type 0) (o : Outcome) : Type 0 where
   pub each : (k : ℕ) → k < count → Passes quantifier (At k)
   pub is : o ≡ gives (undecided_val quantifier)
 
--- of the outcomes of the body at so many places, counted from 0
+-- of the outcomes of the body at so many indexes, counted from 0
 abbrev pub QuantifierGives : Quantifier → ℕ → (ℕ → Outcome → Type 0) → Outcome → Type 0
 QuantifierGives quantifier count At o = DecidesAtPlace quantifier At o ⊎ PassesAll quantifier count At o

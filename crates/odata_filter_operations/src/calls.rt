@@ -1,5 +1,5 @@
-//! What functions make of values that are there. A text is made of a text that is lent or owned; an owned one keeps its
-//! buffer where its part is what is made.
+//! What functions make of values that are there. A text is made of a text that is borrowed or owned; an owned one keeps
+//! its buffer where its part is what is made.
 ghost use Rattle.std.specs.Prelude.{◌≡◌, ℤ, List, [], ◌∷◌, Err, Some, chars, encode_utf8_all, string_bytes, IfOk, IfErr, IsSomeAnd};
 ghost use Rattle.std.specs.Cow.{cow_str_bytes};
 ghost use Rattle.edm_values.specs.MomentParts.{MomentParts};
@@ -25,7 +25,7 @@ use odata_signatures::Function;
 use std::alloc::{AllocError, Global};
 use std::borrow::CowStr;
 
-/// What a function makes of one value.
+/// Returns the result of a function on one value.
 pub fn called_on_one<'e>(
     alloc: Global,
     function: Function,
@@ -96,7 +96,7 @@ fn called_on_text<'e>(
     }
 }
 
-/// What a function makes of two values.
+/// Returns the result of a function on two values.
 #[inline(always)]
 pub fn called_on_two<'e>(
     alloc: Global,
@@ -143,7 +143,7 @@ fn called_on_texts<'e>(
     }
 }
 
-/// What a function makes of three values: a part of a text.
+/// Returns the result of a function on three values: a part of a text.
 pub fn called_on_three<'e>(
     function: Function,
     first: Datum<'e>,
@@ -193,12 +193,12 @@ fn counted<'e>(answer: Result<i64, ArithFault>) -> Result<Datum<'e>, EvalFault>
 fn text_datum<'e>(given: CowStr<'e, Global>) -> Datum<'e>
     ensures { (s : Reading) → datum_val s result ≡ text (encode_utf8_all (chars (cow_str_bytes given.entry))) }
 {
-    // That it is text is known once it has been lent.
+    // That it is text is known once it has been borrowed.
     let _characters = given.as_str();
     Datum::Text(given)
 }
 
-/// A text that was made, or want of memory.
+/// A text that was made, or running out of memory.
 fn made<'e>(given: Result<String, AllocError>) -> Result<Datum<'e>, EvalFault>
     ensures text { IfOk given (λ t. (s : Reading) → answer_outcome (datum_val s) result
         ≡ Some (gives (text (encode_utf8_all (chars (string_bytes t)))))) }

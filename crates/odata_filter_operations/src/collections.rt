@@ -1,4 +1,5 @@
-//! What `$count`, `any()`, `in` and `has` make of values that are there. A collection is lent, and so are its members.
+//! What `$count`, `any()`, `in` and `has` make of values that are there. A collection is borrowed, and so are its
+//! members.
 ghost use Rattle.std.specs.Prelude.{IsSomeAnd};
 ghost use Rattle.csdl_schema.specs.ExprType.{ExprType, SingleType, collection};
 ghost use Rattle.csdl_schema.specs.SchemaModel.{Slots};
@@ -16,7 +17,7 @@ use edm_values::{Datum, Value};
 use odata_functions::{compare, comparisons_are_decided, has_bits};
 use odata_syntax::ComparisonOperator;
 
-/// How many members a collection has; null of null.
+/// Returns how many members a collection has; null of null.
 pub fn count_of<'e>(base: Datum<'_>) -> Result<Datum<'e>, EvalFault>
     requires { HasMembers base }
     ensures { (slots : Slots) (member : SingleType) (s : Reading) → IsSomeAnd (answer_outcome (datum_val s) result)
@@ -32,7 +33,7 @@ pub fn count_of<'e>(base: Datum<'_>) -> Result<Datum<'e>, EvalFault>
     }
 }
 
-/// Whether a collection has a member; null of null.
+/// Returns whether a collection has a member; null of null.
 pub fn any_item_of<'e>(base: Datum<'_>) -> Datum<'e>
     requires { HasMembers base }
     ensures { (slots : Slots) (member : SingleType) (s : Reading)
@@ -45,7 +46,7 @@ pub fn any_item_of<'e>(base: Datum<'_>) -> Datum<'e>
     }
 }
 
-/// Whether a value is equal to a member of a collection; null where that is null.
+/// Returns whether a value is equal to a member of a collection; null where that is null.
 pub fn among<'e>(left: &Datum<'_>, path: &Datum<'_>) -> Datum<'e>
     requires { (slots : Slots) × (type : ExprType) × (member : SingleType)
         × MayBeAmong slots type member left.now path.now }
@@ -76,7 +77,7 @@ fn is_among(left: &Datum<'_>, members: &[Value]) -> bool
     false
 }
 
-/// Whether an enumeration's value has every bit of the other; null where one is null.
+/// Returns whether an enumeration's value has every bit of the other; null where one is null.
 pub fn flags_of<'e>(left: &Datum<'_>, right: &Datum<'_>) -> Datum<'e>
     requires left { IsOfEnumeration left.now }
     requires right { IsOfEnumeration right.now }

@@ -1,4 +1,4 @@
-//! The values that operators take: those of literals and of the entity where they are kept.
+//! The values that operators take: those of literals and of the entity where they are stored.
 ghost use Rattle.std.specs.Prelude.{◌≡◌, ℤ, Option, Some, Bool};
 ghost use Rattle.edm_values.specs.PlainVal.{plain_val};
 ghost use Rattle.odata_functions.specs.DatumVal.{Reading, datum_val};
@@ -9,7 +9,7 @@ ghost use Rattle.odata_filter_operations.specs.DatumView.{HasSlot, IsDatumOf, Is
 use edm_values::{Datum, Value};
 use std::borrow::CowStr;
 
-/// A value that is kept. Its text, its fields or its items stay there.
+/// Returns a stored value. Its text, its fields or its items stay there.
 #[inline(always)]
 pub fn datum_of(value: &Value) -> Datum<'_>
     ensures { IsDatumOf value.now result }
@@ -28,7 +28,7 @@ pub fn datum_of(value: &Value) -> Datum<'_>
     }
 }
 
-/// A number that is kept, or None for null.
+/// Returns a stored number, or None for null.
 #[inline(always)]
 pub fn kept_number(value: &Value) -> Option<i64>
     requires { (number : Option ℤ) × (plain_val value.now ≡ Some (number_val number)) }
@@ -40,7 +40,7 @@ pub fn kept_number(value: &Value) -> Option<i64>
     }
 }
 
-/// A truth value that is kept, or None for null.
+/// Returns a stored truth value, or None for null.
 #[inline(always)]
 pub fn kept_truth(value: &Value) -> Option<bool>
     requires { (truth : Option Bool) × (plain_val value.now ≡ Some (truth_val truth)) }
@@ -52,7 +52,7 @@ pub fn kept_truth(value: &Value) -> Option<bool>
     }
 }
 
-/// What a record has in a slot; null of null.
+/// Returns what a record has in a slot; null of null.
 pub fn step<'e>(base: Datum<'e>, slot: usize) -> Datum<'e>
     requires { HasSlot base slot }
     ensures { IsStepOf base.entry slot result }
@@ -64,7 +64,7 @@ pub fn step<'e>(base: Datum<'e>, slot: usize) -> Datum<'e>
     }
 }
 
-/// A truth value, or None for null.
+/// Returns a truth value, or None for null.
 pub fn truth_of(value: &Datum<'_>) -> Option<bool>
     requires { (reading : Reading) → (truth : Option Bool) × (datum_val reading value.now ≡ truth_val truth) }
     ensures { (reading : Reading) → datum_val reading value.now ≡ truth_val result }
@@ -76,7 +76,7 @@ pub fn truth_of(value: &Datum<'_>) -> Option<bool>
     }
 }
 
-/// A number, or None for null.
+/// Returns a number, or None for null.
 pub fn number_of(value: &Datum<'_>) -> Option<i64>
     requires { (reading : Reading) → (number : Option ℤ) × (datum_val reading value.now ≡ number_val number) }
     ensures { (reading : Reading) → datum_val reading value.now ≡ number_val result }
@@ -88,7 +88,7 @@ pub fn number_of(value: &Datum<'_>) -> Option<i64>
     }
 }
 
-/// A truth value, null for None.
+/// Returns a truth value, null for None.
 pub fn datum_of_truth<'e>(truth: Option<bool>) -> Datum<'e>
     ensures { (reading : Reading) → datum_val reading result ≡ truth_val truth }
 {
@@ -98,7 +98,7 @@ pub fn datum_of_truth<'e>(truth: Option<bool>) -> Datum<'e>
     }
 }
 
-/// A number, null for None.
+/// Returns a number, null for None.
 pub fn datum_of_number<'e>(number: Option<i64>) -> Datum<'e>
     ensures { (reading : Reading) → datum_val reading result ≡ number_val number }
 {

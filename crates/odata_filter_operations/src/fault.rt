@@ -1,6 +1,6 @@
 use thiserror::Error;
 
-/// Why a filter has no value on an entity. It is shown by its name.
+/// Why a filter has no value on an entity. It is displayed by its name.
 #[derive(Clone, Copy, Debug, PartialEq, Eq, Error)]
 pub enum EvalFault {
     /// A result outside the type of its operator.

@@ -1,5 +1,5 @@
-//! What the operators and functions of a filter make of the evaluator's values, each as an outcome (OData URL Conventions
-//! 4.01, sections 5.1.1.1 to 5.1.1.8 and 5.1.1.13).
+//! What the operators and functions of a filter make of the evaluator's values, each as an outcome (OData URL
+//! Conventions 4.01, sections 5.1.1.1 to 5.1.1.8 and 5.1.1.13).
 #![tactic(auto)]
 
 mod calls;

@@ -16,7 +16,7 @@ use odata_functions::{ArithFault, arith, compare_values, negate};
 use odata_signatures::{EdmType, ValueType};
 use odata_syntax::{ArithmeticOperator, ComparisonOperator};
 
-/// Whether the comparison of two values that are kept is true. Numbers are compared at once.
+/// Returns whether the comparison of two stored values is true. Numbers are compared at once.
 #[inline(always)]
 pub fn compare_kept(comparison: ComparisonOperator, left: &Value, right: &Value) -> bool
     requires { (l r : Contents) → AreComparableBy comparison (kept_val l left.now) (kept_val r right.now) }
@@ -31,7 +31,7 @@ pub fn compare_kept(comparison: ComparisonOperator, left: &Value, right: &Value)
     compare_values(comparison, left, right)
 }
 
-/// Whether the comparison of two numbers or nulls is true.
+/// Returns whether the comparison of two numbers or nulls is true.
 #[inline(always)]
 pub fn compare_numbers(
     comparison: ComparisonOperator,
@@ -70,7 +70,7 @@ fn is_greater(left: Option<i64>, right: Option<i64>) -> bool
     }
 }
 
-/// What arithmetic makes of two numbers or nulls, where its node has that type.
+/// Returns the result of arithmetic on two numbers or nulls, where its node has that type.
 #[inline(always)]
 pub fn calculated(
     operator: ArithmeticOperator,
@@ -91,7 +91,7 @@ pub fn calculated(
     }
 }
 
-/// The negation of a number or null, where its node has that type.
+/// Returns the negation of a number or null, where its node has that type.
 #[inline(always)]
 pub fn negated(edm_type: &EdmType, operand: Option<i64>) -> Result<Option<i64>, EvalFault>
     requires { (schema : SchemaModel) → IsOneNumber (expr_type schema edm_type.now) (number_val operand) }

@@ -17,7 +17,7 @@ use Rattle.odata_syntax.specs.declared.binary_operator.ComparisonOperator.{Compa
 use Rattle.odata_syntax.specs.declared.binary_operator.ComparisonOperator.TheVariants.{Eq, Ne, Gt, Ge, Lt, Le}
 use Rattle.odata_functions.proofs.TextOrder.{only_greater}
 
--- a fact that a test tells
+-- a fact that a test shows
 abbrev pub Told : Type 0 → Type 0
 Told P = (answer : Bool) × (IsTrue answer ↔ P)
 

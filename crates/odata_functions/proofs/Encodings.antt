@@ -15,7 +15,7 @@ nat_cmp-less x y h = grind (arith, nat_tests)
 nat_cmp-same : (x y : ℕ) → x ≡ y → nat_cmp x y ≡ Equal
 nat_cmp-same x y e = grind (arith, nat_tests)
 
--- the first elements decide, or what is behind them does
+-- the first elements decide, or what is after them does
 pub less_head : (x y : ℕ) (xs ys : List ℕ) → x < y → slice_cmp nat_cmp (x ∷ xs) (y ∷ ys) ≡ Less
 less_head x y xs ys h = ap (λ o. ordering_then o (slice_cmp nat_cmp xs ys)) (nat_cmp-less x y h)
 

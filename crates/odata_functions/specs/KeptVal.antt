@@ -1,4 +1,4 @@
--- What a value that is kept stands for, where a record and a list may hold anything.
+-- What a stored value stands for, where a record and a list may hold anything.
 use Rattle.std.specs.Prelude.{ℕ, List, string_bytes}
 use Rattle.edm_values.specs.Val.{Val, null, boolean, whole, text, date, moment, guid, member, fields, items}
 use Rattle.edm_values.specs.Val.{FieldVal, Vals}

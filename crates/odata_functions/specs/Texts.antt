@@ -8,7 +8,7 @@ use Rattle.edm_values.specs.declared.primitive.PrimitiveType.TheVariants.{Int32}
 use Rattle.odata_functions.specs.Arithmetic.{ComesWithin}
 use Rattle.odata_functions.specs.declared.arithmetic.ArithFault.{ArithFault}
 
--- the part stands in the text behind so many characters
+-- the part stands in the text after so many characters
 pub record StandsBehind (text part : List ℕ) (count : ℕ) : Type 0 where
   pub before : List ℕ
   pub behind : List ℕ
@@ -27,7 +27,7 @@ HasStart text part = (behind : List ℕ) × (text ≡ part ++ behind)
 abbrev pub HasEnd : List ℕ → List ℕ → Type 0
 HasEnd text part = (before : List ℕ) × (text ≡ before ++ part)
 
--- the number of characters before the first place where the part stands, or -1 where it stands nowhere
+-- the number of characters before the part where it first stands, or -1 where it stands nowhere
 abbrev pub IsPlaceOf : List ℕ → List ℕ → ℤ → Type 0
 IsPlaceOf text part (pos n) = StandsBehind text part n × ((k : ℕ) → k < n → ¬ StandsBehind text part k)
 IsPlaceOf text part (negsuc n) = (n ≡ 0) × ¬ HasPart text part
@@ -37,7 +37,7 @@ abbrev pub from_zero : ℤ → ℕ
 from_zero (pos n) = n
 from_zero (negsuc n) = 0
 
--- the text from a place on
+-- the text from a character on
 abbrev pub rest_from : ℤ → List ℕ → List ℕ
 rest_from start text = drop (from_zero start) text
 

@@ -20,7 +20,7 @@ pub enum ArithFault {
 ghost use Rattle.odata_functions.specs.Arithmetic.{ArithmeticGives, ComesWithin, NegationGives, NumbersGive};
 ghost use Rattle.odata_syntax.specs.declared.binary_operator.ArithmeticOperator.TheVariants.{Div, Mod};
 
-/// What the operator makes of two operands of a type, in that type; null where one is null.
+/// Returns the result of the operator on two operands of a type, in that type; null where one is null.
 #[inline(always)]
 pub fn arith(
     operator: ArithmeticOperator,
@@ -39,7 +39,7 @@ pub fn arith(
     }
 }
 
-/// The negation of an operand of a type, in that type; null of null.
+/// Returns the negation of an operand of a type, in that type; null of null.
 #[inline(always)]
 pub fn negate(kind: Prim, operand: Option<i64>) -> Result<Option<i64>, ArithFault>
     requires promoted { IsPromoted kind }

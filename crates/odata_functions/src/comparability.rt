@@ -6,7 +6,7 @@ ghost use Rattle.odata_functions.specs.DatumVal.{Reading, datum_val};
 use edm_values::Datum;
 use odata_syntax::ComparisonOperator;
 
-/// Whether the operator compares these values.
+/// Returns whether the operator compares these values.
 pub fn comparable(operator: ComparisonOperator, left: &Datum<'_>, right: &Datum<'_>) -> bool
     ensures { (l r : Reading)
         → IsTrue result ↔ AreComparableBy operator (datum_val l left.now) (datum_val r right.now) }

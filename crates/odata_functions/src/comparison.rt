@@ -60,7 +60,7 @@ fn is_greater(left: &Datum<'_>, right: &Datum<'_>) -> bool
     }
 }
 
-/// Whether the comparison of two values that are kept is true.
+/// Returns whether the comparison of two stored values is true.
 pub fn compare_values(operator: ComparisonOperator, left: &Value, right: &Value) -> bool
     requires { (l r : Contents) → AreComparableBy operator (kept_val l left.now) (kept_val r right.now) }
     ensures { (l r : Contents)
@@ -76,7 +76,7 @@ pub fn compare_values(operator: ComparisonOperator, left: &Value, right: &Value)
     }
 }
 
-/// The same as `are_equal`, of values that are kept.
+/// The same as `are_equal`, of stored values.
 fn are_equal_values(left: &Value, right: &Value) -> bool
     ensures { (l r : Contents) → IsTrue result ↔ AreEqual (kept_val l left.now) (kept_val r right.now) }
 {
@@ -94,7 +94,7 @@ fn are_equal_values(left: &Value, right: &Value) -> bool
     }
 }
 
-/// The same as `is_greater`, of values that are kept.
+/// The same as `is_greater`, of stored values.
 fn is_greater_value(left: &Value, right: &Value) -> bool
     ensures { (l r : Contents) → IsTrue result ↔ IsGreater (kept_val l left.now) (kept_val r right.now) }
 {

@@ -2,7 +2,7 @@
 ghost use Rattle.std.specs.Prelude.{◌≡◌};
 ghost use Rattle.odata_functions.specs.Connectives.{and3, or3, not3};
 
-/// Whether both are true; null where that hangs on a null.
+/// Returns whether both are true; null where that depends on a null.
 pub fn and3(left: Option<bool>, right: Option<bool>) -> Option<bool>
     ensures { result ≡ and3 left right }
 {
@@ -13,7 +13,7 @@ pub fn and3(left: Option<bool>, right: Option<bool>) -> Option<bool>
     }
 }
 
-/// Whether one of them is true; null where that hangs on a null.
+/// Returns whether one of them is true; null where that depends on a null.
 pub fn or3(left: Option<bool>, right: Option<bool>) -> Option<bool>
     ensures { result ≡ or3 left right }
 {
@@ -24,7 +24,7 @@ pub fn or3(left: Option<bool>, right: Option<bool>) -> Option<bool>
     }
 }
 
-/// The opposite; null of null.
+/// Returns the opposite; null of null.
 pub fn not3(operand: Option<bool>) -> Option<bool>
     ensures { result ≡ not3 operand }
 {

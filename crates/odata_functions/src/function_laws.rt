@@ -5,8 +5,8 @@ ghost use Rattle.odata_functions.specs.Gregorian.{IsDateOf};
 ghost use Rattle.odata_functions.specs.Texts.{CountComes, HasEnd, HasPart, HasStart, IsPlaceOf, IsTrimmed};
 ghost use Rattle.odata_functions.specs.declared.arithmetic.ArithFault.{ArithFault};
 
-/// Whether a text has a part is decided for any two lists of characters; a part has one place in a text, a text one
-/// trimmed part, and a count one answer.
+/// A list of characters has another as a part or it has not. A part has one index in a text, a text one trimmed part,
+/// and a count one answer.
 pub fn texts_have_one_answer()
     ensures part { (s t : List ℕ) → (answer : Bool) × (IsTrue answer ↔ HasPart s t) }
     ensures start { (s t : List ℕ) → (answer : Bool) × (IsTrue answer ↔ HasStart s t) }

@@ -1,4 +1,5 @@
-//! Parts of a text that is lent or owned. The part of a lent text is lent; an owned text becomes its part in place.
+//! Parts of a text that is borrowed or owned. The part of a borrowed text is borrowed; an owned text becomes its part
+//! in place.
 ghost use Rattle.std.specs.Prelude.{◌≡◌, drop, string_bytes};
 ghost use Rattle.std.specs.Cow.{cow_str_bytes};
 ghost use Rattle.std.specs.Str.{IsCharBoundary, chars};
@@ -8,7 +9,7 @@ use crate::text_parts::{from_zero, offset_of, trim};
 use std::alloc::Global;
 use std::borrow::CowStr;
 
-/// The same as `rest_from`.
+/// Returns the same as `rest_from`, of a borrowed or an owned text.
 pub fn rest_of_text(text: CowStr<'_, Global>, start: i64) -> CowStr<'_, Global>
     ensures { chars (cow_str_bytes result) ≡ rest_from start (chars (cow_str_bytes text.entry)) }
 {
@@ -21,7 +22,7 @@ pub fn rest_of_text(text: CowStr<'_, Global>, start: i64) -> CowStr<'_, Global>
     }
 }
 
-/// The same as `part_from`.
+/// Returns the same as `part_from`, of a borrowed or an owned text.
 pub fn part_of_text(text: CowStr<'_, Global>, start: i64, most: i64) -> CowStr<'_, Global>
     ensures { chars (cow_str_bytes result) ≡ part_from start most (chars (cow_str_bytes text.entry)) }
 {
@@ -41,7 +42,7 @@ fn front_of_text(text: CowStr<'_, Global>, most: i64) -> CowStr<'_, Global>
     }
 }
 
-/// The same as `trim`.
+/// Returns the same as `trim`, of a borrowed or an owned text.
 pub fn trim_text(text: CowStr<'_, Global>) -> CowStr<'_, Global>
     ensures { IsTrimmed (chars (cow_str_bytes text.entry)) (chars (cow_str_bytes result)) }
 {

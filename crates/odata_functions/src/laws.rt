@@ -34,7 +34,7 @@ pub fn divisions_are_unique()
     ensures zero { (a q r : ℤ) → ¬ (IsDivision a (pos 0) q r) }
 {}
 
-/// A comparison is true or it is not, of any two values; and two values are comparable however the values of records and
+/// A comparison of any two values is true or it is not. Two values are comparable however the values of records and
 /// lists are read, and whatever these hold.
 pub fn comparisons_are_decided()
     ensures decided { (operator : ComparisonOperator) (v w : Val)

@@ -1,6 +1,6 @@
-//! What the operators and functions of a filter make of values: logic, comparison, bits, arithmetic, texts and dates (OData
-//! URL Conventions 4.01, sections 5.1.1.1, 5.1.1.2, 5.1.1.5, 5.1.1.7 and 5.1.1.8). Only `concat`, `to_lower` and `to_upper`
-//! take memory.
+//! What the operators and functions of a filter make of values: logic, comparison, bits, arithmetic, texts and dates
+//! (OData URL Conventions 4.01, sections 5.1.1.1, 5.1.1.2, 5.1.1.5, 5.1.1.7 and 5.1.1.8). Only `concat`, `to_lower` and
+//! `to_upper` take memory.
 #![tactic(auto)]
 
 mod arithmetic;

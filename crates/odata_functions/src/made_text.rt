@@ -5,7 +5,7 @@ ghost use Rattle.std.specs.Str.{chars};
 
 use std::alloc::{AllocError, Global};
 
-/// The two texts joined (section 5.1.1.5.1).
+/// Returns the two texts joined (section 5.1.1.5.1).
 pub fn concat(alloc: Global, left: &str, right: &str) -> Result<String, AllocError>
     ensures { IfOk result (λ made. chars (string_bytes made) ≡ chars left.now ++ chars right.now) }
 {
@@ -15,14 +15,14 @@ pub fn concat(alloc: Global, left: &str, right: &str) -> Result<String, AllocErr
     Ok(made)
 }
 
-/// The text with its ASCII letters in lower case (section 5.1.1.7.2). Other letters stay.
+/// Returns the text with its ASCII letters in lower case (section 5.1.1.7.2). Other letters stay.
 pub fn to_lower(alloc: Global, text: &str) -> Result<String, AllocError>
     ensures { IfOk result (λ made. chars (string_bytes made) ≡ map to_ascii_lowercase (chars text.now)) }
 {
     text.to_ascii_lowercase(alloc)
 }
 
-/// The text with its ASCII letters in upper case (section 5.1.1.7.3). Other letters stay.
+/// Returns the text with its ASCII letters in upper case (section 5.1.1.7.3). Other letters stay.
 pub fn to_upper(alloc: Global, text: &str) -> Result<String, AllocError>
     ensures { IfOk result (λ made. chars (string_bytes made) ≡ map to_ascii_uppercase (chars text.now)) }
 {

@@ -5,7 +5,7 @@ ghost use Rattle.odata_functions.specs.Promotion.{promotion, negation_type};
 
 use edm_values::Prim;
 
-/// The type in which an operator with these operand types computes.
+/// Returns the type in which an operator with these operand types computes.
 pub fn promotion(left: Option<Prim>, right: Option<Prim>) -> Option<Prim>
     requires left { IfSome left IsNumberType }
     requires right { IfSome right IsNumberType }
@@ -19,7 +19,7 @@ pub fn promotion(left: Option<Prim>, right: Option<Prim>) -> Option<Prim>
     }
 }
 
-/// The type in which an operand of this type is negated.
+/// Returns the type in which an operand of this type is negated.
 pub fn negation_type(operand: Option<Prim>) -> Option<Prim>
     requires { IfSome operand IsNumberType }
     ensures { result ≡ negation_type operand }

@@ -1,18 +1,18 @@
-//! Parts of a text, lent from it.
+//! Parts of a text, borrowed from it.
 ghost use Rattle.std.specs.Prelude.{◌≡◌};
 ghost use Rattle.std.specs.Str.{chars};
 ghost use Rattle.odata_functions.specs.Texts.{IsTrimmed, from_zero, part_from, rest_from};
 ghost use Rattle.odata_functions.specs.private.Cuts.{IsOffset, IsRest};
 
-/// The text from a place on (section 5.1.1.5.7). A place before the text counts as its start, and behind its end there
-/// is nothing.
+/// Returns the text from an index on (section 5.1.1.5.7). An index before the text counts as its start, and after its
+/// end there is nothing.
 pub fn rest_from(text: &str, start: i64) -> &str
     ensures { chars result.now ≡ rest_from start (chars text.now) }
 {
     &text[offset_of(text, from_zero(start))..]
 }
 
-/// At most so many characters of that, none for a number below zero.
+/// Returns at most so many characters of the text from an index on, none for a number below zero.
 pub fn part_from(text: &str, start: i64, most: i64) -> &str
     ensures { chars result.now ≡ part_from start most (chars text.now) }
 {
@@ -20,7 +20,7 @@ pub fn part_from(text: &str, start: i64, most: i64) -> &str
     &rest[..offset_of(rest, from_zero(most))]
 }
 
-/// The text without the white space at both ends (section 5.1.1.7.4).
+/// Returns the text without the white space at both ends (section 5.1.1.7.4).
 pub fn trim(text: &str) -> &str
     ensures { IsTrimmed (chars text.now) (chars result.now) }
 {
@@ -33,14 +33,14 @@ pub(crate) fn from_zero(n: i64) -> usize
     if n < 0 { 0 } else { n as usize }
 }
 
-/// The byte behind the first characters of the text.
+/// The byte after the first characters of the text.
 pub(crate) fn offset_of(text: &str, count: usize) -> usize
     ensures { IsOffset text.now count result }
 {
     text.len() - rest_behind(text, count).len()
 }
 
-/// What stands behind the first characters of the text.
+/// What stands after the first characters of the text.
 fn rest_behind(text: &str, count: usize) -> &str
     ensures { IsRest text.now result.now count }
 {

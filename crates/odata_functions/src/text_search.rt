@@ -6,28 +6,28 @@ ghost use Rattle.odata_functions.specs.private.Cuts.{IsFoundAt};
 
 use crate::ArithFault;
 
-/// Whether the part stands in the text (section 5.1.1.5.2).
+/// Returns whether the part stands in the text (section 5.1.1.5.2).
 pub fn contains(text: &str, part: &str) -> bool
     ensures { IsTrue result ↔ HasPart (chars text.now) (chars part.now) }
 {
     found_at(text, part).is_some()
 }
 
-/// Whether the text begins with the part (section 5.1.1.5.6).
+/// Returns whether the text begins with the part (section 5.1.1.5.6).
 pub fn starts_with(text: &str, part: &str) -> bool
     ensures { IsTrue result ↔ HasStart (chars text.now) (chars part.now) }
 {
     text.starts_with(part)
 }
 
-/// Whether the text ends with the part (section 5.1.1.5.3).
+/// Returns whether the text ends with the part (section 5.1.1.5.3).
 pub fn ends_with(text: &str, part: &str) -> bool
     ensures { IsTrue result ↔ HasEnd (chars text.now) (chars part.now) }
 {
     text.ends_with(part)
 }
 
-/// How many characters stand before the first place of the part, or -1 where it has none (section 5.1.1.5.4).
+/// Returns how many characters stand before the part's first occurrence, or -1 (section 5.1.1.5.4).
 pub fn index_of(text: &str, part: &str) -> Result<i64, ArithFault>
     ensures { (n : ℤ) × IsPlaceOf (chars text.now) (chars part.now) n × CountComes n result }
 {
@@ -37,7 +37,7 @@ pub fn index_of(text: &str, part: &str) -> Result<i64, ArithFault>
     }
 }
 
-/// How many characters the text has (section 5.1.1.5.5).
+/// Returns how many characters the text has (section 5.1.1.5.5).
 pub fn text_length(text: &str) -> Result<i64, ArithFault>
     ensures { CountComes (pos (length (chars text.now))) result }
 {

@@ -10,11 +10,12 @@ use Rattle.odata_signatures.specs.ExprTypes.{boolean_type}
 use Rattle.odata_signatures.specs.QuotedNumber.{HasNumber}
 use Rattle.odata_signatures.specs.Side.{Side}
 
+-- it is the type of a collection
 abbrev pub IsCollection : ExprType → Type 0
 IsCollection (collection member) = Unit {0}
 IsCollection _ = ⊥
 
--- `/$count` behind a base of the first type gives the second: how many members a collection has (section 4.8)
+-- `/$count` after a base of the first type gives the second: how many members a collection has (section 4.8)
 abbrev pub CountTyped : ExprType → ExprType → Type 0
 CountTyped base type = IsCollection base × (type ≡ single (primitive PrimitiveType.Int64))
 
@@ -31,8 +32,8 @@ IsComparableWithMembers left _ = ⊥
 abbrev pub InPathTyped : Side → Side → ExprType → Type 0
 InPathTyped left path type = IsComparableWithMembers left.type_of path.type_of × (type ≡ boolean_type)
 
--- beside a value of the type on the left, an item of a list: it is compared with that, or is a String literal that stands
--- for a number of its enumeration
+-- beside a value of the type on the left, an item of a list: it is compared with that, or is a String literal that
+-- stands for a number of its enumeration
 abbrev pub IsItemBeside : Slots → ExprType → Side → Type 0
 IsItemBeside slots left item = AreComparable left item.type_of ⊎ HasNumber slots left item.quoted
 

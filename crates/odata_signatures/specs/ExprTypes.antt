@@ -5,9 +5,11 @@ use Rattle.edm_values.specs.declared.primitive.PrimitiveType.{PrimitiveType}
 use Rattle.csdl_schema.specs.ExprType.{SingleType, primitive, enumeration, structured}
 use Rattle.csdl_schema.specs.ExprType.{ExprType, null_type, single, collection}
 
+-- the type of one Boolean
 abbrev pub boolean_type : ExprType
 boolean_type = single (primitive PrimitiveType.Bool)
 
+-- the type of one String
 abbrev pub string_type : ExprType
 string_type = single (primitive PrimitiveType.String)
 

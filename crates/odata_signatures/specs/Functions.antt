@@ -38,7 +38,7 @@ row_of Function.TotalOffsetMinutes = row (codes "totaloffsetminutes") (Moment �
 row_of Function.Date = row (codes "date") (Moment ∷ []) 1 PrimitiveType.Date
 row_of Function.Now = row (codes "now") [] 0 PrimitiveType.DateTimeOffset
 
--- what the code keeps of a row
+-- what the code stores of a row
 pub record IsRow (signature : Signature) (row : FunctionRow) : Type 0 where
   pub name : signature.name.now ≡ row.name
   pub arguments : signature.arguments.now ≡ row.arguments

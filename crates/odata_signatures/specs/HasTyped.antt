@@ -14,8 +14,8 @@ AreFlags (single (enumeration left)) null_type = Unit {0}
 AreFlags (single (enumeration left)) (single (enumeration right)) = left ≡ right
 AreFlags _ _ = ⊥
 
--- `has` takes these sides and gives a value of the type: flags, or on the right a String literal that stands for a number
--- of the enumeration on the left
+-- `has` takes these sides and gives a value of the type: flags, or on the right a String literal that stands for a
+-- number of the enumeration on the left
 abbrev pub HasTyped : Slots → Side → Side → ExprType → Type 0
 HasTyped slots left right type =
     (AreFlags left.type_of right.type_of ⊎ HasNumber slots left.type_of right.quoted) × (type ≡ boolean_type)

@@ -1,5 +1,5 @@
--- String literals that are read as texts of an enumeration (OData URL Conventions 4.01, sections 5.1.1.1 and 5.1.1.14; ABNF,
--- section 7, `enumValue`).
+-- String literals that are read as texts of an enumeration (OData URL Conventions 4.01, sections 5.1.1.1 and 5.1.1.14;
+-- ABNF, section 7, `enumValue`).
 use Rattle.std.specs.Prelude.{◌≡◌, ℕ, ℤ, List, [], ◌∷◌, ◌++◌, Option, Some}
 use Rattle.edm_values.specs.StringLiteral.{quote}
 use Rattle.csdl_schema.specs.EnumerationText.{IsOfUnderlying, IsValueIn}
@@ -7,7 +7,8 @@ use Rattle.csdl_schema.specs.ExprType.{ExprType, single, enumeration}
 use Rattle.csdl_schema.specs.SchemaModel.{Slots}
 use Rattle.odata_signatures.specs.declared.quoted_number.Beside.{Beside}
 
--- the text between the quotes stands for the number in the enumeration of that name, as that of an enumeration literal does
+-- the text between the quotes stands for the number in the enumeration of that name, as that of an enumeration literal
+-- does
 pub record IsQuotedNumber (slots : Slots) (name spelling : List ℕ) (n : ℤ) : Type 0 where
   pub inner : List ℕ
   pub spelled : spelling ≡ quote ∷ inner ++ quote ∷ []
@@ -33,7 +34,7 @@ pub record LacksNumber (slots : Slots) (beside : ExprType) (quoted : Option (Lis
   pub read : IsReadBeside beside quoted
   pub none : ¬ HasNumber slots beside quoted
 
--- what is told of an operand beside a value of the type: that it is not read, its number, or that it has none
+-- what is reported about an operand beside a value of the type: that it is not read, its number, or that it has none
 abbrev pub IsToldBeside : Slots → ExprType → Option (List ℕ) → Beside → Type 0
 IsToldBeside slots beside quoted Beside.Unread = ¬ IsReadBeside beside quoted
 IsToldBeside slots beside quoted (Beside.Number n) = NumberBeside slots beside quoted n

@@ -11,6 +11,7 @@ single_type schema (ValueType.Prim p) = primitive p
 single_type schema (ValueType.Enum id) = enumeration (type_name_at schema id)
 single_type schema (ValueType.Structured id) = structured (type_name_at schema id)
 
+-- the type of an expression that a type of the code stands for
 abbrev pub expr_type : SchemaModel → EdmType → ExprType
 expr_type schema EdmType.Null = null_type
 expr_type schema (EdmType.Single s) = single (single_type schema s)

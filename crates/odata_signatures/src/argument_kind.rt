@@ -5,7 +5,7 @@ ghost use Rattle.odata_signatures.specs.TypeView.{expr_type};
 use super::edm_type::{EdmType, ValueType};
 use edm_values::Prim;
 
-/// What an argument of a function may be, beside null.
+/// The kind of an argument of a function, besides null.
 #[derive(Clone, Copy, Debug, PartialEq, Eq)]
 pub enum ArgumentKind {
     /// `Edm.String`.

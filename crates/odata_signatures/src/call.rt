@@ -28,7 +28,8 @@ pub struct TypedCall {
 
 ghost use Rattle.odata_signatures.specs.CallTyped.{CallReason, CallTyped, FunctionTyped};
 
-/// The call of that name, in any ASCII case, with arguments of these types; or the first reason why it has no type.
+/// Returns the call of that name, in any ASCII case, with arguments of these types. Otherwise it returns the first
+/// reason why it has no type.
 pub fn judged_call(name: &str, types: &[EdmType]) -> Result<TypedCall, CallFault>
     ensures named { IfOk result (λ call. IsNamed call.function (str_to_ascii_lowercase name.now)) }
     ensures typed { (schema : SchemaModel) → IfOk result (λ call. FunctionTyped call.function

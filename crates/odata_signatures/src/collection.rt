@@ -9,7 +9,7 @@ ghost use Rattle.odata_signatures.specs.TypeThere.{IsTypeThere};
 use super::edm_type::{BOOLEAN, EdmType, ValueType};
 use edm_values::Prim;
 
-/// The type of `/$count` behind a base of this type. `None` where that is no collection.
+/// Returns the type of `/$count` after a base of this type. `None` where that is not a collection.
 pub fn count_type(base: &EdmType) -> Option<EdmType>
     ensures typed { (schema : SchemaModel) → IfSome result
         (λ t. CountTyped (expr_type schema base.now) (expr_type schema t)) }
@@ -24,7 +24,7 @@ pub fn count_type(base: &EdmType) -> Option<EdmType>
     }
 }
 
-/// The type of `/any()` behind a base of this type. `None` where that is no collection.
+/// Returns the type of `/any()` after a base of this type. `None` where that is not a collection.
 pub fn any_item_type(base: &EdmType) -> Option<EdmType>
     ensures typed { (schema : SchemaModel) → IfSome result
         (λ t. AnyItemTyped (expr_type schema base.now) (expr_type schema t)) }

@@ -31,7 +31,7 @@ pub(crate) fn are_compared(
     }
 }
 
-/// Whether `eq`, `ne` and `in` take values of these types.
+/// Returns whether `eq`, `ne` and `in` take values of these types.
 pub fn are_comparable(schema: &Schema, left: &EdmType, right: &EdmType) -> bool
     requires left { IsTypeThere schema.now left.now }
     requires right { IsTypeThere schema.now right.now }

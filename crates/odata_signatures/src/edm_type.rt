@@ -18,8 +18,8 @@ pub enum ValueType {
     Structured(TypeId),
 }
 
-/// The type of an expression: of the literal `null` and of arithmetic on it alone, of one value, or of a collection of
-/// such values.
+/// The type of an expression. It is that of the literal `null` and of arithmetic on it alone, of one value, or of a
+/// collection of such values.
 #[derive(Clone, Copy, Debug, PartialEq, Eq)]
 pub enum EdmType {
     Null,
@@ -34,7 +34,7 @@ ghost use Rattle.odata_signatures.specs.ManyValues.{type_of_many};
 ghost use Rattle.odata_signatures.specs.declared.edm_type.EdmType.{EdmType};
 
 impl EdmType {
-    /// Whether a filter, or an operand of a logical operator, may have the type.
+    /// Returns whether a filter, or an operand of a logical operator, may have the type.
     pub fn is_truth(&self) -> bool
         ensures { (schema : SchemaModel) → IsTrue result ↔ IsBooleanOrNull (expr_type schema self.now) }
     {
@@ -51,7 +51,7 @@ impl EdmType {
         *self == BOOLEAN
     }
 
-    /// Whether it is the type of a collection.
+    /// Returns whether it is the type of a collection.
     pub fn is_collection(&self) -> bool
         ensures { (schema : SchemaModel) → IsTrue result ↔ IsCollection (expr_type schema self.now) }
     {
@@ -62,7 +62,7 @@ impl EdmType {
         }
     }
 
-    /// The type of each member of a collection of this type. `None` where it is the type of none.
+    /// Returns the type of each member of a collection of this type. `None` where it is the type of none.
     pub fn member(&self) -> Option<ValueType>
         ensures some { IfSome result (λ member. self.now ≡ EdmType.Collection member) }
         ensures none { (schema : SchemaModel) → IfNone result (¬ IsCollection (expr_type schema self.now)) }
@@ -74,7 +74,8 @@ impl EdmType {
         }
     }
 
-    /// What kind of number an operand of arithmetic of this type is, None for null; no answer where it is no such operand.
+    /// What kind of number an operand of arithmetic of this type is, None for null; no answer where it is no such
+    /// operand.
     pub(crate) fn number_operand(&self) -> Option<Option<Prim>>
         ensures some { (schema : SchemaModel) → IfSome result (IsNumberOrNull (expr_type schema self.now)) }
         ensures number { IfSome result (λ number. IfSome number IsNumberType) }
@@ -105,7 +106,7 @@ impl EdmType {
         }
     }
 
-    /// The type of one such value, or of a collection of them.
+    /// Returns the type of one such value, or of a collection of them.
     pub fn of_values(value_type: ValueType, many: bool) -> EdmType
         ensures { result ≡ type_of_many value_type many }
     {

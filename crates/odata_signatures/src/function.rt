@@ -82,7 +82,7 @@ const MOMENT: &[ArgumentKind] = &[ArgumentKind::Moment];
 ghost use Rattle.odata_signatures.specs.Functions.{IsNamed, IsRow, row_of};
 
 impl Function {
-    /// Its row of the table.
+    /// Returns its row of the table.
     pub fn signature(self) -> Signature
         ensures { IsRow result (row_of self) }
     {
@@ -109,7 +109,7 @@ impl Function {
         }
     }
 
-    /// Its name in ASCII lower case.
+    /// Returns its name in ASCII lower case.
     pub fn name(self) -> &'static str
         ensures { IsNamed self result.now }
     {
@@ -136,7 +136,7 @@ fn row(
     }
 }
 
-/// The function of that name, in any ASCII case.
+/// Returns the function of that name, in any ASCII case.
 #[tactic(auto, using(crate::proofs::functions::Names::named_lower, crate::proofs::functions::Names::lower_named))]
 pub fn function_named(name: &str) -> Option<Function>
     ensures some { IfSome result (λ function. IsNamed function (str_to_ascii_lowercase name.now)) }

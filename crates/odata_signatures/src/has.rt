@@ -11,7 +11,7 @@ use super::comparison::is_same_enumeration;
 use super::edm_type::{BOOLEAN, EdmType, ValueType};
 use csdl_schema::{EnumId, Schema};
 
-/// The type of `has` between operands of these types, by the types alone. `None` where it takes none of these.
+/// Returns the type of `has` between operands of these types, by the types alone. `None` where it takes none of these.
 pub fn has_type(schema: &Schema, left: &EdmType, right: &EdmType) -> Option<EdmType>
     requires left { IsTypeThere schema.now left.now }
     requires right { IsTypeThere schema.now right.now }

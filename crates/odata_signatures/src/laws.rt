@@ -1,4 +1,5 @@
-//! What holds of all calls, and of operands that are not read. Each law is the contract of a function that does nothing.
+//! What holds of all calls, and of operands that are not read. Each law is the contract of a function that does
+//! nothing.
 ghost use Rattle.std.specs.Prelude.{◌≡◌, ℕ, ℤ, List};
 ghost use Rattle.csdl_schema.specs.ExprType.{ExprType};
 ghost use Rattle.csdl_schema.specs.SchemaModel.{Slots};
@@ -11,7 +12,7 @@ ghost use Rattle.odata_signatures.specs.declared.function.Function.{Function};
 
 use edm_enumerations::texts_have_one_value;
 
-/// A function has a name of its own; a call has at most one type, at most one reason why it has none, and not both.
+/// A call has at most one type, at most one reason why it has none, and not both. A function has a name of its own.
 pub fn calls_have_one_type()
     ensures named { (f g : Function) (name : List ℕ) → IsNamed f name → IsNamed g name → f ≡ g }
     ensures one { (name : List ℕ) (types : List ExprType) (t u : ExprType)
@@ -22,8 +23,8 @@ pub fn calls_have_one_type()
         → (t : ExprType) → ¬ CallTyped name types t }
 {}
 
-/// A law: where no String literal is read beside a value of an enumeration, operators, `has` and `in` before a list go by
-/// the types of their operands alone; and by these a String goes with no enumeration.
+/// A law: operators, `has` and `in` before a list go by the types of their operands alone. That is where no String
+/// literal is read beside a value of an enumeration; and by these types a String goes with no enumeration.
 pub fn unread_operands_go_by_types()
     ensures operands { OperandsByTypes }
     ensures flags { FlagsByTypes }

@@ -10,8 +10,8 @@ use super::comparison::are_comparable;
 use super::edm_type::{BOOLEAN, EdmType};
 use csdl_schema::Schema;
 
-/// The type of `in` before a path of the second type. `None` where that is no collection, or its members cannot be
-/// compared with a value of the first.
+/// Returns the type of `in` before a path of the second type. `None` where that is not a collection, or its members
+/// cannot be compared with a value of the first.
 pub fn in_path_type(schema: &Schema, left: &EdmType, path: &EdmType) -> Option<EdmType>
     requires left { IsTypeThere schema.now left.now }
     requires path { IsTypeThere schema.now path.now }

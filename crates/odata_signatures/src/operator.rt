@@ -12,7 +12,8 @@ use csdl_schema::Schema;
 use odata_functions::{negation_type, promotion};
 use odata_syntax::BinaryOperator;
 
-/// The type that the operator makes of operands of these types, by the types alone. `None` where it takes none of these.
+/// Returns the type that the operator makes of operands of these types, by the types alone. `None` where it takes none
+/// of these.
 #[inline(always)]
 pub fn made_type(
     schema: &Schema,
@@ -62,7 +63,7 @@ fn promoted_type(left: &EdmType, right: &EdmType) -> Option<EdmType>
     }
 }
 
-/// The type of the negation of an operand of this type. `None` where it is no number or null.
+/// Returns the type of the negation of an operand of this type. `None` where it is neither a number nor null.
 pub fn negated_type(operand: &EdmType) -> Option<EdmType>
     ensures typed { (schema : SchemaModel) → IfSome result
         (λ t. NegationTyped (expr_type schema operand.now) (expr_type schema t)) }
@@ -76,7 +77,7 @@ pub fn negated_type(operand: &EdmType) -> Option<EdmType>
     }
 }
 
-/// The type of `not` before an operand of this type. `None` where it is no truth value or null.
+/// Returns the type of `not` before an operand of this type. `None` where it is neither a truth value nor null.
 pub fn opposite_type(operand: &EdmType) -> Option<EdmType>
     ensures typed { (schema : SchemaModel) → IfSome result
         (λ t. NotTyped (expr_type schema operand.now) (expr_type schema t)) }

@@ -9,7 +9,7 @@ ghost use Rattle.odata_signatures.specs.TypeView.{expr_type, single_type};
 use super::edm_type::{EdmType, ValueType};
 use csdl_schema::{EnumId, Schema};
 
-/// What an operand is beside a value of a type, by what it quotes.
+/// The role of an operand beside a value of a type, by what it quotes.
 #[derive(Clone, Copy, Debug, PartialEq, Eq)]
 pub enum Beside {
     /// It is not read: it quotes nothing, or the type is that of no enumeration.
@@ -22,7 +22,7 @@ pub enum Beside {
 
 ghost use Rattle.odata_signatures.specs.QuotedNumber.{IsQuotedNumber, IsToldBeside};
 
-/// What an operand is beside a value of this type, where it is a String literal of that spelling, or none.
+/// Returns what an operand is beside a value of this type, if it is a String literal of that spelling.
 pub fn number_beside(schema: &Schema, beside: &EdmType, quoted: Option<&str>) -> Beside
     ensures { IsToldBeside (slots_of schema.now) (expr_type schema.now beside.now)
         (option_map (λ spelling. spelling.now) quoted.entry) result }
@@ -34,7 +34,7 @@ pub fn number_beside(schema: &Schema, beside: &EdmType, quoted: Option<&str>) ->
     }
 }
 
-/// The same, beside a value of that type which is no collection.
+/// The same, beside a value of that type which is not a collection.
 fn beside_value(schema: &Schema, member: &ValueType, quoted: Option<&str>) -> Beside
     ensures { IsToldBeside (slots_of schema.now) (single (single_type schema.now member.now))
         (option_map (λ spelling. spelling.now) quoted.entry) result }

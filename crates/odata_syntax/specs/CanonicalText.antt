@@ -29,7 +29,7 @@ tree_level (node start stop shape) = shape_level shape
 abbrev pub grouped : Level → Level → List ℕ → List ℕ
 grouped needed own text = if nat_lt own needed then 40 ∷ (text ++ 41 ∷ []) else text
 
--- one space (32) stands on each side of a word between operands and behind `-` and `not`, nothing round `,` (44), `/`
+-- one space (32) stands on each side of a word between operands and after `-` and `not`, nothing round `,` (44), `/`
 -- (47) and `:` (58); names and literals as they are
 abbrev mutual
   pub tree_text : Tree → List ℕ

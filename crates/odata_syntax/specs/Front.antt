@@ -14,9 +14,11 @@ abbrev pub closes : TokenKind → Bool
 closes TokenKind.Close = true
 closes _ = false
 
+-- how many tokens open a parenthesis
 abbrev pub open_count : List TokenModel → ℕ
 open_count = count_by (λ p. opens p.kind)
 
+-- how many tokens close one
 abbrev pub close_count : List TokenModel → ℕ
 close_count = count_by (λ p. closes p.kind)
 

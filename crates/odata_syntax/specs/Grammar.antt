@@ -123,7 +123,7 @@ mutual
         → IsOperator operator t
         → Derives (suc (operator_level operator)) rs right
         → Derives (operator_level operator) (ls ++ (t ∷ rs)) (binary_tree operator left right)
-    -- `-` and `not`, whose own form may stand again behind them
+    -- `-` and `not`, whose own form may stand again after them
     derives_negation :
         {t : TokenModel} {ts : List TokenModel} {operand : Tree}
         → IsA TokenKind.Minus t
@@ -214,7 +214,7 @@ mutual
         {t : TokenModel}
         → IsName t
         → Derives open_path_level (t ∷ []) (token_tree t (name t.text))
-    -- and any word behind a `/` goes on with it
+    -- and any word after a `/` goes on with it
     derives_member :
         {bs : List TokenModel} {slash t : TokenModel} {base : Tree}
         → Derives open_path_level bs base
@@ -231,7 +231,7 @@ mutual
         → DerivesFurther rs rest
         → DerivesItems (ts ++ rs) (more_trees tree rest)
 
-  -- any number of further ones, each behind a comma
+  -- any number of further ones, each after a comma
   pub data DerivesFurther : List TokenModel → Trees → Type 0 where
     no_further : DerivesFurther [] no_trees
     one_further :

@@ -24,7 +24,7 @@ pub record SpellsWord (word : List ℕ) (p : TokenModel) : Type 0 where
   pub of_kind : p.kind ≡ TokenKind.Word
   pub spelled : IsTrue (same_word p.text word)
 
--- the token is this word behind a `$`
+-- the token is this word after a `$`
 pub record SpellsDollar (word : List ℕ) (p : TokenModel) : Type 0 where
   pub of_kind : p.kind ≡ TokenKind.Dollar
   pub spelled : IsTrue (same_word p.text word)

@@ -56,7 +56,7 @@ IsSyntaxFault ts len (SyntaxFault.Unexpected span) = IsFirstWrong ts span ⊎ Is
 IsSyntaxFault ts len (SyntaxFault.TooDeep span) = IsFirstDeep ts span
 IsSyntaxFault ts len SyntaxFault.Memory = ⊥
 
--- the tree of tokens that are spelled by their kinds, one behind another
+-- the tree of tokens that are spelled by their kinds, one after another
 pub record IsExpression (tree : Tree) : Type 0 where
   pub tokens : List TokenModel
   pub length : ℕ

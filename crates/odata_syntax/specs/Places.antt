@@ -1,4 +1,5 @@
--- Where the nodes of a list stand in its tree: their numbers in pre-order, in which each node stands before its children.
+-- Where the nodes of a list stand in its tree: their numbers in pre-order, in which each node stands before its
+-- children.
 use Rattle.std.specs.Prelude.{◌≡◌, ◌≢◌, ℕ, ◌+◌, ◌-◌, ◌≤◌, ◌<◌, List, [], ◌∷◌, Option, None, Some, drop, length, map, reverse, slice_get, take}
 use Rattle.odata_syntax.specs.declared.node.Quantifier.{Quantifier}
 use Rattle.odata_syntax.specs.declared.places.Place.{Place}

@@ -39,6 +39,7 @@ mutual
 abbrev pub start_of : Tree → ℕ
 start_of (node start stop shape) = start
 
+-- the byte at which a tree stops
 abbrev pub stop_of : Tree → ℕ
 stop_of (node start stop shape) = stop
 

@@ -26,6 +26,7 @@ tree_step (Node-F.Any span base (Some l)) =
 tree_step (Node-F.All span base variable body) =
     node span.start span.stop (lambda Quantifier.All base.value (string_bytes variable) body.value)
 
+-- the tree that a node of the code stands for
 abbrev pub tree_of : Node → Tree
 tree_of = fold-Node Tree tree_step
 

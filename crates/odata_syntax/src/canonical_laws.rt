@@ -1,4 +1,4 @@
-//! What canonical texts and normal forms tell of each other.
+//! What canonical texts and normal forms say of each other.
 
 ghost use Rattle.std.specs.Prelude.{◌≡◌, ◌↔◌, ℕ, List};
 ghost use Rattle.odata_syntax.specs.CanonicalText.{IsCanonicalText};
@@ -26,7 +26,7 @@ pub fn one_canonical_text()
     literals_have_one_spelling();
 }
 
-/// The canonical text of an expression is read back as its normal form, and that is printed as the same text.
+/// A canonical text is read back as the normal form, and that is printed as the same text.
 pub fn canonical_texts_read_back()
     ensures { (tree : Tree) (text : List ℕ)
         → IsExpression tree → IsCanonicalText tree text → IsReadBack tree text }

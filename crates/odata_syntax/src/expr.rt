@@ -37,7 +37,7 @@ impl Expr {
         Expr { root }
     }
 
-    /// The node of the whole expression.
+    /// Returns the node of the whole expression.
     pub fn root(&self) -> &Node
         ensures root { result.now ≡ self.now }
         ensures derived { IsExpression (tree_of self.now) }

@@ -7,6 +7,7 @@ use crate::{ArithmeticOperator, BinaryOperator, ComparisonOperator, LogicalOpera
 /// A whole expression.
 pub const OR: u8 = 1;
 
+/// `and`.
 pub const AND: u8 = 2;
 
 /// `eq` and `ne`.
@@ -36,7 +37,7 @@ pub const PATH: u8 = 10;
 /// A path that may go on.
 pub const OPEN_PATH: u8 = 11;
 
-/// How tightly an operator binds, from 1 for `or` to 6.
+/// Returns how tightly an operator binds, from 1 for `or` to 6.
 #[inline(always)]
 pub fn operator_level(operator: BinaryOperator) -> u8
     ensures { result ≡ operator_level operator }

@@ -14,7 +14,7 @@ pub enum LiteralKind {
     EnumLit,
 }
 
-/// Which lambda operator it is (section 5.1.1.13).
+/// A lambda operator, `any` or `all` (section 5.1.1.13).
 #[derive(Clone, Copy, Debug, PartialEq, Eq)]
 pub enum Quantifier {
     Any,
@@ -112,7 +112,7 @@ impl Node {
     ghost use Rattle.odata_syntax.specs.TreeView.{tree_of};
     ghost use Rattle.odata_syntax.specs.Tree.{start_of, stop_of};
 
-    /// Where the node stands in the text.
+    /// Returns where the node stands in the text.
     pub fn span(&self) -> Span
         ensures starts { result.start ≡ start_of (tree_of self.now) }
         ensures stops { result.stop ≡ stop_of (tree_of self.now) }
@@ -136,8 +136,9 @@ impl Node {
     }
 }
 
-/// A loop goes from first child to first child, so that a chain of operators, signs or steps needs no stack for its length.
-/// The other children are dropped one level down: each is an operand of a tighter operator, or stands in parentheses.
+/// A loop goes from first child to first child, so that a chain of operators, signs or steps needs no stack for its
+/// length. The other children are dropped one level down: each is an operand of a tighter operator, or stands in
+/// parentheses.
 impl Drop for Node {
     fn drop(mut self) {
         loop {

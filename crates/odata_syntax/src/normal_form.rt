@@ -26,8 +26,8 @@ enum Task<'t> {
     Over { node: &'t Node },
 }
 
-/// The expression with each literal in its canonical spelling. Each node keeps its span. What is still to be made waits
-/// on a stack of its own, so that it recurses nowhere, however deep the tree is.
+/// Returns the expression with each literal in its canonical spelling. Each node keeps its span. Pending work is on an
+/// explicit stack, so nothing recurses, however deep the tree is.
 pub fn normal(alloc: Global, expr: &Expr) -> Result<Expr, AllocError>
     ensures { IfOk result (λ normal. IsNormalForm (tree_of expr.now) (tree_of normal)) }
 {

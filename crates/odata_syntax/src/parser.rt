@@ -44,10 +44,11 @@ const DEPTH_LIMIT: usize = 64;
 /// No list begins with more room, in nodes.
 const ROOM_LIMIT: usize = 1024;
 
-/// The tree of the tokens of one text. `len` is the length of the text in bytes.
+/// Parses the tokens of one text into their tree. `len` is the length of the text in bytes.
 ///
-/// `Unexpected` names the first token with which the tokens so far begin no expression; where every beginning is one
-/// and the whole is none, it is the empty span at `len`. `TooDeep` names the 65th parenthesis that would be open.
+/// `Unexpected` reports the first token with which the tokens so far begin no expression. If every beginning is one and
+/// the whole is not, it reports the empty span at `len`. `TooDeep` reports the parenthesis that would be the 65th open
+/// one.
 pub fn parse(alloc: Global, tokens: &[Token<'_>], len: usize) -> Result<Expr, SyntaxFault>
     requires { AreTextTokens 0 len (token_models tokens.now) }
     ensures derived { IfOk result (λ expr. IsParse (token_models tokens.now) (tree_of expr)) }
@@ -128,7 +129,7 @@ fn take_all(state: &mut State, tokens: &[Token<'_>]) -> Result<(), SyntaxFault>
     Ok(())
 }
 
-/// One more token is wanted after a text of `len` bytes.
+/// One more token is needed after a text of `len` bytes.
 fn unended(len: usize) -> SyntaxFault
     ensures { result ≡ SyntaxFault.Unexpected (record { start = len; stop = len }) }
 {

@@ -7,10 +7,11 @@ ghost use Rattle.odata_syntax.specs.private.PlaceGrowth.{IsNumbered, begun_befor
 
 use crate::syntax_list::{SyntaxKind, SyntaxNode};
 
-/// What `Place::lambda` is where no body begins: the first node of a list has no children, so it is no lambda expression.
+/// The value of `Place::lambda` where no body begins. The first node of a list has no children, so it is no lambda
+/// expression.
 pub const NO_NODE: usize = 0;
 
-/// Where a node stands in its tree.
+/// The position of a node in its tree.
 #[derive(Clone, Copy, Debug, PartialEq, Eq)]
 pub struct Place {
     /// Its number in pre-order, from 0.

@@ -31,9 +31,9 @@ enum Part<'t> {
     Close,
 }
 
-/// The canonical text of an expression: literals in their canonical spellings, words in lower case, parentheses only
-/// where an operand binds less tightly than its place needs. What is still to be written waits on a stack of its own, so
-/// that it recurses nowhere, however deep the tree is.
+/// Returns the canonical text of an expression. It has literals in their canonical spellings, words in lower case, and
+/// parentheses only where an operand binds less tightly than its place needs. Pending work is on an explicit stack, so
+/// nothing recurses, however deep the tree is.
 pub fn print(alloc: Global, expr: &Expr) -> Result<String, AllocError>
     ensures { IfOk result (λ text. IsCanonicalText (tree_of expr.now) (string_bytes text)) }
 {
@@ -49,8 +49,8 @@ pub fn print(alloc: Global, expr: &Expr) -> Result<String, AllocError>
     Ok(text)
 }
 
-/// Writes a part, or its beginning, and puts the rest on the stack: of a node that binds less tightly than needed `(`, and
-/// of further items a comma.
+/// Writes a part, or its beginning, and puts the rest on the stack: of a node that binds less tightly than needed `(`,
+/// and of further items a comma.
 fn write_part<'t>(
     part: Part<'t>,
     text: &mut String,

@@ -2,16 +2,16 @@ use odata_text::Span;
 use std::alloc::{AllocError, AllocFailed};
 use thiserror::Error;
 
-/// Why tokens are no expression. It is told with its span, as `Unexpected 7..7`.
+/// Why tokens are no expression. It is reported with its span, as `Unexpected 7..7`.
 #[derive(Clone, Copy, Debug, PartialEq, Eq, Error)]
 pub enum SyntaxFault {
-    /// A token that cannot stand here, or the empty span behind the text where one more is wanted.
+    /// A token that cannot stand here, or the empty span after the text where one more is needed.
     #[error("Unexpected {span}")]
     Unexpected { span: Span },
     /// A `(` that the grammar allows and that would be the 65th open one.
     #[error("TooDeep {span}")]
     TooDeep { span: Span },
-    /// No memory was left for the tree.
+    /// An allocation for the tree failed.
     #[error("memory")]
     Memory,
 }

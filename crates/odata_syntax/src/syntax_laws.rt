@@ -21,7 +21,7 @@ pub fn tree_spans()
     ensures { (level : Level) (ts : List TokenModel) (tree : Tree) → Derives level ts tree → IsSpanned ts tree }
 {}
 
-/// So does that of each node of a tree: its tokens stand side by side.
+/// The span of each node runs from its first to its last token: its tokens stand side by side.
 pub fn node_spans()
     ensures { (ts : List TokenModel) (tree part : Tree)
         → Derives or_level ts tree → IsWithin part tree → IsSpannedWithin ts part }
@@ -33,7 +33,7 @@ pub fn spans_hold()
         → IsExpression tree → IsWithin outer tree → IsWithin inner outer → HoldsSpan outer inner }
 {}
 
-/// Of two nodes of an expression one is a descendant of the other, or they share no byte.
+/// One of two nodes of an expression is a descendant of the other, or they share no byte.
 pub fn spans_apart()
     ensures { (tree node other : Tree) → IsExpression tree → IsWithin node tree → IsWithin other tree
         → ¬ IsWithin node other → ¬ IsWithin other node → SharesNoByte node other }
@@ -77,7 +77,7 @@ pub fn first_run_parses()
     ensures { IsParse first_run_tokens first_run_tree }
 {}
 
-/// `Name eq` begins an expression and is none: the fault is the empty span behind it.
+/// `Name eq` begins an expression and is none: the fault is the empty span after it.
 pub fn name_eq_is_unended()
     ensures { IsUnended name_eq 7 (record { start = 7; stop = 7 }) }
 {}

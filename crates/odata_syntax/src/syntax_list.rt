@@ -7,7 +7,7 @@ use crate::{BinaryOperator, LiteralKind, Quantifier};
 use odata_text::Span;
 use std::marker::Model;
 
-/// What a node is.
+/// The kind of a node.
 #[derive(Clone, Copy, Debug, PartialEq, Eq)]
 pub enum SyntaxKind {
     /// A literal, by its spelling.
@@ -74,7 +74,7 @@ impl Model for SyntaxList {
 }
 
 impl SyntaxList {
-    /// The nodes, each after its children, with their places.
+    /// Returns the nodes, each after its children, with their places.
     pub fn nodes(&self) -> &[SyntaxNode]
         ensures nodes { result.now ≡ self.now.nodes }
         ensures places { places_of result.now ≡ self.now.places }

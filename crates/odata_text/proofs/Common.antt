@@ -1,4 +1,4 @@
--- The names that several proofs of this crate cite, passed on from one place. Declares nothing.
+-- The names that several proofs of this crate cite, passed on from one file. Declares nothing.
 pub use Rattle.std.proofs.Common.{inr, ◌≡◌, ◌⊎◌, inl, ⊎_elim, ℕ, ◌+◌, ◌-◌, ◌*◌, ◌<◌, ◌==◌, ◌||◌, ◌&&◌, Bool, not, true, List, [], ◌∷◌, ◌++◌, length, get_or, drop, arith, refl, sym, ◌∙◌, ap, subst, append_assoc, nat_le, codes, IsUtf8, IsCharBoundary, ◌≤◌, take, pos, zero, suc, false, length-append, length-drop, add-zero, take-append-drop, append-nil, chars, min, Some, cond, Option, None, map, rules, ◌≢◌, All, nat_lt}
 unfoldable pub use Rattle.percent_encoding.specs.Percent.{percent_decode}
 pub use Rattle.std.proofs.Math.Seq.{take-length}

@@ -17,6 +17,7 @@ pub record FoundModel : Type 0 where
   pub piece : Span
   pub value : Span
 
+-- what a found filter stands for: its text and its spans
 abbrev pub found_model : FoundFilter → FoundModel
 found_model found = record { text = string_bytes found.text; piece = found.piece; value = found.value }
 

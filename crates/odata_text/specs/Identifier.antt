@@ -31,7 +31,7 @@ begins_identifier c = (c == 95) || is_leading (general_category c)
 unfoldable pub continues_identifier : ℕ → Bool
 continues_identifier c = begins_identifier c || is_following (general_category c)
 
--- of a list of characters: one that begins an identifier, and none behind it that does not continue one
+-- of a list of characters: one that begins an identifier, and none after it that does not continue one
 abbrev pub is_identifier : List ℕ → Bool
 is_identifier [] = false
 is_identifier (c ∷ cs) = begins_identifier c && list_all continues_identifier cs

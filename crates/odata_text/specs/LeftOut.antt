@@ -19,7 +19,7 @@ IsExponent (mark ∷ power) = ((mark ≡ 101) ⊎ (mark ≡ 69)) × IsIntSpellin
 abbrev pub IsDecimals : List ℕ → Type 0
 IsDecimals text = IsFraction text ⊎ (IsExponent text ⊎ FollowedBy IsFraction IsExponent text)
 
--- a sign or none, digits, and directly behind them a fraction, an exponent or both
+-- a sign or none, digits, and directly after them a fraction, an exponent or both
 abbrev pub IsDecimalSpelling : List ℕ → Type 0
 IsDecimalSpelling text = FollowedBy IsIntSpelling IsDecimals text
 

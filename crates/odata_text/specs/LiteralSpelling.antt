@@ -20,14 +20,14 @@ abbrev pub is_piece_end : List ℕ → Bool
 is_piece_end [] = false
 is_piece_end (b ∷ bs) = (b == 44) || (((b == 39) && (length bs == 0)) || ((b == 32) && is_piece_end bs))
 
--- without the spaces that stand before a piece, if so far nothing but spaces does, or behind one
+-- without the spaces that stand before a piece, if so far nothing but spaces does, or after one
 abbrev pub trimmed_pieces : Bool → List ℕ → List ℕ
 trimmed_pieces before [] = []
 trimmed_pieces before (b ∷ bs) =
     if (b == 32) && (before || is_piece_end bs) then trimmed_pieces before bs
     else b ∷ trimmed_pieces (b == 44) bs
 
--- behind the first quote without the spaces round the pieces
+-- after the first quote without the spaces round the pieces
 abbrev pub enumeration_spelling : List ℕ → List ℕ
 enumeration_spelling [] = []
 enumeration_spelling (b ∷ bs) = b ∷ (if b == 39 then trimmed_pieces true bs else enumeration_spelling bs)

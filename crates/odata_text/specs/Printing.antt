@@ -7,12 +7,13 @@ use Rattle.odata_text.specs.declared.byte_class.ByteClass.TheVariants.{Space}
 use Rattle.odata_text.specs.declared.token.TokenKind.{TokenKind}
 use Rattle.odata_text.specs.declared.token.TokenKind.TheVariants.{Int, Open, Close, Comma, Slash, Colon}
 
--- a token's bytes, and the white space behind them
+-- a token's bytes, and the white space after them
 pub record Print : Type 0 where
   pub kind : TokenKind
   pub text : List ℕ
   pub gap : List ℕ
 
+-- the text of tokens with the white space after each
 abbrev pub print_text : List Print → List ℕ
 print_text prints = flat_map (λ p. p.text ++ p.gap) prints
 
@@ -20,8 +21,8 @@ print_text prints = flat_map (λ p. p.text ++ p.gap) prints
 abbrev pub is_separator : ℕ → Bool
 is_separator b = (b == 32) || ((b == 9) || ((b == 40) || ((b == 41) || ((b == 44) || ((b == 47) || (b == 58))))))
 
--- the byte may stand directly behind a token of the kind: any behind a mark that is no `-`, a separator but `:` (58)
--- behind an Int (`12:34` is a time), else a separator
+-- the byte may stand directly after a token of the kind: any after a mark that is no `-`, a separator but `:` (58)
+-- after an Int (`12:34` is a time), else a separator
 abbrev pub may_follow : TokenKind → ℕ → Bool
 may_follow Open b = true
 may_follow Close b = true
@@ -35,14 +36,14 @@ abbrev pub MayFollow : TokenKind → List ℕ → Type 0
 MayFollow kind [] = ⊤
 MayFollow kind (b ∷ more) = may_follow kind b ≡ true
 
--- each is spelled by its kind, has white space alone behind it, and does not run into what follows
+-- each is spelled by its kind, has white space alone after it, and does not run into what follows
 abbrev pub ArePrintable : List Print → Type 0
 ArePrintable [] = ⊤
 ArePrintable (p ∷ prints) =
     Spells p.kind p.text
     × (All (λ b. class_of b ≡ Space) p.gap × (MayFollow p.kind (p.gap ++ print_text prints) × ArePrintable prints))
 
--- the tokens at their places, from a place on
+-- the tokens at their offsets, from an offset on
 abbrev pub print_tokens : ℕ → List Print → List TokenModel
 print_tokens from [] = []
 print_tokens from (p ∷ prints) =

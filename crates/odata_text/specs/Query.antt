@@ -20,13 +20,13 @@ option_start options number = sum_by (λ option. length option + 1) (take number
 unfoldable pub name_of : List ℕ → List ℕ
 name_of option = before_first (λ b. b == 61) option
 
--- what stands behind the first `=`, or nothing
+-- what stands after the first `=`, or nothing
 unfoldable pub value_of : List ℕ → List ℕ
 value_of option = after_first (λ b. b == 61) option
 
 -- Names and values.
 
--- a `%` without two hexadecimal digits behind it
+-- a `%` without two hexadecimal digits after it
 abbrev pub is_bad_escape : List ℕ → ℕ → Bool
 is_bad_escape part place =
     (slice_index part place == percent_sign)
@@ -37,7 +37,7 @@ pub record IsDecodable (part : List ℕ) : Type 0 where
   pub escapes : (place : ℕ) → is_bad_escape part place ≡ false
   pub utf8 : IsUtf8 (percent_decode part)
 
--- the first bad escape of a part, by its place in the query; the part begins at start
+-- the first bad escape of a part, by its offset in the query; the part begins at start
 pub record IsFirstBadEscape (part : List ℕ) (start place : ℕ) : Type 0 where
   pub within : ℕ
   pub bad : is_bad_escape part within ≡ true
@@ -112,7 +112,7 @@ pub record IsFilterOf (query : List ℕ) (filter : Option (List ℕ)) : Type 0 w
 
 -- Faults.
 
--- a name that may not be there, behind so many filters
+-- a name that may not be there, after so many filters
 abbrev pub IsNameFault : List ℕ → ℕ → ℕ → QueryFault → Type 0
 IsNameFault name number filters (Repeated option) =
     (option ≡ number) × (is_filter_name name ≡ true) × (0 < filters)

@@ -1,7 +1,7 @@
--- A piece of a text directly behind another.
+-- A piece of a text directly after another.
 use Rattle.std.specs.Prelude.{◌≡◌, ℕ, List, ◌++◌}
 
--- a piece of one spelling, and directly behind it a piece of another
+-- a piece of one spelling, and directly after it a piece of another
 pub record FollowedBy (First Second : List ℕ → Type 0) (bytes : List ℕ) : Type 0 where
   pub front : List ℕ
   pub back : List ℕ

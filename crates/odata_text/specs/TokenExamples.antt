@@ -4,7 +4,7 @@ use Rattle.odata_text.specs.TokenModel.{TokenModel}
 use Rattle.odata_text.specs.declared.token.TokenKind.{TokenKind}
 use Rattle.odata_text.specs.declared.token.TokenKind.TheVariants.{Word, Int, Moment, Guid, Str, EnumLit}
 
--- the token of a text from one place to another
+-- the token of a text from one offset to another
 abbrev pub token_in : List ℕ → TokenKind → ℕ → ℕ → TokenModel
 token_in text kind start stop = record { kind = kind; start = start; stop = stop; text = slice_range text start stop }
 
@@ -50,6 +50,6 @@ enumeration_tokens = token_in enumeration_filter EnumLit 0 6 ∷ []
 abbrev pub fraction_filter : List ℕ
 fraction_filter = codes "1.5"
 
--- a number with letters directly behind it
+-- a number with letters directly after it
 abbrev pub run_on_filter : List ℕ
 run_on_filter = codes "1st"

@@ -3,7 +3,7 @@ use Rattle.std.specs.Prelude.{ℕ, List, map}
 use Rattle.odata_text.specs.declared.token.TokenKind.{TokenKind}
 use Rattle.odata_text.specs.declared.token.Token.{Token}
 
--- a kind, a place in bytes, and the bytes there
+-- a kind, an offset in bytes, and the bytes there
 pub record TokenModel : Type 0 where
   pub kind : TokenKind
   pub start : ℕ
@@ -13,5 +13,6 @@ pub record TokenModel : Type 0 where
 abbrev pub token_model : Token → TokenModel
 token_model t = record { kind = t.kind; start = t.span.start; stop = t.span.stop; text = t.text.now }
 
+-- likewise tokens one after another
 abbrev pub token_models : List Token → List TokenModel
 token_models = map token_model

@@ -20,6 +20,7 @@ use Rattle.odata_text.specs.declared.token.TokenKind.TheVariants.{Int, Date, Mom
 abbrev pub text_limit : ℕ
 text_limit = 16384
 
+-- a text has no more tokens
 abbrev pub token_limit : ℕ
 token_limit = 4096
 
@@ -43,11 +44,11 @@ is_undelimited Moment = true
 is_undelimited Guid = true
 is_undelimited _ = false
 
--- an identifier character stands directly behind such a literal, rest being what is behind
+-- an identifier character stands directly after such a literal, rest being what is after
 abbrev pub RunsOn : TokenKind → List ℕ → Type 0
 RunsOn kind rest = IsTrue (is_undelimited kind) × (0 < identifier_run rest)
 
--- the token is the longest piece at its place
+-- the token is the longest piece at its offset
 pub record IsLongestToken (text : List ℕ) (token : TokenModel) : Type 0 where
   pub order : token.start ≤ token.stop
   pub longest : IsLongest (Token token.kind) (token.stop - token.start) (drop token.start text)
@@ -60,7 +61,7 @@ pub record IsTokenAt (text : List ℕ) (token : TokenModel) : Type 0 where
 
 -- Token lists.
 
--- from one place to another there is white space alone
+-- from one offset to another there is white space alone
 pub record IsGap (text : List ℕ) (from to : ℕ) : Type 0 where
   pub order : from ≤ to
   pub within : to ≤ length text
@@ -71,7 +72,7 @@ abbrev pub end_of : ℕ → List TokenModel → ℕ
 end_of from [] = from
 end_of from (token ∷ list) = end_of token.stop list
 
--- faultless tokens that follow one another from a place on, with white space alone before and between them
+-- faultless tokens that follow one another from an offset on, with white space alone before and between them
 abbrev pub AreTokensFrom : List ℕ → ℕ → List TokenModel → Type 0
 AreTokensFrom text from [] = Unit {0}
 AreTokensFrom text from (token ∷ list) =
@@ -86,7 +87,7 @@ pub record IsTokenList (text : List ℕ) (list : List TokenModel) : Type 0 where
 
 -- Faults.
 
--- no token begins at the place, though it is no white space
+-- no token begins at the offset, though it is no white space
 pub record IsNoToken (text : List ℕ) (place : ℕ) : Type 0 where
   pub inside : place < length text
   pub solid : class_of (slice_index text place) ≡ Space → ⊥
@@ -110,13 +111,13 @@ pub record IsUnclosed (text : List ℕ) (span : Span) : Type 0 where
   pub quoted : class_of (slice_index text span.start) ≡ Quote
   pub stop : span.stop ≡ length text
 
--- the longest piece at its place is a literal that is left out
+-- the longest piece at its offset is a literal that is left out
 pub record IsLeftOutLiteral (text : List ℕ) (span : Span) : Type 0 where
   pub kind : LeftOutKind
   pub order : span.start ≤ span.stop
   pub longest : IsLongest (LeftOut kind) (span.stop - span.start) (drop span.start text)
 
--- a piece with identifier characters directly behind it, up to the last of these
+-- a piece with identifier characters directly after it, up to the last of these
 pub record IsRunOn (text : List ℕ) (span : Span) : Type 0 where
   pub token : TokenModel
   pub longest : IsLongestToken text token
@@ -132,7 +133,7 @@ pub record IsOneTooMany (text : List ℕ) (before : ℕ) (span : Span) : Type 0 
   pub start : span.start ≡ last.start
   pub stop : span.stop ≡ last.stop
 
--- the fault's span starts at the place, behind so many tokens
+-- the fault's span starts at the offset, after so many tokens
 abbrev pub IsFaultAt : List ℕ → ℕ → ℕ → TextFault → Type 0
 IsFaultAt text place before (BadCharacter span) = (span.start ≡ place) × IsBadCharacter text span
 IsFaultAt text place before (UnclosedString span) = (span.start ≡ place) × IsUnclosed text span

@@ -12,7 +12,7 @@ use super::longest::longest;
 use super::span::Span;
 use super::token::{Token, TokenKind};
 
-/// Whether an identifier character directly behind such a token is a fault.
+/// Whether an identifier character directly after such a token is a fault.
 fn is_undelimited(kind: TokenKind) -> bool
     ensures { result ≡ is_undelimited kind }
 {
@@ -45,7 +45,7 @@ fn no_token(text: &str, start: usize) -> TextFault
     }
 }
 
-/// The token at an offset that is no white space, found among the pieces of all forms.
+/// The token at an offset that is not white space, found among the pieces of all forms.
 #[inline(never)]
 pub fn token_at(text: &str, start: usize) -> Result<Token<'_>, TextFault>
     requires inside { start < length text.now }

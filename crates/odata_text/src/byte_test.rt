@@ -2,7 +2,7 @@ ghost use Rattle.std.specs.Prelude.{◌≡◌};
 ghost use Rattle.odata_text.specs.private.Lengths.{IsReach};
 ghost use Rattle.odata_text.specs.private.Patterns.{PassesTests, passes};
 
-/// What may stand at one place of a pattern.
+/// What may stand at one offset of a pattern.
 #[derive(Clone, Copy, Debug, PartialEq, Eq)]
 pub enum ByteTest {
     Digit,

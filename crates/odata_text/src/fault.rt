@@ -5,7 +5,7 @@ use super::span::Span;
 use std::alloc::AllocFailed;
 use thiserror::Error;
 
-/// Why a text has no tokens: its first fault from the left, with its place in bytes.
+/// Why a text has no tokens: its first fault from the left, with its offset in bytes.
 #[derive(Clone, Copy, Debug, PartialEq, Eq, Error)]
 pub enum TextFault {
     /// A character with which no token begins.
@@ -14,7 +14,7 @@ pub enum TextFault {
     /// A `'` that no other one closes, up to the end of the text.
     #[error("UnclosedString {span}")]
     UnclosedString { span: Span },
-    /// A literal of the standard that is no part of this profile.
+    /// A literal of the standard that is not part of this profile.
     #[error("LeftOutLiteral {span}")]
     LeftOutLiteral { span: Span },
     /// A number, date, moment or Guid directly followed by identifier characters, up to the last of these.
@@ -23,7 +23,7 @@ pub enum TextFault {
     /// The whole text, or the first token more than there may be.
     #[error("TooLong {span}")]
     TooLong { span: Span },
-    /// No memory was left for the tokens.
+    /// An allocation for the tokens failed.
     #[error("memory")]
     Memory,
 }

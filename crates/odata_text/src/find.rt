@@ -165,12 +165,14 @@ fn after_piece(
     }
 }
 
-/// The filter of a query string among any other options, decoded, and where it stands; `None` where there is none.
+/// Finds the filter of a query string among any other options, decoded, and where it stands. Returns `None` if there is
+/// none.
 ///
-/// The options stand between `&`; the filter is the one named `filter` or `$filter` in any ASCII case. Of any other
-/// option only the name is decoded. A `+` is a `+`, as RFC 3986 has it. A fault other than `Memory` is the first from
-/// the left: of each option the escapes and the UTF-8 of its name, of the filter then those of its value, then whether
-/// it is a second filter, then whether some reader takes a name in it for a filter's that is not.
+/// Options are separated by `&`; the filter is the one named `filter` or `$filter` in any ASCII case. Of any other
+/// option only the name is decoded. A `+` stays a `+`, as RFC 3986 has it. A fault other than `Memory` is the first
+/// from the left. Each option is checked in this order: the escapes and the UTF-8 of its name; of the filter, those of
+/// its value, and whether it is a second filter; then whether some reader takes a name in it for a filter's that is
+/// not.
 pub fn find_filter(alloc: Global, query: &[u8]) -> Result<Option<FoundFilter>, FindFault>
     ensures found { IfOk result (λ found. IsFoundIn query.now (option_map found_model found)) }
     ensures only { IfOk result (λ found. (other : Option FoundModel)

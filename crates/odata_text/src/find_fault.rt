@@ -16,7 +16,7 @@ pub enum FindFault {
     /// Some reader finds a filter in this option that is not plainly there.
     #[error("Disguised {option}")]
     Disguised { option: usize },
-    /// No memory was left for the text.
+    /// An allocation for the text failed.
     #[error("memory")]
     Memory,
 }

@@ -6,7 +6,7 @@ ghost use Rattle.odata_text.specs.Find.{FoundModel, IsFindFault, IsFoundIn, IsPl
 ghost use Rattle.odata_text.specs.Query.{IsFilterOf, options_of};
 ghost use Rattle.odata_text.specs.declared.find_fault.FindFault.{FindFault};
 
-/// In a query at most one filter is found, or there is a first fault, and never both.
+/// At most one filter is found in a query, or there is a first fault, and never both.
 pub fn one_found_reading()
     ensures found { (query : List ℕ) (first second : Option FoundModel)
         → IsFoundIn query first → IsFoundIn query second → first ≡ second }
@@ -21,7 +21,7 @@ pub fn found_filter_stands_there()
     ensures { (query : List ℕ) (found : FoundModel) → IsFoundIn query (Some found) → IsPlaced query found }
 {}
 
-/// A query that a filter has to itself, and of which nothing is disguised, gives the same text among any options.
+/// `find_filter` finds the text that `filter_of_query` returns, unless an option is disguised.
 pub fn same_text_as_alone()
     ensures { (query : List ℕ) (filter : Option (List ℕ)) → IsFilterOf query filter
         → All (λ piece. is_disguised piece ≡ false) (options_of query)

@@ -74,9 +74,8 @@ pub fn identifier_length(rest: &str) -> usize
     }
 }
 
-/// Whether the text is an identifier: `_` or a character of the general categories L and Nl, then also those of Nd,
-/// Mn, Mc,
-/// Pc and Cf (OData ABNF 4.01, section 6).
+/// Returns whether the text is an identifier. Its first character is `_` or one of the general categories L and Nl; the
+/// others may also be of Nd, Mn, Mc, Pc and Cf (OData ABNF 4.01, section 6).
 ///
 /// An identifier may be of any length here. Takes no memory.
 pub fn is_identifier(text: &str) -> bool

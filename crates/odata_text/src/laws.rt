@@ -19,9 +19,9 @@ pub fn one_reading()
         → IsTextFault text fault → IsTokenList text list → ⊥ }
 {}
 
-/// Texts by example: `Active and ID eq 1 and Name eq 'a'`, `Changed gt 2020-01-01T00:00Z`,
-/// `ID eq 1234567e-1234-1234-1234-123456789012` and `a.b'x'` have their tokens; `1.5`, a literal that is left out, and
-/// `1st`, a number that runs on up to its third byte, have none.
+/// Worked texts with their tokens. `Active and ID eq 1 and Name eq 'a'`, `Changed gt 2020-01-01T00:00Z`, `ID eq
+/// 1234567e-1234-1234-1234-123456789012` and `a.b'x'` have their tokens; `1.5`, a literal that is left out, and `1st`,
+/// a number that runs on up to its third byte, have none.
 pub fn texts_by_example()
     ensures plain { IsTokenList plain_filter plain_tokens }
     ensures moment { IsTokenList moment_filter moment_tokens }

@@ -12,7 +12,7 @@ pub fn byte_length(byte: u8, rest: &[u8]) -> usize
     }
 }
 
-/// How many bytes two pieces take, one behind the other, 0 if either is missing.
+/// How many bytes two pieces take, one after the other, 0 if either is missing.
 pub fn both_length(first: usize, second: usize) -> usize
     requires { first + second < 2 ^ 64 }
     ensures { result ≡ both_length first second }
@@ -23,7 +23,7 @@ pub fn both_length(first: usize, second: usize) -> usize
     first + second
 }
 
-/// The longer of two pieces at one place.
+/// The longer of two pieces at one offset.
 pub fn longer(first: usize, second: usize) -> usize
     ensures { result ≡ max first second }
 {

@@ -18,7 +18,7 @@ pub fn length_before(bytes: &[u8], mark: u8) -> usize
     bytes.iter().take_while(|byte| **byte != mark).count()
 }
 
-/// What stands before and behind the first `=` of an option.
+/// What stands before and after the first `=` of an option.
 #[tactic(auto, unfolding(crate::specs::Query::name_of, crate::specs::Query::value_of))]
 pub fn name_and_value(option: &[u8]) -> (&[u8], &[u8])
     ensures name { result.0.now ≡ name_of option.now }
@@ -77,7 +77,7 @@ fn filter_of_option(
     }
 }
 
-/// The filter behind one more option, which may be the filter too.
+/// The filter after one more option, which may be the filter too.
 fn with_found(
     filter: Option<String>,
     found: Option<String>,
@@ -96,13 +96,12 @@ fn with_found(
     }
 }
 
-/// The text of the filter that a query string asks for, decoded; `None` where it asks for none.
+/// Returns the text of the filter that a query string asks for, decoded; `None` if there is none.
 ///
-/// The options stand between `&`; the filter is the one named `filter` or `$filter` in any ASCII case. Custom
-/// options are passed over, but they too are decoded; a `+` is a `+`, as RFC 3986 has it. A refusal other than `Memory`
-/// is the first fault from the left: of each option, the escapes and the UTF-8 of its name, then those of its value,
-/// then what
-/// the decoded name is.
+/// Options are separated by `&`; the filter is the one named `filter` or `$filter` in any ASCII case. Custom options
+/// are skipped, but they too are decoded. A `+` stays a `+`, as RFC 3986 has it. A refusal other than `Memory` is the
+/// first fault from the left. Each option is checked in this order: the escapes and the UTF-8 of its name, those of its
+/// value, and what the decoded name is.
 pub fn filter_of_query(alloc: Global, query: &[u8]) -> Result<Option<String>, QueryFault>
     ensures filter { IfOk result (λ filter. IsFilterOf query.now (option_map string_bytes filter)) }
     ensures only { IfOk result (λ filter. (other : Option (List ℕ))

@@ -3,10 +3,10 @@ use thiserror::Error;
 /// Why a query has no filter to give: its first fault.
 #[derive(Clone, Copy, Debug, PartialEq, Eq, Error)]
 pub enum QueryFault {
-    /// A `%` without two hexadecimal digits behind it, at this byte of the query.
+    /// A `%` without two hexadecimal digits after it, at this byte of the query.
     #[error("BadEscape {place}")]
     BadEscape { place: usize },
-    /// The name or the value of this option is no UTF-8 once it is decoded. Options count from 0, empty ones too.
+    /// The name or the value of this option is not UTF-8 once it is decoded. Options count from 0, empty ones too.
     #[error("NotUtf8 {option}")]
     NotUtf8 { option: usize },
     /// This option is a second filter.
@@ -15,7 +15,7 @@ pub enum QueryFault {
     /// This option is a system query option other than the filter.
     #[error("OtherOption {option}")]
     OtherOption { option: usize },
-    /// No memory was left for the text.
+    /// An allocation for the text failed.
     #[error("memory")]
     Memory,
 }

@@ -15,8 +15,8 @@ pub fn one_query_reading()
         → IsFilterOf query filter → IsQueryFault query fault → ⊥ }
 {}
 
-/// Queries by example: `$filter=a%2Bb%26c` asks for `a+b&c`, and `$top=5&$filter=Active` has another system query option
-/// before the filter.
+/// Worked queries: `$filter=a%2Bb%26c` asks for `a+b&c`. `$top=5&$filter=Active` has another system query option before
+/// the filter.
 pub fn queries_by_example()
     ensures escaped { IsFilterOf escaped_query (Some escaped_filter) }
     ensures paged { IsQueryFault paged_query (QueryFault.OtherOption 0) }

@@ -10,7 +10,7 @@ use percent_encoding::{DecodeError, percent_decode};
 use std::alloc::Global;
 use std::borrow::CowStr;
 
-/// Whether a hexadecimal digit stands at the place.
+/// Whether a hexadecimal digit stands at the offset.
 fn is_digit_at(part: &[u8], place: usize) -> bool
     ensures { result ≡ is_digit (slice_index part.now place) 16 }
 {
@@ -20,7 +20,7 @@ fn is_digit_at(part: &[u8], place: usize) -> bool
     }
 }
 
-/// Whether a `%` without two hexadecimal digits behind it stands at the place.
+/// Whether a `%` without two hexadecimal digits after it stands at the offset.
 fn is_bad_escape(part: &[u8], place: usize) -> bool
     requires { place < length part.now }
     ensures { result ≡ is_bad_escape part.now place }
@@ -28,7 +28,7 @@ fn is_bad_escape(part: &[u8], place: usize) -> bool
     part[place] == b'%' && !(is_digit_at(part, place + 1) && is_digit_at(part, place + 2))
 }
 
-/// The first `%` without two hexadecimal digits behind it.
+/// The first `%` without two hexadecimal digits after it.
 fn bad_escape(part: &[u8]) -> Option<usize>
     ensures { MatchOption result ((place : ℕ) → is_bad_escape part.now place ≡ false) (IsFirstBad part.now) }
 {

@@ -31,12 +31,11 @@ fn all_tokens<'t>(alloc: Global, mut scanner: Scanner<'t>) -> Result<Vec<Token<'
     }
 }
 
-/// The tokens of a filter's text from left to right, each the longest piece at its place.
+/// Splits a filter's text into tokens from left to right, each the longest piece at its offset.
 ///
-/// Spans are byte places in `text`, and white space between tokens, spaces and tabs, belongs to none (OData ABNF 4.01,
-/// section 6).
-/// A refusal other than `Memory` is the first fault from the left: `TooLong` where `text` has over 16,384 bytes comes
-/// before all others, and where a 4,097th token is faultless it names that token.
+/// Spans are byte offsets in `text`. White space between tokens, spaces and tabs, belongs to none (OData ABNF 4.01,
+/// section 6). A refusal other than `Memory` is the first fault from the left. `TooLong` for a text of over 16,384
+/// bytes comes before all others; for a 4,097th token, if that is faultless, it names that token.
 pub fn tokens<'t>(alloc: Global, text: &'t str) -> Result<Vec<Token<'t>>, TextFault>
     ensures ok { IfOk result (λ tokens. IsTokenList text.now (token_models tokens.items)) }
     ensures only { IfOk result (λ tokens. (other : List TokenModel)

@@ -19,7 +19,7 @@ const TEXT_LIMIT: usize = 16384;
 /// No text of a filter has more tokens.
 const TOKEN_LIMIT: usize = 4096;
 
-/// The first place from `place` on that is no white space, or the end.
+/// The first offset from `place` on that is not white space, or the end.
 #[inline(always)]
 fn skip_spaces(bytes: &[u8], place: usize) -> usize
     requires { place ≤ length bytes.now }
@@ -34,7 +34,7 @@ fn skip_spaces(bytes: &[u8], place: usize) -> usize
     end
 }
 
-/// What `Scanner::next_token` found.
+/// The outcome of `Scanner::next_token`.
 #[derive(Clone, Copy, Debug, PartialEq, Eq)]
 pub enum Scanned {
     /// A token, which `Scanner::token` returns.
@@ -57,7 +57,7 @@ pub struct Scanner<'t> {
 }
 
 impl<'t> Scanner<'t> {
-    /// A scanner before the first token. A text of over 16,384 bytes is `TooLong`.
+    /// Creates a scanner before the first token. A text of over 16,384 bytes is `TooLong`.
     pub fn new(text: &'t str) -> Result<Scanner<'t>, TextFault>
         ensures text { IfOk result (λ scanner. text_of scanner ≡ text.now) }
         ensures reading { IfOk result IsReading }
@@ -122,7 +122,7 @@ impl<'t> Scanner<'t> {
         Scanned::Token
     }
 
-    /// Takes the token at an offset that is no white space, or reports why there is none.
+    /// Takes the token at an offset that is not white space, or reports why there is none.
     #[inline(never)]
     fn take_other(&mut self, start: usize) -> Scanned
         requires reading { IsReading self.old }
@@ -142,7 +142,7 @@ impl<'t> Scanner<'t> {
         }
     }
 
-    /// The token that was read last.
+    /// Returns the token that was read last.
     #[inline(always)]
     pub fn token(&self) -> Token<'t>
         requires { IsReading self.now }
@@ -155,7 +155,7 @@ impl<'t> Scanner<'t> {
         }
     }
 
-    /// The kind of the token that was read last.
+    /// Returns the kind of the token that was read last.
     #[inline(always)]
     pub fn kind(&self) -> TokenKind
         ensures { result ≡ self.now.kind }
@@ -163,7 +163,7 @@ impl<'t> Scanner<'t> {
         self.kind
     }
 
-    /// Where the token that was read last lies.
+    /// Returns where the token that was read last lies.
     #[inline(always)]
     pub fn span(&self) -> Span
         ensures start { result.start ≡ self.now.start }
@@ -175,7 +175,7 @@ impl<'t> Scanner<'t> {
         }
     }
 
-    /// The fault that was found last.
+    /// Returns the fault that was found last.
     pub fn fault(&self) -> TextFault
         ensures { result ≡ self.now.fault }
     {

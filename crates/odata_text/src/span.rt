@@ -2,7 +2,7 @@ use std::fmt::{self, Display, Formatter, Write};
 
 /// A range of bytes of the decoded text: from `start` up to `stop`.
 ///
-/// It is shown as `START..STOP`.
+/// It is displayed as `START..STOP`.
 #[derive(Clone, Copy, Debug, PartialEq, Eq)]
 pub struct Span {
     pub start: usize,

@@ -63,7 +63,7 @@ fn zoned_length(rest: &[u8]) -> usize
     }
 }
 
-/// How many bytes the part of a moment behind its date takes at the front, 0 if there is none.
+/// How many bytes the part of a moment after its date takes at the front, 0 if there is none.
 fn timed_length(rest: &[u8]) -> usize
     ensures { IsReach IsTimed result rest.now }
 {

@@ -41,7 +41,7 @@ pub(crate) fn checked_call(setting: &Setting<'_>, judged: &Judged<'_>, walk: &mu
     }
 }
 
-/// The types of the trees from a place up to `stop`, as many as there is room for.
+/// The types of the trees from an index up to `stop`, as many as there is room for.
 fn first_types(walk: &Walk, from: usize, stop: usize, types: &mut [EdmType; 4]) -> usize
     requires { (row : List CheckedNode) × AreInRow walk.now.list.nodes row from stop }
     ensures few { result ≤ 4 }

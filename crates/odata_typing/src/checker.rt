@@ -25,10 +25,11 @@ use odata_syntax::{SyntaxFault, TextOrSyntaxFault, parse_text};
 use odata_text::{Span, TextFault, tokens_are_spelled};
 use std::alloc::{AllocError, Global};
 
-/// The text as a filter of the entities of a type, which the schema holds.
+/// Checks a text as a filter of the entities of a type, which the schema holds.
 ///
-/// The text is judged in four steps, and a refusal other than `Memory` is that of the first step that fails: its tokens, its
-/// tree, the types of its nodes (the leftmost node of those to blame), and last that the whole is true, false or null.
+/// The text is judged in four steps: its tokens, its tree, the types of its nodes, and last that the whole is true,
+/// false or null. A refusal other than `Memory` is that of the first step that fails. A type fault is that of the
+/// leftmost node to blame.
 pub fn check<'s>(
     alloc: Global,
     schema: &'s Schema,
@@ -57,7 +58,7 @@ pub fn check<'s>(
     }
 }
 
-/// The same, apart from the schema: for who keeps both, and puts them together again.
+/// Checks a text as [`check`] does, apart from the schema. It is for callers that store both and combine them again.
 pub fn check_to_store(
     alloc: Global,
     schema: &Schema,

@@ -70,7 +70,7 @@ fn put_list(judged: &Judged<'_>, kind: NodeKind, fit: ItemsFit, walk: &mut Walk)
     }
 }
 
-/// Whether the items from a place up to `stop` may stand after an operand of no enumeration, by their types.
+/// Whether the items from an index up to `stop` may stand after an operand of no enumeration, by their types.
 fn fit_of(schema: &Schema, left: &EdmType, items: usize, stop: usize, walk: &Walk) -> ItemsFit
     requires left { IsTypeThere schema.now left.now }
     requires unread { IsUnreadLeft (expr_type schema.now left.now) }

@@ -17,7 +17,7 @@ use odata_checked_filter::NodeKind;
 use odata_expression_types::TypeFaultCode;
 use odata_syntax::LiteralKind;
 
-/// Puts the literal's node in its place, with its value.
+/// Puts the literal's node at its index, with its value.
 #[inline(always)]
 pub(crate) fn checked_literal(
     setting: &Setting<'_>,

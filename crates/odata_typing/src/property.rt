@@ -22,7 +22,7 @@ use odata_checked_filter::NodeKind;
 use odata_expression_types::TypeFaultCode;
 use odata_signatures::{EdmType, ValueType};
 
-/// Puts the node of the variable of that name in its place, or where there is none that of the property of the filtered
+/// Puts the node of the variable of that name at its index, or where there is none that of the property of the filtered
 /// type.
 #[inline(never)]
 pub(crate) fn checked_name(setting: &Setting<'_>, judged: &Judged<'_>, walk: &mut Walk) -> bool
@@ -47,7 +47,7 @@ pub(crate) fn checked_name(setting: &Setting<'_>, judged: &Judged<'_>, walk: &mu
     }
 }
 
-/// Puts the node of a step in its place: only one value of a structured type has properties.
+/// Puts the node of a step at its index: only one value of a structured type has properties.
 #[inline(never)]
 pub(crate) fn checked_member(setting: &Setting<'_>, judged: &Judged<'_>, walk: &mut Walk) -> bool
     requires ready { IsNodeReady setting.now walk.old judged.now }

@@ -52,7 +52,7 @@ impl Walk {
         false
     }
 
-    /// Puts a node in its place, with its text.
+    /// Puts a node at its index, with its text.
     #[inline(always)]
     pub(crate) fn put(&mut self, judged: &Judged<'_>, kind: NodeKind, edm_type: &EdmType) -> bool
         requires place { judged.now.number < length self.old.list.nodes }

@@ -15,18 +15,18 @@ const SCHEMA_BYTES: u64 = 1_048_577;
 /// How much stack is taken before anything is allocated.
 const STACK_BYTES: usize = 196_608;
 
-/// Tells a line on standard error. The status was decided before, so it stands where standard error fails.
+/// Writes a line to standard error. The status was decided before, so it stands where standard error fails.
 fn tell<D: Display + Drop>(rt: &HostRuntime, line: D, status: u8) -> u8 {
     let _ = eprintln!(rt; "{line}");
     status
 }
 
-/// Tells that an allocation was refused.
+/// Reports that an allocation failed.
 fn tell_memory(rt: &HostRuntime) -> u8 {
     tell(rt, "memory", 6)
 }
 
-/// Tells why there is no plan, or what `clap` was asked for.
+/// Reports why there is no plan, or what `clap` was asked for.
 fn tell_fault(rt: &HostRuntime, fault: PlanFault) -> u8 {
     match fault {
         PlanFault::Clap(error) => {
@@ -74,7 +74,8 @@ fn words(rt: &HostRuntime) -> io::Result<Vec<String>> {
     Ok(env::args(rt)?.collect(rt.alloc())?)
 }
 
-/// The status of the whole run. An error is one of the words: want of memory for them, or a word that is not UTF-8.
+/// The status of the whole run. An error is one of the words: running out of memory for them, or a word that is not
+/// UTF-8.
 fn status(rt: &HostRuntime) -> io::Result<u8> {
     let words = words(rt)?;
     let mut texts = Vec::new(rt.alloc());

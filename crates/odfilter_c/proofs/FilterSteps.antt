@@ -1,4 +1,4 @@
--- What a text comes to as what a handle and its bytes, or a query, come to.
+-- The outcome of a text, from that of a handle and its bytes, or of a query.
 use Rattle.std.proofs.Common.{◌≡◌, ℕ, List, Result, Ok, Err, MatchResult, Some, sym, subst}
 use Rattle.odata_text.specs.Query.{IsFilterOf}
 use Rattle.odfilter_c.specs.FilterCalls.{IsFilterIn, IsFilterMade, IsFilterOfQuery, IsNoFilter, IsNoQueryFilter, IsNotMade}
@@ -6,7 +6,7 @@ use Rattle.odfilter_c.specs.declared.fault.Fault.{Fault}
 use Rattle.odfilter_c.specs.declared.handle.Handle.{Handle}
 use Rattle.odfilter_c.specs.HeldType.{EntityType}
 
--- why a text is no filter of a type is why it is none of the type's handle
+-- why a text is not a filter of a type is why it is none of the type's handle
 no_filter : (held : EntityType) (text : List ℕ) (fault : Fault) → IsNotMade held text fault → IsNoFilter (Handle.Type held) text fault
 no_filter held text Fault.OtherKind wrong = absurd wrong
 no_filter held text Fault.NotUtf8 wrong = absurd wrong

@@ -66,7 +66,7 @@ outcome_there filter given bound row (Err (Fault.Evaluation line why)) there = t
 outcome_there filter given bound row (Err (Fault.LineTooLong line)) there = there
 outcome_there filter given bound row (Err Fault.TooCostly) there = there
 
--- what is told of a row without a bound, and within one
+-- what is reported about a row without a bound, and within one
 pub plain_row : (filter : Filter) (now : MomentParts) (row : List ℕ) (why : NoVerdict) → TellsRow filter now row (Err why)
     → IsOutcomeAt filter now None row (Err (row_fault why))
 plain_row filter now row (NoVerdict.Bad BadRow.NotJson) told = (refl, told)

@@ -1,4 +1,4 @@
--- What is told of a fault: the status and the numbers, as the header of the library has them.
+-- What is reported about a fault: the status and the numbers, as the header of the library has them.
 use Rattle.std.specs.Prelude.{ℕ, List, [], length, Option, None, Some}
 use Rattle.odata_text.specs.declared.find_fault.FindFault.{FindFault}
 use Rattle.odata_text.specs.declared.query_fault.QueryFault.{QueryFault}
@@ -9,7 +9,7 @@ use Rattle.odata_filter.specs.FaultNumbers.{evaluation_number, path_told, query_
 use Rattle.odfilter_c.specs.declared.c_types.Answer.{Answer}
 use Rattle.odfilter_c.specs.declared.fault.Fault.{Fault}
 
--- an answer that tells nothing
+-- an answer that reports nothing
 abbrev pub empty_answer : Answer
 empty_answer = record {
   fault = 0;
@@ -81,7 +81,7 @@ path_or_none None = []
 abbrev pub path_bytes : RowFault → List ℕ
 path_bytes fault = path_or_none (path_told fault)
 
--- the status that tells a fault
+-- the status that reports a fault
 abbrev pub fault_status : Fault → ℕ
 fault_status Fault.OtherKind = 2
 fault_status Fault.NotUtf8 = 3
@@ -102,7 +102,7 @@ fault_status (Fault.Evaluation line fault) = 23
 fault_status (Fault.LineTooLong line) = 24
 fault_status Fault.TooCostly = 25
 
--- and what is told beside it
+-- and what is reported beside it
 abbrev pub fault_answer : Fault → Answer
 fault_answer Fault.OtherKind = empty_answer
 fault_answer Fault.NotUtf8 = empty_answer

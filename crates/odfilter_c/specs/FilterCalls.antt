@@ -1,4 +1,4 @@
--- What checking a filter comes to, and what a filter is asked for.
+-- The result of checking a filter, and what a filter is asked for.
 use Rattle.std.specs.Prelude.{◌≡◌, ◌≢◌, ℕ, IsUtf8, List, None, Some}
 use Rattle.odata_text.specs.declared.query_fault.QueryFault.{QueryFault}
 use Rattle.odata_text.specs.Query.{IsFilterOf, IsQueryFault}
@@ -20,7 +20,7 @@ IsFilterMade held text (Handle.Filter made) =
     × HasTyping (slots_of held.schema) (type_name_at held.schema held.id) text (tree_of_filter made)
 IsFilterMade held text handle = ⊥
 
--- the text is no filter of the type, and why
+-- the text is not a filter of the type, and why
 abbrev pub IsRefused : EntityType → List ℕ → Refusal → Type 0
 IsRefused held text refusal =
     UnlessMemory refusal (IsRefusal (slots_of held.schema) (type_name_at held.schema held.id) text refusal)

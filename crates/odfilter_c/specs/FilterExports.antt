@@ -13,11 +13,13 @@ use Rattle.odfilter_c.specs.Tells.{TellsCanonical, TellsNodes}
 use Rattle.odfilter_c.specs.Costs.{ReportsNodeCount, ReportsLambdaDepth, ReportsPaths}
 use Rattle.odfilter_c.specs.Sentences.{ReportsSentenceFor, ReportsSentence}
 
+-- what `odfilter_check_url` borrows: a handle, bytes, a buffer, the new handle's variable and the answer
 abbrev pub lent_to_check_url : Loan → Ptr → Bytes → Room → Ptr → Ptr → Fml
 lent_to_check_url l given query text made answer =
     fsep (lent_handle l given) (fsep (lent_bytes l query) (fsep (lent_room l text)
     (fsep (lent_made l made) (lent_answer l answer))))
 
+-- what it leaves: all unchanged and the status 1 where an address may not be null and is, else what `ChecksUrl` says
 abbrev pub left_by_check_url : Loan → Ptr → Bytes → Room → Ptr → Ptr → ℕ → Fml
 left_by_check_url l given query text made answer result = unless_null (given ∷ text.at ∷ made ∷ answer ∷ [])
     (fsep (feq ℕ result 1) (lent_to_check_url l given query text made answer))
@@ -25,9 +27,12 @@ left_by_check_url l given query text made answer result = unless_null (given ∷
     fsep (left_room l text text') (fsep (left_made l made made') (fsep (left_answer l answer answer')
     (holds (of_bytes query.at query.length l.bytes ((text' ≡ l.room) × ((made' ≡ l.made) × ((answer' ≡ l.answer) × (result ≡ 1)))) (λ bytes. ChecksUrl l.handle bytes l.room text' made' answer' result)))))))))
 
+-- what `odfilter_canonical` borrows: a handle, a buffer and the answer
 abbrev pub lent_to_canonical : Loan → Ptr → Room → Ptr → Fml
 lent_to_canonical l filter text answer = fsep (lent_handle l filter) (fsep (lent_room l text) (lent_answer l answer))
 
+-- what it leaves: all unchanged and the status 1 where an address may not be null and is, else what `TellsCanonical`
+-- says
 abbrev pub left_by_canonical : Loan → Ptr → Room → Ptr → ℕ → Fml
 left_by_canonical l filter text answer result = unless_null (filter ∷ text.at ∷ answer ∷ [])
     (fsep (feq ℕ result 1) (lent_to_canonical l filter text answer))
@@ -35,9 +40,11 @@ left_by_canonical l filter text answer result = unless_null (filter ∷ text.at 
     fsep (left_room l text text') (fsep (left_answer l answer answer')
     (holds (TellsCanonical l.handle l.room text' answer' result))))))
 
+-- what `odfilter_explain` borrows: a handle, a buffer and the answer
 abbrev pub lent_to_explain : Loan → Ptr → Room → Ptr → Fml
 lent_to_explain l filter text answer = fsep (lent_handle l filter) (fsep (lent_room l text) (lent_answer l answer))
 
+-- what it leaves: all unchanged and the status 1 where an address may not be null and is, else what `TellsNodes` says
 abbrev pub left_by_explain : Loan → Ptr → Room → Ptr → ℕ → Fml
 left_by_explain l filter text answer result = unless_null (filter ∷ text.at ∷ answer ∷ [])
     (fsep (feq ℕ result 1) (lent_to_explain l filter text answer))
@@ -45,28 +52,36 @@ left_by_explain l filter text answer result = unless_null (filter ∷ text.at �
     fsep (left_room l text text') (fsep (left_answer l answer answer')
     (holds (TellsNodes l.handle l.room text' answer' result))))))
 
+-- what `odfilter_node_count` borrows: a handle and the answer
 abbrev pub lent_to_node_count : Loan → Ptr → Ptr → Fml
 lent_to_node_count l filter answer = fsep (lent_handle l filter) (lent_answer l answer)
 
+-- what it leaves: all unchanged and the status 1 where an address may not be null and is, else what `ReportsNodeCount`
+-- says
 abbrev pub left_by_node_count : Loan → Ptr → Ptr → ℕ → Fml
 left_by_node_count l filter answer result = unless_null (filter ∷ answer ∷ [])
     (fsep (feq ℕ result 1) (lent_to_node_count l filter answer))
     (fex Answer (λ answer'.
     fsep (left_answer l answer answer') (holds (ReportsNodeCount l.handle answer' result))))
 
+-- what `odfilter_lambda_depth` borrows: a handle and the answer
 abbrev pub lent_to_lambda_depth : Loan → Ptr → Ptr → Fml
 lent_to_lambda_depth l filter answer = fsep (lent_handle l filter) (lent_answer l answer)
 
+-- what it leaves: all unchanged and the status 1 where an address may not be null and is, else what
+-- `ReportsLambdaDepth` says
 abbrev pub left_by_lambda_depth : Loan → Ptr → Ptr → ℕ → Fml
 left_by_lambda_depth l filter answer result = unless_null (filter ∷ answer ∷ [])
     (fsep (feq ℕ result 1) (lent_to_lambda_depth l filter answer))
     (fex Answer (λ answer'.
     fsep (left_answer l answer answer') (holds (ReportsLambdaDepth l.handle answer' result))))
 
+-- what `odfilter_property_paths` borrows: a handle, a buffer and the answer
 abbrev pub lent_to_property_paths : Loan → Ptr → Room → Ptr → Fml
 lent_to_property_paths l filter paths answer =
     fsep (lent_handle l filter) (fsep (lent_room l paths) (lent_answer l answer))
 
+-- what it leaves: all unchanged and the status 1 where an address may not be null and is, else what `ReportsPaths` says
 abbrev pub left_by_property_paths : Loan → Ptr → Room → Ptr → ℕ → Fml
 left_by_property_paths l filter paths answer result = unless_null (filter ∷ paths.at ∷ answer ∷ [])
     (fsep (feq ℕ result 1) (lent_to_property_paths l filter paths answer))
@@ -74,11 +89,14 @@ left_by_property_paths l filter paths answer result = unless_null (filter ∷ pa
     fsep (left_room l paths paths') (fsep (left_answer l answer answer')
     (holds (ReportsPaths l.handle l.room paths' answer' result))))))
 
+-- what `odfilter_fault_text` borrows: a handle, bytes, a buffer, a fault's answer and the answer
 abbrev pub lent_to_fault_text : Loan → Ptr → Bytes → Room → Ptr → Ptr → Fml
 lent_to_fault_text l given text sentence fault answer =
     fsep (lent_handle l given) (fsep (lent_bytes l text) (fsep (lent_room l sentence)
     (fsep (lent_fault l fault) (lent_answer l answer))))
 
+-- what it leaves: all unchanged and the status 1 where an address other than the type's is null, else what
+-- `ReportsSentence` says, or with a type `ReportsSentenceFor`
 abbrev pub left_by_fault_text : Loan → Ptr → ℕ → Bytes → Room → Ptr → Ptr → ℕ → Fml
 left_by_fault_text l given status text sentence fault answer result = unless_null (sentence.at ∷ fault ∷ answer ∷ [])
     (fsep (feq ℕ result 1) (lent_to_fault_text l given text sentence fault answer))

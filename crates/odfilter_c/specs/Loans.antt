@@ -1,4 +1,4 @@
--- What a call of C is lent. Each address is null, or that of a value as a reference has it, lent for the call.
+-- What a call of C borrows. Each address is null, or that of a value as a reference has it, borrowed for the call.
 use Rattle.std.specs.Prelude.{◌≡◌, ◌<◌, ℕ, List, [], ◌∷◌, length}
 use base.Fml.{Fml, Lft, GName, Share, ftrue, fsep, feq, fex, fres, fbor}
 use denote.RattleType.{RattleType}
@@ -20,8 +20,8 @@ use Rattle.odfilter_c.specs.contracts.c_types.Answer.{the_row as AnswerRow}
 use Rattle.odfilter_c.specs.contracts.handle.Handle.{the_row as HandleRow}
 use Rattle.odfilter_c.specs.contracts.owned.Owned.{the_row as OwnedRow}
 
--- what stands in the memory that C lends, with the names under which it may change, and for how long: of a call that is
--- not lent one of these it says nothing
+-- what stands in the memory that C passes by reference, with the names under which it may change, and for how long; it
+-- says nothing of a call that borrows none of these
 pub record Loan : Type 0 where
   pub lifetime : Lft
   pub share : Share
@@ -64,7 +64,7 @@ lent_judge l p = lent_place HandleRow l.lifetime l.judge_name p l.judge
 abbrev pub left_judge : Loan → Ptr → Handle → Fml
 left_judge l p x = left_place HandleRow l.lifetime l.judge_name p x
 
--- room
+-- buffers
 abbrev pub lent_room : Loan → Room → Fml
 lent_room l s = if_non_null s.at ((MutSlice static l.lifetime u8).own_val
     (record { ref_ptr = (block_of s.at, count_of s.at); ghost_name = l.room_name; now = l.room })

@@ -1,4 +1,4 @@
--- How what a call comes to is told: a handle that is made, or a fault.
+-- How the result of a call is reported: a handle that is made, or a fault.
 use Rattle.std.specs.Prelude.{◌≡◌, ◌⊎◌, ℕ, Option, None, Some, Result, Ok, Err, MatchResult}
 use Rattle.odfilter_c.specs.Answers.{empty_answer, fault_answer, fault_status}
 use Rattle.odfilter_c.specs.declared.c_types.Answer.{Answer}
@@ -9,14 +9,15 @@ use Rattle.odfilter_c.specs.declared.handle.Handle.{Handle}
 abbrev pub IsTold : Fault → Answer → ℕ → Type 0
 IsTold fault answer status = (answer ≡ fault_answer fault) × (status ≡ fault_status fault)
 
--- a handle is handed out with the status 0, or there was no memory for it; a fault is told, and no handle handed out
+-- a handle is handed out with the status 0, or there was no memory for it; a fault is reported, and no handle handed
+-- out
 abbrev pub Gives : Result Handle Fault → Option Handle → Answer → ℕ → Type 0
 Gives (Ok handle) made answer status =
     ((made ≡ Some handle) × (answer ≡ empty_answer) × (status ≡ 0))
     ⊎ ((made ≡ None) × IsTold Fault.Memory answer status)
 Gives (Err fault) made answer status = (made ≡ None) × IsTold fault answer status
 
--- the outcome is right, and so is how it is told
+-- the outcome is right, and so is how it is reported
 pub record Makes
     (Right : Handle → Type 0) (Wrong : Fault → Type 0) (made : Option Handle) (answer : Answer) (status : ℕ)
     : Type 0 where

@@ -1,4 +1,4 @@
--- What a judge comes to: the verdict of a filter on a row, and the rows that the filter keeps.
+-- The results of a judge: the verdict of a filter on a row, and the rows that the filter keeps.
 use Rattle.std.specs.Prelude.{◌≡◌, ◌<◌, ◌≤◌, ℕ, IsUtf8, IsSomeAnd, List, [], Option, None, Some, Result, Ok, Err}
 use Rattle.edm_entities.specs.declared.fault.RowFault.{RowFault}
 use Rattle.edm_values.specs.MomentLiteral.{MomentValue}
@@ -53,8 +53,8 @@ abbrev pub IsAbove : Option ℕ → Filter → MomentParts → List ℕ → Type
 IsAbove None filter now row = ⊥
 IsAbove (Some most) filter now row = RowCostIs filter now row (λ cost. most < cost)
 
--- the verdict of the filter on the row at a moment, within the bound, or why there is none; a row by itself has no line,
--- which is told as 0
+-- the verdict of the filter on the row at a moment, within the bound, or why there is none; a row by itself has no
+-- line, which is reported as 0
 abbrev pub IsOutcomeAt : Filter → MomentParts → Option ℕ → List ℕ → Result Verdict Fault → Type 0
 IsOutcomeAt filter now bound row (Ok verdict) = HasVerdict filter now row verdict × IsWithin bound filter now row
 IsOutcomeAt filter now bound row (Err (Fault.Json line)) =
@@ -73,7 +73,7 @@ IsOutcomeOn filter given bound row (Err Fault.MomentNeeded) = LacksMoment filter
 IsOutcomeOn filter given bound row outcome =
     (now : MomentParts) × (IsMomentFor filter given now × IsOutcomeAt filter now bound row outcome)
 
--- the stop of a run over lines that a fault tells
+-- the stop of a run over lines that a fault reports
 abbrev pub stop_of : Fault → Option (Stop BadRow)
 stop_of (Fault.Json line) = Some (Stop.Fault line BadRow.NotJson)
 stop_of (Fault.Row line fault) = Some (Stop.Fault line (BadRow.NoEntity fault))
@@ -82,7 +82,7 @@ stop_of (Fault.LineTooLong line) = Some (Stop.TooLong line)
 stop_of fault = None
 
 -- the text of the rows that the filter keeps at a moment, and how many; or of those before the first line at fault; no
--- text for want of memory
+-- text when out of memory
 abbrev pub IsRunAt : Filter → MomentParts → List ℕ → Result Tally Fault → List ℕ → Type 0
 IsRunAt filter now rows (Ok tally) text = Filters (rows_of filter now rows) text tally
 IsRunAt filter now rows (Err Fault.Memory) text = text ≡ []

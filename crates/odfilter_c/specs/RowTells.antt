@@ -1,4 +1,4 @@
--- What each call about rows tells of what it is lent.
+-- What each call about rows reports of what it borrows.
 use Rattle.std.specs.Prelude.{◌≡◌, ◌⊎◌, ℕ, List, length, Option, None, Some, Result, Ok, Err}
 use Rattle.edm_entities.specs.declared.fault.RowFault.{RowFault}
 use Rattle.edm_values.specs.MomentParts.{MomentParts}
@@ -58,7 +58,7 @@ verdict_number Verdict.False = 0
 verdict_number Verdict.True = 1
 verdict_number Verdict.Null = 2
 
--- how a verdict, or a fault, is told, and what the judge is then
+-- how a verdict, or a fault, is reported, and what the judge is then
 abbrev pub TellsVerdict : Result Verdict Fault → JudgeHandle → JudgeHandle → Answer → ℕ → Type 0
 TellsVerdict (Ok verdict) old new answer status =
     Keeps old new None × ((answer ≡ record empty_answer { verdict = verdict_number verdict }) × (status ≡ 0))
@@ -77,14 +77,14 @@ JudgesOne (Handle.Filter filter) (Handle.Judge old) (Handle.Judge new) row answe
     JudgesOneBy filter old.value new.value row answer status
 JudgesOne filter old new row answer status = (new ≡ old) × IsTold Fault.OtherKind answer status
 
--- the text is told, and how many rows there were; where the room is too small, how long it is
+-- the text is reported, and how many rows there were; where the buffer is too small, how long it is
 abbrev pub TellsTally : Tally → List ℕ → List ℕ → List ℕ → Answer → ℕ → Type 0
 TellsTally tally text old new answer status =
     (IsWritten text old new × ((status ≡ 0)
     × (answer ≡ record empty_answer { length = length text; rows = tally.rows; kept = tally.kept })))
     ⊎ (IsTooSmall text old new × IsTold (Fault.TooSmall (length text)) answer status)
 
--- the fault is told, and the text before it, where the room takes that; its length is told in either case
+-- the fault is reported, and the text before it, if the buffer takes that; its length is reported in either case
 pub record TellsStop (fault : Fault) (text old new : List ℕ) (answer : Answer) (status : ℕ) : Type 0 where
   pub written : IsWritten text old new ⊎ IsTooSmall text old new
   pub told : answer ≡ record (fault_answer fault) { length = length text }
@@ -94,7 +94,7 @@ abbrev pub TellsRun : Result Tally Fault → List ℕ → List ℕ → List ℕ 
 TellsRun (Ok tally) text old new answer status = TellsTally tally text old new answer status
 TellsRun (Err fault) text old new answer status = TellsStop fault text old new answer status
 
--- what the judge keeps behind a run
+-- what the judge keeps after a run
 abbrev pub last_of_run : Option RowFault → Result Tally Fault → Option RowFault
 last_of_run last (Ok tally) = None
 last_of_run last (Err fault) = last_after last fault

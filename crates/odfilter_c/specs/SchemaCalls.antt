@@ -1,4 +1,4 @@
--- What reading a schema and finding a type come to.
+-- The results of reading a schema and of finding a type.
 use Rattle.std.specs.Prelude.{◌≡◌, ◌≢◌, ℕ, IsUtf8, List, [], Some, string_bytes}
 use Rattle.csdl_declarations.specs.declared.fault.SchemaFault.{SchemaFault}
 use Rattle.csdl_schema.specs.Document.{IsSchemaFault, StandsFor}

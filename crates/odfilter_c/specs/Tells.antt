@@ -1,4 +1,4 @@
--- What each call tells of what it is lent.
+-- What each call reports of what it borrows.
 use Rattle.std.specs.Prelude.{◌≡◌, ◌++◌, ◌⊎◌, ℕ, List, codes, length, Option, None, Some, Result, Ok, Err, MatchResult}
 use Rattle.csdl_declarations.specs.declared.fault.SchemaFault.{SchemaFault}
 use Rattle.odfilter_c.specs.Answers.{fault_answer, fault_status}
@@ -12,14 +12,14 @@ use Rattle.odfilter_c.specs.declared.fault.Fault.{Fault}
 use Rattle.odfilter_c.specs.declared.handle.Handle.{Handle}
 use Rattle.odfilter_c.specs.declared.owned.Owned.{Owned}
 
--- the names that a schema's fault carries, one behind the other, and how long both and the first are
+-- the names that a schema's fault carries, one after the other, and how long both and the first are
 pub record TellsNames (fault : SchemaFault) (old new : List ℕ) (answer : Answer) : Type 0 where
   pub told : answer ≡ record (fault_answer (Fault.Schema fault))
       { length = length (first_name fault ++ second_name fault); first = length (first_name fault) }
   pub names : IsWritten (first_name fault ++ second_name fault) old new
       ⊎ IsTooSmall (first_name fault ++ second_name fault) old new
 
--- of a schema's fault the names are told too; of anything else none
+-- of a schema's fault the names are reported too; of anything else none
 abbrev pub GivesSchema : Result Handle Fault → List ℕ → List ℕ → Option Handle → Answer → ℕ → Type 0
 GivesSchema (Err (Fault.Schema fault)) old new made answer status =
     (made ≡ None) × (status ≡ fault_status (Fault.Schema fault)) × TellsNames fault old new answer

@@ -1,19 +1,19 @@
--- How a text is written into the caller's room.
+-- How a text is written into the caller's buffer.
 use Rattle.std.specs.Prelude.{◌≡◌, ◌<◌, ◌≤◌, ◌⊎◌, ◌++◌, ℕ, List, drop, length, Result, Ok, Err, MatchResult}
 use Rattle.odfilter_c.specs.Answers.{empty_answer}
 use Rattle.odfilter_c.specs.Outcomes.{IsTold}
 use Rattle.odfilter_c.specs.declared.c_types.Answer.{Answer}
 use Rattle.odfilter_c.specs.declared.fault.Fault.{Fault}
 
--- the text stands at the front of the room, and what is behind it is as it was
+-- the text stands at the front of the buffer, and what follows it is as it was
 abbrev pub IsWritten : List ℕ → List ℕ → List ℕ → Type 0
 IsWritten text old new = (length text ≤ length old) × (new ≡ text ++ drop (length text) old)
 
--- the room is smaller than the text, and as it was
+-- the buffer is smaller than the text, and as it was
 abbrev pub IsTooSmall : List ℕ → List ℕ → List ℕ → Type 0
 IsTooSmall text old new = (length old < length text) × (new ≡ old)
 
--- a text is written whole and its length told, or how long it is; a fault is told, and nothing written
+-- a text is written whole and its length reported, or how long it is; a fault is reported, and nothing written
 abbrev pub Writes : Result (List ℕ) Fault → List ℕ → List ℕ → Answer → ℕ → Type 0
 Writes (Ok text) old new answer status =
     (IsWritten text old new × (answer ≡ record empty_answer { length = length text }) × (status ≡ 0))

@@ -1,4 +1,4 @@
--- What checking the filter of a whole query comes to.
+-- The result of checking the filter of a whole query.
 use Rattle.std.specs.Prelude.{◌≡◌, ◌≢◌, ◌⊎◌, ℕ, List, length, Option, None, Some, Result, Ok, Err, MatchResult}
 use Rattle.odata_text.specs.Find.{FoundModel, IsFindFault, IsFoundIn}
 use Rattle.odata_text.specs.declared.find_fault.FindFault.{FindFault}

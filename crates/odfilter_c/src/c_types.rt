@@ -2,7 +2,7 @@
 ghost use Rattle.std.specs.Prelude.{◌≡◌};
 ghost use Rattle.odfilter_c.specs.Answers.{empty_answer};
 
-/// Bytes that are lent for a call.
+/// Bytes that are borrowed for a call.
 #[repr(C)]
 #[derive(Drop)]
 pub struct Bytes {
@@ -10,7 +10,7 @@ pub struct Bytes {
     pub length: usize,
 }
 
-/// Room for a text.
+/// A buffer for a text.
 #[repr(C)]
 #[derive(Drop)]
 pub struct Room {
@@ -18,7 +18,7 @@ pub struct Room {
     pub length: usize,
 }
 
-/// What a call tells beside its status. What it does not speak of is 0.
+/// What a call reports besides its status. Fields that the call does not set are 0.
 #[repr(C)]
 #[derive(Drop)]
 pub struct Answer {
@@ -38,7 +38,7 @@ pub struct Answer {
 }
 
 impl Answer {
-    /// An answer that tells nothing.
+    /// An answer that reports nothing.
     pub(crate) fn empty() -> Answer
         ensures { result ≡ empty_answer }
     {

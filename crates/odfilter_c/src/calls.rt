@@ -1,4 +1,4 @@
-//! The calls, over what is lent: each answers its status.
+//! The calls, over what is borrowed: each returns its status.
 ghost use Rattle.std.specs.Prelude.{Err};
 ghost use Rattle.odfilter_c.specs.Tells.{ChecksQuery, ChecksText, FindsType, Frees, GivesSchema, ReadsSchema};
 ghost use Rattle.odfilter_c.specs.Tells.{TellsCanonical, TellsFault, TellsNodes, TellsStatus, TellsVersion};
@@ -24,7 +24,7 @@ use crate::telling::{give, tell_fault};
 use crate::url_calls::{found_for, report_found};
 use std::alloc::Global;
 
-/// What becomes of a document that is no schema.
+/// What becomes of a document that is not a schema.
 fn refuse_schema(fault: &Fault, names: &mut [u8], schema: &mut Owned, answer: &mut Answer) -> u32
     ensures { GivesSchema (Err fault.now) names.old names.new schema.new.value answer.new result }
 {

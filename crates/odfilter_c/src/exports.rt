@@ -206,7 +206,7 @@ pub unsafe extern "C" fn odfilter_check_query(
     }
 }
 
-/// Tells whether a filter asks for a moment.
+/// Reports whether a filter needs a moment.
 #[unsafe(no_mangle)]
 pub unsafe extern "C" fn odfilter_needs_moment(filter: *const u8, answer: *mut Answer) -> u32
     ghost loan: { Loan }

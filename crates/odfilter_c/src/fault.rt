@@ -1,4 +1,4 @@
-//! Why a call did nothing, and how that is told.
+//! Why a call did nothing, and how that is reported.
 ghost use Rattle.std.specs.Prelude.{◌≡◌};
 ghost use Rattle.odfilter_c.specs.Answers.{empty_answer, fault_answer, fault_status, find_number, find_place};
 ghost use Rattle.odfilter_c.specs.Answers.{path_bytes, query_place};
@@ -12,7 +12,7 @@ use odata_filter::{Numbered, refusal_span, row_fault_path};
 use odata_text::{FindFault, QueryFault};
 use odata_typing::Refusal;
 
-/// Why a call did nothing. The faults of the crates below are none for want of memory, which is `Memory` here.
+/// Why a call did nothing. The faults of the crates below are none when out of memory, which is `Memory` here.
 #[derive(Drop)]
 pub(crate) enum Fault {
     OtherKind,
@@ -60,7 +60,7 @@ fn refusal_number(refusal: &Refusal) -> u32
     }
 }
 
-/// What is told of a refusal.
+/// What is reported about a refusal.
 fn refusal_answer(refusal: &Refusal) -> Answer
     ensures { result ≡ fault_answer (Fault.Refused refusal.now) }
 {
@@ -89,7 +89,7 @@ fn query_place(fault: &QueryFault) -> u64
     }
 }
 
-/// What is told of a query's fault.
+/// What is reported about a query's fault.
 fn query_answer(fault: &QueryFault) -> Answer
     ensures { result ≡ fault_answer (Fault.Query fault.now) }
 {
@@ -135,7 +135,7 @@ fn numbered(fault: u32, line: u64) -> Answer
     answer
 }
 
-/// What is told of a row's fault.
+/// What is reported about a row's fault.
 fn row_answer(line: u64, fault: &RowFault) -> Answer
     ensures { result ≡ fault_answer (Fault.Row line fault.now) }
 {
@@ -154,7 +154,7 @@ pub(crate) fn measured(length: usize) -> Answer
 }
 
 impl Fault {
-    /// The status that tells it.
+    /// The status that reports it.
     pub(crate) fn status(&self) -> u32
         ensures { result ≡ fault_status self.now }
     {
@@ -180,7 +180,7 @@ impl Fault {
         }
     }
 
-    /// What is told beside the status.
+    /// What is reported beside the status.
     pub(crate) fn answer(&self) -> Answer
         ensures { result ≡ fault_answer self.now }
     {

@@ -6,7 +6,7 @@ use odata_typing::StoredFilter;
 use std::marker::Model;
 use std::sync::Arc;
 
-/// What a handle of the library stands for: its kind tells whether a call can use it.
+/// What a handle of the library stands for: its kind says whether a call can use it.
 #[derive(Drop)]
 pub enum Handle {
     Schema(SchemaHandle),
@@ -41,8 +41,8 @@ impl Model for TypeHandle {
     ghost invariant = { λ held. IsHeldType (record { schema = held.schema.value; id = held.id }) held.plan.value };
 }
 
-/// A filter, with the schema that it was checked by, and what rows are read by: its type's plan, or one of its own where
-/// it navigates.
+/// A filter, with the schema that it was checked by, and what rows are read by: its type's plan, or one of its own
+/// where it navigates.
 #[derive(Drop)]
 pub struct FilterHandle {
     pub(crate) schema: Arc<Schema>,

@@ -24,7 +24,7 @@ use odata_filter::{BadRow, BoundedJudge, NoVerdict, RowStop, judge_row};
 use odata_typing::Checked;
 use std::alloc::Global;
 
-/// Tells whether a filter asks for a moment.
+/// Reports whether a filter needs a moment.
 pub(crate) fn tell_need(held: &FilterHandle, answer: &mut Answer) -> u32
     ensures { TellsNeedOf held.now answer.new result }
 {
@@ -226,7 +226,7 @@ pub(crate) fn keep_fault(fault: Fault, judge: &mut JudgeHandle)
     }
 }
 
-/// Judges a row, and tells the verdict, or why there is none.
+/// Judges a row, and reports the verdict, or why there is none.
 fn tell_verdict(
     held: &FilterHandle,
     judge: &mut JudgeHandle,

@@ -13,7 +13,7 @@ use odata_filter::{RunFault, Tally, filter_slice};
 use odata_typing::Checked;
 use std::alloc::Global;
 
-/// What a run over rows came to, and the lines that it kept.
+/// The result of a run over rows, and the lines that it kept.
 #[derive(Drop)]
 struct Run {
     outcome: Result<Tally, Fault>,
@@ -54,7 +54,7 @@ fn run_over(held: &FilterHandle, judge: &JudgeHandle, rows: &[u8]) -> Run
     }
 }
 
-/// Tells how many rows a run kept, with their lines, or how much room these want.
+/// Reports how many rows a run kept, with their lines, or how large a buffer these need.
 fn tell_tally(tally: &Tally, kept: &[u8], room: &mut [u8], answer: &mut Answer) -> u32
     ensures { TellsTally tally.now kept.now room.old room.new answer.new result }
 {
@@ -67,7 +67,7 @@ fn tell_tally(tally: &Tally, kept: &[u8], room: &mut [u8], answer: &mut Answer) 
     0
 }
 
-/// Tells where a run stopped, with the lines that it kept before, where the room takes them.
+/// Reports where a run stopped, with the lines that it kept before, if the buffer takes them.
 fn tell_stop(fault: &Fault, kept: &[u8], room: &mut [u8], answer: &mut Answer) -> u32
     ensures { TellsStop fault.now kept.now room.old room.new answer.new result }
 {
@@ -77,7 +77,7 @@ fn tell_stop(fault: &Fault, kept: &[u8], room: &mut [u8], answer: &mut Answer) -
     fault.status()
 }
 
-/// Judges rows, a line each, and tells what became of them.
+/// Judges rows, a line each, and reports what became of them.
 fn tell_lines(
     held: &FilterHandle,
     judge: &mut JudgeHandle,

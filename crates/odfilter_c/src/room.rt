@@ -1,4 +1,4 @@
-//! Texts in the caller's room.
+//! Texts in the caller's buffer.
 ghost use Rattle.std.specs.Prelude.{◌++◌, Ok, MatchBool};
 ghost use Rattle.odfilter_c.specs.Texts.{IsTooSmall, IsWritten, Writes};
 
@@ -6,7 +6,7 @@ use crate::c_types::Answer;
 use crate::fault::{Fault, measured};
 use crate::telling::tell_fault;
 
-/// Writes a text at the front of the room, whole or not at all, and answers whether it did.
+/// Writes a text at the front of the buffer, whole or not at all, and returns whether it did.
 pub(crate) fn write_text(room: &mut [u8], text: &[u8]) -> bool
     ensures { MatchBool result (IsWritten text.now room.old room.new) (IsTooSmall text.now room.old room.new) }
 {
@@ -18,7 +18,7 @@ pub(crate) fn write_text(room: &mut [u8], text: &[u8]) -> bool
     true
 }
 
-/// Writes two texts, one behind the other, both or none.
+/// Writes two texts, one after the other, both or none.
 pub(crate) fn write_both(room: &mut [u8], first: &[u8], second: &[u8]) -> bool
     ensures { MatchBool result (IsWritten (first.now ++ second.now) room.old room.new)
         (IsTooSmall (first.now ++ second.now) room.old room.new) }
@@ -31,7 +31,7 @@ pub(crate) fn write_both(room: &mut [u8], first: &[u8], second: &[u8]) -> bool
     write_text(rest, second)
 }
 
-/// Writes a text, and tells how long it is, or would be.
+/// Writes a text, and reports how long it is, or would be.
 pub(crate) fn tell_bytes(text: &[u8], room: &mut [u8], answer: &mut Answer) -> u32
     ensures { Writes (Ok text.now) room.old room.new answer.new result }
 {

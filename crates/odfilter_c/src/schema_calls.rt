@@ -102,7 +102,7 @@ fn second_name(fault: &SchemaFault) -> &str
     }
 }
 
-/// Tells a schema's fault, and its names where the room takes both.
+/// Reports a schema's fault, and its names if the buffer takes both.
 pub(crate) fn tell_names(fault: &SchemaFault, room: &mut [u8], answer: &mut Answer)
     ensures { TellsNames fault.now room.old room.new answer.new }
 {

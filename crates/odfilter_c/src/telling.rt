@@ -1,4 +1,4 @@
-//! How what a call came to is told.
+//! How the result of a call is reported.
 ghost use Rattle.std.specs.Prelude.{Ok};
 ghost use Rattle.odfilter_c.specs.Outcomes.{Gives, IsTold};
 
@@ -8,7 +8,7 @@ use crate::handle::Handle;
 use crate::owned::Owned;
 use std::alloc::Global;
 
-/// The status of a call that came to nothing, with its answer.
+/// The status of a call that failed, with its answer.
 pub(crate) fn tell_fault(fault: &Fault, answer: &mut Answer) -> u32
     ensures { IsTold fault.now answer.new result }
 {
@@ -33,7 +33,7 @@ fn give_handle(alloc: Global, handle: Handle, made: &mut Owned, answer: &mut Ans
     }
 }
 
-/// Hands out the handle that a call came to, or none.
+/// Hands out the handle that a call made, or none.
 pub(crate) fn give(
     alloc: Global,
     outcome: Result<Handle, Fault>,

@@ -13,7 +13,7 @@ use odata_typing::check_to_store;
 use serde_json::Value;
 use std::alloc::Global;
 
-/// The entity's values behind `fits`.
+/// The entity's values after `fits`.
 fn told(alloc: Global, entity: &Entity<'_>) -> Result<String, Trouble> {
     let mut text = String::from_str(alloc, "fits ")?;
     push_slots(&mut text, entity.value())?;
@@ -31,7 +31,7 @@ fn by_json(alloc: Global, schema: &Schema, id: TypeId, json: &Value) -> Result<S
     }
 }
 
-/// What a line is by way of a JSON value: `fits` with its values, or its fault.
+/// What a line is through a JSON value: `fits` with its values, or its fault.
 fn by_tree(alloc: Global, schema: &Schema, id: TypeId, line: &[u8]) -> Result<String, Trouble>
     requires { HoldsType schema.now id }
 {
@@ -42,7 +42,7 @@ fn by_tree(alloc: Global, schema: &Schema, id: TypeId, line: &[u8]) -> Result<St
     }
 }
 
-/// The same, straight from its bytes; nothing where that is no row that fits, or not seen to be one.
+/// The same, straight from its bytes; nothing where that is not a row that fits, or not seen to be one.
 fn by_bytes(alloc: Global, schema: &Schema, id: TypeId, line: &[u8]) -> Result<String, Trouble>
     requires { HoldsType schema.now id }
 {
@@ -117,7 +117,7 @@ pub fn line_answer(alloc: Global, named: TypeOf<'_>, line: &[u8]) -> Result<Stri
     }
 }
 
-/// The same, where it is so of the line as a row that is judged by itself.
+/// Returns the same, where it is so of the line as a row that is judged by itself.
 pub fn line_and_row_answer(
     alloc: Global,
     named: TypeOf<'_>,
@@ -130,7 +130,7 @@ pub fn line_and_row_answer(
     }
 }
 
-/// Whether a line is read as a row of a type straight from its bytes.
+/// Returns whether a line is read as a row of a type straight from its bytes.
 pub fn is_read_by_bytes(alloc: Global, named: TypeOf<'_>, line: &[u8]) -> Result<bool, Trouble> {
     let schema = schema_of(alloc, named.document)?;
     match schema.type_named(named.named) {

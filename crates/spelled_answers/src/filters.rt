@@ -46,7 +46,7 @@ pub struct TypeOf<'a> {
     pub named: &'a str,
 }
 
-/// The schema of a document that is one.
+/// Returns the schema of a document that is one.
 pub fn schema_of(alloc: Global, document: &[u8]) -> Result<Schema, Trouble> {
     match Schema::read(alloc, document) {
         Ok(schema) => Ok(schema),
@@ -55,7 +55,7 @@ pub fn schema_of(alloc: Global, document: &[u8]) -> Result<Schema, Trouble> {
     }
 }
 
-/// The moment that is handed in: of a text, or else the beginning of the year 1 by UTC.
+/// Returns the moment that is handed in: of a text, or else the beginning of the year 1 by UTC.
 pub fn moment_of(text: Option<&str>) -> Result<Moment, Trouble> {
     let moment = match text {
         Some(text) => read_moment(text),
@@ -97,7 +97,7 @@ fn kept(alloc: Global, checked: &Checked<'_>, line: &[u8], now: &Moment) -> &'st
     }
 }
 
-/// What is told of a row by itself: its outcome, unless the row is at fault.
+/// What is reported about a row by itself: its outcome, unless the row is at fault.
 fn spelled_row(told: &Result<Verdict, NoVerdict>) -> &'static str {
     match told {
         Ok(verdict) => spelled(Ok(*verdict)),
@@ -158,7 +158,7 @@ fn evaluated(
     said
 }
 
-/// The outcome on a row of so many evaluations, or why it is no entity with what the filter needs.
+/// The outcome on a row of so many evaluations, or why it is not an entity with what the filter needs.
 fn outcome(
     alloc: Global,
     checked: &Checked<'_>,
@@ -178,7 +178,7 @@ fn outcome(
     }
 }
 
-/// What is told of a row by itself that is at fault.
+/// What is reported about a row by itself that is at fault.
 fn fault_of_row(
     alloc: Global,
     checked: &Checked<'_>,
@@ -209,7 +209,7 @@ fn fault_of_run(
     }
 }
 
-/// The fault of a row, where a run over it tells the same, and so it is told of the row by itself.
+/// The fault of a row, where a run over it reports the same, and so it is reported about the row by itself.
 fn agreed_fault(
     alloc: Global,
     checked: &Checked<'_>,
@@ -228,7 +228,8 @@ fn agreed_fault(
     }
 }
 
-/// The outcome on a row, or the row's fault, where a run over it says the same, and so it is told of the row by itself.
+/// The outcome on a row, or the row's fault, where a run over it says the same, and so it is reported about the row by
+/// itself.
 fn agreed_outcome(
     alloc: Global,
     checked: &Checked<'_>,
@@ -301,8 +302,8 @@ fn cost(
     Ok(String::from_str(alloc, "more than is tried")?)
 }
 
-/// The outcome on a row of so many evaluations, told without an allocation behind the first of them; the row is judged by
-/// itself once, and as often more.
+/// The outcome on a row of so many evaluations, reported without an allocation after the first of them; the row is
+/// judged by itself once, and as often more.
 fn repeated_outcome(
     alloc: Global,
     checked: &Checked<'_>,
@@ -370,7 +371,7 @@ fn answer_by(
     }
 }
 
-/// The answer of a filter of a type, or its refusal.
+/// Returns the answer of a filter of a type, or its refusal.
 pub fn answer_of(
     alloc: Global,
     filtered: TypeOf<'_>,

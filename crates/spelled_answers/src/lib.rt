@@ -1,5 +1,5 @@
-//! What the public calls answer over texts, each answer as a text in one line: of filters, rows, documents, literals, tokens
-//! and trees. Texts are given as cases give them.
+//! What the public calls answer over texts, each answer as a text in one line: of filters, rows, documents, literals,
+//! tokens and trees. Texts are given as cases give them.
 #![tactic(auto)]
 
 pub mod entities;

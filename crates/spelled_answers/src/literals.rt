@@ -69,14 +69,14 @@ fn push_literal(alloc: Global, out: &mut String, kind: &str, text: &str) -> Resu
     }
 }
 
-/// The canonical spelling of the literal of that kind which a text is, or `null`.
+/// Returns the canonical spelling of the literal of that kind which a text is, or `null`.
 pub fn value_of(alloc: Global, kind: &str, text: &str) -> Result<String, Trouble> {
     let mut out = String::new(alloc);
     push_literal(alloc, &mut out, kind, text)?;
     Ok(out)
 }
 
-/// The same behind a text, which a failed write has to leave as it was: otherwise, what it left.
+/// Returns the same after a text, which a failed write has to leave as it was: otherwise, what it left.
 pub fn value_behind(alloc: Global, front: &str, kind: &str, text: &str) -> Result<String, Trouble> {
     let mut out = String::from_str(alloc, front)?;
     match push_literal(alloc, &mut out, kind, text) {
@@ -85,7 +85,7 @@ pub fn value_behind(alloc: Global, front: &str, kind: &str, text: &str) -> Resul
     }
 }
 
-/// The instant of a moment, in nanoseconds from the beginning of 1970, or `null`.
+/// Returns the instant of a moment, in nanoseconds from the beginning of 1970, or `null`.
 pub fn instant_of(alloc: Global, text: &str) -> Result<String, Trouble> {
     match read_moment(text) {
         Some(moment) => Ok(format!(in alloc; "{}", moment.instant_nanos())?),

@@ -67,7 +67,7 @@ fn push_node(text: &mut String, checked: &Checked<'_>, node: usize) -> Result<()
     push_number(text, "level", checked.level_of(node))
 }
 
-/// Whether the look-ups find nothing at a place past the nodes.
+/// Whether the look-ups find nothing at an index past the nodes.
 fn has_none_past(checked: &Checked<'_>, place: usize) -> bool {
     checked.span_of(place).is_none()
         && checked.type_of(place).is_none()
@@ -109,8 +109,8 @@ fn kind_name(schema: &Schema, kind: PropertyKind) -> &str {
     }
 }
 
-/// A property's kind, of a navigation property with its target, if it has one; then `?` if it is nullable, and `*` if there
-/// are many.
+/// A property's kind, of a navigation property with its target, if it has one; then `?` if it is nullable, and `*` if
+/// there are many.
 pub fn push_property(
     text: &mut String,
     schema: &Schema,

@@ -5,8 +5,8 @@ use odata_filter::{FaultKind, Numbered, fault_name, refusal_span, row_fault_path
 use odata_typing::Refusal;
 use std::alloc::Global;
 
-/// Whether a fault is shown by the name of its number, and nothing, or a space, stands behind that. Want of memory has no
-/// name.
+/// Whether a fault is shown by the name of its number, and nothing, or a space, stands after that. Running out of
+/// memory has no name.
 fn is_named(shown: &str, kind: FaultKind, number: u8) -> bool {
     match fault_name(kind, number) {
         Some(name) => match shown.strip_prefix(name) {

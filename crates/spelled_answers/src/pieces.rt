@@ -1,14 +1,14 @@
-//! Texts of cases: a JSON text, or pieces that stand one behind another.
+//! Texts of cases: a JSON text, or pieces that stand one after another.
 use crate::trouble::Trouble;
 use serde_json::Value;
 use std::alloc::Global;
 
-/// The text of a JSON text.
+/// Returns the text of a JSON text.
 pub fn word_of(given: &Value) -> Result<&str, Trouble> {
     given.as_str().ok_or(Trouble::NoText)
 }
 
-/// The items of a JSON array.
+/// Returns the items of a JSON array.
 pub fn items_of(given: &Value) -> Result<&[Value], Trouble> {
     match given {
         Value::Array(items) => Ok(items.as_slice()),
@@ -16,7 +16,7 @@ pub fn items_of(given: &Value) -> Result<&[Value], Trouble> {
     }
 }
 
-/// The two items of a pair.
+/// Returns the two items of a pair.
 pub fn pair_of(given: &Value) -> Result<(&Value, &Value), Trouble> {
     match items_of(given)? {
         [first, second] => Ok((first, second)),
@@ -35,7 +35,7 @@ fn push_times(bytes: &mut Vec<u8>, piece: &str, times: u64) -> Result<(), Troubl
     Ok(())
 }
 
-/// Appends the piece with the number in place of each `#`, and the one before it in place of each `##`.
+/// Appends the piece with the number instead of each `#`, and the one before it instead of each `##`.
 fn push_numbered(
     alloc: Global,
     bytes: &mut Vec<u8>,
@@ -103,14 +103,14 @@ fn push_text(alloc: Global, bytes: &mut Vec<u8>, given: &Value) -> Result<(), Tr
     Ok(())
 }
 
-/// The bytes of a text.
+/// Returns the bytes of a text.
 pub fn bytes_of(alloc: Global, given: &Value) -> Result<Vec<u8>, Trouble> {
     let mut bytes = Vec::new(alloc);
     push_text(alloc, &mut bytes, given)?;
     Ok(bytes)
 }
 
-/// A text that is UTF-8.
+/// Returns a text that is UTF-8.
 pub fn text_of(alloc: Global, given: &Value) -> Result<String, Trouble> {
     let bytes = bytes_of(alloc, given)?;
     match String::from_utf8(bytes) {

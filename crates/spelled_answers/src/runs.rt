@@ -6,7 +6,7 @@ use odata_filter::{FaultKind, Numbered, plan, run};
 use odata_text::{QueryFault, filter_of_query};
 use std::alloc::Global;
 
-/// The filter of a query string, or its refusal.
+/// Returns the filter of a query string, or its refusal.
 pub fn query_filter(alloc: Global, query: &str) -> Result<String, Trouble> {
     match filter_of_query(alloc, query.as_bytes()) {
         Ok(Some(filter)) => Ok(filter),
@@ -28,7 +28,7 @@ fn no_plan(alloc: Global, fault: &PlanFault) -> Result<String, Trouble> {
     }
 }
 
-/// The plan of words, the program's name first.
+/// Returns the plan of words, the program's name first.
 pub fn plan_answer(alloc: Global, words: &[&str]) -> Result<String, Trouble> {
     match &plan(alloc, words) {
         Ok(plan) => Ok(format!(in alloc; "{plan:?}")?),
@@ -51,7 +51,7 @@ fn said(alloc: Global, plan: &Plan<'_>, document: &[u8], rows: &[u8]) -> Result<
     told(alloc, out.as_slice(), err.as_slice(), status)
 }
 
-/// What a run by words says, over a document and rows: standard output, standard error and its status.
+/// Returns what a run by words says, over a document and rows: standard output, standard error and its status.
 pub fn run_answer(
     alloc: Global,
     words: &[&str],

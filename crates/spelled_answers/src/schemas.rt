@@ -19,7 +19,7 @@ pub fn fault_of(alloc: Global, document: &[u8]) -> Result<String, Trouble> {
     }
 }
 
-/// The whole name of the entity or complex type that goes by a name.
+/// Returns the whole name of the entity or complex type that goes by a name.
 pub fn whole_type_name<'s>(schema: &'s Schema, name: &str) -> &'s str {
     match schema.type_named(name) {
         Some(id) => structured_name(schema, id),
@@ -27,7 +27,7 @@ pub fn whole_type_name<'s>(schema: &'s Schema, name: &str) -> &'s str {
     }
 }
 
-/// The whole name of the enumeration that goes by a name.
+/// Returns the whole name of the enumeration that goes by a name.
 pub fn whole_enumeration_name<'s>(schema: &'s Schema, name: &str) -> &'s str {
     match schema.enum_named(name) {
         Some(id) => enumeration_name(schema, id),
@@ -35,7 +35,7 @@ pub fn whole_enumeration_name<'s>(schema: &'s Schema, name: &str) -> &'s str {
     }
 }
 
-/// Whether an entity type goes by a name.
+/// Returns whether an entity type goes by a name.
 pub fn is_entity_type(schema: &Schema, name: &str) -> bool {
     match schema.type_named(name) {
         Some(id) => schema.holds(id) && schema.is_entity(id),
@@ -56,7 +56,7 @@ fn push_slot(text: &mut String, schema: &Schema, id: TypeId, slot: usize) -> Res
     push_property(text, schema, schema.property(id, slot))
 }
 
-/// The slots of a type, as `Name Edm.String, Qty Edm.Int32?`.
+/// Returns the slots of a type, as `Name Edm.String, Qty Edm.Int32?`.
 pub fn told_slots(alloc: Global, schema: &Schema, id: TypeId) -> Result<String, Trouble> {
     let mut text = String::new(alloc);
     for slot in 0..schema.slots(id) {
@@ -68,13 +68,13 @@ pub fn told_slots(alloc: Global, schema: &Schema, id: TypeId) -> Result<String, 
     Ok(text)
 }
 
-/// The slots of the type that goes by a name in a document.
+/// Returns the slots of the type that goes by a name in a document.
 pub fn slots_of(alloc: Global, document: &[u8], name: &str) -> Result<String, Trouble> {
     let schema = schema_of(alloc, document)?;
     told_slots(alloc, &schema, type_of(&schema, name)?)
 }
 
-/// The type that goes by a name.
+/// Returns the type that goes by a name.
 pub fn type_of(schema: &Schema, name: &str) -> Result<TypeId, Trouble> {
     schema.type_named(name).ok_or(Trouble::NoSuchType)
 }

@@ -21,7 +21,7 @@ fn told(alloc: Global, found: &[Token<'_>]) -> Result<String, Trouble> {
     Ok(line)
 }
 
-/// The tokens of a text, as `Word 0..2, Int 3..4`, or its refusal.
+/// Returns the tokens of a text, as `Word 0..2, Int 3..4`, or its refusal.
 pub fn tokens_of(alloc: Global, text: &str) -> Result<String, Trouble> {
     match &tokens(alloc, text) {
         Ok(found) => told(alloc, found.as_slice()),
@@ -29,7 +29,7 @@ pub fn tokens_of(alloc: Global, text: &str) -> Result<String, Trouble> {
     }
 }
 
-/// How many tokens a text has, or its refusal.
+/// Returns how many tokens a text has, or its refusal.
 pub fn token_count(alloc: Global, text: &str) -> Result<String, Trouble> {
     match &tokens(alloc, text) {
         Ok(found) => Ok(format!(in alloc; "{}", found.len())?),
@@ -76,7 +76,7 @@ fn answer(alloc: Global, expr: &Expr, asked: AskedOfText) -> Result<String, Trou
     }
 }
 
-/// The answer of the expression that a text is, or its refusal.
+/// Returns the answer of the expression that a text is, or its refusal.
 pub fn answer_of(alloc: Global, text: &str, asked: AskedOfText) -> Result<String, Trouble> {
     match parsed(alloc, text) {
         Ok(Ok(expr)) => answer(alloc, &expr, asked),

@@ -1,7 +1,7 @@
 use std::alloc::{AllocError, AllocFailed};
 use thiserror::Error;
 
-/// Why a case cannot be asked: what is wrong with it, or that an allocation was refused. It is shown as it is told.
+/// Why a case cannot be asked: what is wrong with it, or that an allocation failed. It is displayed as it is reported.
 #[derive(Clone, Copy, Debug, PartialEq, Eq, Error)]
 pub enum Trouble {
     #[error("from is no section of a standard")]

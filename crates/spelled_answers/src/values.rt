@@ -3,8 +3,8 @@ use crate::literals::push_date;
 use crate::trouble::Trouble;
 use edm_values::{Value, write_guid, write_int, write_moment, write_string};
 
-/// Appends a value in its canonical spelling; a record stands in braces, a list in brackets, an enumeration value is its
-/// number.
+/// Appends a value in its canonical spelling; a record stands in braces, a list in brackets, an enumeration value is
+/// its number.
 #[cycle(push)]
 fn push_value(text: &mut String, value: &Value) -> Result<(), Trouble> {
     match value {

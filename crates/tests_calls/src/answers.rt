@@ -40,7 +40,7 @@ fn push_answer(text: &mut String, answer: &Result<Tally, RunFault>) -> Result<()
     }
 }
 
-/// Fails if an answer is told by another line.
+/// Fails if an answer is shown by another line.
 pub(crate) fn is_told(
     alloc: Global,
     answer: &Result<Tally, RunFault>,

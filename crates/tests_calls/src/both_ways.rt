@@ -4,7 +4,7 @@ use spelled_answers::filters::TypeOf;
 use std::alloc::Global;
 use std::test::Fail;
 
-/// What a line is by what is told of it, and by whether it was read without a tree.
+/// What a line is by what is reported about it, and by whether it was read without a tree.
 fn word_of(told: &str, is_read: bool) -> &'static str {
     if told.contains(" by its bytes") {
         "differs"
@@ -21,7 +21,8 @@ fn word_of(told: &str, is_read: bool) -> &'static str {
     }
 }
 
-/// Whether a line is an entity of a type both ways; fails where both ways do not answer as one of the wanted words says.
+/// Whether a line is an entity of a type both ways; fails where both ways do not answer as one of the wanted words
+/// says.
 pub(crate) fn is_entity(
     alloc: Global,
     named: TypeOf<'_>,

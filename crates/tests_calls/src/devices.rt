@@ -3,14 +3,14 @@ use std::alloc::Global;
 use std::io;
 use std::io::{ErrorKind, Read, Write};
 
-/// How many bytes a device gives or takes at a time, at the most: few, or as many as it is asked for.
+/// How many bytes a device gives or takes at a time, at most: few, or as many as it is asked for.
 pub const PIECES: &[usize] = &[1, 2, 7, usize::MAX];
 
 /// The number of no call.
 pub const NEVER: usize = usize::MAX;
 
-/// Gives what another reader gives, at most so many bytes a call. One call fails by this error, or tells the end; those
-/// behind it would go on.
+/// Gives what another reader gives, at most so many bytes a call. One call fails by this error, or reports the end;
+/// those after it would go on.
 #[derive(Drop)]
 pub struct Giving<R> {
     pub reader: R,

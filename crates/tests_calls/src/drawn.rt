@@ -104,7 +104,7 @@ fn change(line: &mut Vec<u8>, number: u64) {
     }
 }
 
-/// Whether the next line is an entity, and the number that the one behind it is drawn from. One with a changed byte may
+/// Whether the next line is an entity, and the number that the one after it is drawn from. One with a changed byte may
 /// be an entity by the tree alone.
 fn judge_drawn(alloc: Global, kind: Drawn, from: u64) -> Result<(bool, u64), Fail> {
     let (row, next) = drawn_line(alloc, kind, from)?;

@@ -8,8 +8,8 @@ use std::io;
 use std::io::{ErrorKind, Read};
 use std::test::Fail;
 
-/// Whether a second call answers what the first one has ended by. It does, of every reader: by `left` the lines are over
-/// then, or have failed so, and `over` and `failed` say what comes of that.
+/// Whether a second call answers what the first one has ended by. It does, of every reader: by `left` the lines are
+/// over then, or have failed so, and `over` and `failed` say what comes of that.
 fn ends_again<R: Read>(lines: &mut LineReader<R>) -> bool
     ensures { IsTrue result }
 {

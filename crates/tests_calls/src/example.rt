@@ -46,7 +46,7 @@ const KEPT: &[(&str, &str)] = &[
     ),
 ];
 
-/// What is written goes behind what is there.
+/// What is written goes after what is there.
 #[test]
 fn rows_that_a_filter_keeps(rt: HostRuntime) -> Result<(), Fail> {
     let rows = b"{\"Name\":\"a\"}\n{\"Name\":\"b\"}\n".as_slice();

@@ -1,4 +1,4 @@
-//! Devices that fail at one of their calls, whichever: what is answered and written, and that no call comes behind it.
+//! Devices that fail at one of their calls, whichever: what is answered and written, and that no call comes after it.
 use crate::answers::{answers, is_called, keeps};
 use crate::devices::{Giving, NEVER, PIECES, cut, stumbling, taker};
 use crate::items::{A, A_TWICE, ROWS};
@@ -12,7 +12,7 @@ fn line_feeds(bytes: &[u8]) -> usize {
     bytes.iter().filter(|byte| **byte == b'\n').count()
 }
 
-/// What is told and kept where a read fails once so many of the lines came whole.
+/// What is reported and kept where a read fails once so many of the lines came whole.
 const FAILED: &[(&str, &str)] = &[
     ("read rows 1", ""),
     ("read rows 2", A),
@@ -41,7 +41,7 @@ fn read_fails(alloc: Global, piece: usize, fails_at: usize, kind: ErrorKind) -> 
     is_called(reader.calls, fails_at)
 }
 
-/// The reads up to the one that tells the end fail in turn, and then none.
+/// The reads up to the one that reports the end fail in turn, and then none.
 fn each_read_fails(alloc: Global, piece: usize) -> Result<(), Fail> {
     let reads = ROWS.len().div_ceil(piece.max(1)).saturating_add(1);
     for fails_at in 1..reads.saturating_add(1) {
@@ -51,7 +51,7 @@ fn each_read_fails(alloc: Global, piece: usize) -> Result<(), Fail> {
     keeps(alloc, rows, "3 rows, 2 kept", A_TWICE)
 }
 
-/// From one byte a call on up to all of them: so rows are cut at any place, and the second read fails behind each byte.
+/// From one byte a call on up to all of them: so rows are cut at any place, and the second read fails after each byte.
 #[test]
 fn reads_of_each_length(rt: HostRuntime) -> Result<(), Fail> {
     for piece in 1..ROWS.len().saturating_add(1) {
@@ -60,7 +60,7 @@ fn reads_of_each_length(rt: HostRuntime) -> Result<(), Fail> {
     Ok(())
 }
 
-/// What comes before a read that fails, what would come behind it, what is told, and what is written.
+/// What comes before a read that fails, what would come after it, what is reported, and what is written.
 const BEFORE: &[(&str, &str, &str, &str)] = &[
     ("", A, "read rows 1", ""),
     (A, A, "read rows 2", A),
@@ -129,7 +129,7 @@ const BEFORE: &[(&str, &str, &str, &str)] = &[
     ),
 ];
 
-/// Fails if rows that come in pieces, and then fail to come, are told otherwise, or more is read then.
+/// Fails if rows that come in pieces, and then fail to come, are answered otherwise, or more is read then.
 fn fails_behind(
     alloc: Global,
     first: &str,
@@ -146,8 +146,8 @@ fn fails_behind(
     Ok(())
 }
 
-/// A fault of a complete line goes before the failed read; a line that is not complete is not judged, and a failed read is
-/// not tried again.
+/// A fault of a complete line goes before the failed read; a line that is not complete is not judged, and a failed read
+/// is not tried again.
 #[test]
 fn complete_lines_are_judged_before_a_failed_read(rt: HostRuntime) -> Result<(), Fail> {
     for &(first, behind, told, kept) in BEFORE {
@@ -156,7 +156,7 @@ fn complete_lines_are_judged_before_a_failed_read(rt: HostRuntime) -> Result<(),
     Ok(())
 }
 
-/// A faulty line is told before anything behind it is read, and so is a line without end.
+/// A faulty line is reported before anything after it is read, and so is a line without end.
 #[test]
 fn nothing_is_read_behind_a_faulty_line(rt: HostRuntime) -> Result<(), Fail> {
     let mut rows = cut(
@@ -169,8 +169,8 @@ fn nothing_is_read_behind_a_faulty_line(rt: HostRuntime) -> Result<(), Fail> {
     keeps(rt.alloc(), endless, "row 2 LineTooLong", A)
 }
 
-/// Fails if a run over the rows, into a writer of so many bytes a call whose call of this number fails by this error, or
-/// takes none, answers otherwise, writes another text or calls it again.
+/// Fails if a run over the rows, into a writer of so many bytes a call whose call of this number fails by this error,
+/// or takes none, answers otherwise, writes another text or calls it again.
 fn write_fails(
     alloc: Global,
     piece: usize,
@@ -190,8 +190,8 @@ fn write_fails(
     }
 }
 
-/// Fails if a run over the rows into a writer of so many bytes a call, none of which fails, answers otherwise, or calls it
-/// more often than it takes and once for the flush.
+/// Fails if a run over the rows into a writer of so many bytes a call, none of which fails, answers otherwise, or calls
+/// it more often than it takes and once for the flush.
 fn all_is_taken(alloc: Global, piece: usize) -> Result<(), Fail> {
     let mut out = taker(alloc, piece, NEVER, None);
     answers(alloc, ROWS.as_bytes(), &mut out, "3 rows, 2 kept")?;
@@ -217,8 +217,8 @@ fn each_write_fails(
     all_is_taken(alloc, piece)
 }
 
-/// So many bytes a call, how many calls there are, and what each of them does in turn. The last call is the flush, which
-/// takes nothing in any case.
+/// So many bytes a call, how many calls there are, and what each of them does in turn. The last call is the flush,
+/// which takes nothing in any case.
 const WRITES: &[(usize, usize, Option<ErrorKind>)] = &[
     (1, 69, Some(ErrorKind::Interrupted)),
     (1, 68, None),
@@ -288,7 +288,7 @@ const KINDS: &[ErrorKind] = &[
 ];
 
 /// Fails if an error of this kind is not one at a read, a write or the flush, or is tried again: the second read, the
-/// second write of forty bytes, and the flush behind one write of all.
+/// second write of forty bytes, and the flush after one write of all.
 fn is_error(alloc: Global, kind: ErrorKind) -> Result<(), Fail> {
     read_fails(alloc, A.len(), 2, kind)?;
     write_fails(alloc, 40, 2, Some(kind))?;

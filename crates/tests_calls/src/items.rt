@@ -7,7 +7,7 @@ pub const FIRST: &str = "Active and ID eq 1 and Name eq 'a'";
 /// A row that is kept, and its line feed.
 pub const A: &str = "{\"ID\":1,\"Name\":\"a\",\"Active\":true}\n";
 
-/// Three rows, of which the first and the last are kept, and two blank lines behind the first.
+/// Three rows, of which the first and the last are kept, and two blank lines after the first.
 pub const ROWS: &str =
     "{\"ID\":1,\"Name\":\"a\",\"Active\":true}\n \r\n\n{\"ID\":1,\"Name\":\"b\",\"Active\":true}\n{\"ID\":1,\"Name\":\"a\",\"Active\":true}\n";
 

@@ -1,6 +1,6 @@
-//! Calls that no case of the suite (`conformance`) can ask: over readers and writers that give or take little, or fail; of
-//! which an allocation is refused; of constants, of rows that are drawn; and the library's example. There is nothing here
-//! but tests.
+//! Calls that no case of the suite (`conformance`) can ask: over readers and writers that give or take little, or fail;
+//! of which an allocation is refused; of constants, of rows that are drawn; and the library's example. There is nothing
+//! here but tests.
 #![tactic(auto)]
 
 #[cfg(test)]

@@ -39,7 +39,7 @@ fn ends_by<R: Read>(lines: &mut LineReader<R>, ending: Result<(), LineFault>) ->
     lines.held() <= MOST_HELD
 }
 
-/// A text, what a reader does behind it, the lines that come, and what the calls behind them answer.
+/// A text, what a reader does after it, the lines that come, and what the calls after them answer.
 const LINES: &[(&str, Option<ErrorKind>, &[&str], Result<(), LineFault>)] = &[
     ("", None, &[], Ok(())),
     ("\n", None, &[""], Ok(())),
@@ -73,7 +73,7 @@ fn has_lines<R: Read + Drop>(
     lines.held() == 0 && gives(&mut lines, wanted) && ends_by(&mut lines, ending)
 }
 
-/// Fails if other lines come, so many bytes at a time. The reader would go on behind its failure, and behind its end: no
+/// Fails if other lines come, so many bytes at a time. The reader would go on after its failure, and after its end: no
 /// line is made of what it would give.
 fn come_in_pieces(alloc: Global, piece: usize) -> Result<(), Fail> {
     for &(text, error, wanted, ending) in LINES {
@@ -85,7 +85,7 @@ fn come_in_pieces(alloc: Global, piece: usize) -> Result<(), Fail> {
     Ok(())
 }
 
-/// The length of the first line of so many blanks with `behind` behind them, or its fault.
+/// The length of the first line of so many blanks with `behind` after them, or its fault.
 fn first_length(
     alloc: Global,
     blanks: usize,
@@ -101,7 +101,7 @@ fn first_length(
     }
 }
 
-/// How many blanks a line has, what stands behind them, and its length or fault.
+/// How many blanks a line has, what stands after them, and its length or fault.
 const LONG: &[(usize, &str, Result<Option<usize>, LineFault>)] = &[
     (LONGEST, "", Ok(Some(LONGEST))),
     (LONGEST, "\n", Ok(Some(LONGEST))),
@@ -129,7 +129,7 @@ fn is_cut_off(alloc: Global, piece: usize) -> bool {
         && reader.most_asked <= 65_536
 }
 
-/// A line without end is over-long once more of it came than a line may have, and no read comes behind that.
+/// A line without end is over-long once more of it came than a line may have, and no read comes after that.
 #[test]
 fn lines_however_they_come(rt: HostRuntime) -> Result<(), Fail> {
     for &piece in PIECES {

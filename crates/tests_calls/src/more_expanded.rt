@@ -9,8 +9,8 @@ use serde_json::Value;
 use std::alloc::Global;
 use std::test::Fail;
 
-/// A filter, a path that it does not need, and its verdict on the entity with links. On this row it has the same one; the
-/// row has what the filter needs alone, and so it lacks that for the path.
+/// A filter, a path that it does not need, and its verdict on the entity with links. On this row it has the same one;
+/// the row has what the filter needs alone, and so it lacks that for the path.
 #[derive(Clone, Copy)]
 struct Further {
     filter: &'static str,
@@ -73,7 +73,7 @@ fn verdict_with(
     }
 }
 
-/// Fails if the filter tells entities with what it needs from those with a path more.
+/// Fails if the filter reports entities with what it needs from those with a path more.
 fn tells_the_same(alloc: Global, checked: &Checked<'_>, case: &Further) -> Result<(), Fail> {
     let needed = checked.expansion();
     let mut more = needed.copy(alloc)?;
@@ -92,8 +92,8 @@ fn tells_the_same(alloc: Global, checked: &Checked<'_>, case: &Further) -> Resul
     Ok(())
 }
 
-/// What a filter says of an entity is the same where more is expanded than it needs; a row that has no more than that is
-/// no such entity.
+/// What a filter says of an entity is the same where more is expanded than it needs; a row that has no more than that
+/// is no such entity.
 #[test]
 fn further_paths(rt: HostRuntime) -> Result<(), Fail> {
     let alloc = rt.alloc();

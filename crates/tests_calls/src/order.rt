@@ -15,8 +15,8 @@ const A_AND_FAULTY: &str = "{\"ID\":1,\"Name\":\"a\",\"Active\":true}\n{}\n";
 /// No call to come is interrupted.
 const NEVER: usize = usize::MAX;
 
-/// One of the two streams: it takes all, but for one write, which is interrupted. Both tell their calls as one number, a
-/// digit each, where calls alike behind one another are one.
+/// One of the two streams: it takes all, but for one write, which is interrupted. Both report their calls as one
+/// number, a digit each, where calls alike after one another are one.
 #[derive(Drop)]
 struct Stream<'a> {
     taken: Vec<u8>,
@@ -53,7 +53,7 @@ impl Write for Stream<'_> {
     }
 }
 
-/// Standard output, whose writes are told as 1 and its flushes as 2, and standard error: 3 and 4.
+/// Standard output, whose writes are reported as 1 and its flushes as 2, and standard error: 3 and 4.
 #[derive(Drop)]
 struct Streams<'a> {
     out: Stream<'a>,
@@ -146,7 +146,7 @@ const WRITING: &[Asked] = &[
     (Verb::Filter, FIRST, A),
 ];
 
-/// Fails if an interrupted write of standard output is tried again, or told otherwise than a write that fails.
+/// Fails if an interrupted write of standard output is tried again, or reported otherwise than a write that fails.
 fn output_gives_up(alloc: Global, asked: Asked) -> Result<(), Fail> {
     let calls = Cell::new(0);
     let mut both = both_streams(alloc, &calls, 1, NEVER);

@@ -19,7 +19,7 @@ const PIECES: &[(&str, &str)] = &[
     ("\\", "none"),
 ];
 
-/// How many of the lines with a piece behind these bytes, in a text and in a name, are entities.
+/// How many of the lines with a piece after these bytes, in a text and in a name, are entities.
 fn entities_with(alloc: Global, front: &str, piece: &str, wanted: &str) -> Result<u64, Fail> {
     let items = TypeOf {
         document: ITEMS.as_bytes(),
@@ -33,7 +33,7 @@ fn entities_with(alloc: Global, front: &str, piece: &str, wanted: &str) -> Resul
     Ok(in_text as u64 + in_name as u64)
 }
 
-/// The same of each piece behind so many bytes.
+/// The same of each piece after so many bytes.
 fn entities_behind(alloc: Global, count: usize) -> Result<u64, Fail> {
     let front = "a".repeat(alloc, count)?;
     let mut entities = 0_u64;

@@ -1,4 +1,4 @@
-//! The properties of a type, lent in pieces.
+//! The properties of a type, borrowed in pieces.
 use csdl_schema::{Schema, TypeId};
 use std::test::Fail;
 

@@ -50,7 +50,7 @@ fn keeps_writes(
     }
 }
 
-/// What the reader does behind a row (it ends, or fails by this error), by which error the flush fails, the answer, and
+/// What the reader does after a row (it ends, or fails by this error), by which error the flush fails, the answer, and
 /// what became of the calls of both devices.
 const CALLS: &[(Option<ErrorKind>, Option<ErrorKind>, &str, Calls, Calls)] = &[
     (None, None, "1 rows, 1 kept", Calls::Well, Calls::Flushed),

@@ -5,7 +5,7 @@ use std::test::Fail;
 mod calls;
 mod runs;
 
-/// Prints whether a call was refused memory, the first time or the second; fails if it was so both times.
+/// Prints whether a call was refused an allocation, the first time or the second; fails if it was so both times.
 pub(crate) fn tell(
     rt: &impl Print,
     call: &str,

@@ -1,4 +1,4 @@
-//! Runs of the program's work over devices that give little or fail: what is written and told, and the status.
+//! Runs of the program's work over devices that give little or fail: what is written and reported, and the status.
 use crate::devices::{Giving, NEVER, PIECES, Taking, cut, taker};
 use crate::items::{A, A_TWICE, FIRST, ROWS, SCHEMA};
 use crate::shop::{LAST, PRODUCT, SHOP, THREE};
@@ -71,7 +71,7 @@ fn ends<R: Read + Drop>(
     }
 }
 
-/// Lines, what is written of those that are rated 3 or better, the line that is told, and the status.
+/// Lines, what is written of those that are rated 3 or better, the line that is reported, and the status.
 const RATED: &[(&str, &str, &str, u8)] = &[
     (THREE, PRODUCT, "row 2 OutOfRange Rating\n", 4),
     ("{}", "", "row 1 Missing Changed\n", 4),
@@ -99,7 +99,7 @@ fn answers_however_rows_come(rt: HostRuntime) -> Result<(), Fail> {
     Ok(())
 }
 
-/// Rows, the call of standard output that fails, what is written, the line that is told, and the status.
+/// Rows, the call of standard output that fails, what is written, the line that is reported, and the status.
 const FAILED: &[(&str, usize, &str, &str, u8)] = &[
     (ROWS, 1, "", "write\n", 5),
     (ROWS, 2, A_TWICE, "write\n", 5),
@@ -109,8 +109,8 @@ const FAILED: &[(&str, usize, &str, &str, u8)] = &[
     ("\n{\n", 1, "", "row 2 Json\n", 4),
 ];
 
-/// A write fails, or the flush that ends a run without a fault: what was written stays. A flush behind a fault changes
-/// nothing of what is told.
+/// A write fails, or the flush that ends a run without a fault: what was written stays. A flush after a fault changes
+/// nothing of what is reported.
 #[test]
 fn a_failed_write_or_flush_is_told(rt: HostRuntime) -> Result<(), Fail> {
     let plan = plan_of("Mini.Item", FIRST, Some("rows.json"));
@@ -130,8 +130,8 @@ fn a_failed_write_or_flush_is_told(rt: HostRuntime) -> Result<(), Fail> {
 const COLLECTION: &str =
     "{\"value\":[{\"ID\":1,\"Name\":\"a\",\"Active\":true},{\"ID\":1,\"Name\":\"b\",\"Active\":true},{\"ID\":1,\"Name\":\"a\",\"Active\":true}]}";
 
-/// The file, none for standard input; how many bytes come at a time, and which read fails; what is written, the line that
-/// is told, and the status. A file is told by its name, and standard input by a line that has not come.
+/// The file, none for standard input; how many bytes come at a time, and which read fails; what is written, the line
+/// that is reported, and the status. A file is reported by its name, and standard input by a line that has not come.
 const COLLECTIONS: &[(Option<&str>, usize, usize, &str, &str, u8)] = &[
     (None, 1, NEVER, "0\n2\n", "", 0),
     (None, 2, NEVER, "0\n2\n", "", 0),

@@ -12,7 +12,7 @@ use std::test::Fail;
 #[derive(Drop)]
 pub struct Watched<'a, R> {
     reader: R,
-    /// How many bytes of its lines were dealt with so far, told by who deals with them.
+    /// How many bytes of its lines were dealt with so far, as whoever deals with them reports.
     settled: &'a Cell<usize>,
     pub given: usize,
     /// As many bytes of what it gave as whole lines have.
@@ -72,13 +72,14 @@ impl Write for Counting<'_> {
     }
 }
 
-/// Whether a reader was asked early or for much, or a writer was called more often than the reader, or not flushed once.
+/// Whether a reader was asked early or for much, or a writer was called more often than the reader, or not flushed
+/// once.
 fn is_early_or_often<R>(reader: &Watched<'_, R>, out: &Counting<'_>) -> bool {
     reader.is_early || reader.most_asked > 65_536 || out.writes > reader.reads || out.flushes != 1
 }
 
-/// Fails if a run over so many rows that are all kept, so many bytes at a time, does not write them all, those that came before the
-/// next read and in one call, or is not flushed once.
+/// Fails if a run over so many rows that are all kept, so many bytes at a time, does not write them all, those that
+/// came before the next read and in one call, or is not flushed once.
 fn writes_early(alloc: Global, count: usize, piece: usize, told: &str) -> Result<(), Fail> {
     let rows = A.repeat(alloc, count)?;
     let written = Cell::new(0);

@@ -1,4 +1,4 @@
--- Types whose bases and properties' types are indexes, as the code keeps them; for private clauses.
+-- Types whose bases and properties' types are indexes, as the code stores them; for private clauses.
 use Rattle.std.specs.Prelude.{◌≡◌, ℕ, zero, suc, [], ◌∷◌, ◌++◌, ◌||◌, List, Bool, true, false, not, Option, Some, None, is_some, if◌then◌else◌, unwrap_or, map, filter, length, position, slice_get, option_and_then, nat_eq, nat_lt, sum_by, String, string_bytes}
 use Rattle.std.specs.declared.alloc.Global.{Global}
 use Rattle.std.specs.Cmp.Lexicographic.{pointwise}
@@ -221,7 +221,7 @@ lesser_of (Some name) other = lesser_name name other
 abbrev pub told_at : List (Option (List ℕ)) → ℕ → Option (List ℕ)
 told_at firsts n = option_and_then (λ o. o) (slice_get firsts n)
 
--- the first of the names that are told of the types at some indexes
+-- the first of the names that are reported for the types at some indexes
 abbrev pub first_told : List (Option (List ℕ)) → List ℕ → Option (List ℕ)
 first_told firsts [] = None
 first_told firsts (n ∷ places) = lesser_of (told_at firsts n) (first_told firsts places)

@@ -60,7 +60,7 @@ abbrev pub IsBaseBelow : List Chain → ℕ → Option ℕ → Type 0
 IsBaseBelow chains n None = Unit {0}
 IsBaseBelow chains n (Some base) = (chain_in chains base).bases < (chain_in chains n).bases
 
--- the chain tells how many properties are inherited, and these go before the own ones
+-- the chain says how many properties are inherited, and these go before the own ones
 pub record IsChained
     (schema : SchemaModel) (chains : List Chain) (n : ℕ) (base : Option ℕ) (own : List PropertyModel) : Type 0 where
   pub below : IsBaseBelow chains n base

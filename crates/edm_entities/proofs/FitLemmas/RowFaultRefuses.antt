@@ -15,7 +15,7 @@ use Rattle.edm_entities.specs.RowFaults.{Path, IsFlawHere, IsFoundFault, HasFitt
 use Rattle.edm_entities.specs.declared.fault.RowFault.{RowFault}
 use Rattle.edm_entities.specs.declared.fault.RowFault.TheVariants.{NotObject, Missing, WrongKind, NullNotAllowed, OutOfRange, BadText, NotExpanded, Memory}
 
--- JSON of the wanted kind has no flaw of kind
+-- JSON of the expected kind has no flaw of kind
 pub kind_clash : {X : Type 0} (found : Option X) (flaw : Flaw) → IsSome found → ¬ (OnWrongKind flaw (found ≡ None))
 kind_clash (Some x) wrong_kind some other = cc
 kind_clash None wrong_kind some other = cc

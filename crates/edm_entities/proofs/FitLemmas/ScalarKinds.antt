@@ -81,7 +81,7 @@ fraction_is (float x) none some = refl
 no_text_as : (json : Data) (m : Num) (P : Type 0) → IsNumberAs json m P → as_str json ≡ None
 no_text_as json m P is = ap as_str is.is_number
 
--- a number is no text
+-- a number is not a text
 pub number_no_text : (n : JsonNumber) (json : Data) → IsJsonNumber n json → as_str json ≡ None
 number_no_text (Whole z) json is = no_text_as json is.0 _ is.1
 number_no_text OutsideInt64 json is = no_text_as json is.0 _ is.1

@@ -104,7 +104,7 @@ member_leaf_holds slots name tokens rest v leaf =
     member_holds slots name leaf.json v
     (not_null_fits leaf.json (val_of v slots.properties (single (enumeration name))) (λ found. FitsType slots false (single (enumeration name)) found (val_of v slots.properties (single (enumeration name)))) (leaf.holds false))
 
--- what was read of what is wanted
+-- what was read of what is expected
 pub wanted_read : (schema : SchemaModel) (slots : Slots) (wanted one : Wanted) (nullable : Bool) (depth : ℕ) (tokens rest : List Token) (v : Value) → wanted ≡ one
     → Reads depth tokens rest (FitsHoweverNullable slots (single (wanted_single schema one)) v)
     → Reads depth tokens rest (FitsNullable slots nullable nullable (single (wanted_single schema wanted)) v)

@@ -164,7 +164,7 @@ passed_other depth slots ps name tokens behind rest named others reads =
           (λ json _ found filled so_far. (so_far.0, others_passed slots every_name found name json ps filled so_far.0 others so_far.1)) reads;
     }
 
--- a member more, behind those before it, and the marks behind it
+-- a member more, after those before it, and the marks after it
 pub passed_taken : (depth : ℕ) (first tokens rest : List Token) (slots : Slots) (ps : List PropertyModel) (member : Member) (filled marks : List Bool)
     → ReadsMember depth tokens rest (PutsPassed slots ps member) → marks ≡ marks_behind member filled
     → MembersLead depth first tokens (λ found. PassedSoFar slots ps found filled) → MembersLead depth first rest (λ found. PassedSoFar slots ps found marks)

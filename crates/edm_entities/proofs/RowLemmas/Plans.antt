@@ -19,7 +19,7 @@ use Rattle.edm_entities.proofs.RowLemmas.Leads.{member_more}
 use Rattle.edm_entities.proofs.RowLemmas.Tokens.{read_shorter}
 use Rattle.edm_entities.proofs.SlotLemmas.FoundWalk.{node_slots}
 
--- ---- lists by their places
+-- ---- lists by their indexes
 
 pub take_none : {X : Type 0} (xs : List X) → take 0 xs ≡ []
 take_none [] = refl
@@ -55,7 +55,7 @@ pub slot_planned : (schema : SchemaModel) (steps : List StepModel) (plan : TypeP
     → IsSlotPlan schema steps plan.type_id plan.node slot s
 slot_planned schema steps plan slot s is at = each_at (IsSlotPlan schema steps plan.type_id plan.node) plan.slots.items slot s is.planned.each at
 
--- what is expanded behind a planned slot
+-- what is expanded after a planned slot
 pub slot_slots : (schema : SchemaModel) (steps : List StepModel) (id : ℕ) (node : Option ℕ) (slot : ℕ) (s : SlotPlan) → IsSlotPlan schema steps id node slot s
     → slots_at schema steps s.node ≡ slots_behind (slots_at schema steps node) s.key
 slot_slots schema steps id node slot s is = ap (slots_at schema steps) is.behind ∙ node_slots schema steps node s.key
@@ -68,7 +68,7 @@ member_shorter depth tokens rest P member =
     let less : length rest < length member.behind_name = read_shorter depth member.behind_name rest (P member.name) member.value in
     omega arith
 
--- a member more, behind those before it, and the marks behind it
+-- a member more, after those before it, and the marks after it
 pub member_taken : (depth : ℕ) (first tokens rest : List Token) (slots : Slots) (ps : List PropertyModel) (member : Member) (old new : List Value) (filled marks : List Bool)
     → ReadsMember depth tokens rest (FillsSlots slots ps member old new) → marks ≡ marks_behind member filled
     → MembersLead depth first tokens (λ found. SlotsSoFar slots ps found filled old) → MembersLead depth first rest (λ found. SlotsSoFar slots ps found marks new)

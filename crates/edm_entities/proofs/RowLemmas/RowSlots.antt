@@ -75,7 +75,7 @@ row_other depth slots Passed ps name tokens behind rest values named others read
           (λ json _ found filled so_far. (others_passed slots Passed found name json ps filled values others so_far.0, so_far.1, so_far.2)) reads;
     }
 
--- a member more, behind those before it, and the marks behind it
+-- a member more, after those before it, and the marks after it
 pub row_taken : (depth : ℕ) (first tokens rest : List Token) (slots : Slots) (Passed : Names) (ps : List PropertyModel) (member : Member) (old new : List Value) (filled marks : List Bool)
     → ReadsMember depth tokens rest (FillsRow slots Passed ps member old new) → marks ≡ marks_behind member filled
     → MembersLead depth first tokens (λ found. RowSoFar slots Passed ps found filled old) → MembersLead depth first rest (λ found. RowSoFar slots Passed ps found marks new)

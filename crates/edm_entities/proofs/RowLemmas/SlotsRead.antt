@@ -62,7 +62,7 @@ module _ (slots : Slots) (found : Members) (name : List ℕ) (json : Data) where
   others_hold (p ∷ ps) (b ∷ filled) [] others hold = absurd hold
   others_hold (p ∷ ps) (b ∷ filled) (v ∷ values) others hold = (other_holds p b v others.0 hold.0, others_hold ps filled values others.1 hold.1)
 
-  -- a name behind another is another
+  -- a name after another is another
   pub apart : (first : List ℕ) (ps : List PropertyModel) (n : ℕ) → AllByRecursion (λ q. q.name ≢ first) ps → slice_get (map (λ p. p.name) ps) n ≡ Some name → first ≢ name
   apart first [] n others at = absurd (cc)
   apart first (p ∷ ps) zero others at = let named : p.name ≡ name = cc in λ same. others.0 (named ∙ sym same)
@@ -130,7 +130,7 @@ property_fits schema slots (Some p) property found v is fits =
     subst (λ (nullable : Bool). FitsProperty slots nullable p.type_of found (field_of slots.properties p.type_of (val_of v))) is.nullable
     (subst (λ (type : PropertyType). FitsProperty slots property.nullable type found (field_of slots.properties type (val_of v))) is.type_of fits)
 
--- what holds of a property behind its name
+-- what holds of a property after its name
 pub behind_named : (P : Slots → PropertyModel → Type 0) (slots inner : Slots) (ps : List PropertyModel) (n : ℕ) (name : List ℕ) → inner ≡ slots_behind slots name
     → slice_get (map (λ p. p.name) ps) n ≡ Some name → IfSome (slice_get ps n) (P inner) → IfSome (slice_get ps n) (λ p. P (slots_behind slots p.name) p)
 behind_named P slots inner [] zero name same at holds = absurd (cc)

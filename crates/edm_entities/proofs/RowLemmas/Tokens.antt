@@ -69,7 +69,7 @@ array_converted : (o : Option (json.Items × List Token)) → converted of_json 
 array_converted None = refl
 array_converted (Some p) = map_twice array p.1 (of_items p.0)
 
--- an object, behind its opening brace
+-- an object, after its opening brace
 pub object_reads : (depth : ℕ) (tokens rest : List Token) (P : Members → Type 0) (Q : Data → Type 0) → 0 < depth → ((found : Members) → P found → Q (object found))
     → ReadsMembers (depth - 1) tokens rest P → Reads depth (Token.begin_object ∷ tokens) rest Q
 object_reads depth tokens rest P Q some by reads =
@@ -79,7 +79,7 @@ object_reads depth tokens rest P Q some by reads =
       holds = by reads.found reads.holds;
     }
 
--- an array, behind its opening bracket
+-- an array, after its opening bracket
 pub array_reads : (depth : ℕ) (tokens rest : List Token) (P : Items → Type 0) (Q : Data → Type 0) → 0 < depth → ((jsons : Items) → P jsons → Q (array jsons))
     → ReadsItems (depth - 1) tokens rest P → Reads depth (Token.begin_array ∷ tokens) rest Q
 array_reads depth tokens rest P Q some by reads =
@@ -89,7 +89,7 @@ array_reads depth tokens rest P Q some by reads =
       holds = by reads.jsons reads.holds;
     }
 
--- a whole text is a value where nothing stands behind it
+-- a whole text is a value where nothing stands after it
 pub whole_read : (text : List ℕ) (d : Data) → converted of_json (value max_depth (tokens text)) ≡ Some (d, []) → read text ≡ Some d
 whole_read text d e =
     let j = grammar_read of_json (value max_depth (tokens text)) d [] e in

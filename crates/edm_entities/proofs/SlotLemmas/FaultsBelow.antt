@@ -1,4 +1,4 @@
--- A fault that is told from a step further up, and the fault of a row.
+-- A fault that is reported from a step further up, and the fault of a row.
 use Rattle.std.proofs.Common.{◌≡◌, inl, inr, ℕ, List, [], ◌∷◌, None, sym, subst}
 use Rattle.edm_entities.specs.FitsPrimitive.{Flaw, missing, wrong_kind, null_not_allowed, out_of_range, bad_text, not_expanded}
 use Rattle.edm_entities.specs.RowFaults.{Path}

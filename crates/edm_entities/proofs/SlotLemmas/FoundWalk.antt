@@ -257,7 +257,7 @@ nothing_expanded schema slots nullable kind.Navigation target many wanted is goe
     by (Some t) true true needed is = (needed, (refl, refl))
     by (Some t) true false needed is = (needed, (refl, refl))
 
--- ---- the node behind a step
+-- ---- the node after a step
 
 pub node_slots : (schema : SchemaModel) (steps : List StepModel) (node : Option ℕ) (name : List ℕ)
     → slots_at schema steps (node_behind steps node name) ≡ slots_behind (slots_at schema steps node) name

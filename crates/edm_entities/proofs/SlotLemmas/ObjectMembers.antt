@@ -36,7 +36,7 @@ pub members_all : (json : Data) (m : BTreeMap (String Global) Value) → as_obje
     → AllByRecursion (IsMember json) m.entries
 members_all json m is each = members_by json m m.entries is (all_by (λ e. tree.get string_cmp m e.0 ≡ Some e.1) m.entries each)
 
--- the first of some members, and those behind it
+-- the first of some members, and those after it
 pub first_member : (json : Data) (es : List Entry) (r : Option (Bor (String Global) × Bor Value)) (rest : List Entry) → AllByRecursion (IsMember json) es → TakesFirst deref_pair es r rest
     → IfSome r (λ m. IsMember json (m.0.now, m.1.now)) × AllByRecursion (IsMember json) rest
 first_member json es None rest each none = (tt, subst (AllByRecursion (IsMember json)) (sym none.1) tt)

@@ -22,7 +22,7 @@ module _ (slots : Slots) (name : List ℕ) (json : Data) where
   at_path flaw told [] text here = absurd text
   at_path flaw told (step ∷ path) text here = (step ∷ path, here, text)
 
-  -- the row itself is no object
+  -- the row itself is not an object
   no_object : (flaw : Flaw) (path : Path) → IsPathText path None → At path flaw → as_object json ≡ None
   no_object wrong_kind [] text here = here
   no_object missing [] text here = absurd here

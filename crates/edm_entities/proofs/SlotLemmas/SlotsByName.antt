@@ -17,7 +17,7 @@ pub here : (slots : Slots) (p : PropertyModel) (ps : List PropertyModel) (seen :
     → field_by_name slots.properties (p ∷ ps) (seen ∷ more) p.name ≡ field_of slots.properties p.type_of seen
 here slots p ps seen more = rw (nat_list_eq_equiv.refl p.name)
 
--- and behind a property of another name
+-- and after a property of another name
 pub behind : (slots : Slots) (p : PropertyModel) (ps : List PropertyModel) (seen : ValAtType) (more : List ValAtType) (name : List ℕ) → pointwise nat_eq p.name name ≡ false
     → field_by_name slots.properties (p ∷ ps) (seen ∷ more) name ≡ field_by_name slots.properties ps more name
 behind slots p ps seen more name other = rw other
@@ -35,7 +35,7 @@ abbrev HoldsByName : Slots → (List ℕ → Option Data) → List PropertyModel
 HoldsByName slots found properties values qs =
     AllByRecursion (λ q. FitsProperty (slots_behind slots q.name) q.nullable q.type_of (found q.name) (field_by_name slots.properties properties (map val_of values) q.name)) qs
 
--- what fits the slots behind fits with one more slot before them, of another name
+-- what fits the slots after fits with one more slot before them, of another name
 fits_shifted : (slots : Slots) (found : List ℕ → Option Data) (p : PropertyModel) (ps : List PropertyModel) (v : Value) (values : List Value) (qs : List PropertyModel)
     → AllByRecursion (λ q. q.name ≢ p.name) qs → HoldsByName slots found ps values qs → HoldsByName slots found (p ∷ ps) (v ∷ values) qs
 fits_shifted slots found p ps v values [] others each = tt

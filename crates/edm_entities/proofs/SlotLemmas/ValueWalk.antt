@@ -55,7 +55,7 @@ record_fault slots a b name json told fault =
 
 -- ---- arrays
 
--- null is no array
+-- null is not an array
 not_null : (json : Data) (jsons : Items) → as_array json ≡ Some jsons → is_some (as_null json) ≡ false
 not_null json jsons is = let same : json ≡ array jsons = array_is json jsons is in ap (λ (d : Data). is_some (as_null d)) same
 

@@ -1,4 +1,4 @@
--- For private clauses: faults and paths, as the walk tells them.
+-- For private clauses: faults and paths, as the walk reports them.
 use Rattle.std.specs.Prelude.{◌≡◌, ◌⊎◌, ℕ, List, [], ◌∷◌, Option, Some, None, String, string_bytes}
 use Rattle.std.specs.declared.alloc.Global.{Global}
 use Rattle.std.specs.List.{join_with_byte}
@@ -10,7 +10,7 @@ use Rattle.edm_entities.specs.declared.flaw.ReadFault.{ReadFault}
 use Rattle.edm_entities.specs.declared.fault.RowFault.{RowFault}
 use Rattle.edm_entities.specs.declared.fault.RowFault.TheVariants as fault
 
--- P of the flaw that the code tells; want of memory tells none
+-- P of the flaw that the code reports; running out of memory reports none
 abbrev pub OnFlaw : ReadFlaw → (Flaw → Type 0) → Type 0
 OnFlaw Missing P = P missing
 OnFlaw WrongKind P = P wrong_kind
@@ -26,7 +26,7 @@ IsPathText [] None = Unit {0}
 IsPathText (step ∷ path) (Some told) = string_bytes told ≡ join_with_byte 47 (step ∷ path)
 IsPathText path told = ⊥
 
--- P of the path and the flaw that the code tells
+-- P of the path and the flaw that the code reports
 abbrev pub IsFaultOf : (Path → Flaw → Type 0) → ReadFault → Type 0
 IsFaultOf P told = OnFlaw told.flaw (λ flaw. (path : Path) × IsPathText path told.path × P path flaw)
 
@@ -34,7 +34,7 @@ IsFaultOf P told = OnFlaw told.flaw (λ flaw. (path : Path) × IsPathText path t
 abbrev pub IsPathBelow : List ℕ → Option (String Global) → String Global → Type 0
 IsPathBelow step told result = (path : Path) → IsPathText path told → IsPathText (step ∷ path) (Some result)
 
--- the same fault, told from a step further up; want of memory comes from anywhere
+-- the same fault, reported from a step further up; running out of memory comes from anywhere
 abbrev pub IsBelow : List ℕ → ReadFault → ReadFault → Type 0
 IsBelow step told result =
     (result.flaw ≡ Memory)

@@ -7,12 +7,12 @@ use Rattle.edm_entities.specs.Row.{Row}
 use Rattle.edm_entities.specs.declared.kept_row.KeptRow.{KeptRow}
 use Rattle.edm_entities.specs.declared.kept_row.KeptRow.TheVariants.{Own, Lent}
 
--- what is expanded in it, its own or lent
+-- what is expanded in it, its own or borrowed
 abbrev pub expansion_in : KeptRow → List StepModel
 expansion_in (Own expansion value) = expansion
 expansion_in (Lent expansion value) = expansion.now
 
--- its value, its own or lent
+-- its value, its own or borrowed
 abbrev pub value_in : KeptRow → Value
 value_in (Own expansion value) = value
 value_in (Lent expansion value) = value.now

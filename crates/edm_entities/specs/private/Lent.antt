@@ -1,4 +1,4 @@
--- For private clauses: the piece of a type's properties at hand.
+-- For private clauses: the current piece of a type's properties.
 use Rattle.std.specs.Prelude.{ℕ, drop}
 use Rattle.csdl_schema.specs.PropertyView.{AreFirstOf}
 use Rattle.csdl_schema.specs.SchemaModel.{SchemaModel, properties_at}

@@ -1,4 +1,4 @@
--- For private clauses: values that are held to their types, of which not all are kept.
+-- For private clauses: values that are held to their types, of which not all are stored.
 use Rattle.std.specs.Prelude.{◌≡◌, ◌⊎◌, ◌<◌, ℕ, List, length, Bool, true, false, Option, Some, None}
 use Rattle.json.specs.Json.{read_key}
 use Rattle.json.specs.Token.{Token}
@@ -41,7 +41,7 @@ FitsSomeProperty slots nullable type found = (seen : ValAtType) × FitsSeen slot
 abbrev pub every_name : Names
 every_name name = Unit {0}
 
--- some value fits what was found, and is the one that is kept unless the property is passed
+-- some value fits what was found, and is the one that is stored unless the property is passed
 abbrev pub FitsSlotBut : Slots → Names → (List ℕ → Option Data) → PropertyModel → Value → Type 0
 FitsSlotBut slots Passed found p value =
     (seen : ValAtType) × FitsSeen (slots_behind slots p.name) p.nullable p.type_of (found p.name) seen
@@ -66,7 +66,7 @@ FitSlotsBut slots Passed json properties values =
 abbrev pub MayBeAbsent : Slots → PropertyModel → Type 0
 MayBeAbsent slots p = FitsSeen (slots_behind slots p.name) p.nullable p.type_of None (val_of Null)
 
--- ---- an object of which nothing is kept
+-- ---- an object of which nothing is stored
 
 abbrev pub PassedSoFar : Slots → List PropertyModel → Members → List Bool → Type 0
 PassedSoFar slots properties found filled =
@@ -75,7 +75,7 @@ PassedSoFar slots properties found filled =
 abbrev pub FitSomeSlots : Slots → List PropertyModel → Data → Type 0
 FitSomeSlots slots properties json = (values : List Value) × FitSlotsBut slots every_name json properties values
 
--- whatever was passed so far: behind a member of that name and value, it is passed too
+-- whatever was passed so far: after a member of that name and value, it is passed too
 abbrev pub PutsPassed : Slots → List PropertyModel → Member → List ℕ → Data → Type 0
 PutsPassed slots properties member name json =
     (found : Members) (filled : List Bool) → PassedSoFar slots properties found filled
@@ -89,7 +89,7 @@ PassesMember depth slots properties tokens rest Other =
     ReadsMember depth tokens rest (PutsPassed slots properties Other)
 PassesMember depth slots properties tokens rest End = read_key tokens ≡ Some (None, rest)
 
--- ---- a row, of which all is kept but what is passed
+-- ---- a row, of which all is stored but what is passed
 
 -- the values fit what was found, but for those that are passed; they fit the members of some object whole
 abbrev pub RowSoFar : Slots → Names → List PropertyModel → Members → List Bool → List Value → Type 0
@@ -97,13 +97,13 @@ RowSoFar slots Passed properties found filled values =
     SlotsSoFarBut slots Passed properties found filled values
     × (kept : Members) × SlotsSoFar slots properties kept filled values
 
--- whatever was found so far: behind a member of that name and value, the new values are its slots
+-- whatever was found so far: after a member of that name and value, the new values are its slots
 abbrev pub FillsRow : Slots → Names → List PropertyModel → Member → List Value → List Value → List ℕ → Data → Type 0
 FillsRow slots Passed properties member old new name json =
     (found : Members) (filled : List Bool) → RowSoFar slots Passed properties found filled old
     → RowSoFar slots Passed properties (put name json found) (marks_behind member filled) new
 
--- the tokens begin with that member, nested no deeper, or the row ends; the new values are the slots behind it
+-- the tokens begin with that member, nested no deeper, or the row ends; the new values are the slots after it
 abbrev pub TakesRowMember :
     ℕ → Slots → Names → List PropertyModel → List Token → List Token → List Value → List Value → Member → Type 0
 TakesRowMember depth slots Passed properties tokens rest old new (OfSlot slot) =
@@ -113,8 +113,8 @@ TakesRowMember depth slots Passed properties tokens rest old new Other =
 TakesRowMember depth slots Passed properties tokens rest old new End =
     (read_key tokens ≡ Some (None, rest)) × (new ≡ old)
 
--- of a slot's value: some value fits it, and is the one that is kept unless the slot is passed; what is kept fits other
--- JSON there
+-- of a slot's value: some value fits it, and is the one that is stored unless the slot is passed; what is stored fits
+-- other JSON there
 abbrev pub TakesSlot : Slots → Type 0 → Bool → PropertyType → Value → Data → Type 0
 TakesSlot slots Passed nullable type kept json =
     (seen : ValAtType) × FitsSeen slots nullable type (Some json) seen × (Passed ⊎ (seen ≡ val_of kept))

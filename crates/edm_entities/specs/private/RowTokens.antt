@@ -43,7 +43,7 @@ pub record ReadsMembers (depth : ℕ) (tokens rest : List Token) (P : Members �
       ≡ Some (found, rest)
   pub holds : P found
 
--- reading an object's members from the first token on is reading those left, behind what was found
+-- reading an object's members from the first token on is reading those left, after what was found
 pub record MembersLead (depth : ℕ) (first left : List Token) (P : Members → Type 0) : Type 0 where
   pub found : Members
   pub turns : ℕ

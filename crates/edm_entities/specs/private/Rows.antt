@@ -1,5 +1,5 @@
 -- The type of the list that a value holds, as what is said of lending takes types: for what becomes of a value whose
--- list is lent and filled.
+-- list is borrowed and filled.
 use denote.RattleType.{RattleType}
 use Rattle.std.specs.contracts.alloc.Global as global
 use Rattle.std.specs.contracts.vec.Vec as vec

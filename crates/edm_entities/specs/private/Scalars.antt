@@ -1,4 +1,4 @@
--- For private clauses: JSON values without parts, as the code tells them.
+-- For private clauses: JSON values without parts, as the code reports them.
 use Rattle.std.specs.Prelude.{◌≡◌, ℤ, Some, None, FitsSigned}
 use Rattle.std.specs.Int.{w64}
 use Rattle.serde_json.specs.Data.{Data, Num, boolean, number, string}

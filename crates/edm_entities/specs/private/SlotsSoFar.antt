@@ -13,7 +13,7 @@ use Rattle.edm_entities.specs.declared.row_member.Member.{Member}
 use Rattle.edm_entities.specs.declared.row_member.Member.TheVariants.{OfSlot, Other, End}
 use Rattle.edm_entities.specs.declared.row_walk.RowScene.{RowScene}
 
--- the types of a row's schema, where what stands behind a node of its expansion is expanded
+-- the types of a row's schema, where what stands after a node of its expansion is expanded
 abbrev pub slots_below : RowScene → Option ℕ → Slots
 slots_below scene node = slots_at scene.schema.now scene.expansion.now node
 
@@ -29,7 +29,7 @@ HoldEachSoFar Q [] filled [] = Unit {0}
 HoldEachSoFar Q (p ∷ ps) (filled ∷ more) (value ∷ values) = Q p filled value × HoldEachSoFar Q ps more values
 HoldEachSoFar Q _ _ _ = ⊥
 
--- the marks behind a member: its slot is filled
+-- the marks after a member: its slot is filled
 abbrev pub marks_behind : Member → List Bool → List Bool
 marks_behind (OfSlot slot) filled = slice_set filled slot true
 marks_behind Other filled = filled
@@ -40,13 +40,13 @@ abbrev pub SlotsSoFar : Slots → List PropertyModel → Members → List Bool �
 SlotsSoFar slots properties found filled values =
     HoldEachSoFar (HoldsSoFar slots (λ name. get_member name found)) properties filled values
 
--- whatever was found so far: behind a member of that name and value, the new values are its slots
+-- whatever was found so far: after a member of that name and value, the new values are its slots
 abbrev pub FillsSlots : Slots → List PropertyModel → Member → List Value → List Value → List ℕ → Data → Type 0
 FillsSlots slots properties member old new name json =
     (found : Members) (filled : List Bool) → SlotsSoFar slots properties found filled old
     → SlotsSoFar slots properties (put name json found) (marks_behind member filled) new
 
--- the tokens begin with that member, nested no deeper, or the object ends; the new values are the slots behind it
+-- the tokens begin with that member, nested no deeper, or the object ends; the new values are the slots after it
 abbrev pub TakesMember :
     ℕ → Slots → List PropertyModel → List Token → List Token → List Value → List Value → Member → Type 0
 TakesMember depth slots properties tokens rest old new (OfSlot slot) =

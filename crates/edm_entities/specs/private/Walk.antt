@@ -11,7 +11,7 @@ use Rattle.edm_entities.specs.Row.{field_of, items_of, val_of}
 use Rattle.edm_row_plans.specs.declared.wanted.Wanted.{Wanted}
 use Rattle.edm_row_plans.specs.declared.wanted.Wanted.TheVariants.{Prim, Enum, Complex}
 
--- the type that is wanted of one value
+-- the type that is expected of one value
 abbrev pub wanted_single : SchemaModel → Wanted → SingleType
 wanted_single schema (Prim p) = primitive p
 wanted_single schema (Enum e) = enumeration (type_name_at schema e)

@@ -27,7 +27,7 @@ date_from_bytes text century year month day hc hy len b0 b1 b2 b3 b4 b5 b6 b7 b8
     text_from_reads text (date_text (100 * century + year) month day) len
     (rw e b0, (rw e b1, (rw f b2, (rw f b3, (b4, (b5, (b6, (b7, (b8, (b9, tt))))))))))
 
--- the text tells the numbers
+-- the text determines the numbers
 pub date_text-same : (y m d year month day : ℕ) → date_text y m d ≡ date_text year month day
     → (y ≡ year) × (m ≡ month) × (d ≡ day)
 date_text-same y m d year month day same =

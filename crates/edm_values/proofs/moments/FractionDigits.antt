@@ -35,7 +35,7 @@ unfolding significant_digits
 significant_digits-zero zero = refl
 significant_digits-zero (suc k) = refl
 
--- digits behind a number push it up
+-- digits after a number push it up
 digit_pushes_up : (a b p v : ℕ) → (a * 10 + b) * p + v ≡ a * (p * 10) + ((0 * 10 + b) * p + v)
 digit_pushes_up a b p v =
     let e : (a * 10 + b) * p ≡ p * (a * 10) + p * b = mul_comm (a * 10 + b) p ∙ mul-add p (a * 10) b in

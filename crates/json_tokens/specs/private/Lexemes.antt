@@ -1,4 +1,4 @@
--- For private clauses: lexemes of a text, from one place to the next.
+-- For private clauses: lexemes of a text, from one offset to the next.
 use Rattle.std.specs.Prelude.{◌≡◌, ◌⊎◌, ℕ, ◌+◌, ◌<◌, ◌≤◌, List, ◌∷◌, ◌++◌, length, take, drop, get_or, Bool, true, false}
 use Rattle.std.specs.Char.{is_ascii_digit}
 use Rattle.std.specs.Str.Parse.{AllDigits, digits_value}
@@ -15,31 +15,31 @@ may_begin_at turn = may_begin (place_of turn)
 abbrev pub may_close_at : Turn → Bool
 may_close_at turn = may_close (place_of turn)
 
--- from one place to the other there is white space
+-- from one offset to the other there is white space
 pub record PassesSpaces (text : List ℕ) (from to : ℕ) : Type 0 where
   pub bounds : (from ≤ to) × (to ≤ length text)
   pub same : lex between (drop to text) ≡ lex between (drop from text)
   pub some : (to ≡ from) ⊎ (is_space (get_or text from 32) ≡ true)
 
--- a text stands from one place to the other, with its quotes
+-- a text stands from one offset to the other, with its quotes
 pub record IsTextAt (text : List ℕ) (from : ℕ) (content : List ℕ) (to : ℕ) : Type 0 where
   pub within : to ≤ length text
   pub lexed : lex between (drop from text) ≡ token (string content) ∷ lex between (drop to text)
 
--- the text that is read from one place on is closed by the quote at the other
+-- the text that is read from one offset on is closed by the quote at the other
 pub record ClosesText (text : List ℕ) (from quote : ℕ) : Type 0 where
   pub bounds : (from ≤ quote) × (quote < length text)
   pub is_quote : get_or text quote 32 ≡ 34
   pub passed : lex in_string (drop from text) ≡ lex between (drop (quote + 1) text)
 
--- a value ends at one place, and from the other on the text is read on
+-- a value ends at one offset, and from the other on the text is read on
 pub record EndsValue (text : List ℕ) (from to : ℕ) (turn : Turn) : Type 0 where
   pub within : to ≤ length text
   pub left : tokens_left turn (drop to text) ≡ punctuate after_value (lex between (drop from text))
   pub no_colon : begins_colon (lex between (drop from text)) ≡ false
   pub ends : ends_word (drop from text) ≡ true
 
--- where a value may begin, the token stands at one place, and from the other on the text is read on
+-- where a value may begin, the token stands at one offset, and from the other on the text is read on
 pub record BeginsToken (text : List ℕ) (from : ℕ) (first : Token) (to : ℕ) (turn : Turn) : Type 0 where
   pub within : to ≤ length text
   pub begins : (p : Place) → may_begin p ≡ true → punctuate p (lex between (drop from text)) ≡ first ∷ tokens_left turn (drop to text)
@@ -48,20 +48,20 @@ pub record BeginsToken (text : List ℕ) (from : ℕ) (first : Token) (to : ℕ)
 abbrev pub BeginsKey : List ℕ → ℕ → List ℕ → ℕ → Type 0
 BeginsKey text from name to = BeginsToken text from (key name) to Fresh
 
--- these bytes stand at a place
+-- these bytes stand at an offset
 pub record StandsAt (text : List ℕ) (from : ℕ) (word : List ℕ) : Type 0 where
   pub within : from + length word ≤ length text
   pub is : drop from text ≡ word ++ drop (from + length word) text
 
--- each byte from one place up to the other is of ASCII
+-- each byte from one offset up to the other is of ASCII
 abbrev pub AsciiBetween : List ℕ → ℕ → ℕ → Type 0
 AsciiBetween text from to = (k : ℕ) → from ≤ k → k < to → get_or text k 0 < 128
 
--- each byte from one place up to the other is a digit
+-- each byte from one offset up to the other is a digit
 abbrev pub DigitsBetween : List ℕ → ℕ → ℕ → Type 0
 DigitsBetween text from to = (k : ℕ) → from ≤ k → k < to → is_ascii_digit (get_or text k 0) ≡ true
 
--- the digits at the front, so many, write this number of at most 18 places
+-- the digits at the front, so many, write this number of at most 18 digits
 pub record WritesWhole (text : List ℕ) (count number : ℕ) : Type 0 where
   pub within : count ≤ length text
   pub digits : DigitsBetween text 0 count

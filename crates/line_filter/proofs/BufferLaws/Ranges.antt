@@ -24,7 +24,7 @@ in_list xs a b k within is = ap (is_byte 10) (sym (range-read xs a b k within)) 
 pub in_range : (xs : List ℕ) (a b k : ℕ) → k < b - a → Passes (is_byte 10) xs (a + k) → Passes (is_byte 10) (slice_range xs a b) k
 in_range xs a b k within is = ap (is_byte 10) (range-read xs a b k within) ∙ is
 
--- where none was found up to a place, and then none in the first bytes behind it
+-- where none was found up to an offset, and then none in the first bytes after it
 pub none_further : (xs ys : List ℕ) (a s f n : ℕ) → ys ≡ slice_range xs s f → n ≤ f - s → Nowhere (Passes (is_byte 10) xs) a s → Nowhere (Passes (is_byte 10) ys) 0 n
     → Nowhere (Passes (is_byte 10) xs) a (s + n)
 none_further xs ys a s f n same within before behind k low high is = elim (cases_lt k s) [
@@ -35,7 +35,7 @@ none_further xs ys a s f n same within before behind k low high is = elim (cases
       behind (k - s) (omega arith) (omega arith) (subst (λ l. Passes (is_byte 10) l (k - s)) (sym same) (in_range xs s f (k - s) (omega arith) there))
 ]
 
--- where the list has none from a place on, the stretch from there has none
+-- where the list has none from an offset on, the range from there has none
 pub none_in_range : (xs : List ℕ) (a b m : ℕ) → m ≤ b → Nowhere (Passes (is_byte 10) xs) a m → Nowhere (Passes (is_byte 10) (slice_range xs a b)) 0 (m - a)
 none_in_range xs a b m within none k low high is =
     none (a + k) (omega arith) (omega arith) (in_list xs a b k (omega arith) is)
@@ -77,7 +77,7 @@ module _ (xs ys : List ℕ) (a s f : ℕ) (same : ys ≡ slice_range xs s f) (st
         in_range xs a f (s + n - a) fits (subst (Passes (is_byte 10) xs) (sym place) here),
       )
 
--- ---- more bytes behind
+-- ---- more bytes after
 
 read_front : (xs ys : List ℕ) (f k : ℕ) → take f ys ≡ take f xs → k < f → slice_index ys k ≡ slice_index xs k
 read_front xs ys f k same below = sym (get_or-take f ys k 0 below) ∙ ap (λ l. get_or l k 0) same ∙ get_or-take f xs k 0 below

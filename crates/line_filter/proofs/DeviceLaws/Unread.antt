@@ -82,7 +82,7 @@ module _ {R : Type 0} (calls : R → Calls) (remaining : R → Option (List ℕ)
     unread = λ told. inl (fails_last_by_failure (calls a.reader) (calls b.reader) failed);
   }
 
-  -- ---- reads behind others
+  -- ---- reads after others
 
   why_after : (a b c : LineSource R) → ReadsCounted remaining a c → StaysWell (calls a.reader) (calls b.reader) → (IsUnread b → IsUnread a) → WhyUnread calls remaining b c
       → WhyUnread calls remaining a c
@@ -141,7 +141,7 @@ module _ {R : Type 0} (calls : R → Calls) (remaining : R → Option (List ℕ)
         unread = λ is. why_after a b c counted first.well first.before (second.unread is);
       }
 
--- where a line is given no read is told as failed
+-- where a line is given no read is reported as failed
 going_course : (course : Course) → IsGoing course → course ≡ Course.Failed LineFault.Read → ⊥
 going_course Course.Open going is = absurd cc
 going_course Course.AtEnd going is = absurd cc

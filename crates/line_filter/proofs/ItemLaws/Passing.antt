@@ -20,7 +20,7 @@ All-one P x p zero d below = p
 All-one P x p (suc k) d below = absurd (omega arith)
 
 module _ {X F : Type 0} (sieve : Sieve X F) where
-  -- what is found of an item, and that it is no fault
+  -- what is found of an item, and that it is not a fault
   abbrev IsFine : SiftedItem X F → Type 0
   IsFine s = sieve.finds s.item s.finding × IsFaultless s.finding
 

@@ -51,7 +51,7 @@ module _ {X F E : Type 0} (items : Items X F) (item : X) (rest after : List X) (
   pub whole_more : items.all ≡ (so_far.before ++ item ∷ []) ++ after
   whole_more = whole ∙ sym (append_assoc so_far.before (item ∷ []) after)
 
-  -- the item behind those that passed passes too
+  -- the item after those that passed passes too
   unfoldable pub HasWalked-more : (one : Tally) → WritesBut b c h₂ (h₁ ++ text_where_kept found (items.sieve.text_of item)) → step_of (passed + 1) found ≡ Step.Passed one
       → HasWalked items after a c h₂ (passed + 1) (sum_of tally one)
   HasWalked-more one more step =

@@ -4,7 +4,7 @@ use Rattle.std.proofs.lemmas.List.{get_or_default}
 use Rattle.std.proofs.lemmas.Bool.{cases_Bool}
 use Rattle.line_filter.specs.Lines.{lines_of, with_first}
 
--- no byte below the place is an LF
+-- no byte before the offset is an LF
 abbrev pub NoneBelow : List ℕ → ℕ → Type 0
 NoneBelow bs k = (j : ℕ) → j < k → (slice_index bs j == 10) ≡ true → ⊥
 

@@ -24,7 +24,7 @@ pub HasPassed-none : {F : Type 0} (judge : LineJudge F) (bytes : List ℕ) (goes
 unfolding HasWalked-none
 HasPassed-none judge bytes goes_on a held none = record { walked = HasWalked-none (lines judge bytes) a held none; complete = λ some. refl }
 
--- one line more and the LF behind it
+-- one line more and the LF after it
 text_of_lines-more : (before : List (List ℕ)) (line after : List ℕ) → text_of_lines before ++ (line ++ 10 ∷ after) ≡ text_of_lines (before ++ line ∷ []) ++ after
 text_of_lines-more before line after =
     let one : text_of_lines (line ∷ []) ++ after ≡ line ++ 10 ∷ after = ap (λ l. l ++ after) (append-nil (line ++ 10 ∷ [])) ∙ append_assoc line (10 ∷ []) after in
@@ -32,7 +32,7 @@ text_of_lines-more before line after =
 
 module _ {F E : Type 0} (judge : LineJudge F) (bytes line rest after : List ℕ) (goes_on : Type 0) (a b c : Option (List ℕ)) (h₁ h₂ : List ℕ) (passed : ℕ) (tally : Tally) (found : Result (Finding F) E)
     (first : lines_of rest ≡ line ∷ lines_of after) (finds : IfOk found (IsFoundOf judge line)) (so_far : HasPassed judge bytes rest goes_on a b h₁ passed tally) where
-  -- the line behind those that passed passes too
+  -- the line after those that passed passes too
   pub HasPassed-more : (one : Tally) (goes_further : Type 0) → (goes_further → rest ≡ line ++ 10 ∷ after) → goes_on → WritesBut b c h₂ (h₁ ++ text_where_kept found (line ++ 10 ∷ []))
       → step_of (passed + 1) found ≡ Step.Passed one → HasPassed judge bytes after goes_further a c h₂ (passed + 1) (sum_of tally one)
   unfolding HasWalked-more

@@ -1,4 +1,4 @@
--- The items of a list at their places, from one on.
+-- The items of a list at their indexes, from one on.
 use Rattle.std.proofs.Common.{◌≡◌, ℕ, ◌+◌, ◌<◌, List, ◌∷◌, get_or, drop, length, sym, ap, ap₂, ◌∙◌, add-one, drop-cons}
 use Rattle.line_filter.specs.Places.{Placed, placed_from}
 

@@ -1,4 +1,4 @@
--- The walk over the items of a list, one place after the other.
+-- The walk over the items of a list, one index after the other.
 use Rattle.std.proofs.Common.{◌≡◌, ℕ, ◌+◌, ◌<◌, List, ◌++◌, get_or, drop, length, decimal, ap, ◌∙◌, subst, Result, Ok}
 use Rattle.std.specs.Prelude.{Option, IfOk}
 use Rattle.line_filter.specs.Growth.{Writes, WritesFront}
@@ -24,7 +24,7 @@ module _ {X F E : Type 0} (judge : ItemJudge X F) (items : List X) (index place 
   abbrev left : ℕ → List (Placed X)
   left k = placed_from k (drop k items)
 
-  -- the text is that of the place
+  -- the text is that of the index
   told : text ≡ decimal index
   told = written ∙ ap decimal counted
 

@@ -41,7 +41,7 @@ long_past ws more n k within far none =
 pub long_by : (ws : List ℕ) (n : ℕ) → n ≤ length ws → longest_line < n → Nowhere (Passes (is_byte 10) ws) 0 n → IsLongBy ws
 long_by ws n within far none more = long_past ws more n longest_line within far none
 
--- what stands before an LF and behind it
+-- what stands before an LF and after it
 pub whole_by_feed : (ws more : List ℕ) (n : ℕ) → n < length ws → Passes (is_byte 10) ws n → ws ++ more ≡ take n ws ++ 10 ∷ (drop (n + 1) ws ++ more)
 whole_by_feed ws more n within is =
     let feed : slice_index ws n ≡ 10 = eqb-true _ _ is in

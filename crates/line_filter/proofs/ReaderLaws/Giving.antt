@@ -26,7 +26,7 @@ known_last None ws P end p = tt
 known_last (Some more) ws P end p = subst (λ l. P (ws ++ l) l) (sym end) (subst (λ l. P l []) (sym (append-nil ws)) p)
 
 module _ {R : Type 0} (remaining : R → Option (List ℕ)) (old new : LineSource R) (same : new.reader ≡ old.reader) where
-  -- the first LF stands behind so many bytes
+  -- the first LF stands after so many bytes
   pub given_by_feed : (n : ℕ) → IsGoing new.course → new.unread ≡ old.unread → new.line ≡ take n old.waiting → new.waiting ≡ drop (n + 1) old.waiting → n ≤ longest_line
       → NoneBefore (Passes (is_byte 10) old.waiting) 0 (length old.waiting) n → Passes (is_byte 10) old.waiting n → IsGiven remaining old new
   given_by_feed n going unread line waiting short found is =
@@ -63,7 +63,7 @@ module _ {R : Type 0} (remaining : R → Option (List ℕ)) (old new : LineSourc
   left_kept : new.waiting ≡ old.waiting → Keeps (left_of remaining old) (left_of remaining new)
   left_kept waiting = rw (same, waiting) (Keeps-refl (left_of remaining old))
 
-  -- a fault that is told, or told again
+  -- a fault that is reported, or reported again
   pub fault_told : (fault : LineFault) → new.waiting ≡ old.waiting → new.course ≡ Course.Failed fault → (fault ≡ LineFault.TooLong → IsLongBy old.waiting)
       → (fault ≢ LineFault.TooLong → IsNoWholeLine old.waiting) → IsFault remaining old new fault
   fault_told fault waiting course long unended = record {
@@ -123,7 +123,7 @@ module _ {R : Type 0} (remaining : R → Option (List ℕ)) (a b c : LineSource 
     left = Keeps-trans (left_of remaining a) (left_of remaining b) (left_of remaining c) kept failed.left;
   }
 
--- nothing is told again of what is still open
+-- nothing is reported again of what is still open
 pub GivesAgain-open : {R : Type 0} (source : LineSource R) (next : Next) → source.course ≡ Course.Open → GivesAgain source next
 GivesAgain-open source next open_now = record {
   over = λ over. let end = over.0 in absurd cc;

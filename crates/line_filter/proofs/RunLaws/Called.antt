@@ -74,7 +74,7 @@ module _ {R F : Type 0} (calls : R → Calls) (remaining : R → Option (List �
       → MatchResult answer (λ tally. Stays calls old new) (λ s. ReadsUntil calls remaining old new s)
   Ends-read progress answer reads ends = read_by progress answer progress.stop reads ends
 
--- a read that is told as failed
+-- a read that is reported as failed
 pub reads_told : {R : Type 0} (F : Type 0) (calls : R → Calls) (remaining : R → Option (List ℕ)) (old new : LineSource R) (fault : LineFault) (line : ℕ)
     → new.course ≡ Course.Failed fault → ReadsOn calls remaining old new → ReadsUntil {F = F} calls remaining old new (fault_stop fault line)
 reads_told F calls remaining old new LineFault.TooLong line told reads = reads.well (λ is. cc)

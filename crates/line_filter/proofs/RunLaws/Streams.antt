@@ -150,7 +150,7 @@ module _ {F : Type 0} (judge : LineJudge F) where
 
 module _ {F E : Type 0} (judge : LineJudge F) (line : List ℕ) (goes_on : Type 0) (u v w : Option (List ℕ)) (h₁ h₂ : List ℕ) (passed : ℕ) (tally : Tally) (found : Result (Finding F) E)
     (finds : IfOk found (IsFoundOf judge line)) (more : goes_on) where
-  -- of a list that has no more lines, or has an LF behind this one
+  -- of a list that has no more lines, or has an LF after this one
   behind : (Over : Type 0) (rest after : List ℕ) → Over ⊎ (rest ≡ line ++ 10 ∷ after) → (Over → ⊥) → rest ≡ line ++ 10 ∷ after
   behind Over rest after (inl over) not_over = absurd (not_over over)
   behind Over rest after (inr whole) not_over = whole

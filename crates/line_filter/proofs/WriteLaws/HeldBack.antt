@@ -70,7 +70,7 @@ WritesFront-held a b c h₀ h₁ x y (first, wrote, e) (second, more, (rest, f))
 pub WritesBut-same : (a : Option (List ℕ)) (held : List ℕ) → WritesBut a a held (held ++ [])
 WritesBut-same a held = ([], Appends-nil a, append-nil held)
 
--- more text behind a text whose end is held back
+-- more text after a text whose end is held back
 pub WritesBut-more : (a b c : Option (List ℕ)) (h₁ h₂ text more : List ℕ) → WritesBut a b h₁ text → WritesBut b c h₂ (h₁ ++ more) → WritesBut a c h₂ (text ++ more)
 WritesBut-more a b c h₁ h₂ text more (first, wrote, e) (second, later, f) =
     (first ++ second, Appends-trans a b c first second wrote later, held_both [] h₁ h₂ text more first second e f)

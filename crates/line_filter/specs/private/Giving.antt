@@ -30,7 +30,7 @@ IsGoing Course.Open = Unit {0}
 IsGoing Course.AtEnd = Unit {0}
 IsGoing (Course.Failed fault) = ⊥
 
--- A line is given: the first one of what was left. It is not over-long, and an LF stands behind it, unless all is given
+-- A line is given: the first one of what was left. It is not over-long, and an LF stands after it, unless all is given
 -- then.
 pub record IsGiven {R : Type 0} (remaining : R → Option (List ℕ)) (old new : LineSource R) : Type 0 where
   pub first : GivesLine (left_of remaining old) (left_of remaining new) new.line
@@ -40,14 +40,14 @@ pub record IsGiven {R : Type 0} (remaining : R → Option (List ℕ)) (old new :
   pub fewer : bytes_to_come new < bytes_to_come old
   pub going : IsGoing new.course
 
--- Nothing was left, and the end is told from now on.
+-- Nothing was left, and the end is reported from now on.
 pub record IsEnd {R : Type 0} (remaining : R → Option (List ℕ)) (old new : LineSource R) : Type 0 where
   pub none_left : IsAtEnd (left_of remaining old)
   pub over : IsOver new
   pub left : Keeps (left_of remaining old) (left_of remaining new)
 
--- The fault is told from now on, and what was left is left. TooLong tells that the first line is over-long; at another
--- fault no whole line waited, and none that was too long, and none does.
+-- The fault is reported from now on, and what was left is left. TooLong says that the first line is over-long; at
+-- another fault no whole line waited, and none that was too long, and none does.
 pub record IsFault
     {R : Type 0} (remaining : R → Option (List ℕ)) (old new : LineSource R) (fault : LineFault) : Type 0 where
   pub long : fault ≡ LineFault.TooLong → IfSome (left_of remaining old) BeginsTooLong
@@ -62,7 +62,7 @@ Gives remaining old new Next.Line = IsGiven remaining old new
 Gives remaining old new Next.End = IsEnd remaining old new
 Gives remaining old new (Next.Fault fault) = IsFault remaining old new fault
 
--- At the end and after a fault the same is told again.
+-- At the end and after a fault the same is reported again.
 pub record GivesAgain {R : Type 0} (old : LineSource R) (next : Next) : Type 0 where
   pub over : IsOver old → next ≡ Next.End
   pub failed : (fault : LineFault) → old.course ≡ Course.Failed fault → next ≡ Next.Fault fault

@@ -7,7 +7,7 @@ use Rattle.line_filter.specs.declared.line_reader.LineFault.{LineFault}
 use Rattle.line_filter.specs.LineSource.{LineSource}
 use Rattle.line_filter.specs.LineStreams.{ReadWell, WhyUnread}
 
--- a read was told as failed
+-- a read was reported as failed
 abbrev pub IsUnread : {R : Type 0} → LineSource R → Type 0
 IsUnread source = source.course ≡ Course.Failed LineFault.Read
 
@@ -17,14 +17,14 @@ ReadsCounted remaining old new =
     (bytes : List ℕ) × Consumes (remaining old.reader) (remaining new.reader) bytes
     × (length bytes + new.unread ≡ old.unread)
 
--- Each read did its work, but where one is told as failed, and then it is said why.
+-- Each read did its work, but where one is reported as failed, and then it is said why.
 pub record ReadsOn {R : Type 0}
     (calls : R → Calls) (remaining : R → Option (List ℕ)) (old new : LineSource R) : Type 0 where
   pub counted : ReadsCounted remaining old new
   pub well : ¬ IsUnread new → ReadWell calls old new
   pub unread : IsUnread new → WhyUnread calls remaining old new
 
--- Each read did its work, and a read that is told as failed was told so before.
+-- Each read did its work, and a read that is reported as failed was reported so before.
 pub record ReadsWell {R : Type 0}
     (calls : R → Calls) (remaining : R → Option (List ℕ)) (old new : LineSource R) : Type 0 where
   pub counted : ReadsCounted remaining old new

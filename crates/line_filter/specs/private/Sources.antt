@@ -18,8 +18,8 @@ source l = record {
   course = l.course;
 }
 
--- At the end the reader told its end, and what waits is no over-long line; after TooLong it begins one. After another
--- fault no whole line waits. At most 2^63 - 1 bytes more may be read.
+-- At the end the reader reported its end, and what waits is no over-long line; after TooLong it begins one. After
+-- another fault no whole line waits. At most 2^63 - 1 bytes more may be read.
 pub record IsSource {R : Type 0} (remaining : R → Option (List ℕ)) (l : Inside R) : Type 0 where
   pub at_end : l.course ≡ Course.AtEnd → IsAtEnd (remaining l.reader) × IsNoWholeLine l.buffer.waiting
   pub too_long : l.course ≡ Course.Failed LineFault.TooLong → IsLongBy l.buffer.waiting

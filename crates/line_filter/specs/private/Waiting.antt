@@ -14,7 +14,7 @@ waits b = record {
   room = vec_len b.bytes - b.filled;
 }
 
--- The places are in order and within the vector, that is not too long, and no byte that was searched is an LF.
+-- The offsets are in order and within the vector, which is not too long, and no byte that was searched is an LF.
 pub record IsBuffer (b : Inside) : Type 0 where
   pub line_in_order : b.line ≤ b.line_end
   pub line_within : b.line_end ≤ vec_len b.bytes

@@ -13,7 +13,7 @@ use Rattle.line_filter.specs.Kept.{Items, Filters, StopsWith}
 use Rattle.line_filter.specs.LineItems.{LineJudge, lines}
 use Rattle.line_filter.specs.LineStreams.{LacksLine}
 
--- the tallies of items and of those behind them, together
+-- the tallies of items and of those after them, together
 abbrev pub sum_of : Tally → Tally → Tally
 sum_of a b = record { rows = a.rows + b.rows; kept = a.kept + b.kept }
 
@@ -37,7 +37,7 @@ abbrev pub text_where_kept : {F E : Type 0} → Result (Finding F) E → List �
 text_where_kept (Ok (Finding.Judged Judgment.Kept)) text = text
 text_where_kept _ text = []
 
--- the stop is told of no writer
+-- the stop is not that of a writer
 abbrev pub IsUnwritten : {F : Type 0} → Stop F → Type 0
 IsUnwritten Stop.Write = ⊥
 IsUnwritten _ = Unit {0}

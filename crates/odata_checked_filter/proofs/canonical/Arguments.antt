@@ -170,7 +170,7 @@ call_text : (called front rest texts : List ℕ) → rest ≡ front ++ 41 ∷ []
 call_text called front rest texts closed same = append_assoc called (40 ∷ []) rest ∙ ap (λ (t : List ℕ). called ++ (40 ∷ t)) (closed ∙ ap (λ (t : List ℕ). t ++ 41 ∷ []) same)
 
 module _ (list : FlatTree) (i : ℕ) (called : List ℕ) (is : IsCallAt list i called) where
-  -- its text behind its name and `(`
+  -- its text after its name and `(`
   at_tree : (tree : Tree) → StandsThere list i tree
       → GoesOn list (Close ∷ arguments_of list (i + 1) (stop_at list i)) (called ++ 40 ∷ []) (IsCanonicalText tree)
   at_tree tree there =

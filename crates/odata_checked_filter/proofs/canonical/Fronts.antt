@@ -25,7 +25,7 @@ front_begins list place needed text parts = record {
 
 module _ (list : FlatTree) (place needed at level : ℕ) (before text : List ℕ) (old pending : List Part)
     (f : WritesFront list place needed (operand_of at level) before text old pending) where
-  -- a tree stands where the front has come to
+  -- a tree stands where the front has reached
   pub front_there : HasTreeAt list place → HasTreeAt list at
   front_there has =
       let piece = operand needed has.0 in

@@ -1,4 +1,4 @@
--- What the walk that writes canonical text writes of a node with a first operand and something behind that.
+-- What the walk that writes canonical text writes of a node with a first operand and something after that.
 use Rattle.std.proofs.Common.{◌≡◌, ◌∙◌, ℕ, ◌+◌, ◌<◌, List, [], ◌∷◌, ◌++◌, append_assoc, append-nil, length, refl, sym, subst, ap, arith}
 use Rattle.std.proofs.lemmas.List.Sums.{sum_by-append}
 use Rattle.odata_syntax.specs.CanonicalText.{IsCanonicalText, grouped, tree_level, tree_text}
@@ -11,7 +11,7 @@ use Rattle.odata_checked_filter.specs.FlatTree.{FlatTree}
 use Rattle.odata_checked_filter.specs.private.CanonicalWalk.{ArePieceTexts, ArePiecesOf, GoesOn, IsJointAt, Piece, StandsThere, WritesNode, node_weight, operand, operand_of, part_weight, plain, stop_at, weight}
 use Rattle.odata_checked_filter.proofs.canonical.Pieces.{joined, split_texts}
 
--- behind the first operand, whose place needs a level, stands what the node has there, and behind that these parts
+-- after the first operand, whose place needs a level, stands what the node has there, and after that these parts
 pub record Joins (list : FlatTree) (i : ℕ) (tree : Tree) (level : Level) (behind : List Part) : Type 0 where
   pub first : Tree
   pub there : StandsThere list (i + 1) first

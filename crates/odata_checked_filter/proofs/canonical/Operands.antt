@@ -1,4 +1,4 @@
--- What the nodes with a first operand have behind that, form by form.
+-- What the nodes with a first operand have after that, form by form.
 use Rattle.std.proofs.Common.{◌≡◌, ◌∙◌, ℕ, suc, ◌+◌, ◌*◌, ◌-◌, ◌<◌, ◌≤◌, List, [], ◌∷◌, ◌++◌, append_assoc, append-nil, add-one, Some, slice_get, length, refl, sym, subst, ap, arith}
 use Rattle.std.specs.Prelude.{codes}
 use Rattle.odata_syntax.specs.CanonicalText.{grouped, shape_text, tree_level, tree_text, trees_text}
@@ -29,7 +29,7 @@ use Rattle.odata_checked_filter.proofs.canonical.Kinds.{shape_there}
 use Rattle.odata_checked_filter.proofs.canonical.Leaves.{below, place_of, stop_is, ungrouped}
 use Rattle.odata_checked_filter.proofs.canonical.Signs.{HasChild, child_there}
 
--- what the node that stands there has behind its first operand
+-- what the node that stands there has after its first operand
 joint_here : (list : FlatTree) (i : ℕ) (found : CheckedNode) (kind : NodeKind) (start stop : ℕ) (shape : Shape)
     → slice_get list.nodes i ≡ Some found → found.kind ≡ kind → IsJoining kind → StandsThere list i (node start stop shape)
     → IsJointAt list i (joint_text kind (text_of_shape shape))
@@ -98,7 +98,7 @@ only_joins list i start stop spelled of base is joint there =
 
 -- ---- two operands
 
--- both operands of the node at a place, the second where the first stops
+-- both operands of the node at an index, the second where the first stops
 record HasBoth (list : FlatTree) (i : ℕ) (left right : Tree) : Type 0 where
   first : StandsThere list (i + 1) left
   second : StandsThere list (stop_at list (i + 1)) right

@@ -18,7 +18,7 @@ use Rattle.odata_checked_filter.proofs.canonical.Leaves.{stop_is}
 
 -- ---- what stands below
 
--- the one child of the node at a place, which stops where that stops
+-- the one child of the node at an index, which stops where that stops
 pub record HasChild (list : FlatTree) (i : ℕ) (child : Tree) : Type 0 where
   pub there : StandsThere list (i + 1) child
   pub ends : stop_at list (i + 1) ≡ stop_at list i

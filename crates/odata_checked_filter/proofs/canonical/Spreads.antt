@@ -1,4 +1,4 @@
--- What the parts on the stack stand for, with the operands behind each joint.
+-- What the parts on the stack stand for, with the operands after each joint.
 use Rattle.std.proofs.Common.{◌≡◌, ◌∙◌, ℕ, ◌+◌, List, [], ◌∷◌, ◌++◌, append_assoc, Bool, true, false, Option, Some, slice_get, refl, sym, ap, unwrap_or, option_map}
 use Rattle.std.specs.Prelude.{if◌then◌else◌, nat_lt}
 use Rattle.odata_checked_filter.specs.FlatTree.{FlatTree}
@@ -52,7 +52,7 @@ plain_behind list (NodeKind.PairedList numbers) second stop = ap (λ (ps : List 
 plain_behind list (NodeKind.Lambda quantifier) second stop = refl
 plain_behind list _ second stop = refl
 
--- the operands behind the joint of the node that stands there
+-- the operands after the joint of the node that stands there
 pub behind_found : (list : FlatTree) (i : ℕ) (found : CheckedNode) → slice_get list.nodes i ≡ Some found
     → behind_of list (Joint i) ≡ behind_kind list found.kind (stop_at list (i + 1)) (stop_at list i)
 behind_found list i found at =

@@ -27,7 +27,7 @@ joint_second list i second stop (plain text) is first last more =
 joint_second list i second stop (further trees) is first last more = absurd is
 joint_second list i second stop (operand level tree) is first last more = absurd is
 
--- its text was written, and the operands behind it were put on the stack
+-- its text was written, and the operands after it were put on the stack
 pub joint_written : (list : FlatTree) (i second stop : ℕ) (found : CheckedNode) (beside before after : List ℕ) (old new : List Part)
     → slice_get list.nodes i ≡ Some found → slice_get list.texts i ≡ Some beside → after ≡ before ++ joint_text found.kind beside
     → second ≡ stop_at list (i + 1) → stop ≡ stop_at list i → new ≡ old ++ behind_kind list found.kind second stop

@@ -1,4 +1,4 @@
--- A node lies as deep as many nodes before it stop behind it.
+-- A node lies as deep as many nodes before it stop after it.
 use Rattle.std.proofs.Common.{◌≡◌, refl, sym, ap, ◌∙◌, ℕ, ◌<◌, ◌≤◌, ◌+◌, List, [], ◌∷◌, ◌++◌, true, false, append-nil, append_assoc, drop, length, length-append, nat_lt, arith}
 use Rattle.std.specs.List.{AllByRecursion}
 use Rattle.std.proofs.lemmas.Bool.Decides.{nat_tests}
@@ -16,7 +16,7 @@ use Rattle.odata_checked_filter.proofs.flat.Children.{body_there, one_there, two
 use Rattle.odata_checked_filter.proofs.flat.Places.{drop_at}
 use Rattle.odata_checked_filter.proofs.flat.Standing.{stand_onward, stands_nonempty}
 
--- the depths that the walk tells of nodes from a place on, by where those before them stop
+-- the depths that the walk reports of nodes from an index on, by where those before them stop
 abbrev pub told_depths : ℕ → List CheckedNode → List ℕ → List ℕ
 told_depths place [] stops = []
 told_depths place (found ∷ rest) stops =
@@ -67,7 +67,7 @@ passed j stops =
 one_longer : (stops : List ℕ) (j : ℕ) → length (stops ++ j ∷ []) ≡ length stops + 1
 one_longer stops j = length-append stops (j ∷ [])
 
--- a node at its place, and what is told behind it
+-- a node at its place, and what is reported after it
 top_told :
     (schema : SchemaModel) (n : ℕ) (scope : Scope) (list : FlatTree) (i j start stop : ℕ) (shape : Shape) (stops : List ℕ)
     → IsTop schema n scope list i j start stop shape
@@ -79,7 +79,7 @@ top_told schema n scope list i j start stop shape stops top before all =
     ∙ ap (λ (around : List ℕ). length around ∷ told_depths (i + 1) (drop (i + 1) list.nodes) (around ++ top.found.stop ∷ [])) (all_around i j stops before all)
     ∙ ap (λ (last : ℕ). length stops ∷ told_depths (i + 1) (drop (i + 1) list.nodes) (stops ++ last ∷ [])) top.last
 
--- where its children have been told, the node has
+-- where its children have been reported, the node has
 closed :
     (list : FlatTree) (i j : ℕ) (stops below : List ℕ)
     → told_depths i (drop i list.nodes) stops ≡ length stops ∷ told_depths (i + 1) (drop (i + 1) list.nodes) (stops ++ j ∷ [])
@@ -90,7 +90,7 @@ closed list i j stops below first rest =
     ∙ ap (λ (xs : List ℕ). length stops ∷ xs)
     (rest ∙ ap (λ (xs : List ℕ). below ++ xs) (told_alike j (drop j list.nodes) (stops ++ j ∷ []) stops (passed j stops)))
 
--- what is told of two parts, one behind the other
+-- what is reported of two parts, one after the other
 both_told :
     (list : FlatTree) (i m j : ℕ) (stops first second : List ℕ)
     → told_depths i (drop i list.nodes) stops ≡ first ++ told_depths m (drop m list.nodes) stops
@@ -99,7 +99,7 @@ both_told :
 both_told list i m j stops first second here behind =
     here ∙ ap (λ (xs : List ℕ). first ++ xs) behind ∙ sym (append_assoc first second (told_depths j (drop j list.nodes) stops))
 
--- the nodes of a tree are told its depths, and then those behind it
+-- the nodes of a tree are reported its depths, and then those after it
 mutual
   pub tree_told :
       (schema : SchemaModel) (n : ℕ) (scope : Scope) (list : FlatTree) (i j : ℕ) (tree : Tree) (stops : List ℕ)

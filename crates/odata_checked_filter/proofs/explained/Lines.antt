@@ -19,7 +19,7 @@ use Rattle.odata_checked_filter.proofs.flat.Places.{drop_at, get_front, get_last
 use Rattle.odata_checked_filter.proofs.explained.Depths.{told_depths, tree_told}
 use Rattle.odata_checked_filter.proofs.explained.Labels.{label_told}
 
--- the lines of the nodes before a place are the text, and the depths of the others are still to be told
+-- the lines of the nodes before an index are the text, and the depths of the others are still to be reported
 pub record IsTold (filter : Filter) (place : ℕ) (stops text : List ℕ) : Type 0 where
   pub lines : List (List ℕ)
   pub as_many : length lines ≡ place
@@ -89,7 +89,7 @@ each_more filter lines line place k other many each last found =
         subst (λ (i : ℕ). IsNodeLine filter i other) here (subst (IsNodeLine filter place) same last)
     at_end (suc j) past is = absurd (none-some other is)
 
--- one more line was put behind the others
+-- one more line was put after the others
 pub one_told :
     (filter : Filter) (place : ℕ) (stops stops' text text' : List ℕ)
     → IsFilter filter
@@ -155,7 +155,7 @@ one_deeper n =
     let e : 2 * n + 2 ≡ 2 * (n + 1) = omega arith in
     replicate-append-replicate (2 * n) 2 32 ∙ ap (λ (k : ℕ). replicate k 32) e
 
--- the parts of a line, one behind another
+-- the parts of a line, one after another
 pub line_joined :
     (before indent span label type : List ℕ)
     → ((((before ++ indent) ++ span) ++ (32 ∷ (label ++ 32 ∷ []))) ++ type) ++ 10 ∷ []

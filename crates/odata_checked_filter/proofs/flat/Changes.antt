@@ -1,4 +1,4 @@
--- What a node that is put in its place leaves of the list, and what stands there then.
+-- What a node that is put at its index leaves of the list, and what stands there then.
 use Rattle.std.proofs.Common.{◌≡◌, ◌≢◌, refl, sym, ◌∙◌, inl, inr, ◌⊎◌, ℕ, zero, suc, ◌<◌, ◌≤◌, ◌+◌, List, [], ◌∷◌, Some, slice_get, slice_set, length, length-set, arith}
 use Rattle.odata_syntax.specs.Tree.{Shape, Tree}
 use Rattle.csdl_schema.specs.SchemaModel.{SchemaModel}

@@ -23,7 +23,7 @@ lt_true a b below = grind (arith, nat_tests)
 not_below_itself : (a : ℕ) → nat_lt a a ≡ false
 not_below_itself a = grind (arith, nat_tests)
 
--- no tree of those from a place on starts before it
+-- no tree of those from an index on starts before it
 none_before : (texts : List (List ℕ)) (j : ℕ) (rest : List CheckedNode) → trees_before j (forest texts j rest) ≡ []
 none_before texts j [] = refl
 none_before texts j (found ∷ rest) = rw (not_below_itself j) refl
@@ -75,7 +75,7 @@ kind_shape values slots root scope (call asked arguments) _ is = absurd is
 kind_shape values slots root scope (any_item base) k is = rw is refl
 kind_shape values slots root scope (lambda quantifier base variable body) k is = rw is refl
 
--- a node's tree, and what is left behind it
+-- a node's tree, and what is left after it
 abbrev planted : List (List ℕ) → ℕ → CheckedNode → List PlacedTree → List PlacedTree
 planted texts i found behind = record { place = i; tree = tree_at texts i found behind } ∷ trees_from found.stop behind
 
@@ -92,7 +92,7 @@ planted_same :
 planted_same texts i j start stop found behind children rest shape text at starts stops last before from shaped =
     rw (at, starts, stops, last, before, from, shaped) refl
 
--- a node at its place, from the forest behind it
+-- a node at its place, from the forest after it
 top_planted :
     (schema : SchemaModel) (n : ℕ) (scope : Scope) (list : FlatTree) (i j start stop : ℕ) (shape : Shape) (children : List Tree) (behind rest : List PlacedTree)
     → (top : IsTop schema n scope list i j start stop shape)
@@ -106,7 +106,7 @@ top_planted schema n scope list i j start stop shape children behind rest top sh
     ∙ ap (planted list.texts i top.found) is_behind
     ∙ planted_same list.texts i j start stop top.found behind children rest shape (text_of_shape shape) top.text_at top.starts top.stops top.last before from shaped
 
--- the forest from i on is the trees, one behind another, and what stands behind them
+-- the forest from i on is the trees, one after another, and what stands after them
 record ArePlanted (texts : List (List ℕ)) (nodes : List CheckedNode) (i j : ℕ) (trees : List Tree) : Type 0 where
   before : trees_before j (forest texts i (drop i nodes)) ≡ trees
   from : trees_from j (forest texts i (drop i nodes)) ≡ forest texts j (drop j nodes)

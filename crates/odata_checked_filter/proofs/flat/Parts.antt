@@ -62,7 +62,7 @@ parts_count variables tree = sym (length-map (scoped_nodes variables tree) (λ (
 
 -- ---- what stands there
 
--- a node stands at a place in a scope whose variables it has, and this holds of it there
+-- a node stands at an index in a scope whose variables it has, and this holds of it there
 pub record IsPart (schema : SchemaModel) (n : ℕ) (list : FlatTree) (place : ℕ) (Node : Scope → Tree → Type 0) (at : ScopedNode) : Type 0 where
   pub inner : Scope
   pub j : ℕ
@@ -81,7 +81,7 @@ itself schema n scope list i j k tree at stands same is =
     let Q : ScopedNode → Type 0 = λ (x : ScopedNode). IsPart schema n list i (IsItself scope tree) x in
     subst P (sym same) (subst Q is (record { inner = scope; j = j; stands = stands; variables = refl; is_node = (refl, refl) }))
 
--- what holds more of it, where the place is told otherwise
+-- what holds more of it, where the place is given otherwise
 part_also :
     (schema : SchemaModel) (n : ℕ) (list : FlatTree) (place other : ℕ) (Node Also : Scope → Tree → Type 0) (at : ScopedNode)
     → place ≡ other
@@ -95,7 +95,7 @@ part_also schema n list place other Node Also at same also is =
 first_of : {X : Type 0} (x y : X) (xs : List X) → slice_get (x ∷ xs) 0 ≡ Some y → x ≡ y
 first_of x y xs found = cc
 
--- of two parts, the second behind the first, which has so many nodes
+-- of two parts, the second after the first, which has so many nodes
 in_either :
     (schema : SchemaModel) (n : ℕ) (list : FlatTree) (i m k size : ℕ) (xs ys : List ScopedNode) (at : ScopedNode)
     (First Second : ℕ → Scope → Tree → Type 0)

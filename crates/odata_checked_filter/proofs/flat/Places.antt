@@ -1,4 +1,4 @@
--- What stands at a place of a list.
+-- What stands at an index of a list.
 use Rattle.std.proofs.Common.{◌≡◌, ◌≢◌, refl, ap, inl, inr, ◌⊎◌, ℕ, zero, suc, ◌<◌, ◌+◌, List, [], ◌∷◌, ◌++◌, length, drop, Option, Some, slice_get, slice_set, arith}
 use Rattle.std.proofs.lemmas.Option.{none-some, slice_get_within}
 
@@ -35,7 +35,7 @@ get_beside (z ∷ xs) zero (suc j) x y other found = found
 get_beside (z ∷ xs) (suc k) zero x y other found = found
 get_beside (z ∷ xs) (suc k) (suc j) x y other found = get_beside xs k j x y (λ same. other (let e : j ≡ k = same in omega arith)) found
 
--- from a place on, the list is what stands there and the rest
+-- from an index on, the list is what stands there and the rest
 pub drop_at : {X : Type 0} (xs : List X) (k : ℕ) (x : X) → slice_get xs k ≡ Some x → drop k xs ≡ x ∷ drop (k + 1) xs
 drop_at [] k x found = absurd (none-some x found)
 drop_at (y ∷ xs) zero x found = let same : y ≡ x = cc found in ap (λ z. z ∷ xs) same

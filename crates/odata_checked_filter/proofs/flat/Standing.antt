@@ -84,7 +84,7 @@ stand_onward schema n scope list i j trees stand =
 
 -- ---- nodes that are kept
 
--- the nodes from one place up to another are kept
+-- the nodes from one index up to another are kept
 pub record IsKeptIn (from to : ℕ) (old new : FlatTree) : Type 0 where
   pub nodes : (k : ℕ) (found : CheckedNode) → from ≤ k → k < to → slice_get old.nodes k ≡ Some found → slice_get new.nodes k ≡ Some found
   pub values : (k : ℕ) (value : Value) → slice_get old.values k ≡ Some value → slice_get new.values k ≡ Some value

@@ -115,7 +115,7 @@ line_below list place stop trees here first at = by first.tree first.stands
 
 -- ---- what is left of a line on the way
 
--- trees from a place on, whose texts after those found make all
+-- trees from an index on, whose texts after those found make all
 pub record IsLeft
     (list : FlatTree) (scope : Scope) (paths : VariablePaths) (old found : List (List ℕ)) (place stop : ℕ) (trees : List Tree) : Type 0 where
   pub rest : List Tree

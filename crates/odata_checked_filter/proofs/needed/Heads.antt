@@ -75,7 +75,7 @@ class_of values slots root scope (lambda quantifier base variable body) k is = a
 module _ (schema : SchemaModel) (n : ℕ) (scope : Scope) (list : FlatTree) where
   -- ---- the head
 
-  -- the first tree of a line, and those behind it
+  -- the first tree of a line, and those after it
   pub record IsHead (place stop : ℕ) (trees : List Tree) : Type 0 where
     pub tree : Tree
     pub more : List Tree
@@ -149,7 +149,7 @@ module _ (schema : SchemaModel) (n : ℕ) (scope : Scope) (list : FlatTree) wher
 
   -- ---- a path
 
-  -- a name, with nothing behind it; or a step
+  -- a name, with nothing after it; or a step
   abbrev pub IsWay : ℕ → ℕ → Tree → Type 0
   IsWay place stop (node start end (name asked)) = stop ≡ place + 1
   IsWay place stop (node start end (member base asked)) = Unit {0}

@@ -1,4 +1,4 @@
--- Trees one behind another, from their first node on: what they need.
+-- Trees one after another, from their first node on: what they need.
 use Rattle.std.proofs.Common.{◌≡◌, ◌⊎◌, ℕ, ◌+◌, ◌<◌, ◌≤◌, List, [], ◌∷◌, ◌++◌, Bool, true, false, cond, Some, None, length, slice_get, nat_eq, refl, sym, ap, subst, inl, inr, arith}
 use Rattle.odata_syntax.specs.Spans.{list_of_trees}
 use Rattle.odata_syntax.specs.Tree.{Shape, Tree, Trees, any_item, binary, call, count, has, in_list, in_path, it, lambda, literal, logical_not, member, more_trees, name, negation, no_trees, node}
@@ -71,7 +71,7 @@ module _ (schema : SchemaModel) (n : ℕ) (scope : Scope) (list : FlatTree) wher
 
   -- ---- a node that needs what its children need
 
-  -- they stand behind it, and need what it needs
+  -- they stand after it, and need what it needs
   pub record NeedsByChildren (paths : VariablePaths) (i j : ℕ) (tree : Tree) : Type 0 where
     pub children : List Tree
     pub line : StandInLine schema n scope list (i + 1) j children
@@ -170,7 +170,7 @@ module _ (schema : SchemaModel) (n : ℕ) (scope : Scope) (list : FlatTree) (pat
 
 -- ---- what is left of a line on the way
 
--- trees from a place on, with which what is in the set by now makes what the whole needs
+-- trees from an index on, with which what is in the set by now makes what the whole needs
 pub record IsLeft
     (schema : SchemaModel) (n : ℕ) (scope : Scope) (list : FlatTree) (paths : VariablePaths) (old now : List StepModel) (place stop : ℕ) (trees : List Tree) : Type 0 where
   pub rest : List Tree

@@ -1,4 +1,4 @@
--- One step of the walk over trees one behind another, by the class of the node at hand.
+-- One step of the walk over trees one after another, by the class of the current node.
 use Rattle.std.proofs.Common.{◌≡◌, ◌⊎◌, ℕ, zero, suc, max, ◌+◌, ◌<◌, List, [], ◌∷◌, Some, slice_get, refl, sym, subst, inl, inr, arith}
 use Rattle.odata_syntax.specs.Tree.{Tree, member, name, node}
 use Rattle.csdl_schema.specs.ExpansionView.{StepModel}

@@ -42,7 +42,7 @@ module _ (scene : ListScene) (scope : Scope) (place stop : ℕ) (tree : Tree) (f
     body_stands = subst (λ (i : ℕ). Body i places.stop) (sym body_begins) (subst (λ (j : ℕ). Body operator.middle j) (sym operator_stops) operator.body_stands);
   }
 
-  -- the parts lie one behind another
+  -- the parts lie one after another
   pub parts_onward : (places.base < places.body) × (places.body < places.stop)
   parts_onward =
       let first = stands_nonempty scene.schema.now scene.filtered_type scope scene.list.now (place + 1) operator.middle operator.base operator.base_stands in

@@ -39,7 +39,7 @@ pub record IsOwner (schema : SchemaModel) (slot : ℕ) (owner : List ℕ) (type 
   pub owner_is : owner ≡ type_name_at schema id
 
 module _ (types : OneType) (schema : SchemaModel) (n : ℕ) (scope : Scope) (list : FlatTree) where
-  -- the type of the node behind that of a step
+  -- the type of the node after that of a step
   pub owner_there : (place stop slot : ℕ) (tree : Tree) (found : CheckedNode) (there : IsStepThere schema n scope list place stop slot tree) → slice_get list.nodes (place + 1) ≡ Some found
       → IsOwner schema slot there.owner found.edm_type
   owner_there place stop slot tree found there at =

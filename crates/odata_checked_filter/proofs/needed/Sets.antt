@@ -1,4 +1,4 @@
--- What is put into an expansion, one thing behind another.
+-- What is put into an expansion, one thing after another.
 use Rattle.std.proofs.Common.{◌≡◌, ◌⊎◌, List, [], ◌∷◌, ◌++◌, ℕ, Bool, true, false, ◌||◌, refl, sym, ◌∙◌, inl, inr}
 use Rattle.std.specs.Cmp.Lexicographic.{bytes_decides, pointwise_decides}
 use Rattle.csdl_schema.specs.ExpansionView.{KeepsPaths, LeadsTo, StepModel, paths_in}

@@ -1,4 +1,4 @@
--- How deep lambda operators stand in trees one behind another, from their first node on.
+-- How deep lambda operators stand in trees one after another, from their first node on.
 use Rattle.std.proofs.Common.{◌≡◌, refl, sym, ap, ◌∙◌, subst, ℕ, ◌<◌, ◌≤◌, ◌+◌, max, List, [], ◌∷◌, ◌++◌, Bool, true, false, cond, length, inl, inr, Some, slice_get, nat_eq, lt-ltb, le-ltb, arith}
 use Rattle.std.specs.Ordering.{is_lt, nat_cmp, ord_max}
 use Rattle.std.specs.declared.cmp.Ordering.TheVariants.{Equal, Greater, Less}
@@ -166,7 +166,7 @@ depth_of_children (lambda quantifier base variable body) = ap (λ (n : ℕ). n +
 
 -- ---- the first node of a line
 
--- a node, the trees below it, and those behind it
+-- a node, the trees below it, and those after it
 pub record IsFirstOf (list : FlatTree) (i j : ℕ) (found : CheckedNode) (trees : List Tree) : Type 0 where
   pub below : List Tree
   pub behind : List Tree
@@ -233,7 +233,7 @@ is_max a b =
 
 -- ---- what is left of a line on the way
 
--- trees from a place on, with which a depth so far makes that of the whole
+-- trees from an index on, with which a depth so far makes that of the whole
 pub record IsRest (list : FlatTree) (place stop so_far whole : ℕ) : Type 0 where
   pub trees : List Tree
   pub line : AreInLine list place stop trees

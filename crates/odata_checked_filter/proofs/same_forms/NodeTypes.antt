@@ -36,7 +36,7 @@ module _ (slots : Slots) (root : List ℕ) where
     pub numbered : Numbered at part
     pub typed : Typed slots root at part type
 
-  -- the node of a number of the tree, of what is below a shape, of trees one behind another
+  -- the node of a number of the tree, of what is below a shape, of trees one after another
   abbrev pub NodeTyped : Scope → Tree → ℕ → ExprType → Type 0
   NodeTyped scope tree k type = HasOne (λ at part. IsNode slots root scope tree k at part) type
 

@@ -118,7 +118,7 @@ IsPending list tree text parts = GoesOn list parts text (IsCanonicalText tree)
 abbrev pub operand_of : ℕ → ℕ → List Part
 operand_of place needed = Operand place needed ∷ []
 
--- the arguments from a place up to another, the first one last
+-- the arguments from an index up to another, the first one last
 abbrev pub arguments_of : FlatTree → ℕ → ℕ → List Part
 arguments_of list place stop =
     if nat_lt place stop then Further (stop_at list place) stop ∷ (Operand place 0 ∷ []) else []
@@ -127,8 +127,8 @@ arguments_of list place stop =
 abbrev pub comma_before : ℕ → ℕ → List ℕ
 comma_before place stop = if nat_lt place stop then 44 ∷ [] else []
 
--- what a node of a kind has after its first operand and what stands there: its second operand stands at a place, and it
--- stops at another
+-- what a node of a kind has after its first operand and what stands there: its second operand stands at an index, and
+-- it stops at another
 abbrev pub behind_kind : FlatTree → NodeKind → ℕ → ℕ → List Part
 behind_kind list (NodeKind.Binary operator) second stop = operand_of second (operator_level operator + 1)
 behind_kind list (NodeKind.PairedRight operator number) second stop = operand_of second (operator_level operator + 1)
@@ -141,7 +141,7 @@ behind_kind list (NodeKind.PairedList numbers) second stop = Close ∷ arguments
 behind_kind list (NodeKind.Lambda quantifier) second stop = Close ∷ operand_of second 0
 behind_kind list _ second stop = []
 
--- what a part on the stack stands for beside its text: of a joint the operands after it
+-- what a part on the stack stands for besides its text: of a joint the operands after it
 abbrev pub behind_of : FlatTree → Part → List Part
 behind_of list (Joint place) =
     unwrap_or (option_map (λ (found : CheckedNode).
@@ -153,7 +153,7 @@ abbrev pub spread : FlatTree → List Part → List Part
 spread list [] = []
 spread list (part ∷ parts) = behind_of list part ++ (part ∷ spread list parts)
 
--- the first operand of the node at a place, whose place needs a level; or none
+-- the first operand of the node at an index, whose place needs a level; or none
 abbrev pub first_operand : ℕ → Option ℕ → List Part
 first_operand place None = []
 first_operand place (Some level) = operand_of (place + 1) level
@@ -177,7 +177,7 @@ pub record WritesPart (list : FlatTree) (part : Part) (next : List Part) (before
   pub written : after ≡ before ++ text
   pub goes_on : (piece : Piece) → IsPieceOf list part piece → GoesOn list (parts ++ next) text (IsPieceText piece)
 
--- the node at a place was written without parentheses, or its beginning, likewise
+-- the node at an index was written without parentheses, or its beginning, likewise
 pub record WritesNode (list : FlatTree) (place : ℕ) (next : List Part) (before after : List ℕ) (old new : List Part)
     : Type 0 where
   pub parts : List Part

@@ -40,11 +40,11 @@ listed_line schema depth found beside =
     replicate (2 * depth) 32
     ++ (span_text found.span ++ (32 ∷ (kind_label found.kind beside ++ (32 ∷ type_text schema found.edm_type))))
 
--- of the nodes that stop there, those that stop behind a place
+-- of the nodes that stop there, those that stop after an index
 abbrev pub still_around : ℕ → List ℕ → List ℕ
 still_around place stops = filter (λ stop. nat_lt place stop) stops
 
--- the line of the node at the place was put behind the text, and where it stops behind what is still around it
+-- the line of the node at the index was put after the text, and where it stops after what is still around it
 pub record IsLinePut
     (schema : SchemaModel) (list : FlatTree) (place : ℕ) (old new : List ℕ) (before after : List ℕ) : Type 0 where
   pub found : CheckedNode

@@ -5,7 +5,7 @@ use Rattle.odata_checked_filter.specs.FlatTree.{FlatTree}
 use Rattle.odata_checked_filter.specs.declared.kept_list.KeptList.{KeptList}
 use Rattle.odata_checked_filter.specs.declared.kept_list.KeptList.TheVariants.{Own, Lent}
 
--- its own list, or the one that it is lent
+-- its own list, or the one that it borrows
 abbrev pub list_in : KeptList → FlatTree
 list_in (Own list expansion) = list
 list_in (Lent list expansion) = list.now

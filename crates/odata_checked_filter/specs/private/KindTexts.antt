@@ -28,7 +28,7 @@ kind_level (NodeKind.PairedList numbers) = primary_level
 kind_level NodeKind.InPath = primary_level
 kind_level (NodeKind.Call function) = base_level
 
--- the level that the place of its first operand needs: its own, where an operator stands behind that
+-- the level that the place of its first operand needs: its own, where an operator stands after that
 abbrev pub first_level : NodeKind → Level
 first_level (NodeKind.Binary operator) = kind_level (NodeKind.Binary operator)
 first_level (NodeKind.PairedRight operator number) = kind_level (NodeKind.PairedRight operator number)
@@ -63,7 +63,7 @@ abbrev pub quantifier_joint : Quantifier → List ℕ
 quantifier_joint Quantifier.Any = codes "/any("
 quantifier_joint Quantifier.All = codes "/all("
 
--- what stands behind its first operand, up to the next one, where no name stands in that
+-- what follows its first operand, up to the next one, where no name stands in that
 abbrev pub joint_word : NodeKind → List ℕ
 joint_word NodeKind.Count = codes "/$count"
 joint_word NodeKind.AnyItem = codes "/any()"
@@ -83,7 +83,7 @@ joint_text (NodeKind.Member slot) beside = 47 ∷ beside
 joint_text (NodeKind.Lambda quantifier) beside = quantifier_joint quantifier ++ (beside ++ 58 ∷ [])
 joint_text kind beside = joint_word kind
 
--- it has a first operand with something behind
+-- it has a first operand with something after
 abbrev pub IsJoining : NodeKind → Type 0
 IsJoining (NodeKind.Member slot) = Unit {0}
 IsJoining NodeKind.Count = Unit {0}

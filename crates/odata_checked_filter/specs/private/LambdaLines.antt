@@ -1,4 +1,4 @@
--- For private clauses: trees that stand one behind another in a list, and how deep lambda operators stand in them.
+-- For private clauses: trees that stand one after another in a list, and how deep lambda operators stand in them.
 use Rattle.std.specs.Prelude.{◌≡◌, ℕ, max, List, [], ◌∷◌, Bool, true, false}
 use Rattle.odata_syntax.specs.Tree.{Tree}
 use Rattle.csdl_schema.specs.SchemaModel.{SchemaModel}
@@ -15,7 +15,7 @@ pub record StandsBetween (list : FlatTree) (i j : ℕ) (tree : Tree) : Type 0 wh
   pub scope : Scope
   pub stands : Stands schema filtered scope list i j tree
 
--- they stand for these trees, one behind another
+-- they stand for these trees, one after another
 abbrev pub AreInLine : FlatTree → ℕ → ℕ → List Tree → Type 0
 AreInLine list i j [] = i ≡ j
 AreInLine list i j (tree ∷ trees) =

@@ -96,7 +96,7 @@ NeedsOnWay slots root scope paths (node start stop (member base asked)) path =
     ⊎ StepNeeds slots (Typed slots root scope base) (path_of scope paths base) asked path
 NeedsOnWay slots root scope paths (node start stop shape) path = ⊥
 
--- what a path of steps needs is put into the set; it leads to the node, and begins in that place
+-- what a path of steps needs is put into the set; it leads to the node, and begins at that index
 pub record IsPathEnd
     (slots : Slots) (root : List ℕ) (scope : Scope) (paths : VariablePaths) (old new : List StepModel) (place : ℕ)
     (tree : Tree) (end : PathEnd) : Type 0 where
@@ -104,14 +104,14 @@ pub record IsPathEnd
   pub leads : LeadsTo new (path_of scope paths tree) end.node
   pub begins : end.base ≡ place + steps_of tree
 
--- what a path of steps needs is put into the set; it begins in that place
+-- what a path of steps needs is put into the set; it begins at that index
 pub record IsPutFrom
     (slots : Slots) (root : List ℕ) (scope : Scope) (paths : VariablePaths) (old new : List StepModel) (place : ℕ)
     (tree : Tree) (base : ℕ) : Type 0 where
   pub puts : Puts old new (NeedsOnWay slots root scope paths tree)
   pub begins : base ≡ place + steps_of tree
 
--- ---- trees one behind another
+-- ---- trees one after another
 
 -- one of the trees needs the path
 abbrev pub NeedsAmong : Slots → List ℕ → Scope → VariablePaths → List Tree → PropertyPath → Type 0
@@ -119,7 +119,7 @@ NeedsAmong slots root scope paths [] path = ⊥
 NeedsAmong slots root scope paths (tree ∷ trees) path =
     IsNeeded slots root scope paths tree path ⊎ NeedsAmong slots root scope paths trees path
 
--- the nodes from one place up to another stand for trees in one scope
+-- the nodes from one index up to another stand for trees in one scope
 abbrev pub StandInLine : SchemaModel → ℕ → Scope → FlatTree → ℕ → ℕ → List Tree → Type 0
 StandInLine schema n scope list i j [] = i ≡ j
 StandInLine schema n scope list i j (tree ∷ trees) =
@@ -154,7 +154,7 @@ IsStepOn list place slot n =
     IsSomeAnd (slice_get list.nodes place) (λ found. found.kind ≡ NodeKind.Member slot)
     × IsSomeAnd (slice_get list.nodes (place + 1)) (λ base. base.edm_type ≡ EdmType.Single (ValueType.Structured n))
 
--- the base of the lambda operator in a place, and its body
+-- the base of the lambda operator at an index, and its body
 pub record ArePlacesOf (list : FlatTree) (place : ℕ) (places : LambdaPlaces) : Type 0 where
   pub base_is : places.base ≡ place + 1
   pub body_is : IsSomeAnd (slice_get list.nodes (place + 1)) (λ base. places.body ≡ base.stop)

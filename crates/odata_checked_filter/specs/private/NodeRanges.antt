@@ -1,4 +1,4 @@
--- What a list of nodes keeps of their texts.
+-- What a list of nodes stores of their texts.
 use Rattle.std.specs.Prelude.{◌≡◌, ℕ, List, length}
 use Rattle.std.specs.List.{AllByRecursion}
 use Rattle.odata_text.specs.declared.span.Span.{Span}

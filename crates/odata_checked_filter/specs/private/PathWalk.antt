@@ -1,4 +1,4 @@
--- For private clauses: the paths of nodes as a walk over a list comes to them.
+-- For private clauses: the paths of nodes as a walk over a list reaches them.
 use Rattle.std.specs.Prelude.{◌≡◌, ℕ, List, [], ◌∷◌, ◌++◌, Option, None, Some, map, nat_eq, if◌then◌else◌}
 use Rattle.std.specs.Cmp.Lexicographic.{pointwise}
 use Rattle.odata_syntax.specs.Tree.{Tree}

@@ -556,7 +556,7 @@ pub walk::called_at-returns : goal.walk::called_at-returns
 walk::called_at-returns t c =
     argument_faults c.args.scene.now c.calls_have_one_type.ensures.named c.args.place c.args.function c.requires.here c.stop_of-own_stop.result c.stop_of-own_stop.ensures c.stop_of-third_place.result (c.args.first ∷ c.in-Ok.second ∷ []) c.in-Err-operand_at.fault (two_answered c.args.scene.now c.calls_have_one_type.ensures.named c.args.place c.args.function c.requires.here c.stop_of-own_stop.result c.stop_of-own_stop.ensures c.requires.stands c.stop_of-second_place.result c.stop_of-second_place.ensures c.args.first c.requires.first c.if-second_place-own_stop.false c.stop_of-third_place.result c.stop_of-third_place.ensures c.in-Ok.second c.in-Ok.ensures) c.if-third_place-own_stop.false c.in-Err-operand_at.ensures
 
--- ---- a call of two values that are kept
+-- ---- a call of two stored values
 
 -- the second argument stands where the first one stops, unless that is the last
 second_there : (scene : SceneModel) → OneName → (place : ℕ) (function : Function) → HasCall scene.list place function → (own : ℕ) → IsStopOf scene.list place own → PartStands scene place
@@ -814,7 +814,7 @@ pub paired_walk::compared_left_at-returns-in-Err : goal.paired_walk::compared_le
 paired_walk::compared_left_at-returns-in-Err t c =
     left_faults c.trees_have_one_type.ensures c.args.scene.now c.args.place c.args.operator c.args.number c.right_of.result c.right_of.ensures c.requires.here c.requires.stands c.in-Err.fault c.in-Err.ensures
 
--- ---- a pair of kept values, one of them a number that is read
+-- ---- a pair of stored values, one of them a number that is read
 
 pub paired_walk::right_read_truth_at-overflow_add-place : goal.paired_walk::right_read_truth_at-overflow_add-place
 paired_walk::right_read_truth_at-overflow_add-place t c =

@@ -6,7 +6,7 @@ use Rattle.odata_eval.proofs.walking.ItemSteps.{ListLeft}
 use Rattle.odata_eval.proofs.walking.MembersAsked.{MembersLeft}
 use Rattle.odata_eval.proofs.+evaluate.Given as goal
 
--- what is left of the list counts first, and in one place the order of the calls
+-- what is left of the list counts first, and at one index the order of the calls
 abbrev pub decreases-number_walk::number_operand_at : goal.decreases-number_walk::number_operand_at
 decreases-number_walk::number_operand_at l = 16 * (length l.scene.now.list.nodes - l.place) + 15
 
@@ -123,7 +123,7 @@ invariant-walk::eager_at-loop-at l = record {
 abbrev pub decreases-walk::eager_at-loop-at : goal.decreases-walk::eager_at-loop-at
 decreases-walk::eager_at-loop-at l = l.at
 
--- the items before the place are none that is equal
+-- the items before the index are none that is equal
 abbrev pub invariant-collection_walk::listed_at-loop-at : goal.invariant-collection_walk::listed_at-loop-at
 invariant-collection_walk::listed_at-loop-at l = ListLeft l.scene l.place l.own_stop l.at (Takes l.fn.budget l.budget) None l.left
 
@@ -151,7 +151,7 @@ invariant-paired_walk::numbered_at-loop-at l = ListLeft l.scene l.place l.own_st
 abbrev pub decreases-paired_walk::numbered_at-loop-at : goal.decreases-paired_walk::numbered_at-loop-at
 decreases-paired_walk::numbered_at-loop-at l = l.own_stop - l.at
 
--- the members before the place are all undecided
+-- the members before the index are all undecided
 abbrev pub invariant-lambda_walk::members_at-loop-at : goal.invariant-lambda_walk::members_at-loop-at
 invariant-lambda_walk::members_at-loop-at l = record {
   left : MembersLeft l.scene l.body.place l.body.quantifier l.variable l.members l.at;

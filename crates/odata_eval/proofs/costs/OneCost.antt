@@ -77,7 +77,7 @@ module _ (one : OneEach) (some : SomeEach) (all_end : TypedEndsOnce) (slots : Sl
       let end = all_end slots root now entity environment tree type is_moment conforms fitting typed in
       record { outcome = end.outcome; is = end.related; only = end.only }
 
-  -- a value that it comes to is of its type
+  -- a value that it evaluates to is of its type
   value_typed : (environment : Environment) → IsFitting slots environment → (tree : Tree) (type : ExprType) → Typed slots root (scope_of environment) tree type
       → (v : Val) → Means slots root now entity environment tree (gives v) → HasType slots type v
   value_typed environment fitting tree type typed v means =

@@ -21,7 +21,7 @@ use Rattle.odata_eval.proofs.meaning.Kinds.{number_kind}
 use Rattle.odata_eval.proofs.meaning.LawsBelow.{SomeEach}
 use Rattle.odata_eval.proofs.meaning.TypeValues.{IsOfKind, ValueKind, date_within, dates, moment_within, moments, null_has, null_value, primitive_kind, text_within, texts, wholes}
 
--- each value is of the type at its place
+-- each value is of the type at its index
 abbrev pub HaveTypes : Slots → List ExprType → List Val → Type 0
 HaveTypes slots [] [] = Unit {0}
 HaveTypes slots (type ∷ types) (v ∷ values) = HasType slots type v × HaveTypes slots types values

@@ -153,7 +153,7 @@ module _ (slots : Slots) (quantifier : Quantifier) (Body : Val → Outcome → T
   members_end values all =
       both_ends slots boolean_type (MembersGive quantifier Body values) (MembersGo quantifier Body values) (members_both quantifier Body values) (members_go_end values all)
 
--- ---- by their places
+-- ---- by their indexes
 
 pub in_path_ends : SomeEach → (slots : Slots) (left path type : ExprType) (l v : Val) → IsComparableWithMembers left path × (type ≡ boolean_type) → HasType slots left l → HasType slots path v
     → Ends slots type (InGives l v)

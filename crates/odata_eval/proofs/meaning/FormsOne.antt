@@ -74,7 +74,7 @@ ItemsGo-one Item l (more_trees tree more) one a b p q =
     (After-one (Item tree) (CompareGives ComparisonOperator.Eq l) one.0 (CompareGives-one ComparisonOperator.Eq l))
     (λ w. GoesOn-one Quantifier.Any (ItemsGo Item l more) w (ItemsGo-one Item l more one.1)) a b p q
 
--- ---- by their places
+-- ---- by their indexes
 
 MembersGive-one : (quantifier : Quantifier) (Body : Val → Outcome → Type 0) (values : Vals) → ((v : Val) → AtMostOne (Body v)) → AtMostOne (MembersGive quantifier Body values)
 MembersGive-one quantifier Body values one =

@@ -16,7 +16,7 @@ both_true : (a b : Bool) → a ≡ true → b ≡ true → (a && b) ≡ true
 both_true true b p q = q
 both_true false b p q = p
 
--- ---- characters one behind another, and parts of them
+-- ---- characters one after another, and parts of them
 
 pub joined_characters : (xs ys : List ℕ) → scalars xs ≡ true → scalars ys ≡ true → scalars (xs ++ ys) ≡ true
 joined_characters [] ys p q = q

@@ -38,7 +38,7 @@ comes_to_on known tags shape outcome related = λ root now o. (
 pub free : (Beside : ExprType → Type 0) (tree : Tree) (n : ℤ) → ¬ ReadsNumber tagged_slots Beside tree n
 free = unread tagged_slots (λ name. refl)
 
--- what a body comes to with a member for its variable
+-- what a body evaluates to with a member for its variable
 abbrev pub Body : List ℕ → MomentParts → Val → Environment → List ℕ → Tree → Val → Outcome → Type 0
 Body root now tags environment variable body v =
     Means tagged_slots root now (tagged tags) (bound_over environment variable (single (primitive PrimitiveType.String)) v) body

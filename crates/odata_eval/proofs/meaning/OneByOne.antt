@@ -1,4 +1,4 @@
--- Members and items taken one by one come to what their places say.
+-- Members and items taken one by one evaluate to what their indexes say.
 use Rattle.std.proofs.Common.{◌≡◌, ◌⊎◌, ◌<◌, ℕ, zero, suc, List, length, true, false, inl, inr, arith}
 use Rattle.edm_values.specs.MomentParts.{MomentParts}
 use Rattle.edm_values.specs.Val.{Val, null, boolean, Vals, no_items, item}
@@ -59,9 +59,9 @@ goes_both quantifier P Q v same =
     both (GoesOn quantifier P v) (GoesOn quantifier Q v)
     (goes_goes quantifier P Q v (there P Q same)) (goes_goes quantifier Q P v (back P Q same))
 
--- ---- one place, and those behind it
+-- ---- one place, and those after it
 
--- the first, and those behind it
+-- the first, and those after it
 before : (P : ℕ → Type 0) (n : ℕ) → P zero → ((k : ℕ) → k < n → P (suc k)) → (k : ℕ) → k < suc n → P k
 before P n first rest zero less = first
 before P n first rest (suc k) less = rest k (omega arith)
@@ -70,7 +70,7 @@ module _ (quantifier : Quantifier) (n : ℕ) (At : ℕ → Outcome → Type 0) w
   abbrev Rest : Outcome → Type 0
   Rest = QuantifierGives quantifier n (λ k. At (suc k))
 
-  -- from the first place on
+  -- from the first index on
   abbrev FromFirst : Outcome → Type 0
   FromFirst = After (At zero) (GoesOn quantifier Rest)
 
@@ -90,7 +90,7 @@ module _ (quantifier : Quantifier) (n : ℕ) (At : ℕ → Outcome → Type 0) w
       passing (passes.each zero (omega arith)) o
       (inr (record { each = λ k less. passes.each (suc k) (omega arith); is = passes.is }))
 
-  -- the first place decides or has a fault
+  -- the first index decides or has a fault
   at_first : (o : Outcome) → After (At zero) (DecisionGives quantifier) o → QuantifierGives quantifier (suc n) At o
   at_first o here = inl (record { place = zero; here = here; earlier = λ k less. absurd (omega arith) })
 

@@ -37,7 +37,7 @@ use Rattle.odata_eval.proofs.meaning.LawsBelow.{OneEach}
 use Rattle.odata_eval.proofs.meaning.OneLeaf.{OperatorGives-one, FoundGives-one, NegatedGives-one, NotGives-one, StepGives-one}
 use Rattle.odata_eval.proofs.meaning.OneStep.{AtMostOne, GivesSome-one, After-one, InType-one, same_one}
 
--- behind arguments each of which has at most one outcome
+-- after arguments each of which has at most one outcome
 ArgumentsMean-one : (slots : Slots) (root : List ℕ) (now : MomentParts) (entity : Val) (environment : Environment) (arguments : Trees) (Goes : List Val → Outcome → Type 0)
     → AllTrees (λ tree. AtMostOne (Means slots root now entity environment tree)) arguments → ((values : List Val) → AtMostOne (Goes values))
     → AtMostOne (ArgumentsMean slots root now entity environment arguments Goes)

@@ -104,7 +104,7 @@ decided_gives LogicalOperator.And (Some false) Right decided = refl
 decided_gives LogicalOperator.Or (Some true) Right decided = refl
 decided_gives _ _ Right decided = absurd decided
 
--- behind a truth value that does not decide, a logical operator goes by its right side
+-- after a truth value that does not decide, a logical operator goes by its right side
 pub undecided_goes : (logical : LogicalOperator) (left : Option Bool) (Right : Outcome → Type 0) (o : Outcome) → ¬ (IsDecided logical (truth_val left))
     → After Right (JoinGives logical left) o → LogicalGives logical (truth_val left) Right o
 undecided_goes LogicalOperator.And (Some false) Right o undecided goes = absurd (undecided tt)
@@ -298,7 +298,7 @@ items_end some slots held reads_have root now entity environment left s of_left 
   items_end some slots held reads_have root now entity environment left s of_left more types typed.1 are.1 all.1,
 )
 
--- behind arguments that have outcomes
+-- after arguments that have outcomes
 pub behind_arguments : (slots held : Slots) (root : List ℕ) (now : MomentParts) (entity : Val) (environment : Environment) (arguments : Trees) (types : List ExprType) (type : ExprType)
     (Goes : List Val → Outcome → Type 0) → AllTyped (λ tree t. Ends held t (Means slots root now entity environment tree)) arguments types
     → ((values : List Val) → HaveTypes held types values → Ends held type (Goes values)) → Ends held type (ArgumentsMean slots root now entity environment arguments Goes)

@@ -204,7 +204,7 @@ module _ (some : SomeEach) (promotes : Promotes) (slots : Slots) (needed : PathS
         (λ w of_w. shallow_ends slots needed (path_of (scope_of (bound_over environment variable (single typed.member_type) w)) (before ∷ paths) body) typed.body (Means slots root now entity (bound_over environment variable (single typed.member_type) w) body)
         (tree_at (bound_over environment variable (single typed.member_type) w) (before ∷ paths) (of_w, fitting) body typed.body typed.body_typed (λ path is. covered path (inr (record { member_type = typed.member_type; binds = typed.binds; body_needs = is })))))))
 
-    -- each of trees one behind another
+    -- each of trees one after another
     trees_at : (environment : Environment) (paths : VariablePaths) → AreFittingAt slots needed environment paths → (trees : Trees) (types : List ExprType)
         → AreTyped slots root (scope_of environment) trees types → HasNeededAmong environment paths trees
         → AllTyped (λ tree type. Ends (shallow slots) type (Means slots root now entity environment tree)) trees types

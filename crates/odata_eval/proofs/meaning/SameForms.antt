@@ -79,12 +79,12 @@ module _ (kept : KeptForms) (slots : Slots) (root : List ℕ) (now : MomentParts
   abbrev A : Environment → Trees → (List Val → Outcome → Type 0) → Outcome → Type 0
   A = ArgumentsMean slots root now entity
 
-  -- each has the same outcomes as the one at its place
+  -- each has the same outcomes as the one at its index
   abbrev Paired : Environment → Trees → Trees → Type 0
   Paired environment = AllPaired (λ tree other. Both (M environment tree) (M environment other))
 
   module _ (environment : Environment) where
-    -- of operands with the same outcomes and types a node comes to the same
+    -- of operands with the same outcomes and types a node evaluates to the same
     member_same : (base other : Tree) (asked : List ℕ) → Both (M environment base) (M environment other) → Both (S environment (member base asked)) (S environment (member other asked))
     member_same base other asked same =
         after_both (M environment base) (M environment other) (λ v. StepGives v asked) (λ v. StepGives v asked) same (λ v. itself (StepGives v asked))
@@ -146,7 +146,7 @@ module _ (kept : KeptForms) (slots : Slots) (root : List ℕ) (now : MomentParts
         (λ n. after_both (M environment l) (M environment m) (λ v. HasGives v (val.member n)) (λ v. HasGives v (val.member n)) left (λ v. itself (HasGives v (val.member n))))
         (two_same HasGives l r m s left right)
 
-    -- items that come to the same beside operands of the same types
+    -- items that evaluate to the same beside operands of the same types
     items_read : (B C : ExprType → Type 0) (items others : Trees) → BothTyped B C → Paired environment items others → QuoteAlike items others
         → AllPaired (λ tree other. Both (ItemAlone slots root now entity environment B tree) (ItemAlone slots root now entity environment C other)) items others
     items_read B C no_trees no_trees typed paired alike = tt
@@ -167,7 +167,7 @@ module _ (kept : KeptForms) (slots : Slots) (root : List ℕ) (now : MomentParts
         (λ l. ItemsGive l (length (list_of_trees others)) (ItemMeans slots root now entity environment (T environment other) others)) same
         (λ l. items_same slots root now entity environment (T environment left) (T environment other) l items others (items_read (T environment left) (T environment other) items others typed paired alike))
 
-    -- the body comes to the same with each value of the variable
+    -- the body evaluates to the same with each value of the variable
     lambda_same : (quantifier : Quantifier) (base other : Tree) (variable : List ℕ) (body else_body : Tree)
         → Both (M environment base) (M environment other) → BothTyped (T environment base) (T environment other)
         → ((type : ExprType) (v : Val) → Both (M (bound_over environment variable type v) body) (M (bound_over environment variable type v) else_body))
@@ -208,7 +208,7 @@ module _ (kept : KeptForms) (slots : Slots) (root : List ℕ) (now : MomentParts
     types_kept : (tree normal : Tree) → IsNormalForm tree normal → BothTyped (T environment tree) (T environment normal)
     types_kept tree normal is type = kept.types slots root (scope_of environment) tree normal type is
 
-    -- places say nothing
+    -- places do not matter
     types_bare : (tree : Tree) → BothTyped (T environment tree) (T environment (bare tree))
     types_bare tree type = kept.places slots root (scope_of environment) tree type
 

@@ -28,11 +28,11 @@ module _ (scene : SceneModel) where
   abbrev pub ItemsCostHere : (ExprType → Type 0) → Val → Trees → ℕ → Type 0
   ItemsCostHere = ItemsCost (slots_of scene.row.schema) (type_name_at scene.row.schema scene.row.type_id) scene.moment (value_of scene.row) (environment_of scene)
 
-  -- what an item comes to, compared with it
+  -- what an item evaluates to, compared with it
   abbrev pub ComparedHere : (ExprType → Type 0) → Val → Tree → Outcome → Type 0
   ComparedHere Beside l item = After (AloneHere scene Beside item) (CompareGives ComparisonOperator.Eq l)
 
-  -- ---- an item compared comes to one outcome: that of a list of it alone
+  -- ---- an item compared evaluates to one outcome: that of a list of it alone
 
   abbrev ItemAt : (ExprType → Type 0) → Tree → ℕ → Outcome → Type 0
   ItemAt Beside item =

@@ -65,7 +65,7 @@ module _ (scene : SceneModel) (place : ℕ) (quantifier : Quantifier) (variable 
     pub takes : Takes old now paid
     pub asked : CostOver body (drop index members) due
 
-  -- whatever body stands in the place
+  -- whatever body stands at the index
   pub record MembersPaid (index : ℕ) (old now : Budget) : Type 0 where
     pub of_body : (last : ℕ) (body : Tree) (n : ℕ) → BodyStands scene variable place last body → CostOver body members n → MembersDue body index n old now
 
@@ -97,7 +97,7 @@ module _ (scene : SceneModel) (place : ℕ) (quantifier : Quantifier) (variable 
     }
 
   module _ (index : ℕ) (old now : Budget) (paid : MembersPaid index old now) (within : index < length members) (member : Value) (is : get_or members index member ≡ member) where
-    -- the member in a place, and those after it
+    -- the member at an index, and those after it
     member_first : (body : Tree) (due : ℕ) → CostOver body (drop index members) due → CostOver body (member ∷ drop (index + 1) members) due
     member_first body due asked =
         let rest : drop index members ≡ get_or members index member ∷ drop (index + 1) members = at_drop_more (λ (xs : List Value). xs) members index member within in

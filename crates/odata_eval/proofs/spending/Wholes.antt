@@ -15,7 +15,7 @@ use Rattle.odata_eval.proofs.walking.ReadSides.{left_read, right_read}
 use Rattle.odata_eval.proofs.walking.Spines.{stops_there}
 
 module _ (scene : SceneModel) (place : ℕ) where
-  -- two operands, in their places
+  -- two operands, at their indexes
   pub both_free : (operator : BinaryOperator) → HasKind scene.list place (NodeKind.Binary operator) → (right_place : ℕ) → IsRightOf scene.list place right_place
       → FreeThere scene (place + 1) → FreeThere scene right_place → FreeThere scene place
   both_free operator here right_place is_right of_left of_right = by_kind scene place (NodeKind.Binary operator) here (λ last tree. IsFree (CostsHere scene tree))

@@ -19,7 +19,7 @@ use Rattle.odata_eval.proofs.walking.KeptValues.{kept_value}
 use Rattle.odata_eval.proofs.walking.Spines.{first_faults, first_part, first_step, part_down, right_there, right_typed, typed_part, walks_by}
 use Rattle.odata_eval.proofs.walking.WalkSteps.{decided_answers, joined_answers, joined_faults}
 
--- before so many places there are only `and`s
+-- before so many indexes there are only `and`s
 abbrev pub AndsBefore : FlatTree → ℕ → Type 0
 AndsBefore list count = (k : ℕ) → k < count → HasOperator list k (BinaryOperator.Logical LogicalOperator.And)
 
@@ -37,11 +37,11 @@ up P (suc d) step last =
     let e : suc d ≡ d + 1 = omega arith in
     up P d (λ i before. step i (omega arith)) (step d (omega arith) (subst P e last))
 
--- what is told not to hold does not
+-- what is answered not to hold does not
 pub told_not : (answer : Bool) (Fact : Type 0) → (IsTrue answer ↔ Fact) → answer ≡ false → ¬ Fact
 told_not answer Fact told so = λ fact. let e : answer ≡ true = told.1 fact in absurd (cc)
 
--- a true term leaves what the others come to, a false one makes them false
+-- a true term leaves what the others evaluate to, a false one makes them false
 true_term : (left : Option Bool) → joined LogicalOperator.And left (Some true) ≡ left
 true_term (Some true) = refl
 true_term (Some false) = refl
@@ -52,7 +52,7 @@ false_term (Some true) = refl
 false_term (Some false) = refl
 false_term None = refl
 
--- behind a true one the others come to what they come to by themselves
+-- after a true one the others evaluate to what they evaluate to by themselves
 true_side : (term : Option Bool) → joined LogicalOperator.And (Some true) term ≡ term
 true_side (Some true) = refl
 true_side (Some false) = refl
@@ -67,7 +67,7 @@ module _ (scene : SceneModel) where
   next_stands place here stands = first_step scene place WalkClass.Logical (λ leaf. cc) (and_walks place here) (typed_part scene place IsBooleanOrNull stands)
 
   module _ (count : ℕ) (ands : AndsBefore scene.list count) where
-    -- what decides in a place of the chain, or has a fault, is what the whole comes to
+    -- what decides in a place of the chain, or has a fault, is what the whole evaluates to
     pub decided_up : (left : Option Bool) → IsDecided LogicalOperator.And (truth_val left) → (place : ℕ) → place ≤ count → AnswersTruth scene place (Ok left) → AnswersTruth scene 0 (Ok left)
     decided_up left decided place within =
         up (λ k. AnswersTruth scene k (Ok left)) place
@@ -118,7 +118,7 @@ module _ (scene : SceneModel) where
               (joined_faults scene (at - 1) LogicalOperator.And and_there left right is_right undecided left_there fault second)
 
         module _ (first : AnswersTruth scene at (Ok (Some true))) where
-          -- behind true terms the next one's answer is that of its `and`
+          -- after true terms the next one's answer is that of its `and`
           pub true_goes_up : (answer : Result (Option Bool) EvalFault) → AnswersTruth scene right answer → AnswersTruth scene (at - 1) answer
           true_goes_up (Ok term) second =
               subst (λ (r : Option Bool). AnswersTruth scene (at - 1) (Ok r)) (true_side term) (next_answers (Some true) (λ none. none) first term second)
@@ -131,13 +131,13 @@ operator_inner (BinaryOperator.Logical logical) leaf = cc
 operator_inner (BinaryOperator.Comparison comparison) leaf = cc
 operator_inner (BinaryOperator.Arithmetic arithmetic) leaf = cc
 
--- its left side stands behind it
+-- its left side stands after it
 pub left_side : (scene : SceneModel) (place : ℕ) (operator : BinaryOperator) → HasOperator scene.list place operator → PartStands scene place → PartStands scene (place + 1)
 left_side scene place operator here part =
     first_part scene place (walk_of_operator operator) (operator_inner operator)
     (walks_by scene.list place operator (walk_of_operator operator) here refl) part
 
--- a truth value that is kept is answered where it is no null
+-- a stored truth value is answered where it is no null
 pub kept_answers : (scene : SceneModel) (place : ℕ) (value : Value) → AnswersKept scene place value → (truth : Option Bool) → plain_val value ≡ Some (truth_val truth)
     → IfSome truth (λ t. AnswersTruth scene place (Ok (Some t)))
 kept_answers scene place value kept None is = tt

@@ -1,4 +1,4 @@
--- What `$count` and `any()` come to, from what was answered of the collection that they ask.
+-- What `$count` and `any()` evaluate to, from what was answered of the collection that they ask.
 use Rattle.std.proofs.Common.{◌≡◌, ℕ, ◌+◌, Result, Ok, refl, subst}
 use Rattle.std.specs.Prelude.{IsSomeAnd}
 use Rattle.edm_values.specs.Val.{Val}

@@ -1,4 +1,4 @@
--- What a call comes to, from what was answered of its arguments one after another.
+-- What a call evaluates to, from what was answered of its arguments one after another.
 use Rattle.std.proofs.Common.{◌≡◌, ◌∙◌, ℕ, suc, ◌<◌, ◌≤◌, ◌+◌, List, [], ◌∷◌, Some, Result, length, map, codes, refl, sym, subst, arith}
 use Rattle.std.specs.Prelude.{Contains}
 use Rattle.edm_values.specs.Val.{Val}
@@ -106,7 +106,7 @@ module _ (scene : SceneModel) where
       let same : stand.middle ≡ stop = stops_there scene i stand.middle stop tree stand.left stops in
       subst (λ (m : ℕ). StandsAll scene m j more) same stand.right
 
-  -- behind arguments that have been answered stands another one, unless these are all
+  -- after arguments that have been answered stands another one, unless these are all
   next_stands : (i at j : ℕ) (answers : List Datum) (trees : Trees) → StandsAll scene i j trees → AllAnswered scene i at j answers → ¬ (at ≡ j) → PartStands scene at
   next_stands i at j [] no_trees stand answered behind = absurd (behind (sym answered ∙ stand))
   next_stands i at j [] (more_trees tree more) stand answered behind =
@@ -277,7 +277,7 @@ module _ (scene : SceneModel) where
           (typed_call asked typed.types _ named typed.call_typed) reading)
           part.stop part.tree part.stands
 
-      -- what it makes of these is what the call comes to
+      -- what it makes of these is what the call evaluates to
       pub call_answers : (answer : Result Datum EvalFault)
           → ((r s : Reading) → Tells (MakesText function) (CallGives scene.moment function (map (datum_val r) answers)) (answer_outcome (datum_val s) answer))
           → AnswersDatum scene place answer
@@ -303,7 +303,7 @@ module _ (scene : SceneModel) where
             stop tree stands typed;
       }
 
-      -- so is an outcome that no answer tells
+      -- so is an outcome that no answer reports
       pub call_gives : (told : Outcome) → ((r : Reading) → CallGives scene.moment function (map (datum_val r) answers) told) → AnswersAtPlace scene place (λ type. Some told)
       call_gives told given = record {
         of_tree = λ stop tree type stands typed.

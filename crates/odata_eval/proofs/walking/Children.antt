@@ -1,4 +1,4 @@
--- Children that stand one behind another, one or two of them.
+-- Children that stand one after another, one or two of them.
 use Rattle.std.proofs.Common.{◌≡◌, subst, ℕ, List, [], ◌∷◌}
 use Rattle.odata_syntax.specs.Tree.{Tree}
 use Rattle.csdl_schema.specs.SchemaModel.{SchemaModel, slots_of, type_name_at}

@@ -1,4 +1,4 @@
--- What a comparison comes to, of two values, of two that are kept, and of two numbers.
+-- What a comparison evaluates to, of two values, of two that are kept, and of two numbers.
 use Rattle.std.proofs.Common.{◌≡◌, ℕ, ℤ, ◌+◌, Bool, Option, Some, None, Ok, slice_get, refl}
 use Rattle.std.specs.Prelude.{IsTrue, ◌↔◌}
 use Rattle.edm_values.specs.Val.{Val, boolean}
@@ -77,7 +77,7 @@ module _ (scene : SceneModel) (place : ℕ) (comparison : ComparisonOperator) (h
   numbers_compared left right answer first second compared =
       comparison_answers (λ type. number_val left) (λ type. number_val right) first second answer (λ s t. numbers_comparable comparison left right) (λ s t. compared)
 
-  -- of two values that are kept
+  -- of two stored values
   module _ (left right : Value) (first : AnswersKept scene (place + 1) left) (second : AnswersKept scene right_place right) where
     pub may_compare_kept : EndsOnceHere scene → KeptAnyhow → PartStands scene place
         → (q m : Contents) → AreComparableBy comparison (kept_val q left) (kept_val m right)

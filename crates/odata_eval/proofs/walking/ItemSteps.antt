@@ -1,4 +1,4 @@
--- What `in` before a list comes to, item after item from the left.
+-- What `in` before a list evaluates to, item after item from the left.
 use Rattle.std.proofs.Common.{◌≡◌, ◌∙◌, ℕ, ℤ, zero, suc, ap, Result, slice_get, ◌<◌, ◌≤◌, ◌+◌, List, [], ◌∷◌, Bool, true, false, Option, Some, None, Ok, length, refl, sym, subst, inl, inr, arith}
 use Rattle.std.specs.Prelude.{Contains, IsTrue, ◌↔◌}
 use Rattle.std.specs.List.{AllByRecursion}
@@ -54,13 +54,13 @@ use Rattle.odata_eval.proofs.walking.Unread.{list_plain}
 use Rattle.odata_eval.proofs.walking.Spines.{StandsAll, TypedAll, all_further, child_takes, first_child, further, has_type, stops_here, stops_there}
 use Rattle.odata_eval.proofs.walking.WalkValues.{value_has}
 
--- the first place passes, and so do the later ones
+-- the first index passes, and so do the later ones
 earlier_passes : (At : ℕ → Outcome → Type 0) (count : ℕ) → Passes Quantifier.Any (At 0) → ((k : ℕ) → k < count → Passes Quantifier.Any (At (suc k)))
     → (k : ℕ) → k < suc count → Passes Quantifier.Any (At k)
 earlier_passes At count first later zero before = first
 earlier_passes At count first later (suc k) before = later k (omega arith)
 
--- what the first place does not decide, the later ones decide
+-- what the first index does not decide, the later ones decide
 pub later_places : (count : ℕ) (At : ℕ → Outcome → Type 0) (o : Outcome) → Passes Quantifier.Any (At 0)
     → QuantifierGives Quantifier.Any count (λ k. At (suc k)) o → QuantifierGives Quantifier.Any (suc count) At o
 later_places count At o first (inl decides) = inl (record {
@@ -74,7 +74,7 @@ paid_sum : (n own paid first item_own later : ℕ) → n ≡ own + (paid + (firs
 paid_sum n own paid first item_own later sum = omega (arith, sum)
 
 module _ (scene : SceneModel) where
-  -- the outcomes of the items beside an operand, by their places
+  -- the outcomes of the items beside an operand, by their indexes
   abbrev pub ItemHere : (ExprType → Type 0) → Trees → ℕ → Outcome → Type 0
   ItemHere Beside items = ItemMeans (slots_of scene.row.schema) (type_name_at scene.row.schema scene.row.type_id) scene.moment (value_of scene.row) (environment_of scene) Beside items
 
@@ -132,8 +132,8 @@ module _ (scene : SceneModel) where
         costs = λ n costs. costs;
       })
 
-  -- of a tree, the items from a place on: the left side has been answered, and no earlier item is equal to it; so many as
-  -- IsPaid says have been paid for these
+  -- of a tree, the items from an index on: the left side has been answered, and no earlier item is equal to it; so many
+  -- as IsPaid says have been paid for these
   pub record ItemsLeft (place own at : ℕ) (IsPaid : ℕ → Type 0) (mark : Option ℕ) (left : Datum) (tree : Tree) : Type 0 where
     pub left_tree : Tree
     pub left_type : ExprType
@@ -156,7 +156,7 @@ module _ (scene : SceneModel) where
     pub within : at ≤ own
     pub of_tree : (stop : ℕ) (tree : Tree) (type : ExprType) → StandsHere scene place stop tree → TypedHere scene tree type → ItemsLeft place own at IsPaid mark left tree
 
-  -- what stands in a place stops behind it
+  -- what stands at an index stops after it
   pub stop_further : (at stop : ℕ) → PartStands scene at → IsStopOf scene.list at stop → at < stop
   stop_further at stop part is_stop =
       let same : part.stop ≡ stop = stops_there scene at part.stop stop part.tree part.stands is_stop in
@@ -226,7 +226,7 @@ module _ (scene : SceneModel) where
         (answers.of_tree stop tree type stands typed);
   }
 
-  -- a number stands in the place for an item, or null and the item is answered by itself
+  -- a number stands at the index for an item, or null and the item is answered by itself
   pub number_item : (at number : ℕ) (value : Value) → slice_get scene.list.values number ≡ Some value → (n : ℤ) → value ≡ Value.Enum n
       → AnswersItem scene at (Some number) (λ type. Some (gives (datum_val (reading_at (slots_of scene.row.schema) type) (datum.Enum n))))
   number_item at number value here n is = record {

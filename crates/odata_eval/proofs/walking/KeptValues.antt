@@ -33,7 +33,7 @@ list_kept slots null_type shape all = (_, ap (λ (f : ValAtType). f slots.proper
 list_kept slots (single t) shape all = (_, ap (λ (f : ValAtType). f slots.properties (single t)) (fold_out-Value ValAtType val_step (List' shape all)))
 list_kept slots (collection t) shape all = (_, ap (λ (f : ValAtType). f slots.properties (collection t)) (fold_out-Value ValAtType val_step (List' shape all)))
 
--- what a kept value stands for, with its contents
+-- what a stored value stands for, with its contents
 without : Contents
 without = record { fields_are = λ name. absent; items_are = no_items }
 
@@ -53,7 +53,7 @@ kept_contents slots type (List' shape all) =
     let held = list_kept slots type shape all in
     (record { fields_are = λ name. absent; items_are = held.0 }, held.1)
 
--- a fact of two kept values whatever they hold is one at their types, and one at their types is one of some contents
+-- a fact of two stored values whatever they hold is one at their types, and one at their types is one of some contents
 pub at_types : (P : Val → Val → Type 0) (slots : Slots) (s t : ExprType) (left right : Value) → ((q m : Contents) → P (kept_val q left) (kept_val m right))
     → P (val_of left slots.properties s) (val_of right slots.properties t)
 at_types P slots s t left right all =

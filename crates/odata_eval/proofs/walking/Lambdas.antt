@@ -1,4 +1,4 @@
--- What a lambda operator comes to, from what its base and its body come to.
+-- What a lambda operator evaluates to, from what its base and its body evaluate to.
 use Rattle.std.proofs.Common.{◌≡◌, ◌∙◌, ℕ, ◌<◌, ◌+◌, Bor, List, [], ◌∷◌, Bool, Option, Some, Result, Ok, Err, map, slice_get, refl, sym, ap, subst, arith}
 use Rattle.std.specs.Prelude.{IsSomeAnd}
 use Rattle.std.specs.List.{AllByRecursion}
@@ -78,7 +78,7 @@ found_typed : (scene : SceneModel) (place stop : ℕ) (tree : Tree) → StandsHe
 found_typed scene place stop (node from to shape) stands = (stands.top.found, (stands.top.stands_at, stands.top.typed))
 
 module _ (types : OneType) (scene : SceneModel) (place : ℕ) (quantifier : Quantifier) (here : HasKind scene.list place (NodeKind.Lambda quantifier)) where
-  -- the base's node tells the type of the collection
+  -- the base's node says the type of the collection
   base_is : (stop : ℕ) (base : Tree) (type : SingleType) → StandsHere scene (place + 1) stop base → TypedHere scene base (collection type)
       → IsSomeAnd (slice_get scene.list.nodes (place + 1)) (λ (found : CheckedNode). CollectionIs scene.row.schema found.edm_type type)
   base_is stop base type stands typed =
@@ -148,7 +148,7 @@ module _ (types : OneType) (scene : SceneModel) (place : ℕ) (quantifier : Quan
         (subst (λ (t : ExprType). Over asked t body members o) named.type_same (subst (λ (n : List ℕ). Over n (type_of_variable scene variable) body members o) named.name_same goes))
 
     module _ (right : ℕ) (is_right : IsRightOf scene.list place right) where
-      -- the body stands behind the base, in the scope with the variable
+      -- the body stands after the base, in the scope with the variable
       pub in_scope : (P : Scope → Type 0) (asked : List ℕ) (type : SingleType) → IsNamed asked type
           → P (with_variable (scope_of (environment_of scene)) asked (single type)) → P (body_scope scene variable)
       in_scope P asked type named holds =
@@ -190,7 +190,7 @@ module _ (types : OneType) (scene : SceneModel) (place : ℕ) (quantifier : Quan
           (first.of_tree stands.children.middle base (collection typed.member_type) stands.children.left typed.binds.over))))
           part.stop part.tree part.stands
 
-      -- what comes of the members is what the operator comes to
+      -- what comes of the members is what the operator evaluates to
       module _ (held : Bor (List Value)) (first : AnswersDatum scene (place + 1) (Ok (datum.List held))) where
         members_tell : (answer : Result (Option Bool) EvalFault) → AnswersMembers scene right quantifier variable held.now answer → (stop from to : ℕ) (base : Tree) (asked : List ℕ) (body : Tree)
             → StandsHere scene place stop (node from to (lambda quantifier base asked body)) → (type : ExprType) → TypedHere scene (node from to (lambda quantifier base asked body)) type

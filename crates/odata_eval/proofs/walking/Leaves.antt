@@ -1,4 +1,4 @@
--- What a node without operands comes to: the value that is kept for it.
+-- What a node without operands evaluates to: the value that is stored for it.
 use Rattle.std.proofs.Common.{◌≡◌, ◌∙◌, ℕ, ◌<◌, ◌≤◌, [], ◌∷◌, arith, subst, sym, List, MatchOption, Option, false, Some, length, nat_eq, ap, rules}
 use Rattle.std.specs.Prelude.{slice_get, string_bytes}
 use Rattle.std.specs.Cmp.Lexicographic.{pointwise}

@@ -1,4 +1,4 @@
--- What a step to a property comes to.
+-- What a step to a property evaluates to.
 use Rattle.std.proofs.Common.{◌≡◌, ℕ, ◌<◌, ◌+◌, Bor, List, Some, Ok, length, map, refl, sym, subst}
 use Rattle.std.specs.Prelude.{slice_get}
 use Rattle.edm_values.specs.Val.{Val, fields}

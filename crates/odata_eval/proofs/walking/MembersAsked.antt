@@ -1,4 +1,4 @@
--- What a lambda operator comes to over the members that have been asked so far.
+-- What a lambda operator evaluates to over the members that have been asked so far.
 use Rattle.std.proofs.Common.{◌≡◌, ℕ, ◌<◌, ◌≤◌, ◌+◌, List, [], ◌∷◌, Bool, true, false, not, Option, Some, None, Ok, Err, drop, get_or, length, refl, slice_get, suc, sym, ap, subst, zero}
 use Rattle.std.specs.List.{AllByRecursion}
 use Rattle.std.proofs.lemmas.List.{at_drop_all, at_drop_more}
@@ -43,7 +43,7 @@ decides Quantifier.All More None false is decided = absurd (cc)
 
 -- ---- the members
 
--- what each of them is, the one in a place is
+-- what each of them is, the one at an index is
 pub each_is : (P : Value → Type 0) (members : List Value) (k : ℕ) (member : Value) → AllByRecursion P members → slice_get members k ≡ Some member → P member
 each_is P [] k member all at = absurd (cc)
 each_is P (first ∷ more) zero member all at = let is : first ≡ member = cc in subst P is all.0
@@ -54,14 +54,14 @@ each_is P (first ∷ more) (suc k) member all at = each_is P more k member all.1
 pub body_truth : (scene : SceneModel) (variable : RangeVariable) (place : ℕ) (value : Value) → BodyIsThere scene variable place → TruthStands (with_frame scene (frame_of variable value)) place
 body_truth scene variable place value body = record { stop = body.stop; tree = body.body; stands = body.stands; type_of = body.type_of; typed = body.typed; allowed = body.truth }
 
--- ---- members one behind another
+-- ---- members one after another
 
 module _ (scene : SceneModel) (place : ℕ) (quantifier : Quantifier) (variable : RangeVariable) (members : List Value) where
-  -- what members come to
+  -- what members evaluate to
   abbrev pub GoOver : Tree → List Value → Outcome → Type 0
   GoOver body some = MembersGo quantifier (BodyMeans scene variable body) (vals_of (slots_of scene.row.schema) (type_of_variable scene variable) some)
 
-  -- what is left comes to is what all come to
+  -- what is left evaluates to is what all evaluate to
   pub record MembersLeft (index : ℕ) : Type 0 where
     pub of_body : (stop : ℕ) (body : Tree) (type : ExprType) → BodyStands scene variable place stop body → BodyTyped scene variable body type
         → (o : Outcome) → GoOver body (drop index members) o → GoOver body members o
@@ -70,7 +70,7 @@ module _ (scene : SceneModel) (place : ℕ) (quantifier : Quantifier) (variable 
   none_yet = record { of_body = λ stop body type stands typed o goes. goes }
 
   module _ (index : ℕ) (left : MembersLeft index) (within : index < length members) (member : Value) where
-    -- the member in a place and those behind it
+    -- the member at an index and those after it
     member_first : get_or members index member ≡ member → (body : Tree) (o : Outcome) → GoOver body (member ∷ drop (index + 1) members) o → GoOver body (drop index members) o
     member_first is body o goes =
         let rest : drop index members ≡ get_or members index member ∷ drop (index + 1) members = at_drop_more (λ (xs : List Value). xs) members index member within in

@@ -1,4 +1,4 @@
--- What stands in a place, by the kind of its node.
+-- What stands at an index, by the kind of its node.
 use Rattle.std.proofs.Common.{◌≡◌, ℕ, ◌<◌, List, Option, Some, None, length, refl, sym, subst, inl, inr}
 use Rattle.std.specs.Prelude.{IfSome, IsSomeAnd, slice_get}
 use Rattle.std.proofs.lemmas.Option.{slice_get_within}
@@ -41,7 +41,7 @@ pub some_weaker : {X : Type 0} {P Q : X → Type 0} (held : Option X) → ((x : 
 some_weaker (Some x) goes holds = goes x holds
 some_weaker None goes holds = tt
 
--- what is told of a part is told of the whole
+-- what is reported of a part is reported of the whole
 pub tells_there : (told : Option Outcome) (Part Whole : Type 0) (P Q : Outcome → Type 0) → (Part → Whole) → ((o : Outcome) → P o → Q o)
     → Tells Part P told → Tells Whole Q told
 tells_there (Some o) Part Whole P Q takes goes is = goes o is
@@ -127,7 +127,7 @@ module _ (scene : SceneModel) (place : ℕ) where
       (λ (s : Shape). (stop from to : ℕ) → StandsHere scene place stop (node from to s) → P stop (node from to s)) shape kind
       (kind_there kind here stop from to shape stands) cases stop from to stands
 
-  -- and it has the type that the node there tells
+  -- and it has the type that the node there says
   pub type_there : (found : CheckedNode) → slice_get scene.list.nodes place ≡ Some found → (stop : ℕ) (tree : Tree) → StandsHere scene place stop tree
       → TypedHere scene tree (expr_type scene.row.schema found.edm_type)
   type_there found at stop (node from to shape) stands =

@@ -1,4 +1,4 @@
--- What the kind of a node tells of the literals that are read in it.
+-- What the kind of a node says of the literals that are read in it.
 use Rattle.std.proofs.Common.{◌≡◌, ℕ, ℤ, List, Some, slice_get, subst, inl, inr}
 use Rattle.edm_values.specs.declared.value.Value.{Value}
 use Rattle.odata_syntax.specs.Tree.{Trees}
@@ -9,7 +9,7 @@ use Rattle.odata_expression_types.specs.Reads.{ReadNone}
 use Rattle.odata_checked_filter.specs.Stands.{AreItemNumbers, IsFlagsNode, IsListNode, IsOperatorNode}
 use Rattle.odata_checked_filter.specs.declared.checked_node.NodeKind.{NodeKind}
 
--- a number that is read stands in the place
+-- a number that is read stands at the index
 pub record IsReadAt (values : List Value) (place : ℕ) (Reads : ℤ → Type 0) : Type 0 where
   pub number : ℤ
   pub at : slice_get values place ≡ Some (Value.Enum number)

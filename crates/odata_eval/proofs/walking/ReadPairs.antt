@@ -1,4 +1,4 @@
--- Nodes of two operands, one of which is read as a number: what they come to goes by the other one.
+-- Nodes of two operands, one of which is read as a number: what they evaluate to goes by the other one.
 use Rattle.std.proofs.Common.{◌≡◌, ◌∙◌, ap, ℕ, ℤ, ◌<◌, ◌+◌, List, [], ◌∷◌, Bool, Option, Some, None, Ok, slice_get, length, refl, sym, subst, inl, inr, arith}
 use Rattle.std.specs.Prelude.{IsSomeAnd, IsTrue, ◌↔◌}
 use Rattle.std.proofs.lemmas.Option.{slice_get_within}
@@ -112,7 +112,7 @@ equality_class (BinaryOperator.Comparison ComparisonOperator.Eq) equality = (Com
 equality_class (BinaryOperator.Comparison ComparisonOperator.Ne) equality = (ComparisonOperator.Ne, refl)
 equality_class _ equality = absurd equality
 
--- ---- the number in a place
+-- ---- the number at an index
 
 module _ (types : OneType) (scene : SceneModel) (place : ℕ) where
   -- a number that is read beside a type is of that type
@@ -123,7 +123,7 @@ module _ (types : OneType) (scene : SceneModel) (place : ℕ) where
       subst (λ (t : ExprType). NumberBeside slots t (quoted_text b) n)
       (types slots (type_name_at scene.row.schema scene.row.type_id) (scope_of (environment_of scene)) a reads.type_of s (goes reads.type_of reads.beside) typed) reads.number
 
-  -- one number stands in a place
+  -- one number stands at an index
   same_number : (number : ℕ) (Reads : ℤ → Type 0) (n : ℤ) → slice_get scene.list.values number ≡ Some (Value.Enum n) → IsReadAt scene.list.values number Reads → Reads n
   same_number number Reads n at read =
       let same : Some (Value.Enum read.number) ≡ Some (Value.Enum n) = sym read.at ∙ at in
@@ -263,7 +263,7 @@ module _ (types : OneType) (scene : SceneModel) (place : ℕ) where
           means = λ o given. inl (n, reads, given);
         })
 
-  -- ---- the place of the number
+  -- ---- the index of the number
 
   pub right_within : (operator : BinaryOperator) (number : ℕ) → HasKind scene.list place (NodeKind.PairedRight operator number) → PartStands scene place
       → (n : ℤ) × ((slice_get scene.list.values number ≡ Some (Value.Enum n)) × (number < length scene.list.values) × IsEquality operator)
@@ -294,7 +294,7 @@ module _ (types : OneType) (scene : SceneModel) (place : ℕ) where
 
   -- ---- what the code holds for the number
 
-  -- what stands in the place is the number
+  -- what stands at the index is the number
   value_is : (value : Value) (number : ℕ) (n : ℤ) → slice_get scene.list.values number ≡ Some value → slice_get scene.list.values number ≡ Some (Value.Enum n) → value ≡ Value.Enum n
   value_is value number n here at = let same : Some value ≡ Some (Value.Enum n) = sym here ∙ at in cc
 

@@ -1,4 +1,4 @@
--- Nodes in which a literal is read: the number that stands in a place of the values for it.
+-- Nodes in which a literal is read: the number that stands at an index of the values for it.
 use Rattle.std.proofs.Common.{◌≡◌, ℕ, ℤ, List, Option, Some, None, refl}
 use Rattle.edm_values.specs.Val.{Val}
 use Rattle.odata_syntax.specs.Tree.{Tree, Trees, binary, has, in_list, literal, node}
@@ -26,7 +26,7 @@ none_some : (spelling : List ℕ) → ◌≡◌ {A = Option (List ℕ)} None (So
 none_some spelling same = cc
 
 module _ (scene : SceneModel) where
-  -- a String literal comes to a value
+  -- a String literal evaluates to a value
   text_gives : (tree : Tree) (spelling : List ℕ) → quoted_text tree ≡ Some spelling → (o : Outcome) → MeansHere scene tree o → (v : Val) × (o ≡ gives v)
   text_gives (node from to (literal LiteralKind.Str text)) spelling is (gives v) means = (v, refl)
   text_gives (node from to (literal LiteralKind.Str text)) spelling is overflow means = absurd means

@@ -1,4 +1,4 @@
--- What `has` and `in` before a path come to, from what was answered of both their sides.
+-- What `has` and `in` before a path evaluate to, from what was answered of both their sides.
 use Rattle.std.proofs.Common.{◌≡◌, ℕ, ◌<◌, ◌+◌, [], Ok, subst, arith}
 use Rattle.edm_values.specs.Val.{Val}
 use Rattle.edm_values.specs.declared.datum.Datum.{Datum}

@@ -1,4 +1,4 @@
--- What stands behind a node, and down a chain of nodes of one class.
+-- What stands after a node, and down a chain of nodes of one class.
 use Rattle.std.proofs.Common.{◌≡◌, ◌∙◌, ℕ, zero, suc, ◌<◌, ◌≤◌, ◌+◌, ◌-◌, List, [], ◌∷◌, length, slice_get, slice_index_or, ap, refl, sym, subst, inl, inr, arith}
 use Rattle.std.specs.Prelude.{Contains, IsSomeAnd}
 use Rattle.std.proofs.lemmas.Bool.{cases_lt}
@@ -176,7 +176,7 @@ TypedAll scene = AreTyped (slots_of scene.row.schema) (type_name_at scene.row.sc
 abbrev pub MeanAll : SceneModel → Trees → (List Val → Outcome → Type 0) → Outcome → Type 0
 MeanAll scene = ArgumentsMean (slots_of scene.row.schema) (type_name_at scene.row.schema scene.row.type_id) scene.moment (value_of scene.row) (environment_of scene)
 
--- what stands somewhere stops behind that
+-- what stands somewhere stops after that
 module _ (schema : SchemaModel) (n : ℕ) (list : FlatTree) where
   mutual
     pub further_in : (scope : Scope) (i j : ℕ) (tree : Tree) → Stands schema n scope list i j tree → i < j
@@ -473,13 +473,13 @@ module _ (scene : SceneModel) where
     part_down below first all =
         down (PartStands scene) (IsClassAt scene.list class) (λ i part is. first_part i class inner is part) top (k - top) k (omega arith) first all
 
-  -- the bottom of a chain, behind its top
+  -- the bottom of a chain, after its top
   pub bottom_down : (class : WalkClass) → ¬ (class ≡ WalkClass.Leaf) → (top k : ℕ) → top < k → PartStands scene top
       → ((i : ℕ) → i < k → top ≤ i → IsClassAt scene.list class i) → TypedStands scene k (AllowedBy class)
   bottom_down class inner top k below first all =
       typed_down class inner (top + 1) k (omega arith) (first_step top class inner (all top below (omega arith)) first) (λ i before from. all i before (omega arith))
 
-  -- a step up a chain to the node before, with what was answered behind that
+  -- a step up a chain to the node before, with what was answered after that
   pub record StepUp (class : WalkClass) (Answers : ℕ → Type 0) (at : ℕ) : Type 0 where
     pub stands : PartStands scene (at - 1)
     pub here : IsClassAt scene.list class (at - 1)
@@ -551,7 +551,7 @@ module _ (scene : SceneModel) where
             omega arith)
             part.stop part.tree part.stands
 
--- a chain that begins at a place of a class ends behind it
+-- a chain that begins at an index of a class ends after it
 pub below_bottom : (list : FlatTree) (class : WalkClass) (place bottom : ℕ) → place ≤ bottom → IsClassAt list class place
     → ¬ (IsClassAt list class bottom) → place < bottom
 below_bottom list class place bottom below is is_not =
@@ -560,6 +560,6 @@ below_bottom list class place bottom below is is_not =
       | inr after ↦ (let same : place ≡ bottom = omega arith in absurd (is_not (subst (IsClassAt list class) same is)))
     ]
 
--- what was answered behind the last step up was answered at the top
+-- what was answered after the last step up was answered at the top
 pub at_top : (Answers : ℕ → Type 0) (at top : ℕ) → top ≤ at → at ≤ top → Answers at → Answers top
 at_top Answers at top above below answers = let e : at ≡ top = omega arith in subst Answers e answers

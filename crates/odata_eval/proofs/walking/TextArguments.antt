@@ -1,4 +1,4 @@
--- What a call comes to whose arguments are texts, where no value is made of these.
+-- What a call evaluates to whose arguments are texts, where no value is made of these.
 use Rattle.std.proofs.Common.{◌≡◌, ℕ, ◌+◌, List, [], ◌∷◌, refl, subst}
 use Rattle.std.specs.Prelude.{string_bytes}
 use Rattle.std.specs.declared.borrow.CowStr.TheVariants as cow

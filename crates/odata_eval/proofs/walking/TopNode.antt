@@ -1,4 +1,4 @@
--- What a filter's whole list comes to.
+-- What a filter's whole list evaluates to.
 use Rattle.std.proofs.Common.{◌≡◌, ◌∙◌, ℕ, [], Option, Some, None, Result, Err, Bool, List, ap, length, refl, sym, subst}
 use Rattle.std.specs.Prelude.{IfSome}
 use Rattle.edm_values.specs.MomentParts.{MomentParts}
@@ -77,7 +77,7 @@ module _ (filter : Filter) (row : Row) (moment : MomentParts) (scene : SceneMode
   memory_told : (fault : EvalFault) (Takes : Type 0) (Means : Outcome → Type 0) → Tells Takes Means (fault_outcome fault) → fault ≡ EvalFault.Memory → Takes
   memory_told fault Takes Means is same = subst (λ (f : EvalFault). Tells Takes Means (fault_outcome f)) same is
 
-  -- the walk tells want of memory only where the filter takes memory
+  -- the walk reports running out of memory only where the filter takes memory
   pub top_memory : (fault : EvalFault) → AnswersTruth scene 0 (Err fault) → fault ≡ EvalFault.Memory → TakesMemory (tree_of_filter filter)
   top_memory fault answers =
       memory_told fault (TakesMemory (tree_of_filter filter)) (MeansHere scene (tree_of_filter filter))

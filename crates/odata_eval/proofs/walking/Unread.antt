@@ -1,4 +1,4 @@
--- Nodes in which no literal is read: the operands go by their types, and both come to what they are by themselves.
+-- Nodes in which no literal is read: the operands go by their types, and both evaluate to what they are by themselves.
 use Rattle.std.proofs.Common.{ℕ, inl, inr}
 use Rattle.odata_syntax.specs.Tree.{Tree, Trees, binary, has, in_list, node}
 use Rattle.odata_syntax.specs.declared.binary_operator.BinaryOperator.{BinaryOperator}

@@ -48,7 +48,7 @@ unbound (bound ∷ more) asked none =
       | false ↦ λ there. unbound more asked there
     ] none
 
--- one that a variable has comes to the variable's value
+-- one that a variable has evaluates to the variable's value
 pub variable_gives : (slots : Slots) (in_scope : Option ExprType) (value : Option Val) (entity : Val) (asked : List ℕ) (Otherwise : Type 0) (type : ExprType) (v : Value)
     → VariableHolds slots in_scope value v → MatchOption in_scope Otherwise (λ t. type ≡ t) → FoundGives value entity asked (gives (val_of v slots.properties type))
 variable_gives slots (Some t) (Some w) entity asked Otherwise type v holds typed = ap (λ (u : ExprType). gives (val_of v slots.properties u)) typed ∙ ap gives (sym holds)

@@ -74,7 +74,7 @@ module _ (scene : SceneModel) (place : ℕ) where
         stop tree stands typed;
   }
 
-  -- the one type of the tree is that which the node tells
+  -- the one type of the tree is that which the node says
   type_is : OneType → (found : CheckedNode) → slice_get scene.list.nodes place ≡ Some found → (stop : ℕ) (tree : Tree) (type : ExprType) → StandsHere scene place stop tree → TypedHere scene tree type
       → expr_type scene.row.schema found.edm_type ≡ type
   type_is types found at stop tree type stands typed =
@@ -120,7 +120,7 @@ module _ (scene : SceneModel) (place : ℕ) where
   -- ---- operators with two operands
 
   module _ (operator : BinaryOperator) (here : HasKind scene.list place (NodeKind.Binary operator)) where
-    -- behind the left side's value goes what the operator says of it and of the right side
+    -- after the left side's value goes what the operator says of it and of the right side
     of_left : (l : ExprType → Val) (told : ExprType → Option Outcome)
         → AnswersAtPlace scene (place + 1) (λ type. Some (gives (l type)))
         → ((stop from to : ℕ) (a b : Tree) (type : ExprType) → StandsHere scene place stop (node from to (binary operator a b))
@@ -142,7 +142,7 @@ module _ (scene : SceneModel) (place : ℕ) where
     }
 
     module _ (right_place : ℕ) (is_right : IsRightOf scene.list place right_place) where
-      -- and behind both answers what the operator says of them
+      -- and after both answers what the operator says of them
       pub of_sides : (l : ExprType → Val) (beside told : ExprType → Option Outcome)
           → AnswersAtPlace scene (place + 1) (λ type. Some (gives (l type))) → AnswersAtPlace scene right_place beside
           → ((stop : ℕ) (whole : Tree) (s t type : ExprType) (Right : Outcome → Type 0) → StandsHere scene place stop whole → TypedHere scene whole type

@@ -18,7 +18,7 @@ use Rattle.odata_eval.specs.private.SceneModel.{SceneModel}
 use Rattle.odata_eval.specs.private.WalkAnswer.{AnswersAtPlace, AnswersDatum, AnswersKept}
 use Rattle.odata_eval.proofs.walking.Readings.{PlainValues, value_read}
 
--- what a tree comes to is of its type
+-- what a tree evaluates to is of its type
 pub value_has : (scene : SceneModel) → EndsOnceHere scene
     → (tree : Tree) (type : ExprType) (v : Val) → TypedHere scene tree type → MeansHere scene tree (gives v) → HasType (slots_of scene.row.schema) type v
 value_has scene ends tree type v typed related =
@@ -33,7 +33,7 @@ module _ (scene : SceneModel) (place : ℕ) where
     of_tree = λ stop tree type stands typed. subst (λ (u : Val). MeansHere scene tree (gives u)) (same type) (answers.of_tree stop tree type stands typed);
   }
 
-  -- a kept value, as it is passed on
+  -- a stored value, as it is passed on
   pub kept_datum : (value : Value) (made : Datum) → AnswersKept scene place value → IsDatumOf value made → AnswersDatum scene place (Ok made)
   kept_datum value made kept same =
       let slots = slots_of scene.row.schema in

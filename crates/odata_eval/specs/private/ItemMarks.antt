@@ -1,4 +1,4 @@
--- For private clauses: items of a list, for which values may stand from a place on, one behind another.
+-- For private clauses: items of a list, for which values may stand from an index on, one after another.
 use Rattle.std.specs.Prelude.{ℕ, ◌+◌, List, Option, Some, None}
 use Rattle.edm_values.specs.declared.value.Value.{Value}
 use Rattle.odata_syntax.specs.Tree.{Tree, Trees}
@@ -14,7 +14,7 @@ use Rattle.odata_eval.specs.private.Scene.{StandsHere, TypedHere}
 use Rattle.odata_eval.specs.private.SceneModel.{SceneModel, environment_of}
 use Rattle.odata_filter_operations.specs.Tells.{Tells}
 
--- a value for the item stands in the place, or there are none and the item is not read
+-- a value for the item stands at the index, or there are none and the item is not read
 abbrev pub IsMarked : List Value → Slots → (ExprType → Type 0) → Option ℕ → Tree → Type 0
 IsMarked values slots Beside (Some place) item = IsItemNumber values slots Beside item place
 IsMarked values slots Beside None item = ReadsNone slots Beside item
@@ -33,7 +33,7 @@ AloneHere scene =
     ItemAlone (slots_of scene.row.schema) (type_name_at scene.row.schema scene.row.type_id) scene.moment
     (value_of scene.row) (environment_of scene)
 
--- what is told is an outcome of what stands in the place as an item, whatever the operand before it
+-- what is reported is an outcome of what stands at the index as an item, whatever the operand before it
 pub record AnswersItem (scene : SceneModel) (place : ℕ) (mark : Option ℕ) (told : ExprType → Option Outcome) : Type 0 where
   pub of_item :
       (left : Tree) (stop : ℕ) (tree : Tree) (type : ExprType) → StandsHere scene place stop tree

@@ -23,21 +23,21 @@ abbrev pub IsMadeAt : FlatTree → ℕ → Type 0
 IsMadeAt list place =
     ((function : Function) × HasCall list place function) ⊎ IsClassAt list WalkClass.Numeric place
 
--- the text is what stands there comes to
+-- the text is what stands there evaluates to
 abbrev pub AnswersText : SceneModel → ℕ → List ℕ → Type 0
 AnswersText scene place given = AnswersAtPlace scene place (λ type. Some (gives (text given)))
 
--- what the function gives of that text is what its call there comes to
+-- what the function gives of that text is what its call there evaluates to
 abbrev pub AnswersCall : SceneModel → ℕ → Function → List ℕ → Type 0
 AnswersCall scene place function given =
     (o : Outcome) → FunctionGives scene.moment function (text given ∷ []) o → AnswersAtPlace scene place (λ type. Some o)
 
--- so is what it gives of another text and that one, where the first argument comes to the other
+-- so is what it gives of another text and that one, where the first argument evaluates to the other
 abbrev pub AnswersLast : SceneModel → ℕ → Function → List ℕ → Type 0
 AnswersLast scene place function part =
     (given : List ℕ) (o : Outcome) → AnswersText scene (place + 1) given
     → FunctionGives scene.moment function (text given ∷ text part ∷ []) o → AnswersAtPlace scene place (λ type. Some o)
 
--- that text in lower case is what stands there comes to
+-- that text in lower case is what stands there evaluates to
 abbrev pub AnswersLowered : SceneModel → ℕ → List ℕ → Type 0
 AnswersLowered scene place given = AnswersText scene place (in_lower_case given)

@@ -48,7 +48,7 @@ abbrev pub body_scope : SceneModel → RangeVariable → Scope
 body_scope scene variable =
     with_variable (scope_of (environment_of scene)) variable.name.now (type_of_variable scene variable)
 
--- the nodes from the place up to the stop stand for the body
+-- the nodes from the index up to the stop stand for the body
 abbrev pub BodyStands : SceneModel → RangeVariable → ℕ → ℕ → Tree → Type 0
 BodyStands scene variable = Stands scene.row.schema scene.row.type_id (body_scope scene variable) scene.list
 
@@ -66,7 +66,7 @@ pub record BodyIsThere (scene : SceneModel) (variable : RangeVariable) (place : 
   pub typed : BodyTyped scene variable body type_of
   pub truth : IsBooleanOrNull type_of
 
--- what the body comes to where the variable has that value
+-- what the body evaluates to where the variable has that value
 abbrev pub BodyMeans : SceneModel → RangeVariable → Tree → Val → Outcome → Type 0
 BodyMeans scene variable body v =
     Means (slots_of scene.row.schema) (type_name_at scene.row.schema scene.row.type_id) scene.moment (value_of scene.row)
@@ -83,7 +83,7 @@ abbrev pub vals_of : Slots → ExprType → List Value → Vals
 vals_of slots type [] = no_items
 vals_of slots type (value ∷ more) = item (val_of value slots.properties type) (vals_of slots type more)
 
--- the answer is an outcome of the operator over these members, whatever body stands in the place
+-- the answer is an outcome of the operator over these members, whatever body stands at the index
 pub record AnswersMembers
     (scene : SceneModel) (place : ℕ) (quantifier : Quantifier) (variable : RangeVariable) (members : List Value)
     (answer : Result (Option Bool) EvalFault) : Type 0 where

@@ -1,4 +1,4 @@
--- For private clauses: what stands in a place of a filter's list, seen from where it is evaluated.
+-- For private clauses: what stands at an index of a filter's list, seen from where it is evaluated.
 use Rattle.std.specs.Prelude.{◌≡◌, ℕ, ◌+◌, Option, IsSomeAnd, slice_get}
 use Rattle.edm_values.specs.declared.primitive.PrimitiveType.{PrimitiveType}
 use Rattle.odata_syntax.specs.Tree.{Tree}
@@ -55,7 +55,7 @@ HasOperator list place operator = HasKind list place (NodeKind.Binary operator)
 abbrev pub HasCall : FlatTree → ℕ → Function → Type 0
 HasCall list place function = HasKind list place (NodeKind.Call function)
 
--- the node there stops in that place
+-- the node there stops at that index
 abbrev pub IsStopOf : FlatTree → ℕ → ℕ → Type 0
 IsStopOf list place stop = IsSomeAnd (slice_get list.nodes place) (λ found. found.stop ≡ stop)
 

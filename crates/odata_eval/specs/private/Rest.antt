@@ -10,7 +10,7 @@ use Rattle.odata_eval.specs.private.SceneModel.{SceneModel}
 use Rattle.odata_eval.specs.private.WalkAnswer.{AnswersTruth}
 
 -- the next term stands there; the first nodes, so many, are `and`s, and what is answered of the term is answered of the
--- node behind these
+-- node after these
 pub record IsRest (scene : SceneModel) (rest : Rest) : Type 0 where
   pub stands : TruthStands scene rest.term
   pub ands : (k : ℕ) → k < rest.ands → HasOperator scene.list k (BinaryOperator.Logical LogicalOperator.And)
@@ -18,7 +18,7 @@ pub record IsRest (scene : SceneModel) (rest : Rest) : Type 0 where
       (answer : Result (Option Bool) EvalFault) → AnswersTruth scene rest.term answer
       → AnswersTruth scene rest.ands answer
 
--- what came of the plain terms is what the whole comes to, or says what is left of it
+-- what came of the plain terms is what the whole evaluates to, or says what is left of it
 abbrev pub TellsTerms : SceneModel → PlainTerms → Type 0
 TellsTerms scene (PlainTerms.Decide truth) = AnswersTruth scene 0 (Ok (Some truth))
 TellsTerms scene (PlainTerms.Leave rest) = IsRest scene rest

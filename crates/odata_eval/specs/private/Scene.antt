@@ -1,4 +1,4 @@
--- For private clauses: what an expression is and comes to where a filter is evaluated.
+-- For private clauses: what an expression is and evaluates to where a filter is evaluated.
 use Rattle.std.specs.Prelude.{◌≡◌, ℕ, Some, slice_get, Vec}
 use Rattle.std.specs.declared.alloc.Global.{Global}
 use Rattle.edm_values.specs.declared.value.Value.{Value, Record}
@@ -14,7 +14,7 @@ use Rattle.odata_eval.specs.Means.{Means}
 use Rattle.odata_filter_operations.specs.Outcome.{Outcome}
 use Rattle.odata_eval.specs.private.SceneModel.{SceneModel, environment_of}
 
--- the nodes of the list from the place up to the stop stand for the tree
+-- the nodes of the list from the index up to the stop stand for the tree
 abbrev pub StandsHere : SceneModel → ℕ → ℕ → Tree → Type 0
 StandsHere scene = Stands scene.row.schema scene.row.type_id (scope_of (environment_of scene)) scene.list
 
@@ -23,13 +23,13 @@ abbrev pub TypedHere : SceneModel → Tree → ExprType → Type 0
 TypedHere scene =
     Typed (slots_of scene.row.schema) (type_name_at scene.row.schema scene.row.type_id) (scope_of (environment_of scene))
 
--- the tree comes to the outcome
+-- the tree evaluates to the outcome
 abbrev pub MeansHere : SceneModel → Tree → Outcome → Type 0
 MeansHere scene =
     Means (slots_of scene.row.schema) (type_name_at scene.row.schema scene.row.type_id) scene.moment (value_of scene.row)
     (environment_of scene)
 
--- a tree that has a type comes to one outcome, and to no other
+-- a tree that has a type evaluates to one outcome, and to no other
 abbrev pub EndsOnceHere : SceneModel → Type 0
 EndsOnceHere scene =
     (tree : Tree) (type : ExprType) → TypedHere scene tree type

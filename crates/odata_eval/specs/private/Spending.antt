@@ -110,7 +110,7 @@ CostsOnceHere scene =
     → CostsOnce (slots_of scene.row.schema) (type_name_at scene.row.schema scene.row.type_id) scene.moment
     (value_of scene.row) (environment_of scene) tree
 
--- what stands in the place was asked for, with a budget before and after
+-- what stands at the index was asked for, with a budget before and after
 pub record SpendsAt (scene : SceneModel) (place : ℕ) (old new : Budget) (stop : Option EvalStop) : Type 0 where
   pub of_tree :
       (last : ℕ) (tree : Tree) (n : ℕ) → StandsHere scene place last tree → CostsHere scene tree n
@@ -129,7 +129,7 @@ abbrev pub SpendsRest : SceneModel → ℕ → Budget → Option EvalStop → Bu
 SpendsRest scene place old first new stop =
     (start : Budget) → SpendsAt scene (place + 1) start old first → SpendsAt scene place start new stop
 
--- so were the members of a lambda operator, whatever body stands in the place
+-- so were the members of a lambda operator, whatever body stands at the index
 pub record SpendsMembers
     (scene : SceneModel) (place : ℕ) (quantifier : Quantifier) (variable : RangeVariable) (members : List Value)
     (old new : Budget) (stop : Option EvalStop) : Type 0 where

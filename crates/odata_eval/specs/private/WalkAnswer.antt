@@ -20,7 +20,7 @@ use Rattle.odata_eval.specs.private.Place.{IsClassAt, IsStopOf}
 use Rattle.odata_eval.specs.private.Scene.{MeansHere, StandsHere, TypedHere}
 use Rattle.odata_eval.specs.private.SceneModel.{SceneModel}
 
--- it is an outcome of what stands in the place, by the type of that
+-- it is an outcome of what stands at the index, by the type of that
 pub record AnswersAtPlace (scene : SceneModel) (place : ℕ) (told : ExprType → Option Outcome) : Type 0 where
   pub of_tree :
       (stop : ℕ) (tree : Tree) (type : ExprType) → StandsHere scene place stop tree → TypedHere scene tree type
@@ -31,7 +31,8 @@ abbrev pub AnswersDatum : SceneModel → ℕ → Result Datum EvalFault → Type
 AnswersDatum scene place answer =
     AnswersAtPlace scene place (λ type. answer_outcome (datum_val (reading_at (slots_of scene.row.schema) type)) answer)
 
--- from the first place on, arguments that lie before the last place have been answered one behind another, up to a place
+-- from the first index on, arguments that lie before the last index have been answered one after another, up to an
+-- index
 abbrev pub AllAnswered : SceneModel → ℕ → ℕ → ℕ → List Datum → Type 0
 AllAnswered scene first at last [] = first ≡ at
 AllAnswered scene first at last (answer ∷ more) =
@@ -46,12 +47,12 @@ AnswersTruth scene place answer = AnswersAtPlace scene place (λ type. answer_ou
 abbrev pub AnswersNumber : SceneModel → ℕ → Result (Option ℤ) EvalFault → Type 0
 AnswersNumber scene place answer = AnswersAtPlace scene place (λ type. answer_outcome number_val answer)
 
--- and a value that is kept
+-- and a stored value
 abbrev pub AnswersKept : SceneModel → ℕ → Value → Type 0
 AnswersKept scene place value =
     AnswersAtPlace scene place (λ type. Some (gives (val_of value (slots_of scene.row.schema).properties type)))
 
--- what stands in the place: a value, a node of truth values, one of numbers, or another one with operands
+-- what stands at the index: a value, a node of truth values, one of numbers, or another one with operands
 abbrev pub IsPart : SceneModel → ℕ → Part → Type 0
 IsPart scene place (Part.Leaf value) = AnswersKept scene place value.now × IsClassAt scene.list WalkClass.Leaf place
 IsPart scene place Part.Logical = IsClassAt scene.list WalkClass.Logical place

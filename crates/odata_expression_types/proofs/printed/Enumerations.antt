@@ -30,7 +30,7 @@ cut_to text asked inner split = record {
 
 -- ---- and back
 
--- of a text whose spelling has a first quote, what stands behind that
+-- of a text whose spelling has a first quote, what stands after that
 record IsBehindQuote (text asked ys : List ℕ) : Type 0 where
   rest : List ℕ
   whole : text ≡ asked ++ quote ∷ rest
@@ -81,7 +81,7 @@ no_end b holds = elim (cases_Bool (b == 32)) [
   | inr plain ↦ (let e : false ≡ true = rw plain at holds in cc)
 ]
 
--- what leaves nothing behind a byte that stays is nothing
+-- what leaves nothing after a byte that stays is nothing
 nothing_left : (bs : List ℕ) → trimmed_pieces false bs ≡ [] → bs ≡ []
 nothing_left [] same = refl
 nothing_left (b ∷ bs) same = elim (cases_Bool (drops false b bs)) [
@@ -97,7 +97,7 @@ record EndsQuoted (xs : List ℕ) : Type 0 where
   inner : List ℕ
   is : xs ≡ inner ++ quote ∷ []
 
--- behind a byte that stays
+-- after a byte that stays
 stays : (b : ℕ) (bs ls : List ℕ) → ((t : Bool) (left : List ℕ) → trimmed_pieces t bs ≡ left ++ quote ∷ [] → EndsQuoted bs)
     → b ∷ trimmed_pieces (b == 44) bs ≡ ls ++ quote ∷ [] → EndsQuoted (b ∷ bs)
 stays b bs [] more here =

@@ -68,7 +68,7 @@ AreAlike [] [] = Unit {0}
 AreAlike (p ∷ ps) (q ∷ qs) = (without_outer_spaces p ≡ without_outer_spaces q) × AreAlike ps qs
 AreAlike _ _ = ⊥
 
--- the same of one piece or more, whose first may have trailing spaces alone or, behind a comma, outer ones
+-- the same of one piece or more, whose first may have trailing spaces alone or, after a comma, outer ones
 abbrev FirstAlike : Bool → Pieces → Pieces → Type 0
 FirstAlike true (p ∷ ps) (q ∷ qs) = (without_outer_spaces p ≡ without_outer_spaces q) × AreAlike ps qs
 FirstAlike false (p ∷ ps) (q ∷ qs) = (without_trailing_spaces p ≡ without_trailing_spaces q) × AreAlike ps qs
@@ -151,7 +151,7 @@ blank (b ∷ bs) end = elim (cases_Bool (b == 44)) [
       (onto_blank b (pieces_of bs) (left_and (b == 32) (is_end bs) spaces) (blank bs (right_and (b == 32) (is_end bs) spaces)))
 ]
 
--- behind a comma
+-- after a comma
 comma_alike : (before : Bool) (b : ℕ) (bs : List ℕ) → (b == 44) ≡ true → FirstAlike true (pieces_of bs) (pieces_of (trimmed true bs))
     → FirstAlike before (pieces_of (b ∷ bs)) (pieces_of (trimmed before (b ∷ bs)))
 comma_alike before b bs holds more =

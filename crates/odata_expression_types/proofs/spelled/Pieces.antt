@@ -104,7 +104,7 @@ joined_front : (c : ℕ) (piece : List ℕ) (pieces : List (List ℕ)) → c ∷
 joined_front c piece [] = refl
 joined_front c piece (next ∷ pieces) = refl
 
--- what is said of a text, behind a comma or at the beginning, and within a piece
+-- what is said of a text, after a comma or at the beginning, and within a piece
 record IsTrimmed (text : List ℕ) : Type 0 where
   pub fresh : trimmed true text ≡ joined_by_commas (map without_outer_spaces (pieces_of text)) ++ 39 ∷ []
   pub within : trimmed false text ≡ joined_by_commas (trailed (pieces_of text)) ++ 39 ∷ []

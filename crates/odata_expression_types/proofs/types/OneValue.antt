@@ -42,7 +42,7 @@ BooleanValue-one spelling false false p q = refl
 BooleanValue-one spelling true false p q = absurd (two_words spelling p q)
 BooleanValue-one spelling false true p q = absurd (two_words spelling q p)
 
--- behind one front stands one text
+-- after one front stands one text
 same_rest : (a x y : List ℕ) → a ++ x ≡ a ++ y → x ≡ y
 same_rest [] x y same = same
 same_rest (c ∷ a) x y same = let rest : a ++ x ≡ a ++ y = cc in same_rest a x y rest

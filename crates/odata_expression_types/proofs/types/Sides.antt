@@ -7,7 +7,7 @@ use Rattle.csdl_schema.specs.ExprType.{ExprType}
 use Rattle.odata_signatures.specs.Side.{Side, quoting}
 use Rattle.odata_expression_types.specs.Sides.{BeforeList, Between, quoted_text, sides_of}
 
--- trees one behind another that quote the same
+-- trees one after another that quote the same
 abbrev pub QuoteAlike : Trees → Trees → Type 0
 QuoteAlike no_trees no_trees = Unit {0}
 QuoteAlike (more_trees tree trees) (more_trees other others) = (quoted_text tree ≡ quoted_text other) × QuoteAlike trees others

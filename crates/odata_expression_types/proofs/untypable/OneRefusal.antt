@@ -1,4 +1,4 @@
--- A text is refused for one reason at most, and then it is no filter.
+-- A text is refused for one reason at most, and then it is not a filter.
 use Rattle.std.proofs.Common.{◌≡◌, sym, ◌∙◌, ap, subst, inl, inr, ℕ, ◌≤◌, List, [], length, Option, Some, None, MatchOption, arith}
 use Rattle.odata_text.specs.TokenModel.{TokenModel}
 use Rattle.odata_text.specs.TokenSequence.{AreTextTokens}

@@ -16,7 +16,7 @@ use Rattle.odata_filter.specs.declared.command.command_line.PlanFault.TheVariant
 use Rattle.odata_filter.specs.declared.command.command_line.Verb.{Verb}
 use Rattle.odata_filter.specs.private.PlanSteps.{IsApp, IsClapFault, IsNotOneFault}
 
--- the program's command is one of those of which `clap` tells its matches and its faults
+-- the program's command is one of those of which `clap` reports its matches and its faults
 pub is_plain : is_simple odfilter_app ≡ true
 unfolding clap_on_literals
 is_plain = refl

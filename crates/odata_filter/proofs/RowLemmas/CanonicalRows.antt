@@ -119,7 +119,7 @@ some_carried : {A : Type 0} (told : Option A) (P Q : A → Type 0) → ((a : A) 
 some_carried None P Q carry is = is
 some_carried (Some a) P Q carry is = carry a is
 
--- ---- filters that see the same in JSON, and come to the same
+-- ---- filters that see the same in JSON, and evaluate to the same
 
 record ComeToTheSame (filter again : Filter) : Type 0 where
   slots : slots_for_filter filter ≡ slots_for_filter again

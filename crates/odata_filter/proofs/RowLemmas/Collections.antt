@@ -30,7 +30,7 @@ module _ (filter : Filter) (now : MomentParts) (document : List ℕ) (values : L
   pub collection_filtered : (tally : Tally) → Filters (places judge values) text tally → OfCollection filter now document (λ items. Filters items text tally)
   collection_filtered tally filtered = (map view values, is, Filters-renamed (JudgesValue filter now) view values text tally filtered)
 
-  -- the stop that a fault tells is one of the items
+  -- the stop that a fault reports is one of the items
   stopped_by : (fault : RunFault) → IsSomeAnd (run_stop fault) (StopsHeld (places judge values) text) → StopsCollection filter now document text fault
   stopped_by RunFault.NotACollection stops = absurd stops
   stopped_by (RunFault.Json line) stops = absurd stops.found

@@ -1,4 +1,4 @@
--- What a fault of a run says of its devices, by the stop that it tells.
+-- What a fault of a run says of its devices, by the stop that it reports.
 use Rattle.std.proofs.Common.{◌≡◌, ◌<◌, ◌≤◌, ℕ, List, length, Option, Some, IfSome, inl, inr, refl, sym, subst, arith}
 use Rattle.line_filter.specs.declared.calls.Calls.{Calls}
 use Rattle.line_filter.specs.DeviceCalls.{StaysWell, FailsLast}

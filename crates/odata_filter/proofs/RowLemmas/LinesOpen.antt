@@ -1,4 +1,4 @@
--- A stop that tells a line also holds where that line is left open.
+-- A stop that reports a line also holds where that line is left open.
 use Rattle.std.proofs.Common.{ℕ, List, ◌∷◌, ◌++◌, Option, inl, inr}
 use Rattle.line_filter.specs.Kept.{Items, Stops, StopsBefore, StopsHeld, StopsOn, StopsWith}
 use Rattle.line_filter.specs.LineItems.{LineJudge, lines}

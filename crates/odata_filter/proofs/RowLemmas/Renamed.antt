@@ -71,7 +71,7 @@ module _ {X Y F : Type 0} (judge : ItemJudge Y F) (name : X → Y) where
   -- ---- where a run stops
 
   module _ (xs : List X) (text : List ℕ) where
-    -- the items before one, and those behind
+    -- the items before one, and those after
     parted : (before after : List (Placed X)) → placed_from 0 xs ≡ before ++ after → placed_from 0 (map name xs) ≡ map renamed before ++ map renamed after
     parted before after whole = placed_renamed 0 xs ∙ ap (map renamed) whole ∙ map-append renamed before after
 

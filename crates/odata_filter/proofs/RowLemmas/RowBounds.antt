@@ -1,4 +1,4 @@
--- From what is known of an entity within a bound to what is reported of its row.
+-- From what is known of an entity within a bound to what is reported about its row.
 use Rattle.std.proofs.Common.{◌<◌, ◌≤◌, ℕ, List, Result, Ok, Err, IfSome}
 use Rattle.serde_json.specs.Data.{Data}
 use Rattle.edm_values.specs.MomentParts.{MomentParts}
@@ -20,7 +20,7 @@ use Rattle.odata_filter.proofs.RowLemmas.CostsBut.{IsRowCosting, cost_of_row}
 use Rattle.odata_filter.proofs.RowLemmas.RowJudges.{row_told}
 use Rattle.odata_filter.proofs.RowLemmas.RowsBut.{answer_but}
 
--- the filter's answer to the entity is what is reported of the JSON
+-- the filter's answer to the entity is what is reported about the JSON
 pub answer_within_row : (filter : Filter) (now : MomentParts) (json : Data) (row : Row) (most : ℕ) (answer : Result Verdict EvalStop) → IsRowCosting filter now json row
     → IfSome (outcome_told answer) (IsTheOutcome row now (tree_of_filter filter)) → KeepsBound row now (tree_of_filter filter) most answer
     → ReportsValueWithin filter now json most (stop_reported answer)
@@ -38,7 +38,7 @@ answer_within_row filter now json row most (Err (EvalStop.Fault EvalFault.Divide
 )
 answer_within_row filter now json row most (Err (EvalStop.Fault EvalFault.Memory)) is_row told bound = tt
 
--- what is reported of the JSON that a row is, is reported of the row
+-- what is reported about the JSON that a row is, is reported about the row
 pub row_within : (filter : Filter) (now : MomentParts) (row : List ℕ) (json : Data) (most : ℕ) (answer : Result Verdict RowStop) → IsJsonOf row json
     → ReportsValueWithin filter now json most answer → ReportsRowWithin filter now row most answer
 row_within filter now row json most (Ok verdict) is reports =

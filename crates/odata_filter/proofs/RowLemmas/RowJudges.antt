@@ -1,4 +1,4 @@
--- From what is known of an entity to what is told of its row, and said of its line.
+-- From what is known of an entity to what is reported about its row, and said of its line.
 use mathlib.Core.Path.{fun_ext}
 use Rattle.std.proofs.Common.{◌≡◌, ◌≢◌, ℕ, List, [], Some, None, Result, Ok, Err, sym, subst, refl, IfSome, IfOk}
 use Rattle.serde_json.specs.Data.{Data}
@@ -69,7 +69,7 @@ outcome_of_row filter now json row outcome is_row told =
       only = λ other means. told.only other (subst (Schema other) (sym is_row.same_schema) (subst (Place other) (sym is_row.same_type) means));
     }
 
--- a fault on the entity is what is told of the JSON
+-- a fault on the entity is what is reported about the JSON
 pub told_by_fault : (filter : Filter) (now : MomentParts) (json : Data) (row : Row) (fault : EvalFault)
     → IsRowOf filter json row → IfSome (fault_outcome fault) (IsTheOutcome row now (tree_of_filter filter))
     → TellsValue filter now json (Err (fault_told fault))
@@ -78,14 +78,14 @@ told_by_fault filter now json row EvalFault.DivideByZero is_row told =
     (divides_by_zero, (refl, outcome_of_row filter now json row divides_by_zero is_row told))
 told_by_fault filter now json row EvalFault.Memory is_row told = tt
 
--- the filter's answer to the entity is what is told of the JSON
+-- the filter's answer to the entity is what is reported about the JSON
 pub answer_of_row : (filter : Filter) (now : MomentParts) (json : Data) (row : Row) (answer : Result Verdict EvalFault)
     → IsRowOf filter json row → IfSome (told_outcome answer) (IsTheOutcome row now (tree_of_filter filter))
     → TellsValue filter now json (answer_told answer)
 answer_of_row filter now json row (Ok verdict) is_row told = outcome_of_row filter now json row (gives (verdict_val verdict)) is_row told
 answer_of_row filter now json row (Err fault) is_row told = told_by_fault filter now json row fault is_row told
 
--- ---- what is told, and what is said of a line
+-- ---- what is reported, and what is said of a line
 
 module _ (filter : Filter) (now : MomentParts) where
   -- an outcome that is not true leaves its row out
@@ -123,7 +123,7 @@ module _ (filter : Filter) (now : MomentParts) where
       let same : Judgment.Fault bad ≡ said = cc in subst (λ (j : Judgment BadRow). JudgesRow filter now row j) same told
   row_judged row (Err NoVerdict.Memory) said told is = absurd cc
 
-  -- what is told of the JSON that a row is, is told of the row
+  -- what is reported about the JSON that a row is, is reported about the row
   pub row_told : (row : List ℕ) (json : Data) (answer : Result Verdict NoVerdict)
       → IsJsonOf row json → TellsValue filter now json answer → TellsRow filter now row answer
   row_told row json (Ok verdict) is told = record { json = json; is_json = is; outcome = told }
@@ -132,7 +132,7 @@ module _ (filter : Filter) (now : MomentParts) where
   row_told row json (Err (NoVerdict.Bad (BadRow.NoValue fault))) is told = record { json = json; is_json = is; judged = told }
   row_told row json (Err NoVerdict.Memory) is told = tt
 
-  -- what is kept by what is told is right to keep
+  -- what is kept by what is reported is right to keep
   abbrev Says : {E : Type 0} → Result Verdict NoVerdict → Result (Judgment BadRow) E → Type 0
   Says answer result = MatchResult result (λ said. judgment_told answer ≡ Some said) (λ refused. judgment_told answer ≡ None)
 

@@ -18,7 +18,7 @@ use Rattle.odata_filter.proofs.RowLemmas.LinesOpen.{held_open, lines_open}
 pub of_filter : (P : Filter → MomentParts → Type 0) (f g : Filter) (m n : MomentParts) → f ≡ g → m ≡ n → P f m → P g n
 of_filter P f g m n same_filter same_moment said = subst (P g) same_moment (subst (λ f'. P f' m) same_filter said)
 
--- a stop that was told as a fault
+-- a stop that was reported as a fault
 module _ (f : Filter) (m : MomentParts) (waiting : List ℕ) (known : Option (List ℕ)) where
   abbrev lacks : List ℕ → List ℕ → ℕ → Type 0
   lacks bytes = LacksLine (JudgesRow f m) bytes waiting known

@@ -1,4 +1,4 @@
--- From what is known of an entity that lacks what was passed to what is told of its row.
+-- From what is known of an entity that lacks what was passed to what is reported about its row.
 use mathlib.Core.Path.{fun_ext}
 use Rattle.std.proofs.Common.{◌≡◌, ◌≢◌, ◌⊎◌, inl, inr, ℕ, zero, suc, ◌+◌, ◌<◌, ◌==◌, Bool, true, false, lt_of_not-le, List, [], ◌∷◌, length, Result, Ok, Err, slice_get, refl, sym, ap, ◌∙◌, subst, IfSome, arith}
 use Rattle.std.proofs.lemmas.Bool.{eqb-true, eqb-false}
@@ -29,7 +29,7 @@ use Rattle.odata_filter.specs.RowJudgment.{HasOutcome}
 use Rattle.odata_filter.specs.private.ValueAnswer.{TellsValue, answer_told, fault_told}
 use Rattle.odata_filter.proofs.RowLemmas.NamesAlone.{NamesNone, NodesNameNone, list_none, means_same}
 
--- ---- what a filter that names none of them comes to
+-- ---- what a filter that names none of them evaluates to
 
 nodes_none : (Passed : Names) (texts : List (List ℕ)) (i : ℕ) (nodes : List CheckedNode) → ((k : ℕ) → k < length nodes → ¬ Passed (unwrap_or (slice_get texts (i + k)) []))
     → ((k : ℕ) → IfSome (slice_get nodes k) (λ found. found.kind ≢ NodeKind.It)) → NodesNameNone Passed texts i nodes
@@ -60,7 +60,7 @@ outcomes_same filter Passed schema id now kept whole passes agrees = by passes.n
     by (inr no_row) =
         means_same (slots_of schema) (type_name_at schema id) now (fields kept) (fields whole) Passed (λ word not. steps_same kept whole word (agrees word not)) [] (tree_of_filter filter) (tree_none filter Passed passes no_row)
 
--- ---- what is told of a row
+-- ---- what is reported about a row
 
 -- an entity of the filter's schema and type, with what the filter needs of a line
 pub record IsRowBut (filter : Filter) (now : MomentParts) (json : Data) (row : Row) : Type 0 where

@@ -89,7 +89,7 @@ lacks_says without_plan verb plan document s lacks wrote = (inr (inl lacks), wro
 lacks_says without_memory verb plan document s lacks wrote = tt
 lacks_says _ verb plan document s lacks wrote = absurd lacks
 
--- what was told of the filter
+-- what was reported about the filter
 unwritten_says : (status : Status) (verb : Verb) (plan : Plan) (document : List ℕ) (s : Streams) (filter : Filter)
     → ReadsNoRows verb → IsPlanFilter plan document filter → IsUnwritten status → FailureSays status verb plan document s
 unwritten_says without_device Verb.Check plan document s filter reads_none is_filter unwritten = inl (filter, is_filter)
@@ -110,7 +110,7 @@ pub explained_says : {X : Type 0} (plan : Plan) (document : List ℕ) (s : Strea
 explained_says plan document s filter (Ok done) is_filter told unwritten = record { filter = filter; is_filter = is_filter; written = told }
 explained_says plan document s filter (Err failure) is_filter told unwritten = unwritten_says (status_of failure) Verb.Explain plan document s filter tt is_filter unwritten
 
--- a beginning was written of what is told of the filter
+-- a beginning was written of what is reported about the filter
 pub accepted_begins : (plan : Plan) (document : List ℕ) (s : Streams) (filter : Filter) → IsPlanFilter plan document filter
     → BeginsText (IsAccepted filter) s.old s.new → BeginsAs Verb.Check plan document s
 accepted_begins plan document s filter is_filter (inl nothing) = inl nothing
@@ -215,7 +215,7 @@ pub begins_as : (verb : Verb) (plan : Plan) (document : List ℕ) (s : Streams)
     → plan.verb ≡ verb → BeginsAs verb plan document s → Begins plan document s
 begins_as verb plan document s is begins = subst (λ (v : Verb). BeginsAs v plan document s) (sym is) begins
 
--- ---- a failure was told
+-- ---- a failure was reported
 
 refusal_numbered : (status : Status) → status_number status ≡ 1 → status ≡ without_filter
 refusal_numbered complete one = absurd (omega arith)

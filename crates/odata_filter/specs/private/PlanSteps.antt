@@ -20,7 +20,7 @@ IsClapFault error (Clap e) = (e ≡ error) × (kind_of e ≡ OutOfMemory → ⊥
 IsClapFault error OneOf = ⊥
 IsClapFault error Memory = kind_of error ≡ OutOfMemory
 
--- the one fault behind words that were taken
+-- the one fault after words that were taken
 abbrev pub IsNotOneFault : List Row → PlanFault → Type 0
 IsNotOneFault found OneOf = LacksOneOf found
 IsNotOneFault found _ = ⊥

@@ -21,22 +21,22 @@ use Rattle.odata_filter.specs.declared.run_fault.RunFault.TheVariants as rows
 use Rattle.odata_expression_types.specs.declared.refusal.Refusal.{Refusal}
 use Rattle.odata_expression_types.specs.declared.refusal.Refusal.TheVariants as refusal
 
--- want of memory, or no schema
+-- running out of memory, or no schema
 abbrev pub status_of_schema : SchemaFault → Status
 status_of_schema schema.Memory = without_memory
 status_of_schema fault = without_type
 
--- want of memory, or a query with a fault
+-- running out of memory, or a query with a fault
 abbrev pub status_of_query : QueryFault → Status
 status_of_query query.Memory = without_memory
 status_of_query fault = without_filter
 
--- want of memory, or no filter
+-- running out of memory, or no filter
 abbrev pub status_of_refusal : Refusal → Status
 status_of_refusal refusal.Memory = without_memory
 status_of_refusal other = without_filter
 
--- want of memory, a device that failed, or a row at fault
+-- running out of memory, a device that failed, or a row at fault
 abbrev pub status_of_rows : RunFault → Status
 status_of_rows (rows.Memory line) = without_memory
 status_of_rows (rows.Read line) = without_device
@@ -66,7 +66,7 @@ StopsOver said other streams = ⊥
 abbrev pub IsReadWhole : Option (Option (List ℕ)) → List ℕ → Type 0
 IsReadWhole rows bytes = IsSomeAnd rows (λ known. IfSome known (λ all. bytes ≡ all))
 
--- what a failure says before it is told: what its status says, but that at a refusal nothing was written yet
+-- what a failure says before it is reported: what its status says, but that at a refusal nothing was written yet
 abbrev pub FailureSays : Status → Verb → Plan → List ℕ → Streams → Type 0
 FailureSays without_filter verb plan document streams = HasNoFilter plan document × WroteNothing streams
 FailureSays status verb plan document streams = StatusSays status verb plan document streams
@@ -119,7 +119,7 @@ IsAnswered number old new =
     ((number ≡ 1) × Writes old new IsRefusedLine)
     ⊎ (((number ≡ 5) ⊎ (number ≡ 6)) × BeginsText IsRefusedLine old new)
 
--- A failure was told, and the program ends with this number: as an answer, or else standard output stays as it is.
+-- A failure was reported, and the program ends with this number: as an answer, or else standard output stays as it is.
 abbrev pub IsTold : ℕ → Status → Verb → Option (List ℕ) → Option (List ℕ) → Type 0
 IsTold number status verb old new =
     (IsAnswerOf verb status × IsAnswered number old new)

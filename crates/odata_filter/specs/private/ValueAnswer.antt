@@ -1,4 +1,4 @@
--- What is told of a JSON value, and of a filter's fault on it. Private clauses alone cite these.
+-- What is reported about a JSON value, and about a filter's fault on it. Private clauses alone cite these.
 use Rattle.std.specs.Prelude.{Result, Ok, Err}
 use Rattle.serde_json.specs.Data.{Data}
 use Rattle.edm_values.specs.MomentParts.{MomentParts}
@@ -12,19 +12,20 @@ use Rattle.odata_filter.specs.RowJudgment.{HasOutcome, JudgesValue}
 use Rattle.odata_filter.specs.declared.bad_row.BadRow.{BadRow}
 use Rattle.odata_filter.specs.declared.no_verdict.NoVerdict.{NoVerdict}
 
--- its verdict, which is the filter's one outcome on what it fits, or what is wrong with it; want of memory says nothing
+-- its verdict, which is the filter's one outcome on what it fits, or what is wrong with it; running out of memory says
+-- nothing
 abbrev pub TellsValue : Filter → MomentParts → Data → Result Verdict NoVerdict → Type 0
 TellsValue filter now json (Ok verdict) = HasOutcome filter now json (gives (verdict_val verdict))
 TellsValue filter now json (Err (NoVerdict.Bad bad)) = JudgesValue filter now json (Judgment.Fault bad)
 TellsValue filter now json (Err NoVerdict.Memory) = Unit {0}
 
--- a fault of arithmetic is one of the row, want of memory is none
+-- a fault of arithmetic is one of the row, running out of memory is none
 abbrev pub fault_told : EvalFault → NoVerdict
 fault_told EvalFault.Overflow = NoVerdict.Bad (BadRow.NoValue EvalFault.Overflow)
 fault_told EvalFault.DivideByZero = NoVerdict.Bad (BadRow.NoValue EvalFault.DivideByZero)
 fault_told EvalFault.Memory = NoVerdict.Memory
 
--- what a filter's answer to an entity tells
+-- what a filter's answer to an entity reports
 abbrev pub answer_told : Result Verdict EvalFault → Result Verdict NoVerdict
 answer_told (Ok verdict) = Ok verdict
 answer_told (Err fault) = Err (fault_told fault)

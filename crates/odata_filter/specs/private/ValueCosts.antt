@@ -1,4 +1,4 @@
--- What is reported of a JSON value within a bound. Private clauses alone cite these.
+-- What is reported about a JSON value within a bound. Private clauses alone cite these.
 use Rattle.std.specs.Prelude.{◌<◌, ◌≤◌, ℕ, Result, Ok, Err}
 use Rattle.serde_json.specs.Data.{Data}
 use Rattle.edm_values.specs.MomentParts.{MomentParts}

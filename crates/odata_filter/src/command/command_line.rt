@@ -1,7 +1,7 @@
 //! What a command line asks for.
 use thiserror::Error;
 
-/// What the program is to do.
+/// The work that the program is to do.
 #[derive(Clone, Copy, Debug, PartialEq, Eq)]
 pub enum Verb {
     Check,

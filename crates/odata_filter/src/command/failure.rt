@@ -8,8 +8,8 @@ use odata_text::QueryFault;
 use odata_typing::Refusal;
 use thiserror::Error;
 
-/// Why a run ended before the end of its rows. It is shown as the one line that is told, a refusal as what stands behind
-/// `refused ` there: want of memory is `memory`, wherever it comes from.
+/// Why a run ended before the end of its rows. It is displayed as the one line that is reported, a refusal as what
+/// stands after `refused ` there: running out of memory is `memory`, wherever it comes from.
 #[derive(Debug, Drop, Error)]
 pub enum Failure<'p> {
     #[error("usage now is not a moment")]
@@ -34,7 +34,7 @@ pub enum Failure<'p> {
     Rows(RunFault),
 }
 
-/// What stands before a fault, or nothing before want of memory.
+/// What stands before a fault, or nothing before running out of memory.
 fn unless(of_memory: bool, layer: &'static str) -> &'static str
     ensures { result.now ≡ (if of_memory then [] else layer.now) }
 {

@@ -6,11 +6,11 @@ ghost use Rattle.odata_filter.specs.CommandLine.{Enters, GivesNotOne, IsTaken, i
 ghost use Rattle.odata_filter.specs.declared.command.command_line.Verb.{Verb};
 ghost use Rattle.odata_filter.specs.WorkedLines as worked;
 
-/// A whole line is taken with its four values and no collection, one with `--collection` or `--now` behind it with that,
-/// and one with a query in place of the filter with that. Lines with neither and with both are taken and give not one of
-/// them. Lines without a schema and with an unknown option are not taken. `check` takes a filter, and no rows, no moment
-/// and no collection; `explain` a query, and no moment. The program tells its version, its subcommand has none of its
-/// own, and help goes before what is missing.
+/// Worked command lines. A whole line is taken with its four values and no collection, one with `--collection` or
+/// `--now` after it with that, and one with a query instead of the filter with that. Lines with neither and with both
+/// are taken and give not one of them. Lines without a schema and with an unknown option are not taken. `check` takes a
+/// filter, and no rows, no moment and no collection; `explain` a query, and no moment. The program reports its version,
+/// its subcommand has none of its own, and help goes before what is missing.
 pub fn lines_by_example()
     ensures taken { IsTaken worked.whole }
     ensures schema { first_of (codes "schema") (verb_matches worked.whole) ≡ Some (codes "s") }

@@ -10,7 +10,7 @@ use clap::error::ErrorKind;
 use clap::{Arg, ArgAction, ArgMatches, Command, Error};
 use std::alloc::{AllocError, Global};
 
-/// The version that the program tells.
+/// The version that the program reports.
 const VERSION: &str = "0.1.0";
 
 /// What stands at the end of each help.
@@ -198,7 +198,7 @@ fn is_collection(verb: Verb, matches: &ArgMatches<'_>) -> bool
     }
 }
 
-/// The plan of what stands behind a verb.
+/// The plan of what stands after a verb.
 fn plan_of<'a>(verb: Verb, matches: &ArgMatches<'a>) -> Result<Plan<'a>, PlanFault>
     ensures verb { IfOk result (λ plan. plan.verb ≡ verb) }
     ensures values { MatchResult result (HasValues (rows_of (found_of matches.now)))
@@ -223,8 +223,8 @@ fn plan_of<'a>(verb: Verb, matches: &ArgMatches<'a>) -> Result<Plan<'a>, PlanFau
 
 /// Reads a command line, the program's name first.
 ///
-/// `OneOf` comes where not exactly one of filter and query is given, `Clap` where `clap` refuses the words or is asked
-/// for help or the version.
+/// `OneOf` is returned where not exactly one of filter and query is given, `Clap` where `clap` refuses the words or is
+/// asked for help or the version.
 pub fn plan<'a>(alloc: Global, words: &'a [&'a str]) -> Result<Plan<'a>, PlanFault>
     ensures { MatchResult result (IsPlanOf (map (λ s. s.now) words.entry.now))
         (IsRefusedBy (map (λ s. s.now) words.entry.now)) }

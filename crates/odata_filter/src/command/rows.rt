@@ -111,7 +111,7 @@ fn filter_by_line<'p, R: Read + Drop, W: Write>(
     }
 }
 
-/// Why the rows were not read whole. A file is told by its name, and of standard input no line has come.
+/// Why the rows were not read whole. A file is reported by its name, and standard input reports line 0.
 fn unread<'p>(plan: &Plan<'p>, fault: NotWhole) -> Failure<'p>
     ensures { IsUnwritten (status_of result) }
 {
@@ -141,7 +141,7 @@ fn whole_rows<'p, R: Read + Drop>(
     }
 }
 
-/// The places of the entities that the filter keeps of a collection.
+/// The indexes of the entities that the filter keeps of a collection.
 fn filter_by_place<'p, R: Read + Drop, W: Write>(
     alloc: Global,
     ready: &Ready<'_, '_, 'p>,

@@ -131,7 +131,7 @@ fn accepted_text(alloc: Global, checked: &Checked<'_>) -> Result<String, AllocEr
     Ok(text)
 }
 
-/// Writes what is told of a filter.
+/// Writes what is reported about a filter.
 fn write_told<'p, W: Write>(text: &str, out: &mut W) -> Result<(), Failure<'p>>
     ensures told { OnOk result (Appends (W.contents out.old) (W.contents out.new) text.now) }
     ensures begins { WritesFront (W.contents out.old) (W.contents out.new) text.now }
@@ -147,7 +147,7 @@ fn write_told<'p, W: Write>(text: &str, out: &mut W) -> Result<(), Failure<'p>>
     }
 }
 
-/// Tells the filter.
+/// Writes the filter.
 fn tell_filter<'p, W: Write>(
     alloc: Global,
     checked: &Checked<'_>,
@@ -163,7 +163,7 @@ fn tell_filter<'p, W: Write>(
     }
 }
 
-/// Tells each node of the filter.
+/// Writes each node of the filter.
 fn tell_nodes<'p, W: Write>(
     alloc: Global,
     checked: &Checked<'_>,
@@ -252,7 +252,7 @@ fn refused_line(alloc: Global, failure: &Failure<'_>) -> Result<String, AllocErr
     Ok(text)
 }
 
-/// Tells a refusal on standard output, as an answer.
+/// Writes a refusal to standard output, as an answer.
 fn tell_answer<'p, W: Write>(
     alloc: Global,
     failure: &Failure<'_>,
@@ -278,7 +278,7 @@ fn is_answer(verb: Verb, failure: &Failure<'_>) -> bool
     }
 }
 
-/// Tells a failure on standard error, behind a flush of standard output, and answers the status.
+/// Writes a failure to standard error, after a flush of standard output, and returns the status.
 fn tell_failure<W: Write, E: Write>(failure: &Failure<'_>, out: &mut W, err: &mut E) -> u8
     ensures status { result ≡ status_number (status_of failure.now) }
     ensures known { result < 7 }
@@ -291,7 +291,8 @@ fn tell_failure<W: Write, E: Write>(failure: &Failure<'_>, out: &mut W, err: &mu
     status
 }
 
-/// Tells a refusal as an answer and answers the status. Where standard output does not take it, this is told in its place.
+/// Writes a refusal as an answer and returns the status. Where standard output does not take it, that failure is
+/// reported instead.
 fn tell_refusal<W: Write, E: Write>(
     alloc: Global,
     failure: &Failure<'_>,
@@ -307,8 +308,8 @@ fn tell_refusal<W: Write, E: Write>(
     }
 }
 
-/// Tells a failure and answers the status: to a verb that reads no rows a refusal is an answer, every other failure goes
-/// to standard error.
+/// Reports a failure and returns the status: to a verb that reads no rows a refusal is an answer, every other failure
+/// goes to standard error.
 fn tell<W: Write, E: Write>(
     alloc: Global,
     verb: Verb,
@@ -326,11 +327,11 @@ fn tell<W: Write, E: Write>(
     }
 }
 
-/// Carries out a plan over the bytes of its schema file and answers the status that the program ends with.
+/// Carries out a plan over the bytes of its schema file and returns the exit status of the program.
 ///
-/// `rows` is `None` where the rows file cannot be opened, which is told last. `out` and `err` stand for standard output
-/// and error: kept rows and what `check` and `explain` say go to `out`, and the line of another failure to `err`, behind a flush of
-/// `out`.
+/// `rows` is `None` if the rows file cannot be opened, which is reported last. `out` and `err` are standard output and
+/// standard error. Kept rows and what `check` and `explain` write go to `out`; the line of another failure goes to
+/// `err`, after a flush of `out`.
 pub fn run<R: Read + Drop, W: Write, E: Write>(
     alloc: Global,
     plan: &Plan<'_>,

@@ -20,7 +20,8 @@ pub enum NotWhole {
 /// How many bytes are asked for at a time: few, since the room for them is zeroed first, and most schemas are short.
 const ONE_READ: usize = 8_192;
 
-/// [`read_whole`], by how the reader's reads are told. It tells that a read failed only where one did.
+/// Reads as [`read_whole`] does, by how the reader's reads are reported. It reports that a read failed only where one
+/// did.
 pub fn read_whole_by<R: Read, S: Reads<R>>(
     alloc: Global,
     reader: &mut R,
@@ -51,7 +52,7 @@ pub fn read_whole_by<R: Read, S: Reads<R>>(
     }
 }
 
-/// Reads up to the end. An interrupted read has failed, and is not tried again.
+/// Reads up to the end. An interrupted read has failed, and is not retried.
 pub fn read_whole<R: Read>(alloc: Global, reader: &mut R) -> Result<Vec<u8>, NotWhole>
     ensures { IfOk result (λ bytes. IfSome (R.remaining reader.old) (λ all. bytes.items ≡ all)) }
 {

@@ -122,7 +122,7 @@ text_first Function.TotalOffsetMinutes v w more applies = absurd applies.are.1
 text_first Function.Date v w more applies = absurd applies.are.1
 text_first Function.Now v w more applies = absurd applies.are
 
--- and a text or a number behind it
+-- and a text or a number after it
 pub text_or_number : (function : Function) (v w : Val) (more : List Val) → Applies function (v ∷ w ∷ more) → IsArgument ArgumentKind.Text w ⊎ IsArgument ArgumentKind.Number w
 text_or_number Function.Contains v w more applies = inl applies.are.1.0
 text_or_number Function.StartsWith v w more applies = inl applies.are.1.0
@@ -157,7 +157,7 @@ no_other_text_or_number reading datum.Null (inr is) a b c = a refl
 no_other_text_or_number reading (datum.Int n) (inr is) a b c = c n refl
 no_other_text_or_number reading _ (inr is) a b c = is
 
--- that is no text is null, and likewise a number
+-- that is not a text is null, and likewise a number
 pub null_text : (reading : Reading) (value : Datum) → IsArgument ArgumentKind.Text (datum_val reading value) → ((t : _) → value ≡ datum.Text t → ⊥) → datum_val reading value ≡ null
 null_text reading datum.Null is other = refl
 null_text reading (datum.Text t) is other = absurd (other t refl)
@@ -213,7 +213,7 @@ pub rest_gives : (now : MomentParts) (r s : Reading) (function : Function) (firs
 rest_gives now r s function first second made t part n is a b told same =
     rw (is, a, b) (ap gives (told ∙ text_same part (rest_from n (chars (cow_str_bytes t))) same))
 
--- two texts as they are lent
+-- two texts as they are borrowed
 pub texts_apply : (r : Reading) (function : Function) (first second : Datum) (t u : _) (a b : List ℕ) → first ≡ datum.Text t → second ≡ datum.Text u
     → a ≡ cow_str_bytes t → b ≡ cow_str_bytes u → Applies function (datum_val r first ∷ datum_val r second ∷ []) → Applies function (text a ∷ text b ∷ [])
 texts_apply r function first second t u a b first_is second_is a_is b_is applies =
@@ -239,7 +239,7 @@ asked_substring r function first second t n first_is second_is applies =
     (subst (λ (d : Datum). Applies function (text (cow_str_bytes t) ∷ datum_val r d ∷ [])) second_is
     (subst (λ (d : Datum). Applies function (datum_val r d ∷ datum_val r second ∷ [])) first_is applies))
 
--- a text that was made, or want of memory for it
+-- a text that was made, or running out of memory for it
 pub made_tells : (s : Reading) (answer : Result (String Global) AllocError) (result : Result Datum EvalFault) (cs : List ℕ)
     → IfOk answer (λ t. chars (string_bytes t) ≡ cs)
     → IfOk answer (λ t. (reading : Reading) → answer_outcome (datum_val reading) result ≡ Some (gives (text (encode_utf8_all (chars (string_bytes t))))))

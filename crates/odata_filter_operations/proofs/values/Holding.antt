@@ -1,4 +1,4 @@
--- What holds of a value that is held, and what is told where there is one.
+-- What holds of a value that is held, and what is reported where there is one.
 use Rattle.std.proofs.Common.{◌≡◌, Option, Some, None, subst, sym}
 use Rattle.std.specs.Prelude.{IsSomeAnd}
 use Rattle.edm_values.specs.declared.datum.Datum.{Datum}

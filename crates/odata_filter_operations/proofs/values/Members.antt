@@ -1,4 +1,4 @@
--- The members of a collection that is lent, and whether a value equals one of them.
+-- The members of a collection that is borrowed, and whether a value equals one of them.
 use Rattle.std.proofs.Common.{◌≡◌, ◌∙◌, ℕ, ◌<◌, ◌≤◌, ◌+◌, List, [], ◌∷◌, Bool, true, false, Some, length, map, slice_get, ap, refl, sym, subst, inl, inr, arith}
 use Rattle.std.specs.Prelude.{IsTrue, ◌↔◌}
 use Rattle.std.specs.Option.{option_map}
@@ -27,7 +27,7 @@ use Rattle.odata_filter_operations.proofs.values.Holding.{ComparedAnyhow}
 use Rattle.odata_filter_operations.proofs.values.Holding.{there_found}
 
 module _ (slots : Slots) (member : SingleType) where
-  -- what is held, one value behind another
+  -- what is held, one value after another
   members_are : (held : List Value) → members_of (items_of slots.properties member (map val_of held)) ≡ map (λ v. val_of v slots.properties (single member)) held
   members_are [] = refl
   members_are (v ∷ more) = ap (λ (vs : List Val). val_of v slots.properties (single member) ∷ vs) (members_are more)
@@ -50,7 +50,7 @@ may_compare_member anyhow slots s t left made found is may l r =
     anyhow ComparisonOperator.Eq left made (reading_at slots s) (reading_at slots t) l r
     (subst (λ (v : Val). HaveEquality (datum_val (reading_at slots s) left) v) (sym (is slots t)) may)
 
--- and behind it
+-- and after it
 pub member_equals : (left made : Datum) (found : Value) (answer : Bool) → IsDatumOf found made
     → ((l r : Reading) → IsTrue answer ↔ AreEqual (datum_val l left) (datum_val r made)) → answer ≡ true → Equals left found
 member_equals left made found answer is compared so = λ slots s t.

@@ -62,7 +62,7 @@ end_told (d ∷ s) t = ⊎_elim
     (λ other. same_told (end_before d s t) (end_behind d s t other) (end_told s t))
     (whole_or (d ∷ s) t)
 
--- behind nothing is at the start
+-- after nothing is at the start
 at_start : (s t : List ℕ) → HasStart s t → StandsBehind s t 0
 at_start s t (behind, e) = record { before = []; behind = behind; split = e; counted = refl }
 

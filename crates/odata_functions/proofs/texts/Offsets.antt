@@ -1,4 +1,4 @@
--- The byte behind so many characters.
+-- The byte after so many characters.
 use Rattle.std.proofs.Common.{◌≡◌, ℕ, ◌+◌, ◌-◌, ◌≤◌, true, false, Option, Some, None, MatchOption, is_some, List, [], ◌∷◌, ◌++◌, length, take, drop, arith, refl, sym, ap, subst, ◌∙◌, append_assoc}
 use Rattle.std.proofs.Math.Seq.{take-append_seam, drop-append_seam}
 use Rattle.std.proofs.Math.Utf8.{encode}
@@ -83,7 +83,7 @@ pub nothing_left : (rest : List ℕ) (read : Option ℕ) (Same : Type 0) (P : �
 nothing_left rest None Same P steps none = steps.0
 nothing_left rest (Some c) Same P steps none = cc
 
--- a list that is turned so that a part behind comes first
+-- a list that is turned so that a part after comes first
 pub turned : (s : List ℕ) (offset : ℕ) → take (length s - offset) (drop offset s ++ take offset s) ≡ drop offset s
 turned s offset =
     ap (λ (n : ℕ). take n (drop offset s ++ take offset s)) (sym (length-drop offset s)) ∙ take-append_seam (drop offset s) (take offset s)

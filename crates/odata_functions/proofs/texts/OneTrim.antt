@@ -71,7 +71,7 @@ one_trimmed s (x ∷ r) (y ∷ q) a b =
     (same_behind (reverse a.behind) (reverse b.behind) (reverse (x ∷ r)) (reverse (y ∷ q)) (turn (x ∷ r) a.behind (y ∷ q) b.behind behind)
     (blank_reverse a.behind a.blank_behind) (blank_reverse b.behind b.blank_behind) (dark_reverse (x ∷ r) a.last) (dark_reverse (y ∷ q) b.last))
 
--- the white space at the front, and what is behind it
+-- the white space at the front, and what follows it
 abbrev Front : List ℕ → Type 0
 Front s = (b : List ℕ) × (r : List ℕ) × (s ≡ b ++ r) × IsBlank b × IsDark r
 

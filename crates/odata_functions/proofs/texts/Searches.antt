@@ -34,7 +34,7 @@ module _ (s t : List ℕ) (of_s : IsUtf8 s) (of_t : IsUtf8 t) where
     λ (before, e). absurd (none (encodes before) (bytes_split s before (chars t) of_s e ∙ ap (λ (x : List ℕ). encodes before ++ x) (encodes-chars t of_t))),
   )
 
-  -- characters that stand behind others stand behind the bytes of these
+  -- characters that stand after others stand after the bytes of these
   spelled : (k : ℕ) (b : StandsBehind (chars s) (chars t) k) → s ≡ encodes b.before ++ (t ++ encodes b.behind)
   spelled k b =
       bytes_split s b.before (chars t ++ b.behind) of_s b.split

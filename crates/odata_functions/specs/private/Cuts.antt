@@ -8,7 +8,7 @@ pub record IsFoundAt (text part : List ℕ) (place : ℕ) : Type 0 where
   pub boundary : IsCharBoundary text place
   pub is_place : IsPlaceOf (chars text) (chars part) (pos (length (chars (take place text))))
 
--- what stands behind so many characters of the text, or behind all where it has no more
+-- what stands after so many characters of the text, or after all where it has no more
 pub record IsRest (text rest : List ℕ) (count : ℕ) : Type 0 where
   pub front : List ℕ
   pub split : text ≡ front ++ rest

@@ -26,7 +26,7 @@ same_front (d ∷ x) (e ∷ y) c same =
     let rest : x ++ c ∷ [] ≡ y ++ c ∷ [] = cc in
     rw (h, same_front x y c rest) refl
 
--- what stands behind a first byte
+-- what stands after a first byte
 pub behind_one : (a b : ℕ) (xs ys : List ℕ) → a ∷ xs ≡ b ∷ ys → xs ≡ ys
 behind_one a b xs ys same = cc
 

@@ -14,7 +14,7 @@ use Rattle.odata_syntax.specs.declared.node.LiteralKind.{LiteralKind}
 use Rattle.odata_syntax.proofs.machine.Depth.{shallow-append, shallow-nil}
 use Rattle.odata_syntax.proofs.machine.Fronts.{run_parsed, unended_fault_at}
 
--- behind the last token the two operators wait
+-- after the last token the two operators wait
 first_run_end : Machine
 first_run_end =
     record {

@@ -10,7 +10,7 @@ use Rattle.odata_syntax.specs.Grammar.{Derives, DerivesFurther, DerivesItems, Le
 use Rattle.odata_syntax.specs.Spans.{HoldsSpan, IsWithin, SharesNoByte, children_of, in_child, is_root, list_of_trees}
 
 mutual
-  -- a node takes a byte or more, and its children stand one behind another in it
+  -- a node takes a byte or more, and its children stand one after another in it
   data IsNested : Tree → Type 0 where
     nested :
         {tree : Tree}
@@ -18,7 +18,7 @@ mutual
         → AreNested (start_of tree) (stop_of tree) (children_of (shape_of tree))
         → IsNested tree
 
-  -- trees one behind another between two places
+  -- trees one after another between two places
   data AreNested : ℕ → ℕ → List Tree → Type 0 where
     no_more : {from to : ℕ} → from ≤ to → AreNested from to []
     one_more :
@@ -48,7 +48,7 @@ record Nests (from to : ℕ) (tree : Tree) : Type 0 where
   solid : start_of tree < stop_of tree
   inner : AreNested (start_of tree) (stop_of tree) (children_of (shape_of tree))
 
--- a list of tokens and those behind it
+-- a list of tokens and those after it
 record Parts (from to : ℕ) (ls rs : List TokenModel) : Type 0 where
   middle : ℕ
   before : AreTextTokens from middle ls
@@ -169,7 +169,7 @@ behind_token t ts trees r a b h =
 one_nested : (a b : ℕ) (tree : Tree) → Nests a b tree → AreNested a b (tree ∷ [])
 one_nested a b tree n = one_more n.starts (nested n.solid n.inner) (no_more n.stops)
 
--- a tree and trees behind it
+-- a tree and trees after it
 joined_nested : (ts rs : List TokenModel) (tree : Tree) (more : List Tree) → ((a b : ℕ) → AreTextTokens a b ts → Nests a b tree) → ((a b : ℕ) → AreTextTokens a b rs → AreNested a b more) → (a b : ℕ) → AreTextTokens a b (ts ++ rs) → AreNested a b (tree ∷ more)
 joined_nested ts rs tree more l r a b h =
     let p = text_parts a b ts rs h in
@@ -351,7 +351,7 @@ none_split : (before : List Tree) (x : Tree) (after : List Tree) → ¬ ([] ≡ 
 none_split [] x after same = cc
 none_split (b ∷ before) x after same = cc
 
--- trees one behind another: each stops before those behind it start
+-- trees one after another: each stops before those after it start
 later_behind :
     {from to : ℕ} {trees : List Tree}
     → AreNested from to trees

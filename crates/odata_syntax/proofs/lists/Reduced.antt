@@ -45,7 +45,7 @@ held_reduced texts level before after held frames nodes =
     ∙ ap (λ k. reduction_at (stack_of texts before.frames.items (trees_before (trees_in texts k.items))) (last_tree (trees_in texts k.items))) nodes
     ∙ sym (reduce-held level (waiting_behind texts before) (read_tree texts before) held)
 
--- what has been read is read still where its frame is at hand
+-- what has been read is read still where its frame is current
 pub read_popped :
     (before popped : State) (pending : Pending)
     → before.frames.items ≡ popped.frames.items ++ Frame.Pending pending ∷ []

@@ -25,7 +25,7 @@ record PathCompletes (ts : List TokenModel) (tree : Tree) (ws : List Waiting) : 
   taken : run ts (machine_at ws operand) ≡ Some (machine_at ws ended)
   read : IsPathRead ended tree
 
--- behind a start
+-- after a start
 start_taken : (ws : List Waiting) (p : TokenModel) (s : Start) (next : Option Machine) → start_of_kind p.kind p.text ≡ Some s → take_start ws p (Some s) ≡ next → run (p ∷ []) (machine_at ws operand) ≡ next
 start_taken ws p s next found e = run_one p (machine_at ws operand) ∙ ap (λ o. take_start ws p o) found ∙ e
 
@@ -33,7 +33,7 @@ pub name_stage : (b : Bool) (p : TokenModel) → IsPathRead (cond b (name_or_cal
 name_stage true p = open_name
 name_stage false p = open_path
 
--- behind a segment that is a word
+-- after a segment that is a word
 word_stage : Segment → TokenModel → Tree → Expected
 word_stage Segment.Count p base = closed (tree_to base p (count base))
 word_stage (Segment.Lambda quantifier) p base = member_or_lambda quantifier base p.stop p.text
@@ -67,7 +67,7 @@ slash_taken bs slash base ws p a =
           (run_cons slash ps (machine_at ws p.ended) (machine_at ws (segment base)) next (slash_step p.read ws slash a.of_kind) e);
     }
 
--- a segment behind it
+-- a segment after it
 segment_step : (ws : List Waiting) (p : TokenModel) (base : Tree) (s : Segment) → segment_of_kind p.kind p.text ≡ Some s → step_at (segment base) ws p ≡ Some (machine_at ws (word_stage s p base))
 segment_step ws p base s found = ap (λ o. take_segment ws base p o) found ∙ segment_taken ws p base s
 
@@ -115,7 +115,7 @@ closed_completes : (level : Level) (ts : List TokenModel) (tree : Tree) (ws : Li
 closed_completes level ts tree ws taken =
     record { waits = ws; ended = closed tree; grown = tree; taken = taken; read = closed_read; same = λ q le. refl }
 
--- a left operand, and what stands behind it
+-- a left operand, and what follows it
 left_taken : (ls : List TokenModel) (t : TokenModel) (left : Tree) (ws : List Waiting) (next : Next) → Completes (next_level next) ls left ws → expected_level ws ≤ next_level next → next_level next ≢ unary_level → next_of_kind t.kind t.text ≡ Some next → (k : Machine) → take_reduced next (reduction_at ws left) t.stop ≡ Some k → (rs : List TokenModel) (end : Option Machine) → run rs k ≡ end → run (ls ++ (t ∷ rs)) (machine_at ws operand) ≡ end
 left_taken ls t left ws next first held apart found k e rs end rest =
     let level : Level = next_level next in
@@ -172,7 +172,7 @@ call_form place text =
       empty = λ ws stop. refl;
     }
 
--- further items behind those that have been read
+-- further items after those that have been read
 FurtherCompletes : List TokenModel → Trees → Type 0
 FurtherCompletes rs rest =
     (f : ItemForm) (ws : List Waiting) (xs : List Tree) (tree : Tree) (waits : List Waiting) (ended : Expected) (grown : Tree)

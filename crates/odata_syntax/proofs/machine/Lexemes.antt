@@ -104,7 +104,7 @@ open_found {p} a = rw a.of_kind refl
 pub close_found : {p : TokenModel} → IsA TokenKind.Close p → start_of_kind p.kind p.text ≡ Some Start.Close
 close_found {p} a = rw a.of_kind refl
 
--- behind an operand
+-- after an operand
 
 operator_next : (operator : BinaryOperator) → word_next (operator_word operator) ≡ Some (Next.Operator operator)
 unfolding word_next
@@ -148,7 +148,7 @@ end_found {p} a = rw a.of_kind refl
 pub comma_found : {p : TokenModel} → IsA TokenKind.Comma p → next_of_kind p.kind p.text ≡ Some Next.Comma
 comma_found {p} a = rw a.of_kind refl
 
--- behind a `/`
+-- after a `/`
 
 quantifier_segment : (quantifier : Quantifier) → word_segment (quantifier_word quantifier) ≡ Segment.Lambda quantifier
 unfolding word_segment
@@ -278,7 +278,7 @@ pub close_spelled : (p : TokenModel) → start_of_kind p.kind p.text ≡ Some St
 unfolding StartSays
 close_spelled p e = record { of_kind = start_says p.kind p.text Start.Close e }
 
--- behind an operand
+-- after an operand
 
 next_word : Next → List ℕ
 next_word (Next.Operator operator) = operator_word operator
@@ -388,7 +388,7 @@ pub comma_spelled : (p : TokenModel) → next_of_kind p.kind p.text ≡ Some Nex
 unfolding NextSays
 comma_spelled p e = record { of_kind = next_says p.kind p.text Next.Comma e }
 
--- behind a `/`
+-- after a `/`
 
 SegmentSays : TokenKind → List ℕ → Segment → Type 0
 SegmentSays kind text Segment.Count = (kind ≡ TokenKind.Dollar) × (same_word text (codes "$count") ≡ true)

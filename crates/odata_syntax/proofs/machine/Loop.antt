@@ -26,7 +26,7 @@ opens_more ts i d h = ap open_count (models_more ts i d h) ∙ open_count-snoc (
 pub closes_more : (ts : List Token) (i : ℕ) (d : Token) → i < length ts → close_count (token_models (take (i + 1) ts)) ≡ close_count (token_models (take i ts)) + cond (closes (get_or ts i d).kind) 1 0
 closes_more ts i d h = ap close_count (models_more ts i d h) ∙ close_count-snoc (token_models (take i ts)) (token_model (get_or ts i d))
 
--- one more `(` at the most
+-- one more `(` at most
 pub at_most_one : (b : Bool) → cond b 1 0 ≤ 1
 at_most_one true = omega arith
 at_most_one false = omega arith
@@ -50,7 +50,7 @@ shallow_more ts i d h s more =
     let fits = room (opens p.kind) (closes p.kind) (open_count (token_models (take i ts))) (close_count (token_models (take i ts))) (shallow-whole (token_models (take i ts)) s) here (opens_no_close p.kind) in
     subst (λ (k : List TokenModel). IsShallow k) (sym (models_more ts i d h)) (shallow-snoc (token_models (take i ts)) p s fits)
 
--- the tokens before a token, it and those behind it
+-- the tokens before a token, it and those after it
 pub models_split : (ts : List Token) (i : ℕ) (d : Token) → i < length ts → token_models ts ≡ token_models (take i ts) ++ (token_model (get_or ts i d) ∷ token_models (drop (i + 1) ts))
 models_split ts i d h =
     let tail : drop i ts ≡ get_or ts i d ∷ drop (i + 1) ts = rw add-one (drop-cons ts i d h) in

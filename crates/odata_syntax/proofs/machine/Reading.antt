@@ -35,7 +35,7 @@ path_is_read open_path = path_read
 path_is_read open_name = name_read
 path_is_read open_word = word_read
 
--- what stands behind an operand is taken behind each of these
+-- what stands after an operand is taken after each of these
 behind_path : (kind : TokenKind) (ws : List Waiting) (tree : Tree) (p : TokenModel) (next : Next) → next_of_kind kind p.text ≡ Some next → take_behind_path ws tree p kind ≡ take_next ws tree p.stop (Some next)
 behind_path TokenKind.Slash ws tree p next e = absurd (cc)
 behind_path kind ws tree p next e = ap (λ o. take_next ws tree p.stop o) e
@@ -62,7 +62,7 @@ read_finish path_read ws = refl
 read_finish name_read ws = refl
 read_finish word_read ws = refl
 
--- a `/` behind a path
+-- a `/` after a path
 pub slash_step : {e : Expected} {tree : Tree} → IsPathRead e tree → (ws : List Waiting) (p : TokenModel) → p.kind ≡ TokenKind.Slash → step_at e ws p ≡ Some (machine_at ws (segment tree))
 slash_step (open_path {tree = tree}) ws p k = ap (λ o. take_behind_path ws tree p o) k
 slash_step (open_name {start = start} {stop = stop} {text = text}) ws p k = ap (λ o. take_behind_name ws start stop text p o) k

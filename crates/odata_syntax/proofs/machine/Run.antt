@@ -4,7 +4,7 @@ use Rattle.std.specs.Prelude.{option_and_then}
 use Rattle.odata_text.specs.TokenModel.{TokenModel}
 use Rattle.odata_syntax.specs.private.Machine.{Machine, run, step}
 
--- the second list is run behind the first
+-- the second list is run after the first
 pub run-append : (xs ys : List TokenModel) (m : Machine) → run (xs ++ ys) m ≡ option_and_then (λ n. run ys n) (run xs m)
 run-append [] ys m = refl
 run-append (x ∷ xs) ys m =

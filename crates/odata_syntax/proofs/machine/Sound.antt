@@ -139,7 +139,7 @@ start_stands ws ts p (Some Start.Open) next s found e =
     stands_next (machine_at (open_at ws p.start) operand) next (ts ++ (p ∷ [])) e (at_operand (open_stack p s (open_spelled p found)))
 start_stands ws ts p (Some Start.Close) next s found e = close_empty_stands p next s (close_spelled p found) e
 
--- Behind an operand.
+-- After an operand.
 
 close_stands : {ws : List Waiting} {before : List TokenModel} (own : List TokenModel) (tree : Tree) (p : TokenModel) (next : Machine) → IsStack ws before → Derives or_level own tree → IsA TokenKind.Close p → close_at ws tree p.stop ≡ Some next → Stands next ((before ++ own) ++ (p ∷ []))
 close_stands own tree p next bottom d b e = absurd (cc)
@@ -203,7 +203,7 @@ next_stands ws ts own tree tight p (Some n) next s d outer tightest found e =
     let g = grow s (next_level n) tight own tree bounds.0 bounds.1 outer (omega arith) d in
     reduced_stands n (reduce (next_level n) ws tree) (ts ++ own) p next g found e
 
--- Behind a path, and within one.
+-- After a path, and within one.
 
 path_stands : (kind : TokenKind) (ws : List Waiting) (ts own : List TokenModel) (tree : Tree) (p : TokenModel) (next : Machine) → p.kind ≡ kind → IsStack ws ts → Derives open_path_level own tree → take_behind_path ws tree p kind ≡ Some next → Stands next ((ts ++ own) ++ (p ∷ []))
 path_stands TokenKind.Slash ws ts own tree p next k s d e =

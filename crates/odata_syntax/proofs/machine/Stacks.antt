@@ -30,7 +30,7 @@ at_looser_level level tighter {ts} {tree} le d =
 
 -- Items.
 
--- items so far, each with the comma behind it
+-- items so far, each with the comma after it
 pub data ItemsBefore : List TokenModel → List Tree → Type 0 where
   none_before : ItemsBefore [] []
   one_before :

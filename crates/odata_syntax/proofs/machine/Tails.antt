@@ -14,7 +14,7 @@ use Rattle.odata_syntax.proofs.machine.Depth.{HasNoOpen}
 use Rattle.odata_syntax.proofs.machine.Reading.{IsRead, closed_read, name_read, operation_level-bounds, path_is_read, path_read, read_finish, read_step, reduce-joined, word_read}
 use Rattle.odata_syntax.proofs.machine.Complete.{name_stage}
 
--- the tree behind these tokens
+-- the tree after these tokens
 abbrev pub outcome : List TokenModel → Machine → Option Tree
 outcome ts m = option_and_then (λ n. finish n) (run ts m)
 
@@ -125,7 +125,7 @@ viable_at (colon quantifier base text) ws = colon_viable quantifier base text ws
 pub viable : (m : Machine) → IsViable m
 viable m = viable_at m.expected m.waiting
 
--- the machine behind them
+-- the machine after them
 pub record IsEnded (ts : List TokenModel) (m : Machine) (tree : Tree) : Type 0 where
   pub ended : Machine
   pub taken : run ts m ≡ Some ended

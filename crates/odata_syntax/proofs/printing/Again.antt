@@ -109,7 +109,7 @@ variable_like text u is kind same = record { of_kind = kind; undotted = subst (�
 
 -- Trees.
 
--- tokens of which a front derives such a tree, and the rest is such as the pieces behind it
+-- tokens of which a front derives such a tree, and the rest is such as the pieces after it
 pub record IsReadAgain (level : Level) (tree : Tree) (behind : List Print) (ts : List TokenModel) : Type 0 where
   pub own : List TokenModel
   pub rest : List TokenModel
@@ -137,7 +137,7 @@ record IsFurtherAgain (trees : Trees) (behind : List Print) (ts : List TokenMode
   same : bare_trees again ≡ bare_trees trees
   like : AreLike behind rest
 
--- whatever stands behind them
+-- whatever stands after them
 abbrev CanBeRead : Level → Tree → (List ℕ → List Print → List Print) → Type 0
 CanBeRead level tree inner = (gap : List ℕ) (behind : List Print) (ts : List TokenModel) → AreLike (inner gap behind) ts → IsReadAgain level tree behind ts
 
@@ -203,7 +203,7 @@ split_two own own' last t first second third =
 split_one : (own last : List TokenModel) (t : TokenModel) {ts more : List TokenModel} → ts ≡ t ∷ more → more ≡ own ++ last → ts ≡ (t ∷ own) ++ last
 split_one own last t first second = first ∙ ap (λ (xs : List TokenModel). t ∷ xs) second
 
--- a front and a token behind it
+-- a front and a token after it
 split_last : (own last : List TokenModel) (t : TokenModel) {ts rest : List TokenModel} → ts ≡ own ++ rest → rest ≡ t ∷ last → ts ≡ (own ++ (t ∷ [])) ++ last
 split_last own last t first second = first ∙ ap (λ (xs : List TokenModel). own ++ xs) second ∙ sym (append_assoc own (t ∷ []) last)
 

@@ -96,7 +96,7 @@ goes_on x (y ∷ ys) more lacks ends some =
     no_end x (y ∷ (ys ++ more)) (lacks-first 44 x (y ∷ ys) lacks) (nonempty (y ∷ ys) more some)
     (and_right (x == 32) (is_piece_end (y ∷ (ys ++ more))) (goes_on y ys more (lacks-rest 44 x (y ∷ ys) lacks) (ends-rest 32 x (y ∷ ys) ends) some))
 
--- a byte of a piece is kept, if its piece goes on behind it
+-- a byte of a piece is kept, if its piece goes on after it
 kept_inside : (x : ℕ) (rest : List ℕ) → (x == 44) ≡ false → ((x == 32) && is_piece_end rest) ≡ false → trimmed_pieces false (x ∷ rest) ≡ x ∷ trimmed_pieces false rest
 kept_inside x rest plain keeps = kept false x rest keeps ∙ ap (λ (t : Bool). x ∷ trimmed_pieces t rest) plain
 

@@ -1,4 +1,4 @@
--- A tree as the pieces that are printed, each with the white space behind it, before what stands behind them.
+-- A tree as the pieces that are printed, each with the white space after it, before what stands after them.
 use Rattle.std.proofs.Common.{◌≡◌, ℕ, suc, nat_lt, Bool, true, false, cond, List, [], ◌∷◌, ◌++◌, codes, refl, sym, ◌∙◌, ap, append_assoc}
 use Rattle.odata_text.specs.Printing.{Print, print_text}
 use Rattle.odata_text.specs.declared.token.TokenKind.{TokenKind}
@@ -23,7 +23,7 @@ slash_piece = piece TokenKind.Slash (47 ∷ []) []
 abbrev pub space : List ℕ
 space = 32 ∷ []
 
--- pieces with white space behind them and more pieces behind that, in parentheses where their place needs them
+-- pieces with white space after them and more pieces after that, in parentheses where their place needs them
 abbrev pub group_pieces : Level → Level → (List ℕ → List Print → List Print) → List ℕ → List Print → List Print
 group_pieces needed own inner gap behind = cond (nat_lt own needed) (open_piece ∷ inner [] (close_piece gap ∷ behind)) (inner gap behind)
 
@@ -73,7 +73,7 @@ abbrev mutual
 
 -- Their text is the tree's.
 
--- the text of pieces that are put together with what is behind them
+-- the text of pieces that are put together with what is after them
 abbrev IsPrinted : (List ℕ → List Print → List Print) → List ℕ → Type 0
 IsPrinted inner text = (gap : List ℕ) (behind : List Print) → print_text (inner gap behind) ≡ text ++ (gap ++ print_text behind)
 

@@ -68,7 +68,7 @@ white_space = All-cons (λ b. class_of b ≡ Space) 32 [] refl (All-nil (λ b. c
 pub white_none : IsWhite []
 white_none = All-nil (λ b. class_of b ≡ Space)
 
--- what may stand behind a number may stand behind any token
+-- what may stand after a number may stand after any token
 abbrev Follows : List ℕ → Type 0
 Follows rest = MayFollow Int rest
 
@@ -138,7 +138,7 @@ literal_spelled kind text is =
 word_spelled : (text : List ℕ) {own : List ℕ} (kind : TokenKind) → kind ≡ TokenKind.Word → own ≡ text → Spells kind own → Spells TokenKind.Word text
 word_spelled text {own} kind is same spelled = subst (Spells TokenKind.Word) same (subst (λ (k : TokenKind). Spells k own) is spelled)
 
--- behind an item stands a comma, or what is behind the list
+-- after an item stands a comma, or what is after the list
 further_follows : (trees : Trees) (behind : List Print) → Follows (print_text behind) → Follows (print_text (further_pieces trees behind))
 further_follows no_trees behind follows = follows
 further_follows (more_trees tree trees) behind follows = refl

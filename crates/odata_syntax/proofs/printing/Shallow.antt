@@ -19,12 +19,12 @@ use Rattle.odata_syntax.proofs.printing.Readable.{tall}
 
 -- Room for parentheses.
 
--- behind a `(` one less may be opened
+-- after a `(` one less may be opened
 abbrev Behind : (ℕ → Type 0) → ℕ → Type 0
 Behind P zero = ⊥
 Behind P (suc k) = P k
 
--- behind a token that opens or closes, or does neither
+-- after a token that opens or closes, or does neither
 abbrev Left : Bool → Bool → (ℕ → Type 0) → ℕ → Type 0
 Left true c P k = Behind P k
 Left false true P k = P (suc k)
@@ -310,7 +310,7 @@ regrouped (node start stop shape) (suc j) h = by (nat_lt (shape_level shape) bas
 
 -- Derived trees.
 
--- whatever stands behind them, tokens leave the room that they took
+-- whatever stands after them, tokens leave the room that they took
 abbrev Leaves : List TokenModel → (ℕ → Type 0) → Type 0
 Leaves ts P = (rest : List TokenModel) (k : ℕ) → Fits (ts ++ rest) k → P k × Fits rest k
 
@@ -408,7 +408,7 @@ mutual
 
 -- Printed trees.
 
--- pieces fit where what is behind them does
+-- pieces fit where what is after them does
 abbrev CanBePrinted : (List ℕ → List Print → List Print) → ℕ → Type 0
 CanBePrinted inner k = (gap : List ℕ) (behind : List Print) → FitPieces behind k → FitPieces (inner gap behind) k
 

@@ -1,5 +1,5 @@
--- The texts of the nodes of a tree are ranges of its text: the machine reads no others, so a tree is the same whatever is
--- said of the others.
+-- The texts of the nodes of a tree are ranges of its text: the machine reads no others, so a tree is the same whatever
+-- is said of the others.
 use Rattle.std.proofs.Common.{◌≡◌, ◌≢◌, ◌⊎◌, refl, ap, sym, subst, ◌∙◌, ℕ, zero, suc, ◌+◌, ◌<◌, ◌≤◌, List, [], ◌∷◌, ◌++◌, ◌-◌, Bool, cond, get_or, length, drop, take, reverse, slice_get, slice_index, nat_eq, Some, IsCharBoundary, arith, inl, inr, eqb-true, eq-eqb}
 use Rattle.std.proofs.lemmas.Bool.{cases_Bool, cases_lt}
 use Rattle.std.proofs.lemmas.List.{get_or-reverse, length-map, length-reverse, reverse-reverse, take-append-drop}

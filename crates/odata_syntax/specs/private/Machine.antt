@@ -39,9 +39,9 @@ pub data Waiting : Type 0 where
   operation : Operation → Waiting
   enclosure : Enclosure → Waiting
 
--- what may come next: an operand; an operator, an end or a closing parenthesis behind a tree; the same or a `/` behind
--- a path; the same or a `(` behind a name (from, to and spelling); a segment behind a `/`; what may come behind a path
--- or a `(` behind `any` or `all` (to and spelling); a variable or `)` behind that `(`; a colon behind the variable
+-- what may come next: an operand; an operator, an end or a closing parenthesis after a tree; the same or a `/` after
+-- a path; the same or a `(` after a name (from, to and spelling); a segment after a `/`; what may come after a path
+-- or a `(` after `any` or `all` (to and spelling); a variable or `)` after that `(`; a colon after the variable
 pub data Expected : Type 0 where
   operand : Expected
   closed : Tree → Expected
@@ -90,7 +90,7 @@ start_of_kind TokenKind.Comma text = None
 start_of_kind TokenKind.Slash text = None
 start_of_kind TokenKind.Colon text = None
 
--- the word that stands behind an operand
+-- the word that stands after an operand
 unfoldable pub word_next : List ℕ → Option Next
 word_next text =
     if str_eq_ignore_ascii_case text (codes "or") then Some (Next.Operator (BinaryOperator.Logical LogicalOperator.Or))
@@ -116,7 +116,7 @@ next_of_kind TokenKind.Close text = Some Next.Close
 next_of_kind TokenKind.Comma text = Some Next.Comma
 next_of_kind _ text = None
 
--- the segment of a path that stands behind a `/`
+-- the segment of a path that stands after a `/`
 unfoldable pub word_segment : List ℕ → Segment
 word_segment text =
     if str_eq_ignore_ascii_case text (codes "any") then Segment.Lambda Quantifier.Any
@@ -206,7 +206,7 @@ abbrev pub open_at : List Waiting → ℕ → List Waiting
 open_at (operation (in_behind left) ∷ below) start = enclosure (items_behind left []) ∷ below
 open_at waiting start = enclosure (group_from start) ∷ waiting
 
--- behind `in` stands no literal, and no name of a call; behind `has` no sign
+-- after `in` stands no literal, and no name of a call; after `has` no sign
 abbrev pub take_literal : List Waiting → TokenModel → LiteralKind → Option Machine
 take_literal waiting p kind =
     if nat_le (expected_level waiting) base_level
@@ -231,7 +231,7 @@ take_start waiting p (Some Start.Not) = take_sign waiting (not_from p.start)
 take_start waiting p (Some Start.Open) = Some (machine_at (open_at waiting p.start) operand)
 take_start waiting p (Some Start.Close) = close_empty waiting p.stop
 
--- Behind an operand.
+-- After an operand.
 
 -- an operation waits with what has been read
 abbrev pub wait_behind : Operation → List Waiting → Machine
@@ -251,7 +251,7 @@ abbrev pub close_at : List Waiting → Tree → ℕ → Option Machine
 close_at (enclosure e ∷ below) tree stop = Some (machine_at below (closed (enclosure_tree e tree stop)))
 close_at _ tree stop = None
 
--- a comma behind an item of a list or a call
+-- a comma after an item of a list or a call
 abbrev pub comma_at : List Waiting → Tree → Option Machine
 comma_at (enclosure (items_behind left items) ∷ below) tree =
     Some (machine_at (enclosure (items_behind left (items ++ (tree ∷ []))) ∷ below) operand)
@@ -266,7 +266,7 @@ take_reduced Next.In r stop = Some (wait_behind (in_behind r.tree) r.waiting)
 take_reduced Next.Close r stop = close_at r.waiting r.tree stop
 take_reduced Next.Comma r stop = comma_at r.waiting r.tree
 
--- how tightly what stands behind an operand binds
+-- how tightly what stands after an operand binds
 abbrev pub next_level : Next → Level
 next_level (Next.Operator operator) = operator_level operator
 next_level Next.Has = primary_level
@@ -278,12 +278,12 @@ abbrev pub take_next : List Waiting → Tree → ℕ → Option Next → Option 
 take_next waiting tree stop None = None
 take_next waiting tree stop (Some next) = take_reduced next (reduce (next_level next) waiting tree) stop
 
--- behind a path a `/` too
+-- after a path a `/` too
 abbrev pub take_behind_path : List Waiting → Tree → TokenModel → TokenKind → Option Machine
 take_behind_path waiting tree p TokenKind.Slash = Some (machine_at waiting (segment tree))
 take_behind_path waiting tree p kind = take_next waiting tree p.stop (next_of_kind kind p.text)
 
--- behind the name of a path's start a `(` too, and behind `any` and `all`
+-- after the name of a path's start a `(` too, and after `any` and `all`
 abbrev pub take_behind_name : List Waiting → ℕ → ℕ → List ℕ → TokenModel → TokenKind → Option Machine
 take_behind_name waiting start stop text p TokenKind.Open =
     Some (machine_at (enclosure (arguments_from start (str_to_ascii_lowercase text) []) ∷ waiting) operand)
@@ -306,7 +306,7 @@ take_segment waiting base p (Some (Segment.Lambda quantifier)) =
 take_segment waiting base p (Some Segment.Name) =
     Some (machine_at waiting (path (tree_to base p (member base p.text))))
 
--- `)` behind the `(` of `any`, not of `all`
+-- `)` after the `(` of `any`, not of `all`
 abbrev pub take_no_variable : List Waiting → Quantifier → Tree → ℕ → Option Machine
 take_no_variable waiting Quantifier.Any base stop =
     Some (machine_at waiting (closed (node (start_of base) stop (any_item base))))
@@ -341,7 +341,7 @@ step_at (colon quantifier base text) waiting p = take_colon waiting quantifier b
 abbrev pub step : Machine → TokenModel → Option Machine
 step m p = step_at m.expected m.waiting p
 
--- the machine behind these tokens
+-- the machine after these tokens
 abbrev pub run : List TokenModel → Machine → Option Machine
 run [] m = Some m
 run (p ∷ ps) m = option_and_then (λ n. run ps n) (step m p)
@@ -350,7 +350,7 @@ run (p ∷ ps) m = option_and_then (λ n. run ps n) (step m p)
 abbrev pub start : Machine
 start = machine_at [] operand
 
--- behind the last token nothing may be open
+-- after the last token nothing may be open
 abbrev pub whole_at : List Waiting → Tree → Option Tree
 whole_at [] tree = Some tree
 whole_at _ tree = None

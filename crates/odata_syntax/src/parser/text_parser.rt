@@ -32,7 +32,7 @@ const SMALL_ROOM: usize = 14;
 /// An allocation failed.
 const OUT_OF_MEMORY: TextOrSyntaxFault = TextOrSyntaxFault::Syntax(SyntaxFault::Memory);
 
-/// The tree of a filter's text as a list: the tree that `tokens` and `parse` make, with the same faults. Spans, spellings
+/// Parses a filter's text into a list: the tree that `tokens` and `parse` make, with the same faults. Spans, spellings
 /// and names are ranges of bytes of the text.
 pub fn parse_text(alloc: Global, text: &str) -> Result<SyntaxList, TextOrSyntaxFault>
     ensures tree { IfOk result (λ list. HasTree text.now (listed_tree text.now list.nodes)) }

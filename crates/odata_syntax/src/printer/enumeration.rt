@@ -23,7 +23,7 @@ fn spelling_of(alloc: Global, text: &str) -> Result<String, AllocError>
     Ok(spelling)
 }
 
-/// The word and its first quote, and the pieces behind it.
+/// The word and its first quote, and the pieces after it.
 fn push_enumeration(out: &mut String, text: &str) -> Result<(), AllocError>
     ensures { OnOk result (string_bytes out.new ≡ string_bytes out.old ++ enumeration_spelling text.now) }
 {
@@ -37,7 +37,7 @@ fn push_enumeration(out: &mut String, text: &str) -> Result<(), AllocError>
     }
 }
 
-/// The pieces behind the first quote.
+/// The pieces after the first quote.
 fn push_pieces(out: &mut String, quoted: &str) -> Result<(), AllocError>
     ensures { OnOk result (string_bytes out.new ≡ string_bytes out.old ++ trimmed_pieces true quoted.now) }
 {

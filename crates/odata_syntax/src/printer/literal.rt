@@ -11,7 +11,7 @@ use crate::printer::enumeration::write_enumeration;
 use edm_values::{read_guid, read_int, read_moment, write_guid, write_int, write_moment};
 use std::alloc::AllocError;
 
-/// Appends the canonical spelling of a literal.
+/// Appends the canonical spelling of a literal. After an error the text is unchanged.
 pub fn write_literal(out: &mut String, kind: LiteralKind, text: &str) -> Result<(), AllocError>
     ensures ok { OnOk result (IsAppended (IsLiteralSpelling (literal_token kind) text.now)
         (string_bytes out.old) (string_bytes out.new)) }

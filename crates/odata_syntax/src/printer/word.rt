@@ -3,7 +3,7 @@ ghost use Rattle.odata_syntax.specs.Lexeme.{operator_word};
 
 use crate::{ArithmeticOperator, BinaryOperator, ComparisonOperator, LogicalOperator};
 
-/// The word of an operator, in lower case.
+/// Returns the word of an operator, in lower case.
 pub fn operator_word(operator: BinaryOperator) -> &'static str
     ensures { result.now ≡ operator_word operator }
 {

@@ -43,7 +43,7 @@ run-goes rest left c utf8 front goes =
     ∙ length-append (encode c) (encode_utf8_all (take_while continues_identifier (chars left)))
     ∙ ap (λ (n : ℕ). n + identifier_run left) (length-encode c)
 
--- n bytes have been read, all of them of the run, and left is what is behind them
+-- n bytes have been read, all of them of the run, and left is what is after them
 pub record IsRunSoFar (rest left : List ℕ) (n : ℕ) : Type 0 where
   pub behind : drop n rest ≡ left
   pub utf8 : IsUtf8 left

@@ -40,7 +40,7 @@ solid-start form (b ∷ bs) formed space =
     (λ tab. not_dead form Stuck (b ∷ bs) bs refl (ap (λ (c : ℕ). fold step (step Start c) bs) tab) formed)
     (space-from_class b space)
 
--- a piece is the longest where the byte behind it is a dead end
+-- a piece is the longest where the byte after it is a dead end
 pub longest-dead : (form : Form) (rest : List ℕ) (n : ℕ) → n ≤ length rest → IsFormed form (take n rest) → (n < length rest → is_dead (step (run (take n rest)) (get_or rest n 0)) ≡ true) → IsLongest form n rest
 longest-dead form rest n inside formed dead = record { within = inside; spelled = formed; longest = longest }
   where
@@ -91,7 +91,7 @@ dead-behind Dollared kind b ends follows = none-goes_on Dollared Dollar kind b r
 dead-behind (Text Named Closed) kind b ends follows = cc
 dead-behind _ kind b ends follows = cc
 
--- a token before what may follow it is the longest piece at its place
+-- a token before what may follow it is the longest piece at its offset
 pub longest-before : (kind : TokenKind) (rest : List ℕ) (n : ℕ) → n ≤ length rest → Spells kind (take n rest) → MayFollow kind (drop n rest) → IsLongest (Token kind) n rest
 longest-before kind rest n inside spelled follows =
     longest-dead (Token kind) rest n inside spelled (λ more.

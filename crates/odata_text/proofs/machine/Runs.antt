@@ -41,7 +41,7 @@ pair-run xs pair =
     ∙ goes-both Name Dotted pair.back dot.front dot.back dot.whole (ap (fold step Name) dot.is_front)
     ∙ ap (fold step Dotted) word.whole ∙ dotted-run word.part word.more word.identifier word.identifiers
 
--- Texts in quotes, behind what the state has read.
+-- Texts in quotes, after what the state has read.
 
 pub text-run : (q : State) (lead : Lead) (xs : List ℕ) → step q 39 ≡ Text lead Opened → IsStringSpelling xs → fold step q xs ≡ Text lead Closed
 text-run q lead xs opens spelled =
@@ -75,7 +75,7 @@ power-run q (b ∷ power) small big exponent =
     digits : (ds : List ℕ) → IsNumeral 10 ds → fold step Powered ds ≡ Powered
     digits ds numeral = goes-digits Powered Powered ds refl refl numeral
 
--- behind digits alone an `e` may belong to a Guid
+-- after digits alone an `e` may belong to a Guid
 digits-power : (xs : List ℕ) → IsExponent xs → form_at (fold step Digits xs) ≡ Some (LeftOut Number)
 digits-power [] exponent = absurd exponent
 digits-power (b ∷ power) exponent =
@@ -92,7 +92,7 @@ decimals-run q xs dot power (inr (inl exponent)) = power xs exponent
 decimals-run q xs dot power (inr (inr pair)) =
     ap form_at (goes-both q Pointed xs pair.front pair.back pair.whole (fraction-run q pair.front dot pair.is_front) ∙ power-run Pointed pair.back refl refl pair.is_back)
 
--- behind a whole number
+-- after a whole number
 number-run : (front back : List ℕ) → (run front ≡ SignedDigits) ⊎ (run front ≡ Digits) → IsDecimals back → form_at (run (front ++ back)) ≡ Some (LeftOut Number)
 number-run front back (inl signed') decimals =
     ap form_at (goes-both Start SignedDigits (front ++ back) front back refl signed') ∙ decimals-run SignedDigits back refl (λ ys exponent. ap form_at (power-run SignedDigits ys refl refl exponent)) decimals

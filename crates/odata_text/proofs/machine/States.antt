@@ -1,4 +1,4 @@
--- A machine that reads the bytes of a piece from left to right: the state in which it ends tells the piece's form.
+-- A machine that reads the bytes of a piece from left to right: the state in which it ends gives the piece's form.
 use Rattle.odata_text.proofs.Common.{ℕ, ◌==◌, ◌||◌, Bool, true, false, cond, List, Option, Some, None, fold, is_ascii_digit, is_ascii_hexdigit, Form, Token, LeftOut, Number, TimeOfDay, Quoted, Before, Closed, Over, TokenKind, Word, Dollar, Int, Date, Moment, Guid, Str, EnumLit, Close, Comma, Slash, Minus}
 use Rattle.odata_text.specs.declared.token.TokenKind.TheVariants.{Open, Colon}
 use Rattle.odata_text.specs.declared.form.LeftOutKind.TheVariants.{Quoted as LeftOutText}
@@ -22,7 +22,7 @@ letter_of b =
     (cond ((b == 84) || (b == 116)) ATime
     (cond ((b == 90) || (b == 122)) AZulu APlain)))
 
--- what the machine tells apart
+-- the bytes that the machine reports apart
 pub data Sort : Type 0 where
   ADigit : Sort
   ALetter : Letter → Sort
@@ -69,7 +69,7 @@ pub data State : Type 0 where
   Stuck : State
   -- a piece of the kind, which nothing goes on
   Whole : TokenKind → State
-  -- a text in quotes behind the lead, so far
+  -- a text in quotes after the lead, so far
   Text : Lead → Quoted → State
   Sign : State
   SignedDigits : State

@@ -57,7 +57,7 @@ name-starts b start =
     let digit : is_ascii_digit b ≡ false = grind (arith, nat_tests) in
     ap (enter Start) (letter-sort b part digit)
 
--- Pieces one behind another.
+-- Pieces one after another.
 
 pub goes-both : (p q : State) (xs front back : List ℕ) → xs ≡ front ++ back → fold step p front ≡ q → fold step p xs ≡ fold step q back
 goes-both p q xs front back whole first =

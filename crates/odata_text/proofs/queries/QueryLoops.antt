@@ -63,7 +63,7 @@ pub record IsReadSoFar (read : List (List ℕ)) (start : ℕ) (filter : Option (
 pub read-none : IsReadSoFar [] 0 None
 read-none = record { faultless = record { readable = λ k d below. absurd (omega arith); single = omega arith }; has = refl; begins = refl }
 
--- the option that is read behind these
+-- the option that is read after these
 pub record IsNext (query : List ℕ) (read : List (List ℕ)) (number : ℕ) (option : List ℕ) : Type 0 where
   pub within : number < length (options_of query)
   pub before : take number (options_of query) ≡ read

@@ -20,14 +20,14 @@ blank = All-cons (λ b. class_of b ≡ Space) 32 [] refl (All-nil (λ b. class_o
 none : All (λ b. class_of b ≡ Space) []
 none = All-nil (λ b. class_of b ≡ Space)
 
--- a token with a blank behind it, or nothing
+-- a token with a blank after it, or nothing
 abbrev with_blank : TokenKind → List ℕ → Print
 with_blank kind text = record { kind = kind; text = text; gap = 32 ∷ [] }
 
 abbrev without_blank : TokenKind → List ℕ → Print
 without_blank kind text = record { kind = kind; text = text; gap = [] }
 
--- words, each with a blank behind it, before others
+-- words, each with a blank after it, before others
 words_then : (names : List (List ℕ)) (prints : List Print) → list_all is_ascii_name names ≡ true → ArePrintable prints → ArePrintable (map (with_blank Word) names ++ prints)
 words_then [] prints all more = more
 words_then (name ∷ names) prints all more = let parts = and_parts (is_ascii_name name) (list_all is_ascii_name names) all in (word name parts.0, (blank, (refl, words_then names prints parts.1 more)))

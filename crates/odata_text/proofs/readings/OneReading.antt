@@ -10,9 +10,9 @@ use Rattle.odata_text.specs.declared.fault.TextFault.TheVariants.{BadCharacter, 
 use Rattle.odata_text.specs.declared.span.Span.{Span}
 use Rattle.odata_text.proofs.machine.Longest.{formed-some, same_form, solid-start}
 
--- One piece at a place.
+-- One piece at an offset.
 
--- two longest pieces at one place are one
+-- two longest pieces at one offset are one
 same_longest : (rest : List ℕ) (f g : Form) (m n : ℕ) → IsLongest f m rest → IsLongest g n rest → (f ≡ g) × (m ≡ n)
 same_longest rest f g m n first second =
     let above = first.longest g n second.within second.spelled in
@@ -36,9 +36,9 @@ same_piece text p q place p_here q_here p_is q_is =
     let bytes : p.text ≡ q.text = p_is.bytes ∙ ap (λ (s : ℕ). slice_range text s p.stop) start ∙ ap (λ (t : ℕ). slice_range text q.start t) stop ∙ sym q_is.bytes in
     λ i. record { kind = kind i; start = start i; stop = stop i; text = bytes i }
 
--- One place behind white space.
+-- One place after white space.
 
--- there is a byte at the place, and it is no white space
+-- there is a byte at the offset, and it is no white space
 record IsSolid (text : List ℕ) (place : ℕ) : Type 0 where
   inside : place < length text
   solid : class_of (get_or text place 0) ≡ Space → ⊥
@@ -67,7 +67,7 @@ same_place text from a b to_a to_b solid_a solid_b =
 not_at_end : (text : List ℕ) (from a : ℕ) → IsGap text from a → IsGap text from (length text) → IsSolid text a → ⊥
 not_at_end text from a to_a to_end solid = solid.solid (to_end.white a to_a.order solid.inside)
 
--- One fault at a place.
+-- One fault at an offset.
 
 -- what stands at the front: the longest piece, or none
 abbrev IsFound : List ℕ → Option (Form × ℕ) → Type 0
@@ -83,12 +83,12 @@ same_found rest (Some (f, m)) (Some (g, n)) one two = let same = same_longest re
 abbrev span_of : ℕ → ℕ → Span
 span_of start stop = record { start = start; stop = stop }
 
--- the fault of a place at which nothing stands
+-- the fault of an offset at which nothing stands
 abbrev fault_at_none : List ℕ → ℕ → ByteClass → TextFault
 fault_at_none text place Quote = UnclosedString (span_of place (length text))
 fault_at_none text place _ = BadCharacter (span_of place (place + len_utf8 (get_or (chars (drop place text)) 0 0)))
 
--- the fault of a place at which that stands: of a faultless token that it is one too many
+-- the fault of an offset at which that stands: of a faultless token that it is one too many
 abbrev fault_of : List ℕ → ℕ → Option (Form × ℕ) → TextFault
 fault_of text place None = fault_at_none text place (class_of (get_or text place 0))
 fault_of text place (Some (LeftOut kind, n)) = LeftOutLiteral (span_of place (place + n))
@@ -96,7 +96,7 @@ fault_of text place (Some (Token kind, n)) =
     cond (is_undelimited kind && nat_lt 0 (identifier_run (drop (place + n) text)))
     (RunOn (span_of place (place + n + identifier_run (drop (place + n) text)))) (TooLong (span_of place (place + n)))
 
--- a fault at a place is that of what stands there, and a byte that is no white space does
+-- a fault at an offset is that of what stands there, and a byte that is no white space does
 record IsOf (text : List ℕ) (place : ℕ) (fault : TextFault) : Type 0 where
   solid : IsSolid text place
   found : Option (Form × ℕ)
@@ -172,13 +172,13 @@ of_fault text place before (TooLong span) (here, many) =
     (of_token text many.last (TooLong span) many.token (ap TooLong (λ i. record { start = start i; stop = stop i })))
 of_fault text place before Memory fault = absurd fault
 
--- two faults of one place are one
+-- two faults of one offset are one
 same_of : (text : List ℕ) (place : ℕ) (f g : TextFault) → IsOf text place f → IsOf text place g → f ≡ g
 same_of text place f g one two = one.is ∙ ap (fault_of text place) (same_found (drop place text) one.found two.found one.is_found two.is_found) ∙ sym two.is
 
 -- One reading of a text.
 
--- from the place on, so many tokens being before it, there is white space up to the end, or up to a fault
+-- from the offset on, so many tokens being before it, there is white space up to the end, or up to a fault
 record IsFaultFrom (text : List ℕ) (from before : ℕ) (fault : TextFault) : Type 0 where
   place : ℕ
   gap : IsGap text from place
@@ -209,7 +209,7 @@ same_end text from before (Some f) (Some g) a_ends b_ends =
     let here : b_ends.place ≡ a_ends.place = same_place text from b_ends.place a_ends.place b_ends.gap a_ends.gap two.solid one.solid in
     ap Some (same_of text a_ends.place f g one (subst (λ (p : ℕ). IsOf text p g) here two))
 
--- tokens from a place on behind so many others, and how they end
+-- tokens from an offset on after so many others, and how they end
 record IsReading (text : List ℕ) (from before : ℕ) (pieces : List TokenModel) (end : Option TextFault) : Type 0 where
   tokens : AreTokensFrom text from pieces
   ends : EndsFrom text (end_of from pieces) (before + length pieces) end

@@ -1,4 +1,4 @@
--- Places in a text: where pieces end, and what stands behind them.
+-- Offsets in a text: where pieces end, and what stands after them.
 use Rattle.std.proofs.lemmas.Str.{IsUtf8-append, IsCharBoundary-from_take, IsUtf8-drop}
 use Rattle.odata_text.proofs.Common.{AllOf, IsCharBoundary-from_rest, ◌≡◌, ◌⊎◌, inl, inr, ⊎_elim, ℕ, ◌+◌, ◌-◌, ◌<◌, ◌≤◌, true, List, [], ◌∷◌, ◌++◌, length, get_or, take, drop, IsUtf8, arith, refl, sym, ◌∙◌, ap, subst, IsCharBoundary, slice_range, cases_lt, get_or-drop, length-take-le, length-drop, fold_more, IsCharBoundary-after_ascii, IsUtf8-from_ascii, IsAscii-cons, IsAscii-nil, IsIdentifier, identifier_run, FollowedBy, IsByte, IsWordSpelling, Spells, dotted_parts, IsGap, IsLongest, IsRunOn, is_undelimited, TokenKind, Word, Dollar, Form, Token, LeftOut}
 use Rattle.odata_text.specs.Tokens.{IsLeftOutLiteral}

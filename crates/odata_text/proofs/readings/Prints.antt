@@ -7,7 +7,7 @@ use Rattle.odata_text.specs.Tokens.{RunsOn}
 use Rattle.odata_text.proofs.characters.IdentifierBytes.{is_name_byte, run-nothing, run-outside}
 use Rattle.odata_text.proofs.machine.Longest.{longest-before, separator-ascii}
 
--- No identifier character stands behind a token.
+-- No identifier character stands after a token.
 
 separator-name : (b : ℕ) → is_separator b ≡ true → is_name_byte b ≡ false
 separator-name b separator = grind (arith, nat_tests)

@@ -8,7 +8,7 @@ use Rattle.odata_text.specs.private.PlainTokens.{IsTokenBetween}
 use Rattle.odata_text.proofs.readings.Places.{boundary-gap}
 use Rattle.odata_text.proofs.readings.Scans.{IsInside-token, end_of-push, tokens-push}
 
--- a token is told by its kind and where it lies
+-- a token is reported by its kind and where it lies
 pub between-from_token : (text : List ℕ) (token : TokenModel) (start : ℕ) → token.start ≡ start → IsTokenAt text token → IsTokenBetween text token.kind start token.stop
 between-from_token text token start here is =
     subst (λ (k : ℕ). IsTokenBetween text token.kind k token.stop) here

@@ -52,6 +52,6 @@ decimals-stops xs (inr (inr pair)) = ap (stops is_int_byte) pair.whole ∙ fract
 pub fraction_exponent : ArePieces IsFraction IsExponent
 fraction_exponent = pieces-by_byte IsFraction IsExponent is_fraction_byte (λ fraction. fraction) fraction-bytes (exponent-stops is_fraction_byte refl refl)
 
--- a whole number, and a fraction, an exponent or both behind it
+-- a whole number, and a fraction, an exponent or both after it
 pub int_decimals : ArePieces IsIntSpelling IsDecimals
 int_decimals = pieces-by_byte IsIntSpelling IsDecimals is_int_byte (λ int. int.1) int-bytes decimals-stops

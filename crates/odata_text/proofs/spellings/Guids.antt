@@ -2,7 +2,7 @@
 use Rattle.odata_text.proofs.Common.{◌≡◌, ℕ, zero, suc, ◌+◌, ◌<◌, true, List, [], ◌∷◌, ◌++◌, length, take, drop, arith, refl, sym, ◌∙◌, ap, subst, length-append, length-drop, digit_value, is_ascii_hexdigit, AllDigits, eqb-true, nat_tests, drop_at, length-take-le, take_at, IsGuidSpelling, hex_bytes, PassesTests, FollowedBy, ByteTest, HexDigit, Hyphen}
 use Rattle.edm_values.specs.GuidLiteral.{digit_groups}
 
--- One pattern behind another.
+-- One pattern after another.
 
 fits-append : (p q : List ByteTest) (xs ys : List ℕ) → PassesTests p xs → PassesTests q ys → PassesTests (p ++ q) (xs ++ ys)
 fits-append [] q [] ys first second = second
@@ -55,7 +55,7 @@ all-cut zero ds all = (tt, all)
 all-cut (suc n) [] all = (tt, tt)
 all-cut (suc n) (d ∷ ds) all = let more = all-cut n ds all.1 in ((all.0, more.0), more.1)
 
--- Groups of digits, and twelve behind them.
+-- Groups of digits, and twelve after them.
 
 abbrev group_tests : List ℕ → List ByteTest
 group_tests [] = digit_tests 12

@@ -41,7 +41,7 @@ pub pattern-stands : (tests : List ByteTest) (rest : List ℕ) (d : ByteTest) �
     → ((k : ℕ) → k < length tests → passes (get_or tests k d) (get_or rest k 0) ≡ true) → IsReach (PassesTests tests) (length tests) rest
 pattern-stands tests rest d within reads = reach-sized (PassesTests tests) (length tests) rest (fits-length tests) within (fits-from_reads tests rest d within reads)
 
--- A byte that passes a test, and a piece behind it.
+-- A byte that passes a test, and a piece after it.
 
 pub marked-pair : (test : ByteTest) (B : List ℕ → Type 0) (b : ℕ) (behind : List ℕ) → passes test b ≡ true → B behind → FollowedBy (PassesTests (test ∷ [])) B (b ∷ behind)
 marked-pair test B b behind passed is = record { front = b ∷ []; back = behind; whole = refl; is_front = (passed, tt); is_back = is }

@@ -46,7 +46,7 @@ numeral-run rest n run =
           (cases_lt (prefix_len is_ascii_digit rest) m);
     }
 
--- Whole numbers: digits, or a sign and digits behind it.
+-- Whole numbers: digits, or a sign and digits after it.
 
 abbrev pub SignedPair : List ℕ → Type 0
 SignedPair xs = FollowedBy (PassesTests (Sign ∷ [])) (IsNumeral 10) xs

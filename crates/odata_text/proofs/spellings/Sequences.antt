@@ -10,7 +10,7 @@ fold-take {A} f a xs i m order =
 
 -- Lengths by one spelling.
 
--- what is left of a text behind its first bytes
+-- what is left of a text after its first bytes
 pub left_of : (text bytes : List ℕ) (n : ℕ) → bytes ≡ text → take (length bytes - n) (drop n bytes) ≡ drop n text
 left_of text bytes n same = take_rest bytes n ∙ ap (drop n) same
 
@@ -169,7 +169,7 @@ pieces-by_byte A B p no_first passes starts = record {
 
 -- Their length.
 
--- no first piece, or no second behind it
+-- no first piece, or no second after it
 followed-none : (A B : List ℕ → Type 0) (rest : List ℕ) → ((k j : ℕ) → k + j ≤ length rest → A (take k rest) → B (take j (drop k rest)) → ⊥) → IsReach (FollowedBy A B) 0 rest
 followed-none A B rest none = reach-nothing (FollowedBy A B) rest (λ m inside pair.
     let parts = pair_at A B rest m inside pair in
@@ -209,7 +209,7 @@ followed-no_second A B rest left a b behind nonempty exact reach none =
     let here = exact.exact k j inside first second in
     no_piece B j b left nonempty reach none (omega arith) (subst (λ (xs : List ℕ). B (take j xs)) (ap (λ (n : ℕ). drop n rest) here ∙ sym behind) second))
 
--- as the code measures them: the second in what is left behind the first
+-- as the code measures them: the second in what is left after the first
 pub pair-reach : (A B : List ℕ → Type 0) → ArePieces A B → (rest left : List ℕ) (a b n : ℕ) → left ≡ drop a rest → IsReach A a rest → IsReach B b left → n ≡ both_length a b → IsReach (FollowedBy A B) n rest
 pair-reach A B pieces rest left a b n behind first second is =
     ⊎_elim

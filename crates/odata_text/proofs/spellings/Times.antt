@@ -234,7 +234,7 @@ parts-from_moment xs moment = record {
 pub moment-reach : (n : ℕ) (rest : List ℕ) → IsReach (FollowedBy IsDateSpelling IsTimed) n rest → IsReach IsMomentSpelling n rest
 moment-reach n rest reach = reach-as (FollowedBy IsDateSpelling IsTimed) IsMomentSpelling n rest moment-from_parts parts-from_moment reach
 
--- What the code measures: parts one behind another.
+-- What the code measures: parts one after another.
 
 pub marked_zoned : ArePieces IsMarkedClock IsZoned
 marked_zoned =

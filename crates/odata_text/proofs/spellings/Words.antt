@@ -4,7 +4,7 @@ use Rattle.odata_text.proofs.characters.Identifiers.{identifier-nonempty}
 use Rattle.odata_text.proofs.characters.IdentifierBytes.{identifier-part, is_part_byte}
 use Rattle.odata_text.proofs.spellings.Sequences.{exact-by_byte, pair-found, pair_at, reach-nothing, stops}
 
--- A word is one identifier, or one with a dot and a word behind it.
+-- A word is one identifier, or one with a dot and a word after it.
 
 abbrev pub DotAndWord : List ℕ → Type 0
 DotAndWord xs = FollowedBy (IsByte 46) IsWordSpelling xs
@@ -60,7 +60,7 @@ word-one xs identifier = record { part = xs; more = []; identifier = identifier;
 dot-stops : (ys : List ℕ) → DotAndWord ys → stops is_part_byte ys ≡ true
 dot-stops ys dot = ap (stops is_part_byte) (dot.whole ∙ ap (λ (zs : List ℕ). zs ++ dot.back) dot.is_front)
 
--- the word goes on behind the first n bytes, with a dot and a word
+-- the word goes on after the first n bytes, with a dot and a word
 pub record IsMore (rest : List ℕ) (n m : ℕ) : Type 0 where
   pub left : ℕ
   pub size : m ≡ n + 1 + left
@@ -93,7 +93,7 @@ dot-behind rest n m reach inside pair =
     let here = exact.exact parts.first parts.second (omega arith) parts.is_first parts.is_second in
     more-behind rest n parts.second m (omega arith) (subst (λ (k : ℕ). DotAndWord (take parts.second (drop k rest))) here parts.is_second)
 
--- a word ends in the longest identifier at its front, or goes on behind that
+-- a word ends in the longest identifier at its front, or goes on after that
 word-part : (rest : List ℕ) (n m : ℕ) → IsReach IsIdentifier n rest → m ≤ length rest → IsWordSpelling (take m rest) → (m ≤ n) ⊎ IsMore rest n m
 word-part rest n m reach inside word =
     ⊎_elim
@@ -119,7 +119,7 @@ word-none rest m reach inside word =
 pub reach-no_word : (rest : List ℕ) → IsReach IsIdentifier 0 rest → IsReach IsWordSpelling 0 rest
 reach-no_word rest reach = reach-nothing IsWordSpelling rest (λ m inside word. absurd (word-none rest m reach inside word))
 
--- n bytes are a word, and what is longer goes on behind them
+-- n bytes are a word, and what is longer goes on after them
 pub record IsWordSoFar (rest : List ℕ) (n : ℕ) : Type 0 where
   pub within : n ≤ length rest
   pub word : IsWordSpelling (take n rest)
@@ -142,11 +142,11 @@ word-over rest n so_far over = record {
   reaches = λ m inside word. ⊎_elim (λ most. most) (λ more. absurd (over m inside more)) (so_far.reaches m inside word);
 }
 
--- no dot stands behind the word
+-- no dot stands after the word
 pub word-end : (rest : List ℕ) (n : ℕ) → IsWordSoFar rest n → (n < length rest → get_or rest n 0 ≡ 46 → ⊥) → IsReach IsWordSpelling n rest
 word-end rest n so_far dotless = word-over rest n so_far (λ m inside more. let size = more.size in dotless (omega arith) more.dot)
 
--- no identifier stands behind the dot
+-- no identifier stands after the dot
 pub word-dot : (rest : List ℕ) (n : ℕ) → IsWordSoFar rest n → IsReach IsIdentifier 0 (drop (n + 1) rest) → IsReach IsWordSpelling n rest
 word-dot rest n so_far none = word-over rest n so_far (λ m inside more.
     let size = more.size in

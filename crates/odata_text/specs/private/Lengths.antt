@@ -9,7 +9,7 @@ pub record IsReach (IsSpelling : List ℕ → Type 0) (n : ℕ) (rest : List ℕ
   pub found : 0 < n → IsSpelling (take n rest)
   pub reaches : (m : ℕ) → m ≤ length rest → IsSpelling (take m rest) → m ≤ n
 
--- the length of two pieces one behind the other, 0 if either is missing
+-- the length of two pieces one after the other, 0 if either is missing
 abbrev pub both_length : ℕ → ℕ → ℕ
 both_length first second = (if (first == 0) || (second == 0) then 0 else first + second)
 

@@ -6,7 +6,7 @@ use Rattle.odata_text.specs.Sequence.{FollowedBy}
 use Rattle.odata_text.specs.declared.byte_test.ByteTest.{ByteTest}
 use Rattle.odata_text.specs.declared.byte_test.ByteTest.TheVariants.{Digit, HexDigit, Hyphen, Colon, Dot, Sign, TimeMark, OffsetMark, ExponentMark}
 
--- what may stand at one place of a pattern
+-- what may stand at one offset of a pattern
 abbrev pub passes : ByteTest → ℕ → Bool
 passes Digit b = is_ascii_digit b
 passes HexDigit b = is_ascii_hexdigit b
@@ -34,6 +34,6 @@ IsMarkedClock (letter ∷ clock) = ((letter ≡ 84) ⊎ (letter ≡ 116)) × IsC
 abbrev pub IsZoned : List ℕ → Type 0
 IsZoned text = FollowedBy IsSecondsSpelling IsOffsetSpelling text
 
--- what stands behind the date of a moment
+-- what stands after the date of a moment
 abbrev pub IsTimed : List ℕ → Type 0
 IsTimed text = FollowedBy IsMarkedClock IsZoned text

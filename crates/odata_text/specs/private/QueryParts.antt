@@ -18,7 +18,7 @@ abbrev pub AreTwoFilters : Option (List ℕ) → Option (List ℕ) → Type 0
 AreTwoFilters (Some text) (Some other) = ⊤
 AreTwoFilters _ _ = ⊥
 
--- the filter behind one more option, unless there are two
+-- the filter after one more option, unless there are two
 abbrev pub KeepsFilter : Option (List ℕ) → Option (List ℕ) → Option (List ℕ) → Type 0
 KeepsFilter None found kept = kept ≡ found
 KeepsFilter (Some text) None kept = kept ≡ Some text

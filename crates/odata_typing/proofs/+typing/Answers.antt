@@ -18,7 +18,7 @@ use Rattle.odata_typing.proofs.stacks.Walking.{IsWalking, node_children, node_is
 use Rattle.odata_typing.proofs.+typing.Goals.{node::checked_nodes-else-lambda-ne-NO_NODE-via-then-lambda-ne-NO_NODE+else-index-from, node::checked_nodes-else-lambda-ne-NO_NODE-via-else-lambda-ne-NO_NODE}
 use Rattle.odata_typing.proofs.+typing.Goals as goal
 
--- A lambda expression whose base is no collection, or whose variable is in scope.
+-- A lambda expression whose base is not a collection, or whose variable is in scope.
 
 pub lambda::checked_lambda-returns-in_default : goal.lambda::checked_lambda-returns-in_default
 lambda::checked_lambda-returns-in_default t c = λ judged quantifier base asked.

@@ -41,7 +41,7 @@ module _ (laws : LawsBelow) (setting : Setting) (judged : Judged) (old new : Wal
   base_typed : (type : EdmType) → type ≡ stands.found.edm_type → Typed (slots_in setting) (root_in setting) (scope_of setting) base (expr_type setting.schema.now type)
   base_typed type same = subst (λ (t : EdmType). Typed (slots_in setting) (root_in setting) (scope_of setting) base (expr_type setting.schema.now t)) (sym same) stands.typed
 
-  -- the base is no collection
+  -- the base is not a collection
   pub not_collection :
       (mid : Walk) (type : EdmType)
       → type ≡ stands.found.edm_type

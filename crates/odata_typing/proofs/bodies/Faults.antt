@@ -147,7 +147,7 @@ taken_reason scope variable member type taken =
 pub taken_unbound : (scope : Scope) (variable : List ℕ) (type : ExprType) (base : ExprType) → variable_type scope variable ≡ Some type → (m : SingleType) → base ≡ collection m → ¬ (variable_type scope variable ≡ None)
 taken_unbound scope variable type base taken m is none = none_some (variable_type scope variable) type none taken
 
--- a base that is no collection
+-- a base that is not a collection
 pub base_reason : (schema : SchemaModel) (scope : Scope) (variable : List ℕ) (type : EdmType) → ((member : ValueType) → ¬ (type ≡ EdmType.Collection member)) → LambdaReason scope variable (expr_type schema type) TypeFaultCode.NotCollection
 base_reason schema scope variable EdmType.Null other = refl
 base_reason schema scope variable (EdmType.Single member) other = refl

@@ -65,7 +65,7 @@ infix_stands schema n scope list i j NodeKind.InPath left right is stand =
     record { middle = stand.middle; left = stand.left; right = record { middle = j; left = stand.right; right = refl } }
 infix_stands schema n scope list i j _ left right is stand = absurd is
 
--- what is told of what there is, together
+-- what is reported of what there is, together
 pub both_some : {X : Type 0} (o : Option X) (P Q : X → Type 0) → IfSome o P → IfSome o Q → IfSome o (λ x. P x × Q x)
 both_some (Some x) P Q first second = (first, second)
 both_some None P Q first second = tt

@@ -69,7 +69,7 @@ row_onward nodes (found ∷ row) i j are =
 same_found : (o : Option CheckedNode) (a b : CheckedNode) → o ≡ Some a → o ≡ Some b → a ≡ b
 same_found o a b first second = cc
 
--- from one place up to another there is one row
+-- from one index up to another there is one row
 pub one_row : (nodes row other : List CheckedNode) (i j : ℕ) → AreInRow nodes row i j → AreInRow nodes other i j → row ≡ other
 one_row nodes [] [] i j a b = refl
 one_row nodes [] (found ∷ other) i j a b = let e : i ≡ j = a in let x : i < found.stop = b.1 in let y : found.stop ≤ j = row_onward nodes other found.stop j b.2 in absurd (omega arith)

@@ -100,7 +100,7 @@ turned_past newer tree taken =
     ∙ ap (λ (ts : List Tree). ts ++ reverse newer) (reverse-append (tree ∷ []) taken)
     ∙ append_assoc (reverse taken) (tree ∷ []) (reverse newer)
 
--- what is no lambda expression has no body, and all its children stand in its scope
+-- what is not a lambda expression has no body, and all its children stand in its scope
 abbrev IsPlain : SyntaxKind → Type 0
 IsPlain kind = IfLambda kind ⊥
 

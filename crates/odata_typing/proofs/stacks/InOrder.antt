@@ -73,7 +73,8 @@ module _ (spans : SpanLaws) where
       let starts : fault.span.start ≡ start_of found.part = found.starts in
       omega (arith, held.stops, held_other.starts)
 
-  -- a node all of whose children stand in its scope: the first fault of one of them, after typed ones, is that of the node
+  -- a node all of whose children stand in its scope: the first fault of one of them, after typed ones, is that of the
+  -- node
   pub first_of_children :
       TypedIsClear → FirstBelow
       → (slots : Slots) (root : List ℕ) (scope : Scope) (whole parent : Tree) (before : List Tree) (tree : Tree) (after : List Tree) (fault : TypeFault)

@@ -12,7 +12,7 @@ use Rattle.odata_typing.proofs.stacks.Slices.{onward_run, run_length, run_more}
 use Rattle.odata_typing.proofs.stacks.Stacks.{onward, roots_from, run_before}
 use Rattle.odata_typing.proofs.stacks.TreeRuns.{IsWholeRun}
 
--- the trees of these roots stand from one place up to another
+-- the trees of these roots stand from one index up to another
 abbrev pub AreWithin : List Place → ℕ → ℕ → List ℕ → Type 0
 AreWithin places i j [] = Unit {0}
 AreWithin places i j (root ∷ roots) = (i ≤ number_at places root) × (stop_at places root ≤ j) × AreWithin places i j roots

@@ -1,4 +1,4 @@
--- A run on its own, and behind other nodes.
+-- A run on its own, and after other nodes.
 use Rattle.std.proofs.Common.{◌≡◌, refl, ap, sym, ◌∙◌, ℕ, zero, suc, ◌+◌, ◌-◌, ◌≤◌, List, [], ◌∷◌, ◌++◌, reverse, take, drop, length, length-append, length-drop, arith}
 use Rattle.std.proofs.lemmas.List.{drop-append-le, take-append-le}
 use Rattle.odata_syntax.specs.PostOrder.{AreFedBack, Texts, child_count, last_tree, shape_over, tree_count_back, trees_back, trees_before, trees_left}
@@ -60,7 +60,7 @@ left_front kind items xs ys enough =
     left_over kind items (xs ++ ys) ∙ drop-append-le (child_count kind items) xs ys enough
     ∙ ap (λ (ts : List Tree). ts ++ ys) (sym (left_over kind items xs))
 
--- behind other nodes a run has its own trees before theirs
+-- after other nodes a run has its own trees before theirs
 pub trees_apart : (names : Texts) (run before : List SyntaxNode) → AreFedBack run → trees_back names (run ++ before) ≡ trees_back names run ++ trees_back names before
 trees_apart names [] before fed = refl
 trees_apart names (n ∷ run) before fed =

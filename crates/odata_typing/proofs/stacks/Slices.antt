@@ -12,7 +12,7 @@ run_empty nodes from =
     let none : from - from ≡ 0 = omega arith in
     ap (λ (k : ℕ). reverse (take k (drop from nodes))) none
 
--- with the first node behind them
+-- with the first node after them
 pub run_more :
     (nodes : List SyntaxNode) (from index : ℕ) (n : SyntaxNode)
     → from ≤ index

@@ -1,5 +1,5 @@
--- The trees of a run of nodes, each node after its children, and where they begin. Of nodes, of trees and of roots the last
--- comes first.
+-- The trees of a run of nodes, each node after its children, and where they begin. Of nodes, of trees and of roots the
+-- last comes first.
 use Rattle.std.proofs.Common.{ℕ, ◌+◌, List, [], ◌∷◌, drop, length, reverse}
 use Rattle.std.specs.List.{slice_range}
 use Rattle.odata_syntax.specs.PostOrder.{child_count}

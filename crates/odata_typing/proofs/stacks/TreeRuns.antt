@@ -71,7 +71,7 @@ only_one (tree ∷ (other ∷ trees)) one = absurd (omega arith)
 pub whole_trees : (names : Texts) (run : List SyntaxNode) → IsWholeRun run → trees_back names run ≡ last_tree (trees_back names run) ∷ []
 whole_trees names run whole = only_one (trees_back names run) (trees_count names run ∙ whole.one)
 
--- behind other nodes it is one more tree
+-- after other nodes it is one more tree
 pub one_more_tree : (names : Texts) (run before : List SyntaxNode) → IsWholeRun run → trees_back names (run ++ before) ≡ last_tree (trees_back names run) ∷ trees_back names before
 one_more_tree names run before whole =
     trees_apart names run before whole.fed ∙ ap (λ (ts : List Tree). ts ++ trees_back names before) (whole_trees names run whole)

@@ -76,7 +76,8 @@ ready_still setting from stop index old new ready walking = record {
   fresh = walking.fault;
 }
 
--- the node at a root is put over the last trees of the run: the trees before these have been judged, and stand before it
+-- the node at a root is put over the last trees of the run: the trees before these have been judged, and stand before
+-- it
 pub record IsJoin (setting : Setting) (walk : Walk) (from root : ℕ) (tree : Tree) (roots : List ℕ) (trees : List Tree) : Type 0 where
   pub n : SyntaxNode
   pub at : slice_get setting.nodes.now root ≡ Some n
@@ -155,7 +156,7 @@ module _ (laws : LawsBelow) where
       (judged_typed setting.schema.now setting.filtered_type scope walk places roots trees join.judged)
       found)
 
--- A node that is no lambda expression.
+-- A node that is not a lambda expression.
 
 -- its children have been judged
 pub node_children :
@@ -195,7 +196,7 @@ node_children setting from stop index old walk judged is run walking inside at =
           (judged_take setting.schema.now setting.filtered_type (scope_of setting) walk places count (run_roots setting from index) trees walking.judged);
     }
 
--- where no body begins with it, it is no lambda expression
+-- where no body begins with it, it is not a lambda expression
 pub node_is_plain :
     (setting : Setting) (from stop index : ℕ) (old walk : Walk) (n : SyntaxNode) (quantifier : Quantifier)
     → IsSetting setting

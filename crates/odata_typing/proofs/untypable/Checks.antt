@@ -111,7 +111,7 @@ module _ (one : OneTree) (schema : SchemaModel) (n : ℕ) (walk : Walk) (tree : 
     (λ needed. absurd (stands.idle idle [] path (subst (λ (t : Tree). IsNeeded (slots_of schema) (type_name_at schema n) [] [] t path) whole_is needed))),
   )
 
--- ---- a tree that is no filter
+-- ---- a tree that is not a filter
 
 pub type_refusal : (slots : Slots) (root text : List ℕ) (tree : Tree) (refusal : Refusal) → HasTree text tree → IsTypeRefusal slots root tree (length text) refusal → UnlessMemory refusal (IsRefusal slots root text refusal)
 type_refusal slots root text tree (Refusal.Typing fault) has_tree is = record { tree = tree; has_tree = has_tree; fault_of = is }

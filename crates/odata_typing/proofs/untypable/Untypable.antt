@@ -1,4 +1,4 @@
--- The first untypable node among trees one behind another.
+-- The first untypable node among trees one after another.
 use Rattle.std.proofs.Common.{◌≡◌, refl, inl, inr, ◌⊎◌, ℕ, ◌≤◌, List, [], ◌∷◌, ◌++◌, subst, arith}
 use Rattle.std.specs.List.{AllByRecursion}
 use Rattle.odata_syntax.specs.Tree.{Shape, Tree, node, shape_of, start_of}
@@ -78,7 +78,7 @@ all_start :
 all_start slots root scope xs ys k first second = λ at other among.
     elim (front_or_back scope xs ys at other among) [ inl front ↦ first at other front | inr back ↦ second at other back ]
 
--- the first fault of the trees in front is that of all, if none behind starts before it, and the other way round
+-- the first fault of the trees in front is that of all, if none after starts before it, and the other way round
 pub first_in_front :
     (slots : Slots) (root : List ℕ) (scope : Scope) (xs ys : List Tree) (fault : TypeFault)
     → IsFirstAmong slots root scope xs fault

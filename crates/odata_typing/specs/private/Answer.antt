@@ -33,7 +33,7 @@ abbrev pub refusal_of : TextOrSyntaxFault → Refusal
 refusal_of (TextOrSyntaxFault.Text fault) = refusal_of_text fault
 refusal_of (TextOrSyntaxFault.Syntax fault) = refusal_of_syntax fault
 
--- why the tree of a text of this length is no filter; that memory ran out says nothing
+-- why the tree of a text of this length is not a filter; running out of memory says nothing
 abbrev pub IsTypeRefusal : Slots → List ℕ → Tree → ℕ → Refusal → Type 0
 IsTypeRefusal slots root tree len (Refusal.Typing fault) = IsTypeFault slots root tree len fault
 IsTypeRefusal slots root tree len Refusal.Memory = Unit {0}

@@ -1,4 +1,4 @@
--- For private clauses: what it is to judge a tree, whose nodes are put in their places.
+-- For private clauses: what it is to judge a tree, whose nodes are put at their indexes.
 use Rattle.std.specs.Prelude.{◌≡◌, ◌<◌, ◌≤◌, ◌+◌, ℕ, List, [], ◌∷◌, Bool, true, false, None, Some, IfSome, length, slice_get}
 use Rattle.odata_syntax.specs.PostOrder.{child_count, last_trees}
 use Rattle.odata_syntax.specs.Tree.{Shape, Tree, node}
@@ -35,7 +35,7 @@ pub record IsStanding
   pub stands : Stands schema n scope walk.list i j tree
   pub idle : walk.navigates ≡ false → IsIdle (slots_of schema) (type_name_at schema n) scope tree
 
--- nodes from one place up to another stand for these trees one after another
+-- nodes from one index up to another stand for these trees one after another
 abbrev pub StandInRow : SchemaModel → ℕ → Scope → Walk → List Tree → ℕ → ℕ → Type 0
 StandInRow schema n scope walk [] i j = i ≡ j
 StandInRow schema n scope walk (tree ∷ trees) i j =

@@ -27,7 +27,7 @@ OneIsRead Holds (NodeKind.Binary operator) left right = OfOneSide Holds operator
 OneIsRead Holds NodeKind.Has left right = Holds left.type_of right.quoted
 OneIsRead Holds _ left right = ⊥
 
--- the kind of a node in which one is read, with the place of the number
+-- the kind of a node in which one is read, with the index of the number
 abbrev pub paired_kind : Paired → ℕ → NodeKind
 paired_kind (Paired.Right operator) number = NodeKind.PairedRight operator number
 paired_kind (Paired.Left operator) number = NodeKind.PairedLeft operator number
@@ -43,7 +43,7 @@ IsPairedIn slots (NodeKind.Binary operator) (Paired.Left read) left right n =
 IsPairedIn slots NodeKind.Has Paired.Has left right n = NumberBeside slots left.type_of right.quoted n
 IsPairedIn slots _ _ left right n = ⊥
 
--- what is told of the operands
+-- what is reported of the operands
 abbrev pub IsPairing : Slots → NodeKind → Side → Side → Pairing → Type 0
 IsPairing slots form left right Pairing.Unread = ¬ OneIsRead IsReadBeside form left right
 IsPairing slots form left right (Pairing.Number paired n) = IsPairedIn slots form paired left right n

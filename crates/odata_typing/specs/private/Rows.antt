@@ -9,7 +9,7 @@ use Rattle.odata_checked_filter.specs.declared.checked_node.CheckedNode.{Checked
 use Rattle.odata_checked_filter.specs.declared.checked_node.NodeKind.{NodeKind}
 use Rattle.odata_checked_filter.specs.FlatTree.{FlatTree}
 
--- they stand so from one place up to another
+-- they stand so from one index up to another
 abbrev pub AreInRow : List CheckedNode → List CheckedNode → ℕ → ℕ → Type 0
 AreInRow nodes [] i j = i ≡ j
 AreInRow nodes (found ∷ row) i j =
@@ -25,11 +25,11 @@ abbrev pub quoted_beside : NodeKind → Option (List ℕ) → Option (List ℕ)
 quoted_beside (NodeKind.Literal LiteralKind.Str place) text = text
 quoted_beside kind text = None
 
--- what the node in a place quotes
+-- what the node at an index quotes
 abbrev pub quoted_in : FlatTree → ℕ → CheckedNode → Option (List ℕ)
 quoted_in list place found = quoted_beside found.kind (slice_get list.texts place)
 
--- nodes from a place on as sides
+-- nodes from an index on as sides
 abbrev pub row_sides : SchemaModel → FlatTree → ℕ → List CheckedNode → List Side
 row_sides schema list place [] = []
 row_sides schema list place (found ∷ row) =

@@ -38,7 +38,7 @@ pub record IsReady (setting : Setting) (walk : Walk) : Type 0 where
   pub there : AreThere setting.schema.now setting.variables.now
   pub fresh : walk.fault ≡ None
 
--- so that a node can be put in its place
+-- so that a node can be put at its index
 pub record IsNodeReady (setting : Setting) (walk : Walk) (judged : Judged) : Type 0 where
   pub ready : IsReady setting walk
   pub order : judged.number < judged.stop

@@ -1,4 +1,4 @@
--- For private clauses: what a walk keeps of a node.
+-- For private clauses: what a walk stores of a node.
 use Rattle.std.specs.Prelude.{◌≡◌, List, [], ℕ, Bool, true, false, None, Some}
 use Rattle.edm_values.specs.declared.primitive.PrimitiveType.{PrimitiveType}
 use Rattle.edm_values.specs.declared.value.Value.{Value}
@@ -23,7 +23,7 @@ checked judged kind edm_type =
 abbrev pub walk_over : FlatTree → Walk
 walk_over list = record { list = list; fault = None; navigates = false }
 
--- the walk with that node and its text in their place
+-- the walk with that node and its text at their index
 abbrev pub walk_put : Walk → Judged → NodeKind → EdmType → List ℕ → Walk
 walk_put walk judged kind edm_type text =
     record walk { list = node_put walk.list judged.number (checked judged kind edm_type) text }

@@ -1,4 +1,4 @@
--- For private clauses: the walk over a whole text, and why a text is no filter.
+-- For private clauses: the walk over a whole text, and why a text is not a filter.
 use Rattle.std.specs.Prelude.{◌≡◌, ℕ, List, [], false, length}
 use Rattle.csdl_schema.specs.ExpansionView.{StepModel, paths_in}
 use Rattle.csdl_schema.specs.PathSet.{PropertyPath}
@@ -20,7 +20,7 @@ pub record IsWalked (schema : SchemaModel) (n : ℕ) (walk : Walk) : Type 0 wher
       (expansion : List StepModel) → walk.navigates ≡ false → ((path : PropertyPath) → paths_in expansion path ≡ false)
       → HasNeededPaths schema n walk.list expansion
 
--- the text has no typing, and this is why; that memory ran out says nothing
+-- the text has no typing, and this is why; running out of memory says nothing
 pub record IsRefusedFor (schema : SchemaModel) (n : ℕ) (text : List ℕ) (refusal : Refusal) : Type 0 where
   pub why : UnlessMemory refusal (IsRefusal (slots_of schema) (type_name_at schema n) text refusal)
   pub none : UnlessMemory refusal (HasNoTyping (slots_of schema) (type_name_at schema n) text)

@@ -3,7 +3,7 @@ use Rattle.odata_filter.specs.declared.bad_row.BadRow.{BadRow}
 use Rattle.odata_filter.specs.declared.no_verdict.NoVerdict.{NoVerdict}
 use Rattle.odfilter_c.specs.declared.fault.Fault.{Fault}
 
--- a row by itself has no line, which is told as 0
+-- a row by itself has no line, which is reported as 0
 abbrev pub row_fault : NoVerdict → Fault
 row_fault (NoVerdict.Bad BadRow.NotJson) = Fault.Json 0
 row_fault (NoVerdict.Bad (BadRow.NoEntity fault)) = Fault.Row 0 fault

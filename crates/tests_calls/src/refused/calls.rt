@@ -16,9 +16,9 @@ use std::alloc::Global;
 use std::test::Fail;
 
 /// What is asked: of a document, of a type of the shop, of a line as a product, of a filter of products (last its
-/// outcome on one, and that of so many evaluations on the product), of a filter of entities with links (last its outcome
-/// on one, or the fault of that), of paths, of a text without types, of a literal of a kind behind other text, of texts,
-/// of a query string, of words, of words over a document and rows.
+/// outcome on one, and that of so many evaluations on the product), of a filter of entities with links (last its
+/// outcome on one, or the fault of that), of paths, of a text without types, of a literal of a kind after other text,
+/// of texts, of a query string, of words, of words over a document and rows.
 #[derive(Clone, Copy)]
 enum Call {
     Document(&'static str),
@@ -113,8 +113,8 @@ fn answer(alloc: Global, call: Call) -> Result<String, Trouble> {
     }
 }
 
-/// Whether an answer says that memory was refused; fails if it is another one than with ample memory. A run into a text
-/// that cannot grow has a failed write. What a run by words has written by then is a beginning.
+/// Whether an answer says that an allocation failed; fails if it is another one than with ample memory. A run into a
+/// text that cannot grow has a failed write. What a run by words has written by then is a beginning.
 fn says_refused(said: &str, wanted: &str) -> Result<bool, Fail> {
     let is_cut_run = match said.strip_suffix("memory\nstatus 6") {
         Some(written) => wanted.starts_with(written),
@@ -132,7 +132,7 @@ fn says_refused(said: &str, wanted: &str) -> Result<bool, Fail> {
     }
 }
 
-/// Whether a call was refused memory.
+/// Whether a call was refused an allocation.
 fn is_refused(alloc: Global, call: Call, wanted: &str) -> Result<bool, Fail> {
     match &answer(alloc, call) {
         Ok(said) => says_refused(said.as_str(), wanted),
@@ -141,7 +141,7 @@ fn is_refused(alloc: Global, call: Call, wanted: &str) -> Result<bool, Fail> {
     }
 }
 
-/// What is asked, by which name it is told, and the answer.
+/// What is asked, by which name it is reported, and the answer.
 const CALLS: &[(Call, &str, &str)] = &[
     (Call::Document(SHOP), "read", "accepted"),
     (
@@ -444,7 +444,7 @@ fn calls(rt: HostRuntime) -> Result<(), Fail> {
     Ok(())
 }
 
-/// A filter that takes no memory, how often it is evaluated, by which name that is told, and the answer.
+/// A filter that takes no memory, how often it is evaluated, by which name that is reported, and the answer.
 const EVALUATIONS: &[(&str, usize, &str, &str)] = &[
     (LAMBDAS, 0, "lambdas_0", "not evaluated"),
     (LAMBDAS, 1, "lambdas_1", "true"),

@@ -67,7 +67,7 @@ fn tally_of(run: Run) -> Tally {
     }
 }
 
-/// Whether memory was refused, where the rest is as it should be.
+/// Whether an allocation failed, where the rest is as it should be.
 fn answered(is_refused: bool, is_so: bool) -> Result<bool, Fail> {
     if is_so {
         Ok(is_refused)
@@ -76,8 +76,8 @@ fn answered(is_refused: bool, is_so: bool) -> Result<bool, Fail> {
     }
 }
 
-/// Whether a run says that memory was refused, with what was written by then; otherwise it ended, or told the fault of its
-/// fourth line before it read on.
+/// Whether a run says that an allocation failed, with what was written by then; otherwise it ended, or reported the
+/// fault of its fourth line before it read on.
 fn is_said(run: Run, said: &Result<Tally, RunFault>, out: &[u8]) -> Result<bool, Fail> {
     let is_faulty = matches!(run, Run::FaultyLines);
     match said {
@@ -99,7 +99,7 @@ fn is_said(run: Run, said: &Result<Tally, RunFault>, out: &[u8]) -> Result<bool,
     }
 }
 
-/// Whether memory was refused of lines.
+/// Whether an allocation failed of lines.
 fn lines_are_refused(
     alloc: Global,
     checked: &Checked<'_>,
@@ -122,7 +122,7 @@ fn lines_are_refused(
 const COLLECTION: &str =
     "{\"value\":[{\"Name\":\"a\",\"On\":true},{\"Name\":\"b\",\"On\":true},{\"Name\":\"a\",\"On\":true}]}";
 
-/// Whether memory was refused of the collection.
+/// Whether an allocation failed of the collection.
 fn collection_is_refused(
     alloc: Global,
     checked: &Checked<'_>,
@@ -133,7 +133,7 @@ fn collection_is_refused(
     is_said(Run::Collection, &said, out.as_slice())
 }
 
-/// Whether memory was refused of a run by a filter, once there is room for what it writes.
+/// Whether an allocation failed of a run by a filter, once there is room for what it writes.
 fn run_is_refused(alloc: Global, checked: &Checked<'_>, run: Run) -> Result<bool, Fail> {
     let Ok(mut out) = Vec::with_capacity(alloc, 256) else {
         return Ok(true);
@@ -187,8 +187,8 @@ fn is_refused(alloc: Global, run: Run) -> Result<bool, Fail> {
     }
 }
 
-/// What is asked, and by which name it is told. The fourth line of the lines is so long that the buffer of what is read
-/// grows a second time; the faulty line is judged before it does.
+/// What is asked, and by which name it is reported. The fourth line of the lines is so long that the buffer of what is
+/// read grows a second time; the faulty line is judged before it does.
 const RUNS: &[(Run, &str)] = &[
     (Run::Items, "filter_lines"),
     (Run::Lines, "filter_lines_of_pieces"),

@@ -7,7 +7,7 @@ use Rattle.edm_row_plans.specs.Expanded.{slots_at}
 use Rattle.edm_entities.specs.private.SlotsSoFar.{SlotsSoFar}
 use Rattle.edm_entities.proofs.row_slots.fill_slots.Given as goal
 
--- the slots so far are filled, and what was found is still told
+-- the slots so far are filled, and what was found is still recorded
 abbrev pub invariant-loop-slot : goal.invariant-loop-slot
 invariant-loop-slot l =
     (length l.plan.slots.items ≤ length l.filled) × (length l.values.items ≡ length l.plan.slots.items)

@@ -395,7 +395,7 @@ take_other_property-returns-clause-holds t c done =
     let seen = subst (IsLookedAt slots (property_type schema p)) (ap (type_wanted schema wanted) c.if-plan.false) (seen_as schema slots p.kind (target_of p) p.many wanted is) in
     held_seen slots (property_type schema p) (single (wanted_single schema wanted)) c.take_single.new.place seen (c.take_single.ensures.holds done)
 
--- what a plan at hand is of
+-- what the current plan is of
 pub take_single-take_record-requires : goal.take_single-take_record-requires
 take_single-take_record-requires t c =
     let plan = c.in-Some.ensures.plan c.args.scene.now.schema.now c.args.scene.now.expansion.now c.requires in

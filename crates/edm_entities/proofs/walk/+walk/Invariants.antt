@@ -28,7 +28,7 @@ decreases-read_items l = 4 * depth (view l.json.now) + 3
 abbrev pub decreases-read_list : goal.decreases-read_list
 decreases-read_list l = 4 * items_depth (items_view l.items.now) + 4
 
--- the values so far fit the slots so far, the piece at hand is one of the type, and the members are the object's
+-- the values so far fit the slots so far, the current piece is one of the type, and the members are the object's
 abbrev pub invariant-read_slots-loop-slot : goal.invariant-read_slots-loop-slot
 invariant-read_slots-loop-slot l =
     FitSlots (slots_in l.scene l.node) (view l.json) (take l.slot (properties_at l.scene.schema.now l.type_id)) l.values.items

@@ -4,7 +4,7 @@ use Rattle.json.specs.Text.{content, plain}
 use Rattle.json_tokens.specs.private.Escapes.{told_and_rest}
 use Rattle.json_tokens.proofs.escaped_text.tell.Given as goal
 
--- what was told and what is left are what the text stands for
+-- what was decoded and what is left are what the text stands for
 abbrev pub invariant-loop-place : goal.invariant-loop-place
 invariant-loop-place l =
     (l.place ≤ length l.quoted) × IsCharBoundary l.quoted l.place × (content plain (drop 1 l.quoted) ≡ told_and_rest (string_bytes l.told) l.quoted l.place)

@@ -1,7 +1,7 @@
 use Rattle.std.proofs.Common.{◌≤◌, ◌-◌, length}
 use Rattle.json_tokens.proofs.lexeme.number_end.Given as goal
 
--- the place is at or behind the first, and within the text
+-- the offset is at or after the first, and within the text
 abbrev pub invariant-loop-place : goal.invariant-loop-place
 invariant-loop-place l = (l.from ≤ l.place) × (l.place ≤ length l.bytes)
 

@@ -2,7 +2,7 @@ use Rattle.std.proofs.Common.{◌≤◌, ◌-◌, length}
 use Rattle.json.specs.Written.{PlainBetween}
 use Rattle.json_tokens.proofs.lexeme.plain_end.Given as goal
 
--- plain bytes stand up to the place
+-- plain bytes stand up to the offset
 abbrev pub invariant-loop-place : goal.invariant-loop-place
 invariant-loop-place l = (l.from ≤ l.place) × (l.place ≤ length l.bytes) × PlainBetween l.bytes l.from l.place
 

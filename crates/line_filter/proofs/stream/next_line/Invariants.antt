@@ -1,5 +1,5 @@
 -- What is left is left, only what was open was read, where no whole line waited, and what was held back is written or
--- held back. The calls did their work, but for a read that is told, and nothing is held back then.
+-- held back. The calls did their work, but for a read that is reported, and nothing is held back then.
 use Rattle.std.proofs.Common.{◌≡◌, ◌⊎◌, []}
 use Rattle.std.specs.Io.KnownBytes.{Keeps}
 use Rattle.line_filter.specs.declared.line_reader.Course.{Course}

@@ -3,7 +3,7 @@ use Rattle.odata_checked_filter.specs.FlatTree.{tree_of_nodes}
 use Rattle.odata_checked_filter.specs.private.CanonicalWalk.{IsPending, spread, weight}
 use Rattle.odata_checked_filter.proofs.canonical_text.text_of_list.Given as goal
 
--- behind the text stands what waits, and the whole is the canonical text
+-- after the text stands what waits, and the whole is the canonical text
 abbrev pub invariant-loop-part : goal.invariant-loop-part
 invariant-loop-part l = IsPending l.list (tree_of_nodes l.list) (string_bytes l.text) (spread l.list l.pending.items)
 

@@ -7,7 +7,7 @@ use Rattle.odata_checked_filter.specs.Stands.{Stands}
 use Rattle.odata_checked_filter.specs.private.NeededWalk.{IsPathEnd, LeadThere, nodes_in}
 use Rattle.odata_checked_filter.proofs.needed_paths.expand_path.Given as goal
 
--- what the path needs up to the step at hand is put, and it ends there
+-- what the path needs up to the current step is put, and it ends there
 abbrev pub invariant-loop-at : goal.invariant-loop-at
 invariant-loop-at l = record {
   above : l.place ≤ l.at;

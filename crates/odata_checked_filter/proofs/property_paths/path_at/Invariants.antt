@@ -7,7 +7,7 @@ use Rattle.odata_checked_filter.specs.private.LambdaLines.{StandsBetween}
 use Rattle.odata_checked_filter.specs.private.PathWalk.{AreBound, bound_in}
 use Rattle.odata_checked_filter.proofs.property_paths.path_at.Given as goal
 
--- the text so far is that of the path up to the step at hand
+-- the text so far is that of the path up to the current step
 abbrev pub invariant-loop-at : goal.invariant-loop-at
 invariant-loop-at l = record {
   above : l.place ≤ l.at;
