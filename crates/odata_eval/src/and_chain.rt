@@ -1,23 +1,20 @@
 //! The walk of a whole filter. Most are chains of `and` over Boolean properties and comparisons of a property with a
-//! literal, called plain terms here, as are comparisons of what is made of kept values alone: such a chain is asked from
-//! its leftmost term on, and left at once where a term is false. This alone takes some 135 of 1,470 instructions off a
-//! short row whose second term is false. The plain terms before the first other one are asked of a scene that is not kept
-//! in memory, which takes off another 57 of 1,216.
-ghost use Rattle.std.specs.Prelude.{◌<◌, ℕ, IfSome, IsTrue, Ok, Some};
+//! literal, called plain terms here: such a chain is asked from its leftmost term on, and left at once where a term is
+//! false. This alone takes some 135 of 1,470 instructions off a short row whose second term is false. The plain terms
+//! before the first other one are asked of a scene that is not kept in memory, which takes off another 57 of 1,216.
+ghost use Rattle.std.specs.Prelude.{◌<◌, ℕ, IsTrue};
 ghost use Rattle.odata_eval.specs.private.Place.{HasOperator, PartStands, TruthStands};
 ghost use Rattle.odata_eval.specs.private.Rest.{IsRest, TellsTerms};
 ghost use Rattle.odata_eval.specs.private.WalkAnswer.{AnswersTruth};
 
-use super::budget::Budget;
-use super::kept_operands::kept_compared_at;
+use super::kept_terms::kept_truth_at;
 use super::logical::{decides, join};
 use super::part::right_of;
 use super::scene::Scene;
 use super::walk::term_at;
 use odata_checked_filter::NodeKind;
-use odata_filter_operations::{EvalFault, compare_kept, kept_truth};
-use odata_functions::comparisons_are_decided;
-use odata_syntax::{BinaryOperator, ComparisonOperator, LogicalOperator};
+use odata_filter_operations::EvalFault;
+use odata_syntax::{BinaryOperator, LogicalOperator};
 
 /// The terms of a chain of `and` that are left to ask, where those before them are true.
 #[derive(Clone, Copy)]
@@ -72,9 +69,7 @@ pub(crate) fn truth_of_rest(
     requires rest { IsRest scene.now rest }
     ensures { AnswersTruth scene.now 0 result }
 {
-    // One budget for the whole chain, from which nothing is taken: it is written once.
-    let mut unbounded = Budget::Unbounded;
-    let mut left = match term_at(scene, rest.term, &mut unbounded) {
+    let mut left = match term_at(scene, rest.term) {
         Ok(truth) => truth,
         Err(fault) => return Err(fault),
     };
@@ -88,7 +83,7 @@ pub(crate) fn truth_of_rest(
         match kept_truth_at(scene, right_place) {
             Some(true) => {}
             Some(false) => return Ok(Some(false)),
-            None => match term_at(scene, right_place, &mut unbounded) {
+            None => match term_at(scene, right_place) {
                 Ok(right) => left = join(LogicalOperator::And, left, right),
                 Err(fault) => return Err(fault),
             },
@@ -124,49 +119,4 @@ fn is_and(scene: &Scene<'_, '_, '_>, place: usize) -> bool
             operator: BinaryOperator::Logical(LogicalOperator::And)
         }
     )
-}
-
-/// The truth value of a Boolean property, where that is not null, of a comparison of a property with a literal, and of one
-/// of what is made of kept values alone.
-#[inline(always)]
-fn kept_truth_at(scene: &Scene<'_, '_, '_>, place: usize) -> Option<bool>
-    requires stands { TruthStands scene.now place }
-    ensures { IfSome result (λ truth. AnswersTruth scene.now place (Ok (Some truth))) }
-{
-    scene.ends_once();
-    match scene.node(place).kind {
-        NodeKind::Property { slot } => kept_truth(scene.property(slot)),
-        NodeKind::Binary { operator } => match operator {
-            BinaryOperator::Comparison(comparison) => {
-                compared_with_literal(scene, place, comparison)
-            }
-            _ => None,
-        },
-        _ => None,
-    }
-}
-
-/// Whether a comparison of a property with a literal is true.
-#[inline(always)]
-fn compared_with_literal(
-    scene: &Scene<'_, '_, '_>,
-    place: usize,
-    comparison: ComparisonOperator,
-) -> Option<bool>
-    requires stands { PartStands scene.now place }
-    requires here { HasOperator scene.now.list place (BinaryOperator.Comparison comparison) }
-    ensures { IfSome result (λ truth. AnswersTruth scene.now place (Ok (Some truth))) }
-{
-    scene.ends_once();
-    comparisons_are_decided();
-    let right_place = right_of(scene, place);
-    let left = match scene.node(place + 1).kind {
-        NodeKind::Property { slot } => scene.property(slot),
-        _ => return kept_compared_at(scene, place, comparison),
-    };
-    let right = match scene.node(right_place).kind {
-        NodeKind::Literal { value, .. } => scene.literal(value),
-        _ => return None,
-    };
-    Some(compare_kept(comparison, left, right))
 }

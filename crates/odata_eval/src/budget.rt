@@ -16,28 +16,69 @@ pub(crate) enum Budget {
     Left(u64),
 }
 
-/// Takes one, if one is left.
-pub(crate) fn take_one(budget: &mut Budget) -> bool
-    ensures { IsTaken result budget.old budget.new 1 }
-{
-    match *budget {
-        Budget::Unbounded => true,
-        Budget::Left(count) => {
-            if count == 0 {
-                return false;
+/// What a walk counts by.
+pub(crate) trait Counting: Copy {
+    ghost use Rattle.odata_eval.specs.declared.budget.Budget.{Budget};
+
+    // what is left of its bound
+    ghost left: { Self → Budget };
+
+    /// One that has no bound.
+    fn without_bound() -> Self
+        ensures { left result ≡ Budget.Unbounded };
+
+    /// Takes one, if one is left.
+    fn take_one(&mut self) -> bool
+        ensures { IsTaken result (left self.old) (left self.new) 1 };
+}
+
+/// Nothing is counted: a walk by this is compiled without a budget.
+#[derive(Clone, Copy)]
+pub(crate) struct Unbounded;
+
+impl Counting for Unbounded {
+    ghost use Rattle.odata_eval.specs.declared.budget.Budget.{Budget};
+
+    ghost left = { λ s. Budget.Unbounded };
+
+    #[inline(always)]
+    fn without_bound() -> Unbounded {
+        Unbounded
+    }
+
+    #[inline(always)]
+    fn take_one(&mut self) -> bool {
+        true
+    }
+}
+
+impl Counting for Budget {
+    ghost left = { λ s. s };
+
+    fn without_bound() -> Budget {
+        Budget::Unbounded
+    }
+
+    fn take_one(&mut self) -> bool {
+        match *self {
+            Budget::Unbounded => true,
+            Budget::Left(count) => {
+                if count == 0 {
+                    return false;
+                }
+                *self = Budget::Left(count - 1);
+                true
             }
-            *budget = Budget::Left(count - 1);
-            true
         }
     }
 }
 
 /// Takes one for an item of a list within a body, if one is left.
-pub(crate) fn take_item(scene: &Scene<'_, '_, '_>, budget: &mut Budget) -> bool
-    ensures { IsTaken result budget.old budget.new (item_cost (environment_of scene.now)) }
+pub(crate) fn take_item<B: Counting>(scene: &Scene<'_, '_, '_>, budget: &mut B) -> bool
+    ensures { IsTaken result (B.left budget.old) (B.left budget.new) (item_cost (environment_of scene.now)) }
 {
     if scene.is_within_body() {
-        take_one(budget)
+        budget.take_one()
     } else {
         true
     }

@@ -5,7 +5,7 @@ ghost use Rattle.odata_eval.specs.private.Place.{HasKind, PartStands};
 ghost use Rattle.odata_eval.specs.private.Spending.{CountedDatum, SpendsRest, datum_stop};
 ghost use Rattle.odata_eval.specs.private.WalkAnswer.{AnswersDatum};
 
-use super::budget::{Budget, take_item};
+use super::budget::{Counting, take_item};
 use super::part::{right_of, stop_of};
 use super::scene::Scene;
 use super::stop::EvalStop;
@@ -18,7 +18,7 @@ use odata_syntax::ComparisonOperator;
 
 /// What `has` evaluates to.
 #[cycle(evaluate)]
-pub(crate) fn flags_at<'e>(
+pub(crate) fn flags_at<'e, B: Counting>(
     scene: &Scene<'e, '_, '_>,
     place: usize,
     left: &Datum<'_>,
@@ -29,7 +29,7 @@ pub(crate) fn flags_at<'e>(
     ensures { AnswersDatum scene.now place result }
 {
     scene.ends_once();
-    match operand_at(scene, right_of(scene, place)) {
+    match operand_at::<B>(scene, right_of(scene, place)) {
         Ok(right) => Ok(flags_of(left, &right)),
         Err(fault) => Err(fault),
     }
@@ -37,7 +37,7 @@ pub(crate) fn flags_at<'e>(
 
 /// What `in` before a path evaluates to.
 #[cycle(evaluate)]
-pub(crate) fn among_at<'e>(
+pub(crate) fn among_at<'e, B: Counting>(
     scene: &Scene<'e, '_, '_>,
     place: usize,
     left: &Datum<'_>,
@@ -48,7 +48,7 @@ pub(crate) fn among_at<'e>(
     ensures { AnswersDatum scene.now place result }
 {
     scene.ends_once();
-    match operand_at(scene, right_of(scene, place)) {
+    match operand_at::<B>(scene, right_of(scene, place)) {
         Ok(path) => Ok(among(left, &path)),
         Err(fault) => Err(fault),
     }
@@ -56,17 +56,17 @@ pub(crate) fn among_at<'e>(
 
 /// What `in` before a list evaluates to. The items are evaluated from the left until one is equal.
 #[cycle(evaluate)]
-pub(crate) fn listed_at<'e>(
+pub(crate) fn listed_at<'e, B: Counting>(
     scene: &Scene<'e, '_, '_>,
     place: usize,
     left: &Datum<'_>,
-    budget: &mut Budget,
+    budget: &mut B,
 ) -> Result<Datum<'e>, EvalStop>
     requires stands { PartStands scene.now place }
     requires here { HasKind scene.now.list place Kind.InList }
     requires left { AnswersDatum scene.now (place + 1) (Ok left.now) }
     ensures answers { CountedDatum scene.now place result }
-    ensures spent { SpendsRest scene.now place budget.old None budget.new (datum_stop result) }
+    ensures spent { SpendsRest scene.now place (B.left budget.old) None (B.left budget.new) (datum_stop result) }
 {
     scene.ends_once();
     trees_have_one_type();

@@ -1,8 +1,8 @@
-//! Operands of which no value is made: a step from a value that is kept, the length of a kept text, what arithmetic makes
-//! of two kept numbers, and a kept text of whose lower case only the start is asked.
+//! Operands of which no value is made: a step from a value that is kept, the length of a kept text, and a kept text of
+//! whose lower case only the start is asked.
 ghost use Rattle.std.specs.Prelude.{◌≡◌, ◌+◌, ℕ, IfSome, List, None, Ok, Some};
 ghost use Rattle.odata_checked_filter.specs.declared.checked_node.NodeKind.{NodeKind as Kind};
-ghost use Rattle.odata_eval.specs.private.KeptOperands.{AnswersCall, AnswersLast, AnswersLowered, AnswersText, IsMadeAt, IsPathAt};
+ghost use Rattle.odata_eval.specs.private.KeptOperands.{AnswersCall, AnswersLast, AnswersLowered, AnswersText, IsPathAt};
 ghost use Rattle.odata_eval.specs.private.Place.{HasCall, HasKind, HasOperator, IsClassAt, PartStands};
 ghost use Rattle.odata_eval.specs.private.Spending.{SpendsAt};
 ghost use Rattle.odata_eval.specs.private.WalkAnswer.{AnswersKept, AnswersNumber, AnswersTruth};
@@ -15,11 +15,11 @@ use edm_values::{Datum, Value};
 use odata_checked_filter::NodeKind;
 use odata_expression_types::trees_have_one_type;
 use odata_filter_operations::{
-    calculated, compare_kept, compare_numbers, datum_of, kept_number, lower_starts_with,
+    compare_kept, compare_numbers, datum_of, kept_number, lower_starts_with,
 };
-use odata_functions::{comparisons_are_decided, operands_lie_within_promotion, text_length};
+use odata_functions::{comparisons_are_decided, text_length};
 use odata_signatures::{Function, calls_have_one_type};
-use odata_syntax::{ArithmeticOperator, BinaryOperator, ComparisonOperator};
+use odata_syntax::{BinaryOperator, ComparisonOperator};
 
 /// The value to which a path of at most one step from a property, a literal or a variable leads.
 #[inline(always)]
@@ -215,53 +215,8 @@ fn kept_number_at(scene: &Scene<'_, '_, '_>, place: usize) -> Option<Option<i64>
     }
 }
 
-/// What arithmetic makes of two kept numbers.
-#[inline(always)]
-fn kept_calculation_at(
-    scene: &Scene<'_, '_, '_>,
-    place: usize,
-    operator: ArithmeticOperator,
-) -> Option<Option<i64>>
-    requires stands { PartStands scene.now place }
-    requires here { HasOperator scene.now.list place (BinaryOperator.Arithmetic operator) }
-    ensures answers { IfSome result (λ number. AnswersNumber scene.now place (Ok number)) }
-    ensures numeric { IfSome result (λ number. IsClassAt scene.now.list Class.Numeric place) }
-{
-    scene.ends_once();
-    trees_have_one_type();
-    operands_lie_within_promotion();
-    let right_place = right_of(scene, place);
-    let Some(left) = kept_number_at(scene, place + 1) else {
-        return None;
-    };
-    let Some(right) = kept_number_at(scene, right_place) else {
-        return None;
-    };
-    let node = scene.node(place);
-    match calculated(operator, &node.edm_type, left, right) {
-        Ok(number) => Some(number),
-        Err(_) => None,
-    }
-}
-
-/// A number that is made of kept values alone: the length of a text, or what arithmetic makes of two numbers.
-#[inline(always)]
-fn made_number_at(scene: &Scene<'_, '_, '_>, place: usize) -> Option<Option<i64>>
-    requires { PartStands scene.now place }
-    ensures answers { IfSome result (λ number. AnswersNumber scene.now place (Ok number)) }
-    ensures made { IfSome result (λ number. IsMadeAt scene.now.list place) }
-{
-    match scene.node(place).kind {
-        NodeKind::Call { function } => length_at(scene, place, function),
-        NodeKind::Binary { operator } => match operator {
-            BinaryOperator::Arithmetic(arithmetic) => kept_calculation_at(scene, place, arithmetic),
-            _ => None,
-        },
-        _ => None,
-    }
-}
-
-/// Whether a comparison is true whose left operand is a step from a kept value, or a number that is made of kept values.
+/// Whether a comparison is true whose left operand is a step from a kept value, or the length of a kept text. What the
+/// kind of the left operand rules out is not called.
 #[inline(always)]
 pub(crate) fn kept_compared_at(
     scene: &Scene<'_, '_, '_>,
@@ -273,19 +228,59 @@ pub(crate) fn kept_compared_at(
     ensures answers { IfSome result (λ truth. AnswersTruth scene.now place (Ok (Some truth))) }
     ensures spent { (budget : Budget) → IfSome result (λ truth. SpendsAt scene.now place budget budget None) }
 {
+    let _nodes = scene.nodes();
+    match scene.node(place + 1).kind {
+        NodeKind::Member { slot } => step_compared_at(scene, place, comparison, slot),
+        NodeKind::Call { function } => match function {
+            Function::Length => length_compared_at(scene, place, comparison, function),
+            _ => None,
+        },
+        _ => None,
+    }
+}
+
+/// The same, where a step from a kept value stands on the left.
+#[inline(never)]
+fn step_compared_at(
+    scene: &Scene<'_, '_, '_>,
+    place: usize,
+    comparison: ComparisonOperator,
+    slot: usize,
+) -> Option<bool>
+    requires stands { PartStands scene.now place }
+    requires here { HasOperator scene.now.list place (BinaryOperator.Comparison comparison) }
+    requires step { HasKind scene.now.list (place + 1) (Kind.Member slot) }
+    ensures answers { IfSome result (λ truth. AnswersTruth scene.now place (Ok (Some truth))) }
+    ensures spent { (budget : Budget) → IfSome result (λ truth. SpendsAt scene.now place budget budget None) }
+{
     scene.ends_once();
     comparisons_are_decided();
     let right_place = right_of(scene, place);
-    if let NodeKind::Member { slot } = scene.node(place + 1).kind {
-        let Some(left) = step_at(scene, place + 1, slot) else {
-            return None;
-        };
-        let Some(right) = kept_at(scene, right_place) else {
-            return None;
-        };
-        return Some(compare_kept(comparison, left, right));
-    }
-    let Some(left) = made_number_at(scene, place + 1) else {
+    let Some(left) = step_at(scene, place + 1, slot) else {
+        return None;
+    };
+    let Some(right) = kept_at(scene, right_place) else {
+        return None;
+    };
+    Some(compare_kept(comparison, left, right))
+}
+
+/// The same, where a call stands on the left.
+#[inline(never)]
+fn length_compared_at(
+    scene: &Scene<'_, '_, '_>,
+    place: usize,
+    comparison: ComparisonOperator,
+    function: Function,
+) -> Option<bool>
+    requires stands { PartStands scene.now place }
+    requires here { HasOperator scene.now.list place (BinaryOperator.Comparison comparison) }
+    requires call { HasCall scene.now.list (place + 1) function }
+    ensures answers { IfSome result (λ truth. AnswersTruth scene.now place (Ok (Some truth))) }
+    ensures spent { (budget : Budget) → IfSome result (λ truth. SpendsAt scene.now place budget budget None) }
+{
+    let right_place = right_of(scene, place);
+    let Some(left) = length_at(scene, place + 1, function) else {
         return None;
     };
     let Some(right) = kept_number_at(scene, right_place) else {

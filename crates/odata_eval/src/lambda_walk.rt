@@ -10,7 +10,7 @@ ghost use Rattle.odata_eval.specs.private.Place.{HasKind, PartStands};
 ghost use Rattle.odata_eval.specs.private.Spending.{CountedDatum, CountedMembers, SpendsMembers, SpendsRest, datum_stop, stopped_by};
 ghost use Rattle.odata_eval.specs.private.WalkAnswer.{AnswersDatum};
 
-use super::budget::{Budget, take_one};
+use super::budget::Counting;
 use super::frames::RangeVariable;
 use super::part::right_of;
 use super::scene::Scene;
@@ -48,18 +48,18 @@ struct Body {
 
 /// What a lambda operator evaluates to, whose base has been answered. Over null it is null.
 #[cycle(evaluate)]
-pub(crate) fn lambda_at<'e>(
+pub(crate) fn lambda_at<'e, B: Counting>(
     scene: &Scene<'e, '_, '_>,
     place: usize,
     quantifier: Quantifier,
     base: Datum<'e>,
-    budget: &mut Budget,
+    budget: &mut B,
 ) -> Result<Datum<'e>, EvalStop>
     requires stands { PartStands scene.now place }
     requires here { HasKind scene.now.list place (Kind.Lambda quantifier) }
     requires first { AnswersDatum scene.now (place + 1) (Ok base) }
     ensures answers { CountedDatum scene.now place result }
-    ensures spent { SpendsRest scene.now place budget.old None budget.new (datum_stop result) }
+    ensures spent { SpendsRest scene.now place (B.left budget.old) None (B.left budget.new) (datum_stop result) }
 {
     scene.ends_once();
     trees_have_one_type();
@@ -80,21 +80,21 @@ pub(crate) fn lambda_at<'e>(
 
 /// What it evaluates to over members. Members after the one that decides, or has a fault, are left out.
 #[cycle(evaluate)]
-fn members_at<'f>(
+fn members_at<'f, B: Counting>(
     scene: &'f Scene<'f, '_, '_>,
     body: Body,
     variable: &'f RangeVariable<'f>,
     members: &'f [Value],
-    budget: &mut Budget,
+    budget: &mut B,
 ) -> Result<Option<bool>, EvalStop>
     requires body { BodyIsThere scene.now variable.now body.place }
     requires suit { AllByRecursion (Suits scene.now variable.now) members.now }
     ensures answers { CountedMembers scene.now body.place body.quantifier variable.now members.now result }
-    ensures spent { SpendsMembers scene.now body.place body.quantifier variable.now members.now budget.old budget.new
-        (stopped_by result) }
+    ensures spent { SpendsMembers scene.now body.place body.quantifier variable.now members.now
+        (B.left budget.old) (B.left budget.new) (stopped_by result) }
 {
     for at in 0..members.len() {
-        if !take_one(budget) {
+        if !budget.take_one() {
             return Err(EvalStop::TooCostly);
         }
         let bound = scene.with(variable, &members[at]);

@@ -8,6 +8,7 @@ mod collection_walk;
 mod evaluator;
 mod frames;
 mod kept_operands;
+mod kept_terms;
 mod lambda_walk;
 mod laws;
 mod logical;

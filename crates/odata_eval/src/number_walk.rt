@@ -3,6 +3,7 @@ ghost use Rattle.std.specs.Prelude.{◌≡◌, ◌+◌, Ok};
 ghost use Rattle.odata_eval.specs.private.Place.{HasOperator, IsClassAt, NumberStands, PartStands};
 ghost use Rattle.odata_eval.specs.private.WalkAnswer.{AnswersNumber};
 
+use super::budget::Counting;
 use super::part::{
     Part, WalkClass, arithmetic_operator, class_at, is_class_at, part_at, right_of, spine_bottom,
 };
@@ -15,17 +16,20 @@ use odata_syntax::{ArithmeticOperator, BinaryOperator};
 
 /// What a node of numbers evaluates to.
 #[cycle(evaluate)]
-pub(crate) fn number_at(scene: &Scene<'_, '_, '_>, place: usize) -> Result<Option<i64>, EvalFault>
+pub(crate) fn number_at<B: Counting>(
+    scene: &Scene<'_, '_, '_>,
+    place: usize,
+) -> Result<Option<i64>, EvalFault>
     requires stands { PartStands scene.now place }
     requires numeric { IsClassAt scene.now.list WalkClass.Numeric place }
     ensures { AnswersNumber scene.now place result }
 {
     let bottom = spine_bottom(scene, place, WalkClass::Numeric);
-    let mut answer = number_operand_at(scene, bottom);
+    let mut answer = number_operand_at::<B>(scene, bottom);
     let mut at = bottom;
     while place < at {
         at -= 1;
-        answer = numeric_at(scene, at, answer);
+        answer = numeric_at::<B>(scene, at, answer);
     }
     answer
 }
@@ -33,7 +37,7 @@ pub(crate) fn number_at(scene: &Scene<'_, '_, '_>, place: usize) -> Result<Optio
 /// The same, where most of these nodes stand: two of them on a stored value, or one, are taken at once.
 #[cycle(evaluate)]
 #[inline(always)]
-pub(crate) fn number_chain_at(
+pub(crate) fn number_chain_at<B: Counting>(
     scene: &Scene<'_, '_, '_>,
     place: usize,
 ) -> Result<Option<i64>, EvalFault>
@@ -44,17 +48,20 @@ pub(crate) fn number_chain_at(
     let _nodes = scene.nodes();
     match class_at(scene, place + 1) {
         WalkClass::Numeric => {
-            let first = number_on_leaf_at(scene, place + 1);
-            numeric_at(scene, place, first)
+            let first = number_on_leaf_at::<B>(scene, place + 1);
+            numeric_at::<B>(scene, place, first)
         }
-        _ => number_on_leaf_at(scene, place),
+        _ => number_on_leaf_at::<B>(scene, place),
     }
 }
 
 /// The same, where the first operand is likely a stored value.
 #[cycle(evaluate)]
 #[inline(always)]
-fn number_on_leaf_at(scene: &Scene<'_, '_, '_>, place: usize) -> Result<Option<i64>, EvalFault>
+fn number_on_leaf_at<B: Counting>(
+    scene: &Scene<'_, '_, '_>,
+    place: usize,
+) -> Result<Option<i64>, EvalFault>
     requires stands { PartStands scene.now place }
     requires numeric { IsClassAt scene.now.list WalkClass.Numeric place }
     ensures { AnswersNumber scene.now place result }
@@ -62,36 +69,42 @@ fn number_on_leaf_at(scene: &Scene<'_, '_, '_>, place: usize) -> Result<Option<i
     scene.ends_once();
     let _nodes = scene.nodes();
     match part_at(scene, place + 1) {
-        Part::Leaf(first) => numeric_at(scene, place, Ok(kept_number(first))),
-        _ => number_at(scene, place),
+        Part::Leaf(first) => numeric_at::<B>(scene, place, Ok(kept_number(first))),
+        _ => number_at::<B>(scene, place),
     }
 }
 
 /// What a node of a number type or Null evaluates to, where a stored value is likely.
 #[cycle(evaluate)]
 #[inline(always)]
-fn number_operand_at(scene: &Scene<'_, '_, '_>, place: usize) -> Result<Option<i64>, EvalFault>
+fn number_operand_at<B: Counting>(
+    scene: &Scene<'_, '_, '_>,
+    place: usize,
+) -> Result<Option<i64>, EvalFault>
     requires stands { NumberStands scene.now place }
     ensures { AnswersNumber scene.now place result }
 {
     scene.ends_once();
     match part_at(scene, place) {
         Part::Leaf(value) => Ok(kept_number(value)),
-        _ => made_number_at(scene, place),
+        _ => made_number_at::<B>(scene, place),
     }
 }
 
 /// The same, of a node whose value is made.
 #[cycle(evaluate)]
-fn made_number_at(scene: &Scene<'_, '_, '_>, place: usize) -> Result<Option<i64>, EvalFault>
+fn made_number_at<B: Counting>(
+    scene: &Scene<'_, '_, '_>,
+    place: usize,
+) -> Result<Option<i64>, EvalFault>
     requires stands { NumberStands scene.now place }
     ensures { AnswersNumber scene.now place result }
 {
     scene.ends_once();
     if is_class_at(scene, place, WalkClass::Numeric) {
-        return number_at(scene, place);
+        return number_at::<B>(scene, place);
     }
-    match operand_at(scene, place) {
+    match operand_at::<B>(scene, place) {
         Ok(value) => Ok(number_of(&value)),
         Err(fault) => Err(fault),
     }
@@ -100,7 +113,7 @@ fn made_number_at(scene: &Scene<'_, '_, '_>, place: usize) -> Result<Option<i64>
 /// What a node of numbers evaluates to, whose first operand has been answered.
 #[cycle(evaluate)]
 #[inline(always)]
-fn numeric_at(
+fn numeric_at<B: Counting>(
     scene: &Scene<'_, '_, '_>,
     place: usize,
     first: Result<Option<i64>, EvalFault>,
@@ -119,7 +132,7 @@ fn numeric_at(
     };
     let node = scene.node(place);
     match arithmetic_operator(node.kind) {
-        Some(operator) => calculated_at(scene, place, operator, first),
+        Some(operator) => calculated_at::<B>(scene, place, operator, first),
         None => negated(&node.edm_type, first),
     }
 }
@@ -127,7 +140,7 @@ fn numeric_at(
 /// What an arithmetic operator evaluates to.
 #[cycle(evaluate)]
 #[inline(always)]
-fn calculated_at(
+fn calculated_at<B: Counting>(
     scene: &Scene<'_, '_, '_>,
     place: usize,
     operator: ArithmeticOperator,
@@ -142,7 +155,7 @@ fn calculated_at(
     trees_have_one_type();
     operands_lie_within_promotion();
     let node = scene.node(place);
-    match number_operand_at(scene, right_of(scene, place)) {
+    match number_operand_at::<B>(scene, right_of(scene, place)) {
         Ok(right) => calculated(operator, &node.edm_type, left, right),
         Err(fault) => Err(fault),
     }

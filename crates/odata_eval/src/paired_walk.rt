@@ -7,7 +7,7 @@ ghost use Rattle.odata_eval.specs.private.Place.{HasKind, IsRightOf, PartStands,
 ghost use Rattle.odata_eval.specs.private.Spending.{CountedDatum, CountedItem, CountedTruth, SpendsAt, SpendsItem, SpendsRest, datum_stop, stopped_by};
 ghost use Rattle.odata_eval.specs.private.WalkAnswer.{AnswersDatum, AnswersKept, AnswersTruth};
 
-use super::budget::{Budget, take_item};
+use super::budget::{Counting, take_item};
 use super::part::{Part, part_at, right_of, stop_of};
 use super::scene::Scene;
 use super::stop::EvalStop;
@@ -52,7 +52,7 @@ pub(crate) fn compared_right<'e>(
 
 /// The same, where the left operand does.
 #[cycle(evaluate)]
-pub(crate) fn compared_left_at<'e>(
+pub(crate) fn compared_left_at<'e, B: Counting>(
     scene: &Scene<'e, '_, '_>,
     place: usize,
     operator: BinaryOperator,
@@ -65,7 +65,7 @@ pub(crate) fn compared_left_at<'e>(
     scene.ends_once();
     trees_have_one_type();
     comparisons_are_decided();
-    match operand_at(scene, right_of(scene, place)) {
+    match operand_at::<B>(scene, right_of(scene, place)) {
         Ok(right) => {
             let left = datum_of(scene.literal(number));
             Ok(Datum::Bool(compare(equality_of(operator), &left, &right)))
@@ -78,17 +78,17 @@ pub(crate) fn compared_left_at<'e>(
 /// values. A left one that is kept is compared where it is.
 #[cycle(evaluate)]
 #[inline(always)]
-pub(crate) fn right_read_truth_at(
+pub(crate) fn right_read_truth_at<B: Counting>(
     scene: &Scene<'_, '_, '_>,
     place: usize,
     operator: BinaryOperator,
     number: usize,
-    budget: &mut Budget,
+    budget: &mut B,
 ) -> Result<Option<bool>, EvalStop>
     requires stands { TruthStands scene.now place }
     requires here { HasKind scene.now.list place (Kind.PairedRight operator number) }
     ensures answers { CountedTruth scene.now place result }
-    ensures spent { SpendsAt scene.now place budget.old budget.new (stopped_by result) }
+    ensures spent { SpendsAt scene.now place (B.left budget.old) (B.left budget.new) (stopped_by result) }
 {
     let _nodes = scene.nodes();
     match part_at(scene, place + 1) {
@@ -100,17 +100,17 @@ pub(crate) fn right_read_truth_at(
 /// The same, where the left operand does.
 #[cycle(evaluate)]
 #[inline(always)]
-pub(crate) fn left_read_truth_at(
+pub(crate) fn left_read_truth_at<B: Counting>(
     scene: &Scene<'_, '_, '_>,
     place: usize,
     operator: BinaryOperator,
     number: usize,
-    budget: &mut Budget,
+    budget: &mut B,
 ) -> Result<Option<bool>, EvalStop>
     requires stands { TruthStands scene.now place }
     requires here { HasKind scene.now.list place (Kind.PairedLeft operator number) }
     ensures answers { CountedTruth scene.now place result }
-    ensures spent { SpendsAt scene.now place budget.old budget.new (stopped_by result) }
+    ensures spent { SpendsAt scene.now place (B.left budget.old) (B.left budget.new) (stopped_by result) }
 {
     match part_at(scene, right_of(scene, place)) {
         Part::Leaf(right) => Ok(Some(compared_kept_left(scene, place, operator, number, right))),
@@ -179,18 +179,18 @@ pub(crate) fn flags_right<'e>(
 /// What `in` evaluates to before a list, for whose items values stand from an index on. The items are evaluated from
 /// the left until one is equal.
 #[cycle(evaluate)]
-pub(crate) fn numbered_at<'e>(
+pub(crate) fn numbered_at<'e, B: Counting>(
     scene: &Scene<'e, '_, '_>,
     place: usize,
     numbers: usize,
     left: &Datum<'_>,
-    budget: &mut Budget,
+    budget: &mut B,
 ) -> Result<Datum<'e>, EvalStop>
     requires stands { PartStands scene.now place }
     requires here { HasKind scene.now.list place (Kind.PairedList numbers) }
     requires left { AnswersDatum scene.now (place + 1) (Ok left.now) }
     ensures answers { CountedDatum scene.now place result }
-    ensures spent { SpendsRest scene.now place budget.old None budget.new (datum_stop result) }
+    ensures spent { SpendsRest scene.now place (B.left budget.old) None (B.left budget.new) (datum_stop result) }
 {
     scene.ends_once();
     trees_have_one_type();
@@ -219,16 +219,17 @@ pub(crate) fn numbered_at<'e>(
 
 /// What an item evaluates to, for which a value stands at an index: the number there, or what the item is by itself.
 #[cycle(evaluate)]
-fn numbered_item_at<'e>(
+fn numbered_item_at<'e, B: Counting>(
     scene: &Scene<'e, '_, '_>,
     place: usize,
     number: usize,
-    budget: &mut Budget,
+    budget: &mut B,
 ) -> Result<Datum<'e>, EvalStop>
     requires stands { PartStands scene.now place }
     requires number { number < length scene.now.list.values }
     ensures answers { CountedItem scene.now place (Some number) result }
-    ensures spent { SpendsItem scene.now place (Some number) budget.old budget.new (datum_stop result) }
+    ensures spent { SpendsItem scene.now place (Some number) (B.left budget.old) (B.left budget.new)
+        (datum_stop result) }
 {
     match scene.literal(number) {
         Value::Enum(n) => Ok(Datum::Enum(*n)),

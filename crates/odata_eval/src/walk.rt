@@ -8,9 +8,10 @@ ghost use Rattle.odata_eval.specs.private.Place.{HasCall, HasOperator, IsClassAt
 ghost use Rattle.odata_eval.specs.private.Spending.{CountedDatum, CountedTruth, SpendsAt, SpendsRest, datum_stop, stopped_by};
 ghost use Rattle.odata_eval.specs.private.WalkAnswer.{AnswersDatum, AnswersTruth};
 
-use super::budget::{Budget, as_stop, fault_of};
+use super::budget::{Counting, Unbounded, as_stop, fault_of};
 use super::collection_walk::{among_at, flags_at, listed_at};
 use super::kept_operands::{kept_compared_at, lower_start_at};
+use super::kept_terms::kept_truth_at;
 use super::lambda_walk::lambda_at;
 use super::logical::{decides, join};
 use super::number_walk::{number_at, number_chain_at};
@@ -37,14 +38,14 @@ use odata_syntax::{BinaryOperator, ComparisonOperator, LogicalOperator};
 
 /// What a node of type Boolean or Null evaluates to on an entity of the filtered type.
 #[cycle(evaluate)]
-pub(crate) fn truth_at(
+pub(crate) fn truth_at<B: Counting>(
     scene: &Scene<'_, '_, '_>,
     place: usize,
-    budget: &mut Budget,
+    budget: &mut B,
 ) -> Result<Option<bool>, EvalStop>
     requires stands { TruthStands scene.now place }
     ensures answers { CountedTruth scene.now place result }
-    ensures spent { SpendsAt scene.now place budget.old budget.new (stopped_by result) }
+    ensures spent { SpendsAt scene.now place (B.left budget.old) (B.left budget.new) (stopped_by result) }
 {
     let bottom = spine_bottom(scene, place, WalkClass::Logical);
     let mut answer = plain_truth_at(scene, bottom, budget);
@@ -59,15 +60,15 @@ pub(crate) fn truth_at(
 /// The same, of a node that is none of truth values.
 #[cycle(evaluate)]
 #[inline(always)]
-fn plain_truth_at(
+fn plain_truth_at<B: Counting>(
     scene: &Scene<'_, '_, '_>,
     place: usize,
-    budget: &mut Budget,
+    budget: &mut B,
 ) -> Result<Option<bool>, EvalStop>
     requires stands { TruthStands scene.now place }
     requires plain { ¬ IsClassAt scene.now.list WalkClass.Logical place }
     ensures answers { CountedTruth scene.now place result }
-    ensures spent { SpendsAt scene.now place budget.old budget.new (stopped_by result) }
+    ensures spent { SpendsAt scene.now place (B.left budget.old) (B.left budget.new) (stopped_by result) }
 {
     scene.ends_once();
     if let NodeKind::Binary { operator } = scene.node(place).kind {
@@ -87,10 +88,7 @@ fn plain_truth_at(
     match part_at(scene, place) {
         Part::Leaf(value) => Ok(kept_truth(value)),
         Part::Logical => unreachable!(),
-        Part::Numeric => match numeric_truth_at(scene, place) {
-            Ok(truth) => Ok(truth),
-            Err(fault) => Err(EvalStop::Fault(fault)),
-        },
+        Part::Numeric => numeric_truth_at(scene, place, budget),
         Part::Eager => made_truth_at(scene, place, budget),
     }
 }
@@ -98,16 +96,16 @@ fn plain_truth_at(
 /// The same, of a comparison.
 #[cycle(evaluate)]
 #[inline(always)]
-fn compared_truth_at(
+fn compared_truth_at<B: Counting>(
     scene: &Scene<'_, '_, '_>,
     place: usize,
     comparison: ComparisonOperator,
-    budget: &mut Budget,
+    budget: &mut B,
 ) -> Result<Option<bool>, EvalStop>
     requires stands { TruthStands scene.now place }
     requires here { HasOperator scene.now.list place (BinaryOperator.Comparison comparison) }
     ensures answers { CountedTruth scene.now place result }
-    ensures spent { SpendsAt scene.now place budget.old budget.new (stopped_by result) }
+    ensures spent { SpendsAt scene.now place (B.left budget.old) (B.left budget.new) (stopped_by result) }
 {
     scene.ends_once();
     comparisons_are_decided();
@@ -128,21 +126,21 @@ fn compared_truth_at(
 /// The same, of a comparison whose left side is a node of numbers.
 #[cycle(evaluate)]
 #[inline(always)]
-fn numbers_truth_at(
+fn numbers_truth_at<B: Counting>(
     scene: &Scene<'_, '_, '_>,
     place: usize,
     comparison: ComparisonOperator,
-    budget: &mut Budget,
+    budget: &mut B,
 ) -> Result<Option<bool>, EvalStop>
     requires stands { TruthStands scene.now place }
     requires here { HasOperator scene.now.list place (BinaryOperator.Comparison comparison) }
     requires numeric { IsClassAt scene.now.list WalkClass.Numeric (place + 1) }
     ensures answers { CountedTruth scene.now place result }
-    ensures spent { SpendsAt scene.now place budget.old budget.new (stopped_by result) }
+    ensures spent { SpendsAt scene.now place (B.left budget.old) (B.left budget.new) (stopped_by result) }
 {
     scene.ends_once();
     let right_place = right_of(scene, place);
-    let left = match number_chain_at(scene, place + 1) {
+    let left = match number_chain_at::<B>(scene, place + 1) {
         Ok(left) => left,
         Err(fault) => return Err(EvalStop::Fault(fault)),
     };
@@ -151,7 +149,7 @@ fn numbers_truth_at(
             Value::Int(right) => Ok(Some(compare_numbers(comparison, left, Some(*right)))),
             _ => made_truth_at(scene, place, budget),
         },
-        Part::Numeric => match number_at(scene, right_place) {
+        Part::Numeric => match number_at::<B>(scene, right_place) {
             Ok(right) => Ok(Some(compare_numbers(comparison, left, right))),
             Err(fault) => Err(EvalStop::Fault(fault)),
         },
@@ -162,16 +160,16 @@ fn numbers_truth_at(
 /// The same, of a call. Two stored values are taken where they are.
 #[cycle(evaluate)]
 #[inline(always)]
-fn called_truth_at(
+fn called_truth_at<B: Counting>(
     scene: &Scene<'_, '_, '_>,
     place: usize,
     function: Function,
-    budget: &mut Budget,
+    budget: &mut B,
 ) -> Result<Option<bool>, EvalStop>
     requires stands { TruthStands scene.now place }
     requires here { HasCall scene.now.list place function }
     ensures answers { CountedTruth scene.now place result }
-    ensures spent { SpendsAt scene.now place budget.old budget.new (stopped_by result) }
+    ensures spent { SpendsAt scene.now place (B.left budget.old) (B.left budget.new) (stopped_by result) }
 {
     scene.ends_once();
     calls_have_one_type();
@@ -203,29 +201,34 @@ fn called_truth_at(
 
 /// The same, of a node of numbers.
 #[cycle(evaluate)]
-fn numeric_truth_at(scene: &Scene<'_, '_, '_>, place: usize) -> Result<Option<bool>, EvalFault>
+fn numeric_truth_at<B: Counting>(
+    scene: &Scene<'_, '_, '_>,
+    place: usize,
+    budget: &mut B,
+) -> Result<Option<bool>, EvalStop>
     requires stands { TruthStands scene.now place }
     requires numeric { IsClassAt scene.now.list WalkClass.Numeric place }
-    ensures { AnswersTruth scene.now place result }
+    ensures answers { CountedTruth scene.now place result }
+    ensures spent { SpendsAt scene.now place (B.left budget.old) (B.left budget.new) (stopped_by result) }
 {
     scene.ends_once();
-    match number_at(scene, place) {
+    match number_at::<B>(scene, place) {
         Ok(number) => Ok(truth_of(&datum_of_number(number))),
-        Err(fault) => Err(fault),
+        Err(fault) => Err(EvalStop::Fault(fault)),
     }
 }
 
 /// The same, of a node that takes the values of all its operands.
 #[cycle(evaluate)]
-pub(crate) fn made_truth_at(
+pub(crate) fn made_truth_at<B: Counting>(
     scene: &Scene<'_, '_, '_>,
     place: usize,
-    budget: &mut Budget,
+    budget: &mut B,
 ) -> Result<Option<bool>, EvalStop>
     requires stands { TruthStands scene.now place }
     requires eager { IsClassAt scene.now.list WalkClass.Eager place }
     ensures answers { CountedTruth scene.now place result }
-    ensures spent { SpendsAt scene.now place budget.old budget.new (stopped_by result) }
+    ensures spent { SpendsAt scene.now place (B.left budget.old) (B.left budget.new) (stopped_by result) }
 {
     scene.ends_once();
     match eager_at(scene, place, budget) {
@@ -236,17 +239,18 @@ pub(crate) fn made_truth_at(
 
 /// What a node of truth values evaluates to, whose first operand has been answered.
 #[cycle(evaluate)]
-fn logical_at(
+fn logical_at<B: Counting>(
     scene: &Scene<'_, '_, '_>,
     place: usize,
     first: Result<Option<bool>, EvalStop>,
-    budget: &mut Budget,
+    budget: &mut B,
 ) -> Result<Option<bool>, EvalStop>
     requires stands { PartStands scene.now place }
     requires logical { IsClassAt scene.now.list WalkClass.Logical place }
     requires first { CountedTruth scene.now (place + 1) first }
     ensures answers { CountedTruth scene.now place result }
-    ensures spent { SpendsRest scene.now place budget.old (stopped_by first) budget.new (stopped_by result) }
+    ensures spent { SpendsRest scene.now place (B.left budget.old) (stopped_by first) (B.left budget.new)
+        (stopped_by result) }
 {
     scene.ends_once();
     let first = match first {
@@ -262,14 +266,14 @@ fn logical_at(
 /// The same as `truth_at`, where no chain is likely: a node that is none of truth values is taken at once.
 #[cycle(evaluate)]
 #[inline(always)]
-pub(crate) fn side_at(
+pub(crate) fn side_at<B: Counting>(
     scene: &Scene<'_, '_, '_>,
     place: usize,
-    budget: &mut Budget,
+    budget: &mut B,
 ) -> Result<Option<bool>, EvalStop>
     requires stands { TruthStands scene.now place }
     ensures answers { CountedTruth scene.now place result }
-    ensures spent { SpendsAt scene.now place budget.old budget.new (stopped_by result) }
+    ensures spent { SpendsAt scene.now place (B.left budget.old) (B.left budget.new) (stopped_by result) }
 {
     match class_at(scene, place) {
         WalkClass::Logical => truth_at(scene, place, budget),
@@ -280,18 +284,13 @@ pub(crate) fn side_at(
 /// The same, where nothing is counted: a term of a chain, of a filter that is evaluated without a bound.
 #[tactic(auto, using(crate::proofs::spending::Stops::unbounded_truth, crate::proofs::spending::Stops::unbounded_datum))]
 #[inline(always)]
-pub(crate) fn term_at(
-    scene: &Scene<'_, '_, '_>,
-    place: usize,
-    unbounded: &mut Budget,
-) -> Result<Option<bool>, EvalFault>
+pub(crate) fn term_at(scene: &Scene<'_, '_, '_>, place: usize) -> Result<Option<bool>, EvalFault>
     requires stands { TruthStands scene.now place }
-    requires unbounded { unbounded.old ≡ Budget.Unbounded }
-    ensures answers { AnswersTruth scene.now place result }
-    ensures unbounded { IfOk result (λ truth. unbounded.new ≡ Budget.Unbounded) }
+    ensures { AnswersTruth scene.now place result }
 {
     scene.costs_once();
-    match side_at(scene, place, unbounded) {
+    let mut unbounded = Unbounded;
+    match side_at(scene, place, &mut unbounded) {
         Ok(truth) => Ok(truth),
         Err(stop) => Err(fault_of(stop)),
     }
@@ -299,24 +298,28 @@ pub(crate) fn term_at(
 
 /// What a logical operator evaluates to. The right side of a decided one is left out.
 #[cycle(evaluate)]
-fn connected_at(
+fn connected_at<B: Counting>(
     scene: &Scene<'_, '_, '_>,
     place: usize,
     operator: LogicalOperator,
     left: Option<bool>,
-    budget: &mut Budget,
+    budget: &mut B,
 ) -> Result<Option<bool>, EvalStop>
     requires stands { PartStands scene.now place }
     requires here { HasOperator scene.now.list place (BinaryOperator.Logical operator) }
     requires left { AnswersTruth scene.now (place + 1) (Ok left) }
     ensures answers { CountedTruth scene.now place result }
-    ensures spent { SpendsRest scene.now place budget.old None budget.new (stopped_by result) }
+    ensures spent { SpendsRest scene.now place (B.left budget.old) None (B.left budget.new) (stopped_by result) }
 {
     scene.ends_once();
     if decides(operator, left) {
         return Ok(left);
     }
-    match side_at(scene, right_of(scene, place), budget) {
+    let right_place = right_of(scene, place);
+    if let Some(right) = kept_truth_at(scene, right_place) {
+        return Ok(join(operator, left, Some(right)));
+    }
+    match side_at(scene, right_place, budget) {
         Ok(right) => Ok(join(operator, left, right)),
         Err(stop) => Err(stop),
     }
@@ -324,14 +327,14 @@ fn connected_at(
 
 /// What a node evaluates to: a stored value, which stays where it is, or one that is made.
 #[cycle(evaluate)]
-pub(crate) fn counted_at<'e>(
+pub(crate) fn counted_at<'e, B: Counting>(
     scene: &Scene<'e, '_, '_>,
     place: usize,
-    budget: &mut Budget,
+    budget: &mut B,
 ) -> Result<Datum<'e>, EvalStop>
     requires stands { PartStands scene.now place }
     ensures answers { CountedDatum scene.now place result }
-    ensures spent { SpendsAt scene.now place budget.old budget.new (datum_stop result) }
+    ensures spent { SpendsAt scene.now place (B.left budget.old) (B.left budget.new) (datum_stop result) }
 {
     match part_at(scene, place) {
         Part::Leaf(value) => Ok(datum_of(value)),
@@ -339,7 +342,7 @@ pub(crate) fn counted_at<'e>(
             Ok(truth) => Ok(datum_of_truth(truth)),
             Err(stop) => Err(stop),
         },
-        Part::Numeric => match number_at(scene, place) {
+        Part::Numeric => match number_at::<B>(scene, place) {
             Ok(number) => Ok(datum_of_number(number)),
             Err(fault) => Err(EvalStop::Fault(fault)),
         },
@@ -350,15 +353,18 @@ pub(crate) fn counted_at<'e>(
 /// The same, where nothing is counted: an operand that holds no lambda operator, since it is none of truth values.
 #[tactic(auto, using(crate::proofs::spending::Stops::unbounded_truth, crate::proofs::spending::Stops::unbounded_datum))]
 #[cycle(evaluate)]
-pub(crate) fn operand_at<'e>(
+pub(crate) fn operand_at<'e, B: Counting>(
     scene: &Scene<'e, '_, '_>,
     place: usize,
 ) -> Result<Datum<'e>, EvalFault>
     requires stands { PartStands scene.now place }
     ensures { AnswersDatum scene.now place result }
 {
+    if let Part::Leaf(value) = part_at(scene, place) {
+        return Ok(datum_of(value));
+    }
     scene.costs_once();
-    let mut unbounded = Budget::Unbounded;
+    let mut unbounded = B::without_bound();
     match counted_at(scene, place, &mut unbounded) {
         Ok(value) => Ok(value),
         Err(stop) => Err(fault_of(stop)),
@@ -367,18 +373,18 @@ pub(crate) fn operand_at<'e>(
 
 /// What a node evaluates to that takes the values of all its operands.
 #[cycle(evaluate)]
-fn eager_at<'e>(
+fn eager_at<'e, B: Counting>(
     scene: &Scene<'e, '_, '_>,
     place: usize,
-    budget: &mut Budget,
+    budget: &mut B,
 ) -> Result<Datum<'e>, EvalStop>
     requires stands { PartStands scene.now place }
     requires eager { IsClassAt scene.now.list WalkClass.Eager place }
     ensures answers { CountedDatum scene.now place result }
-    ensures spent { SpendsAt scene.now place budget.old budget.new (datum_stop result) }
+    ensures spent { SpendsAt scene.now place (B.left budget.old) (B.left budget.new) (datum_stop result) }
 {
     let bottom = spine_bottom(scene, place, WalkClass::Eager);
-    let mut answer = counted_at(scene, bottom, budget);
+    let mut answer = bottom_at(scene, bottom, budget);
     let mut at = bottom;
     while place < at {
         at -= 1;
@@ -387,19 +393,38 @@ fn eager_at<'e>(
     answer
 }
 
-/// The same, where the first operand has been answered.
+/// What the node below such a chain evaluates to. Most often it is a stored value, which is taken at once.
 #[cycle(evaluate)]
-fn made_at<'e>(
+#[inline(always)]
+fn bottom_at<'e, B: Counting>(
+    scene: &Scene<'e, '_, '_>,
+    place: usize,
+    budget: &mut B,
+) -> Result<Datum<'e>, EvalStop>
+    requires stands { PartStands scene.now place }
+    ensures answers { CountedDatum scene.now place result }
+    ensures spent { SpendsAt scene.now place (B.left budget.old) (B.left budget.new) (datum_stop result) }
+{
+    if let Part::Leaf(value) = part_at(scene, place) {
+        return Ok(datum_of(value));
+    }
+    counted_at(scene, place, budget)
+}
+
+/// What a node evaluates to that takes the values of all its operands, whose first operand has been answered.
+#[cycle(evaluate)]
+fn made_at<'e, B: Counting>(
     scene: &Scene<'e, '_, '_>,
     place: usize,
     first: Result<Datum<'e>, EvalStop>,
-    budget: &mut Budget,
+    budget: &mut B,
 ) -> Result<Datum<'e>, EvalStop>
     requires stands { PartStands scene.now place }
     requires eager { IsClassAt scene.now.list WalkClass.Eager place }
     requires first { CountedDatum scene.now (place + 1) first }
     ensures answers { CountedDatum scene.now place result }
-    ensures spent { SpendsRest scene.now place budget.old (datum_stop first.entry) budget.new (datum_stop result) }
+    ensures spent { SpendsRest scene.now place (B.left budget.old) (datum_stop first.entry) (B.left budget.new)
+        (datum_stop result) }
 {
     scene.ends_once();
     trees_have_one_type();
@@ -409,18 +434,18 @@ fn made_at<'e>(
     };
     match scene.node(place).kind {
         NodeKind::Member { slot } => Ok(step(first, slot)),
-        NodeKind::Call { function } => as_stop(called_at(scene, place, function, first)),
+        NodeKind::Call { function } => as_stop(called_at::<B>(scene, place, function, first)),
         NodeKind::Count => as_stop(count_of(first)),
         NodeKind::AnyItem => Ok(any_item_of(first)),
         NodeKind::PairedRight { operator, number } => {
             Ok(compared_right(scene, place, operator, number, &first))
         }
         NodeKind::PairedLeft { operator, number } => {
-            as_stop(compared_left_at(scene, place, operator, number))
+            as_stop(compared_left_at::<B>(scene, place, operator, number))
         }
-        NodeKind::Has => as_stop(flags_at(scene, place, &first)),
+        NodeKind::Has => as_stop(flags_at::<B>(scene, place, &first)),
         NodeKind::PairedHas { number } => Ok(flags_right(scene, place, number, &first)),
-        NodeKind::InPath => as_stop(among_at(scene, place, &first)),
+        NodeKind::InPath => as_stop(among_at::<B>(scene, place, &first)),
         NodeKind::InList => listed_at(scene, place, &first, budget),
         NodeKind::PairedList { numbers } => numbered_at(scene, place, numbers, &first, budget),
         NodeKind::Lambda { quantifier } => lambda_at(scene, place, quantifier, first, budget),
@@ -436,18 +461,18 @@ fn made_at<'e>(
 
 /// What a comparison evaluates to.
 #[cycle(evaluate)]
-fn compared_at<'e>(
+fn compared_at<'e, B: Counting>(
     scene: &Scene<'e, '_, '_>,
     place: usize,
     comparison: ComparisonOperator,
     left: Datum<'_>,
-    budget: &mut Budget,
+    budget: &mut B,
 ) -> Result<Datum<'e>, EvalStop>
     requires stands { PartStands scene.now place }
     requires here { HasOperator scene.now.list place (BinaryOperator.Comparison comparison) }
     requires left { AnswersDatum scene.now (place + 1) (Ok left) }
     ensures answers { CountedDatum scene.now place result }
-    ensures spent { SpendsRest scene.now place budget.old None budget.new (datum_stop result) }
+    ensures spent { SpendsRest scene.now place (B.left budget.old) None (B.left budget.new) (datum_stop result) }
 {
     scene.ends_once();
     operands_lie_within_promotion();
@@ -464,7 +489,7 @@ fn compared_at<'e>(
 
 /// What a call evaluates to, whose first argument has been answered.
 #[cycle(evaluate)]
-fn called_at<'e>(
+fn called_at<'e, B: Counting>(
     scene: &Scene<'e, '_, '_>,
     place: usize,
     function: Function,
@@ -483,7 +508,7 @@ fn called_at<'e>(
     if second_place == own_stop {
         return called_on_one(scene.alloc(), function, first);
     }
-    let second = match operand_at(scene, second_place) {
+    let second = match operand_at::<B>(scene, second_place) {
         Ok(second) => second,
         Err(further) => return Err(further),
     };
@@ -491,7 +516,7 @@ fn called_at<'e>(
     if third_place == own_stop {
         return called_on_two(scene.alloc(), function, first, second);
     }
-    match operand_at(scene, third_place) {
+    match operand_at::<B>(scene, third_place) {
         Ok(third) => called_on_three(function, first, second, third),
         Err(fault) => Err(fault),
     }

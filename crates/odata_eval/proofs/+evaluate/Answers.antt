@@ -67,37 +67,37 @@ use Rattle.odata_eval.proofs.walking.WalkValues.{kept_datum, made_value, read_va
 use Rattle.odata_eval.proofs.+evaluate.Goals as goal
 
 pub walk::truth_at-returns-clause-answers : goal.walk::truth_at-returns-clause-answers
-walk::truth_at-returns-clause-answers t c = at_top (λ k. CountedTruth c.args.scene.now k c.loop-at.answer) c.loop-at.at c.args.place c.loop-at.invariant.above (omega arith) c.loop-at.invariant.answers
+walk::truth_at-returns-clause-answers g t c = at_top (λ k. CountedTruth c.args.scene.now k c.loop-at.answer) c.loop-at.at c.args.place c.loop-at.invariant.above (omega arith) c.loop-at.invariant.answers
 
 pub walk::eager_at-returns-clause-answers : goal.walk::eager_at-returns-clause-answers
-walk::eager_at-returns-clause-answers t c = at_top (λ k. CountedDatum c.args.scene.now k c.loop-at.answer) c.loop-at.at c.args.place c.loop-at.invariant.above (omega arith) c.loop-at.invariant.answers
+walk::eager_at-returns-clause-answers g t c = at_top (λ k. CountedDatum c.args.scene.now k c.loop-at.answer) c.loop-at.at c.args.place c.loop-at.invariant.above (omega arith) c.loop-at.invariant.answers
 
 pub walk::made_truth_at-truth_of-requires : goal.walk::made_truth_at-truth_of-requires
-walk::made_truth_at-truth_of-requires t c = λ reading.
+walk::made_truth_at-truth_of-requires g t c = λ reading.
     value_there c.args.scene.now c.args.place truth_values c.ends_once.ensures c.in-Ok.value c.requires.stands c.in-Ok.ensures.answers reading
 
 pub walk::made_truth_at-returns-in-Ok-clause-answers : goal.walk::made_truth_at-returns-in-Ok-clause-answers
-walk::made_truth_at-returns-in-Ok-clause-answers t c =
+walk::made_truth_at-returns-in-Ok-clause-answers g t c =
     read_value c.args.scene.now c.args.place c.in-Ok.value (truth_val c.truth_of.result) c.in-Ok.ensures.answers c.truth_of.ensures
 
 pub walk::counted_at-returns-in-Leaf-clause-answers : goal.walk::counted_at-returns-in-Leaf-clause-answers
-walk::counted_at-returns-in-Leaf-clause-answers t c = kept_datum c.args.scene.now c.args.place c.in-Leaf.value.now c.datum_of.result c.in-Leaf.ensures.0 c.datum_of.ensures
+walk::counted_at-returns-in-Leaf-clause-answers g t c = kept_datum c.args.scene.now c.args.place c.in-Leaf.value.now c.datum_of.result c.in-Leaf.ensures.0 c.datum_of.ensures
 
 pub walk::counted_at-returns-in-Ok-clause-answers : goal.walk::counted_at-returns-in-Ok-clause-answers
-walk::counted_at-returns-in-Ok-clause-answers t c = made_value c.args.scene.now c.args.place c.datum_of_truth.result (truth_val c.in-Ok.truth) c.in-Ok.ensures.answers c.datum_of_truth.ensures
+walk::counted_at-returns-in-Ok-clause-answers g t c = made_value c.args.scene.now c.args.place c.datum_of_truth.result (truth_val c.in-Ok.truth) c.in-Ok.ensures.answers c.datum_of_truth.ensures
 
 pub walk::counted_at-returns-in-Ok-number_at-clause-answers : goal.walk::counted_at-returns-in-Ok-number_at-clause-answers
-walk::counted_at-returns-in-Ok-number_at-clause-answers t c = made_value c.args.scene.now c.args.place c.datum_of_number.result (number_val c.in-Ok-number_at.number) c.in-Ok-number_at.ensures c.datum_of_number.ensures
+walk::counted_at-returns-in-Ok-number_at-clause-answers g t c = made_value c.args.scene.now c.args.place c.datum_of_number.result (number_val c.in-Ok-number_at.number) c.in-Ok-number_at.ensures c.datum_of_number.ensures
 
 pub walk::truth_at-plain_truth_at-answer-requires : goal.walk::truth_at-plain_truth_at-answer-requires
-walk::truth_at-plain_truth_at-answer-requires t c =
+walk::truth_at-plain_truth_at-answer-requires g t c =
     let below : c.args.place ≤ c.spine_bottom-bottom.result = c.spine_bottom-bottom.ensures.below in
     let smaller : 16 * (length c.args.scene.now.list.nodes - c.spine_bottom-bottom.result) + 10 < 16 * (length c.args.scene.now.list.nodes - c.args.place) + 11 = omega arith in
     let stands = typed_down c.args.scene.now WalkClass.Logical (λ leaf. cc) c.args.place c.spine_bottom-bottom.result below c.requires.stands c.spine_bottom-bottom.ensures.spine in
     search rules
 
 pub walk::truth_at-logical_at-answer-requires : goal.walk::truth_at-logical_at-answer-requires
-walk::truth_at-logical_at-answer-requires t c =
+walk::truth_at-logical_at-answer-requires g t c =
     let l = c.loop-at in
     let above : c.args.place < l.at = omega arith in
     let smaller : 16 * (length c.args.scene.now.list.nodes - (l.at - 1)) + 4 < 16 * (length c.args.scene.now.list.nodes - c.args.place) + 11 = omega arith in
@@ -105,95 +105,117 @@ walk::truth_at-logical_at-answer-requires t c =
     search rules
 
 pub walk::eager_at-made_at-answer-requires : goal.walk::eager_at-made_at-answer-requires
-walk::eager_at-made_at-answer-requires t c =
+walk::eager_at-made_at-answer-requires g t c =
     let l = c.loop-at in
     let above : c.args.place < l.at = omega arith in
     let smaller : 16 * (length c.args.scene.now.list.nodes - (l.at - 1)) + 4 < 16 * (length c.args.scene.now.list.nodes - c.args.place) + 5 = omega arith in
     let up : StepUp c.args.scene.now WalkClass.Eager (λ k. CountedDatum c.args.scene.now k l.answer) l.at = step_up c.args.scene.now WalkClass.Eager (λ leaf. cc) (λ k. CountedDatum c.args.scene.now k l.answer) c.args.place l.at c.spine_bottom-bottom.result above l.invariant.within c.requires.stands c.spine_bottom-bottom.ensures.spine l.invariant.answers in
     search rules
 
-pub walk::eager_at-counted_at-answer-requires : goal.walk::eager_at-counted_at-answer-requires
-walk::eager_at-counted_at-answer-requires t c =
+pub walk::eager_at-bottom_at-answer-requires : goal.walk::eager_at-bottom_at-answer-requires
+walk::eager_at-bottom_at-answer-requires g t c =
     let inside : c.args.place < length c.args.scene.now.list.nodes = part_inside c.args.scene.now c.args.place c.requires.stands in
     let behind : c.args.place < c.spine_bottom-bottom.result = below_bottom c.args.scene.now.list WalkClass.Eager c.args.place c.spine_bottom-bottom.result c.spine_bottom-bottom.ensures.below c.requires.eager c.spine_bottom-bottom.ensures.bottom in
-    let smaller : 16 * (length c.args.scene.now.list.nodes - c.spine_bottom-bottom.result) + 12 < 16 * (length c.args.scene.now.list.nodes - c.args.place) + 5 = omega arith in
+    let smaller : 16 * (length c.args.scene.now.list.nodes - c.spine_bottom-bottom.result) + 13 < 16 * (length c.args.scene.now.list.nodes - c.args.place) + 5 = omega arith in
     let stands = part_down c.args.scene.now WalkClass.Eager (λ leaf. cc) c.args.place c.spine_bottom-bottom.result c.spine_bottom-bottom.ensures.below c.requires.stands c.spine_bottom-bottom.ensures.spine in
     search rules
+
+pub walk::bottom_at-returns-in-Leaf-clause-answers : goal.walk::bottom_at-returns-in-Leaf-clause-answers
+walk::bottom_at-returns-in-Leaf-clause-answers g t c = kept_datum c.args.scene.now c.args.place c.in-Leaf.value.now c.datum_of.result c.in-Leaf.ensures.0 c.datum_of.ensures
+
+pub walk::bottom_at-returns-in-Leaf-clause-spent : goal.walk::bottom_at-returns-in-Leaf-clause-spent
+walk::bottom_at-returns-in-Leaf-clause-spent g t c =
+    free_spends c.args.scene.now c.args.place None (g.B.Counting.left c.args.budget.now) (leaf_free c.args.scene.now c.args.place c.in-Leaf.ensures.1) (takes_nothing (g.B.Counting.left c.args.budget.now))
 
 -- ---- a node of truth values
 
 pub walk::logical_at-returns-in-Err-clause-answers : goal.walk::logical_at-returns-in-Err-clause-answers
-walk::logical_at-returns-in-Err-clause-answers t c = by_stop (λ s. CountedTruth c.args.scene.now (c.args.place + 1) (Err s)) (λ s. CountedTruth c.args.scene.now c.args.place (Err s)) (λ fault. first_faults c.args.scene.now c.args.place WalkClass.Logical fault (λ leaf. cc) c.requires.logical) (λ is. tt) c.in-Err.stop
+walk::logical_at-returns-in-Err-clause-answers g t c = by_stop (λ s. CountedTruth c.args.scene.now (c.args.place + 1) (Err s)) (λ s. CountedTruth c.args.scene.now c.args.place (Err s)) (λ fault. first_faults c.args.scene.now c.args.place WalkClass.Logical fault (λ leaf. cc) c.requires.logical) (λ is. tt) c.in-Err.stop
     (subst (λ (r : Result (Option Bool) EvalStop). CountedTruth c.args.scene.now (c.args.place + 1) r) c.in-Err.is c.requires.first)
 
 pub walk::logical_at-node-requires : goal.walk::logical_at-node-requires
-walk::logical_at-node-requires t c = part_inside c.args.scene.now c.args.place c.requires.stands
+walk::logical_at-node-requires g t c = part_inside c.args.scene.now c.args.place c.requires.stands
 
 pub walk::connected_at-returns-then-decides-clause-answers : goal.walk::connected_at-returns-then-decides-clause-answers
-walk::connected_at-returns-then-decides-clause-answers t c = decided_answers c.args.scene.now c.args.place c.args.operator c.requires.here c.args.left (c.decides.ensures.0 c.if-decides.true) c.requires.left
+walk::connected_at-returns-then-decides-clause-answers g t c = decided_answers c.args.scene.now c.args.place c.args.operator c.requires.here c.args.left (c.decides.ensures.0 c.if-decides.true) c.requires.left
 
-pub walk::connected_at-right_of-requires : goal.walk::connected_at-right_of-requires
-walk::connected_at-right_of-requires t c = right_there c.args.scene.now c.args.place (BinaryOperator.Logical c.args.operator) c.requires.here c.requires.stands
+pub walk::connected_at-right_of-right_place-requires : goal.walk::connected_at-right_of-right_place-requires
+walk::connected_at-right_of-right_place-requires g t c = right_there c.args.scene.now c.args.place (BinaryOperator.Logical c.args.operator) c.requires.here c.requires.stands
 
 pub walk::connected_at-side_at-requires : goal.walk::connected_at-side_at-requires
-walk::connected_at-side_at-requires t c =
+walk::connected_at-side_at-requires g t c =
     let inside : c.args.place < length c.args.scene.now.list.nodes = part_inside c.args.scene.now c.args.place c.requires.stands in
-    let behind : c.args.place < c.right_of.result = right_further c.args.scene.now c.args.place (BinaryOperator.Logical c.args.operator) c.requires.here c.requires.stands c.right_of.result c.right_of.ensures in
-    let smaller : 16 * (length c.args.scene.now.list.nodes - c.right_of.result) + 12 < 16 * (length c.args.scene.now.list.nodes - c.args.place) + 3 = omega arith in
-    let stands : TruthStands c.args.scene.now c.right_of.result = right_typed c.args.scene.now c.args.place (BinaryOperator.Logical c.args.operator) c.requires.here c.requires.stands c.right_of.result c.right_of.ensures WalkClass.Logical refl in
+    let behind : c.args.place < c.right_of-right_place.result = right_further c.args.scene.now c.args.place (BinaryOperator.Logical c.args.operator) c.requires.here c.requires.stands c.right_of-right_place.result c.right_of-right_place.ensures in
+    let smaller : 16 * (length c.args.scene.now.list.nodes - c.right_of-right_place.result) + 12 < 16 * (length c.args.scene.now.list.nodes - c.args.place) + 3 = omega arith in
+    let stands : TruthStands c.args.scene.now c.right_of-right_place.result = right_typed c.args.scene.now c.args.place (BinaryOperator.Logical c.args.operator) c.requires.here c.requires.stands c.right_of-right_place.result c.right_of-right_place.ensures WalkClass.Logical refl in
     search rules
 
+pub walk::connected_at-kept_truth_at-requires : goal.walk::connected_at-kept_truth_at-requires
+walk::connected_at-kept_truth_at-requires g t c = record {
+  stands = right_typed c.args.scene.now c.args.place (BinaryOperator.Logical c.args.operator) c.requires.here c.requires.stands c.right_of-right_place.result c.right_of-right_place.ensures WalkClass.Logical refl;
+}
+
+pub walk::connected_at-returns-in-Some-clause-answers : goal.walk::connected_at-returns-in-Some-clause-answers
+walk::connected_at-returns-in-Some-clause-answers g t c =
+    subst (λ (r : Option Bool). AnswersTruth c.args.scene.now c.args.place (Ok r)) (sym c.join.ensures) (joined_answers c.args.scene.now c.args.place c.args.operator c.requires.here c.args.left c.right_of-right_place.result c.right_of-right_place.ensures
+    (λ decided. let e = c.decides.ensures.1 decided in cc) c.requires.left (Some c.in-Some.right) c.in-Some.ensures.answers)
+
+pub walk::connected_at-returns-in-Some-clause-spent : goal.walk::connected_at-returns-in-Some-clause-spent
+walk::connected_at-returns-in-Some-clause-spent g t c =
+    right_asked c.args.scene.now c.args.place c.args.operator c.requires.here c.ends_once.ensures c.args.left c.requires.left (λ decided. let e = c.decides.ensures.1 decided in cc) c.right_of-right_place.result c.right_of-right_place.ensures (g.B.Counting.left c.args.budget.now) (g.B.Counting.left c.args.budget.now) None
+    (c.in-Some.ensures.spent (g.B.Counting.left c.args.budget.now))
+
 pub walk::connected_at-returns-in-Ok-clause-answers : goal.walk::connected_at-returns-in-Ok-clause-answers
-walk::connected_at-returns-in-Ok-clause-answers t c =
-    subst (λ (r : Option Bool). AnswersTruth c.args.scene.now c.args.place (Ok r)) (sym c.join.ensures) (joined_answers c.args.scene.now c.args.place c.args.operator c.requires.here c.args.left c.right_of.result c.right_of.ensures
+walk::connected_at-returns-in-Ok-clause-answers g t c =
+    subst (λ (r : Option Bool). AnswersTruth c.args.scene.now c.args.place (Ok r)) (sym c.join-in-Ok.ensures) (joined_answers c.args.scene.now c.args.place c.args.operator c.requires.here c.args.left c.right_of-right_place.result c.right_of-right_place.ensures
     (λ decided. let e = c.decides.ensures.1 decided in cc) c.requires.left c.in-Ok.right c.in-Ok.ensures.answers)
 
 pub walk::connected_at-returns-in-Err-clause-answers : goal.walk::connected_at-returns-in-Err-clause-answers
-walk::connected_at-returns-in-Err-clause-answers t c =
-    by_stop (λ s. CountedTruth c.args.scene.now c.right_of.result (Err s)) (λ s. CountedTruth c.args.scene.now c.args.place (Err s))
-    (λ fault. joined_faults c.args.scene.now c.args.place c.args.operator c.requires.here c.args.left c.right_of.result c.right_of.ensures (λ decided. let e = c.decides.ensures.1 decided in cc) c.requires.left fault)
+walk::connected_at-returns-in-Err-clause-answers g t c =
+    by_stop (λ s. CountedTruth c.args.scene.now c.right_of-right_place.result (Err s)) (λ s. CountedTruth c.args.scene.now c.args.place (Err s))
+    (λ fault. joined_faults c.args.scene.now c.args.place c.args.operator c.requires.here c.args.left c.right_of-right_place.result c.right_of-right_place.ensures (λ decided. let e = c.decides.ensures.1 decided in cc) c.requires.left fault)
     (λ is. tt) c.in-Err.stop c.in-Err.ensures.answers
 
 -- ---- another node with operands
 
 pub walk::made_at-returns-in-Err-clause-answers : goal.walk::made_at-returns-in-Err-clause-answers
-walk::made_at-returns-in-Err-clause-answers t c = by_stop (λ s. CountedDatum c.args.scene.now (c.args.place + 1) (Err s)) (λ s. CountedDatum c.args.scene.now c.args.place (Err s)) (λ fault. first_faults c.args.scene.now c.args.place WalkClass.Eager fault (λ leaf. cc) c.requires.eager) (λ is. tt) c.in-Err.before
+walk::made_at-returns-in-Err-clause-answers g t c = by_stop (λ s. CountedDatum c.args.scene.now (c.args.place + 1) (Err s)) (λ s. CountedDatum c.args.scene.now c.args.place (Err s)) (λ fault. first_faults c.args.scene.now c.args.place WalkClass.Eager fault (λ leaf. cc) c.requires.eager) (λ is. tt) c.in-Err.before
     (subst (λ (r : Result Datum EvalStop). CountedDatum c.args.scene.now (c.args.place + 1) r) c.in-Err.is c.requires.first)
 
 pub walk::made_at-node-requires : goal.walk::made_at-node-requires
-walk::made_at-node-requires t c = part_inside c.args.scene.now c.args.place c.requires.stands
+walk::made_at-node-requires g t c = part_inside c.args.scene.now c.args.place c.requires.stands
 
 pub walk::made_at-step-requires : goal.walk::made_at-step-requires
-walk::made_at-step-requires t c =
+walk::made_at-step-requires g t c =
     let first = subst (λ (r : Result Datum EvalStop). CountedDatum c.args.scene.now (c.args.place + 1) r) c.in-Ok.is c.requires.first in
     let here = there_found (λ (f : CheckedNode). f.kind ≡ NodeKind.Member c.in-Member.slot) (slice_get c.args.scene.now.list.nodes c.args.place) c.node.result.now c.node.ensures c.in-Member.is in
     step_slot c.trees_have_one_type.ensures c.args.scene.now c.ends_once.ensures c.args.place c.in-Member.slot here c.in-Ok.first c.requires.stands first
 
 pub walk::made_at-returns-in-Member-clause-answers : goal.walk::made_at-returns-in-Member-clause-answers
-walk::made_at-returns-in-Member-clause-answers t c =
+walk::made_at-returns-in-Member-clause-answers g t c =
     let first = subst (λ (r : Result Datum EvalStop). CountedDatum c.args.scene.now (c.args.place + 1) r) c.in-Ok.is c.requires.first in
     let here = there_found (λ (f : CheckedNode). f.kind ≡ NodeKind.Member c.in-Member.slot) (slice_get c.args.scene.now.list.nodes c.args.place) c.node.result.now c.node.ensures c.in-Member.is in
     step_answers c.trees_have_one_type.ensures c.args.scene.now c.ends_once.ensures c.args.place c.in-Member.slot here c.in-Ok.first c.step.result first c.step.ensures
 
 pub number_walk::made_number_at-number_of-requires : goal.number_walk::made_number_at-number_of-requires
-number_walk::made_number_at-number_of-requires t c = λ reading.
+number_walk::made_number_at-number_of-requires g t c = λ reading.
     value_there c.args.scene.now c.args.place number_values c.ends_once.ensures c.in-Ok.value c.requires.stands c.in-Ok.ensures reading
 
 pub number_walk::made_number_at-returns-in-Ok : goal.number_walk::made_number_at-returns-in-Ok
-number_walk::made_number_at-returns-in-Ok t c =
+number_walk::made_number_at-returns-in-Ok g t c =
     read_value c.args.scene.now c.args.place c.in-Ok.value (number_val c.number_of.result) c.in-Ok.ensures c.number_of.ensures
 
 pub number_walk::numeric_at-returns-in-Err : goal.number_walk::numeric_at-returns-in-Err
-number_walk::numeric_at-returns-in-Err t c = first_faults c.args.scene.now c.args.place WalkClass.Numeric c.in-Err.fault (λ leaf. cc) c.requires.numeric (subst (λ (r : Result (Option ℤ) EvalFault). AnswersNumber c.args.scene.now (c.args.place + 1) r) c.in-Err.is c.requires.first)
+number_walk::numeric_at-returns-in-Err g t c = first_faults c.args.scene.now c.args.place WalkClass.Numeric c.in-Err.fault (λ leaf. cc) c.requires.numeric (subst (λ (r : Result (Option ℤ) EvalFault). AnswersNumber c.args.scene.now (c.args.place + 1) r) c.in-Err.is c.requires.first)
 
 pub number_walk::numeric_at-node-node-requires : goal.number_walk::numeric_at-node-node-requires
-number_walk::numeric_at-node-node-requires t c = part_inside c.args.scene.now c.args.place c.requires.stands
+number_walk::numeric_at-node-node-requires g t c = part_inside c.args.scene.now c.args.place c.requires.stands
 
 pub number_walk::calculated_at-right_of-requires : goal.number_walk::calculated_at-right_of-requires
-number_walk::calculated_at-right_of-requires t c = right_there c.args.scene.now c.args.place (BinaryOperator.Arithmetic c.args.operator) c.requires.here c.requires.stands
+number_walk::calculated_at-right_of-requires g t c = right_there c.args.scene.now c.args.place (BinaryOperator.Arithmetic c.args.operator) c.requires.here c.requires.stands
 
 pub number_walk::calculated_at-number_operand_at-requires : goal.number_walk::calculated_at-number_operand_at-requires
-number_walk::calculated_at-number_operand_at-requires t c =
+number_walk::calculated_at-number_operand_at-requires g t c =
     let inside : c.args.place < length c.args.scene.now.list.nodes = part_inside c.args.scene.now c.args.place c.requires.stands in
     let behind : c.args.place < c.right_of.result = right_further c.args.scene.now c.args.place (BinaryOperator.Arithmetic c.args.operator) c.requires.here c.requires.stands c.right_of.result c.right_of.ensures in
     let smaller : 16 * (length c.args.scene.now.list.nodes - c.right_of.result) + 15 < 16 * (length c.args.scene.now.list.nodes - c.args.place) + 3 = omega arith in
@@ -201,34 +223,34 @@ number_walk::calculated_at-number_operand_at-requires t c =
     search rules
 
 pub number_walk::calculated_at-calculated-requires : goal.number_walk::calculated_at-calculated-requires
-number_walk::calculated_at-calculated-requires t c =
+number_walk::calculated_at-calculated-requires g t c =
     let promotes : Promotes = record { left = c.operands_lie_within_promotion.ensures.left; right = c.operands_lie_within_promotion.ensures.right; negation = c.operands_lie_within_promotion.ensures.negation; three = c.operands_lie_within_promotion.ensures.three } in
     numbers_there c.args.scene.now c.args.place c.args.operator c.requires.here c.right_of.result c.right_of.ensures c.args.left c.in-Ok.right c.requires.left c.in-Ok.ensures c.node-node.result.now c.node-node.ensures c.ends_once.ensures promotes c.requires.stands
 
 pub number_walk::calculated_at-returns-in-Ok : goal.number_walk::calculated_at-returns-in-Ok
-number_walk::calculated_at-returns-in-Ok t c = calculation_answers c.args.scene.now c.args.place c.args.operator c.requires.here c.right_of.result c.right_of.ensures c.args.left c.in-Ok.right c.requires.left c.in-Ok.ensures c.node-node.result.now c.node-node.ensures c.calculated.result c.trees_have_one_type.ensures c.calculated.ensures
+number_walk::calculated_at-returns-in-Ok g t c = calculation_answers c.args.scene.now c.args.place c.args.operator c.requires.here c.right_of.result c.right_of.ensures c.args.left c.in-Ok.right c.requires.left c.in-Ok.ensures c.node-node.result.now c.node-node.ensures c.calculated.result c.trees_have_one_type.ensures c.calculated.ensures
 
 pub number_walk::calculated_at-returns-in-Err : goal.number_walk::calculated_at-returns-in-Err
-number_walk::calculated_at-returns-in-Err t c = both_faults c.args.scene.now c.args.place (BinaryOperator.Arithmetic c.args.operator) c.requires.here c.right_of.result c.right_of.ensures (λ type. number_val c.args.left) c.in-Err.fault tt c.requires.left c.in-Err.ensures
+number_walk::calculated_at-returns-in-Err g t c = both_faults c.args.scene.now c.args.place (BinaryOperator.Arithmetic c.args.operator) c.requires.here c.right_of.result c.right_of.ensures (λ type. number_val c.args.left) c.in-Err.fault tt c.requires.left c.in-Err.ensures
 
 -- ---- a comparison of values that are made
 
 pub walk::compared_at-right_of-right_place-requires : goal.walk::compared_at-right_of-right_place-requires
-walk::compared_at-right_of-right_place-requires t c =
+walk::compared_at-right_of-right_place-requires g t c =
     right_there c.args.scene.now c.args.place (BinaryOperator.Comparison c.args.comparison) c.requires.here c.requires.stands
 
 pub walk::compared_at-compare-requires : goal.walk::compared_at-compare-requires
-walk::compared_at-compare-requires t c =
+walk::compared_at-compare-requires g t c =
     may_compare c.args.scene.now c.args.place c.args.comparison c.requires.here c.right_of-right_place.result c.right_of-right_place.ensures c.args.left c.datum_of.result c.requires.left
     (kept_datum c.args.scene.now c.right_of-right_place.result c.in-Leaf.value.now c.datum_of.result c.in-Leaf.ensures.0 c.datum_of.ensures) c.ends_once.ensures c.comparisons_are_decided.ensures.any_reading c.requires.stands
 
 pub walk::compared_at-returns-in-Leaf-clause-answers : goal.walk::compared_at-returns-in-Leaf-clause-answers
-walk::compared_at-returns-in-Leaf-clause-answers t c =
+walk::compared_at-returns-in-Leaf-clause-answers g t c =
     truth_compared c.args.scene.now c.args.place c.args.comparison c.requires.here c.right_of-right_place.result c.right_of-right_place.ensures c.args.left c.datum_of.result c.requires.left
     (kept_datum c.args.scene.now c.right_of-right_place.result c.in-Leaf.value.now c.datum_of.result c.in-Leaf.ensures.0 c.datum_of.ensures) c.ends_once.ensures c.comparisons_are_decided.ensures.any_reading c.requires.stands c.compare.result c.compare.ensures
 
 pub walk::compared_at-counted_at-requires : goal.walk::compared_at-counted_at-requires
-walk::compared_at-counted_at-requires t c =
+walk::compared_at-counted_at-requires g t c =
     let inside : c.args.place < length c.args.scene.now.list.nodes = part_inside c.args.scene.now c.args.place c.requires.stands in
     let behind : c.args.place < c.right_of-right_place.result = right_further c.args.scene.now c.args.place (BinaryOperator.Comparison c.args.comparison) c.requires.here c.requires.stands c.right_of-right_place.result c.right_of-right_place.ensures in
     let smaller : 16 * (length c.args.scene.now.list.nodes - c.right_of-right_place.result) + 12 < 16 * (length c.args.scene.now.list.nodes - c.args.place) + 3 = omega arith in
@@ -236,17 +258,17 @@ walk::compared_at-counted_at-requires t c =
     search rules
 
 pub walk::compared_at-compare-requires-in-Ok : goal.walk::compared_at-compare-requires-in-Ok
-walk::compared_at-compare-requires-in-Ok t c =
+walk::compared_at-compare-requires-in-Ok g t c =
     may_compare c.args.scene.now c.args.place c.args.comparison c.requires.here c.right_of-right_place.result c.right_of-right_place.ensures c.args.left c.in-Ok.right c.requires.left
     c.in-Ok.ensures.answers c.ends_once.ensures c.comparisons_are_decided.ensures.any_reading c.requires.stands
 
 pub walk::compared_at-returns-in-Ok-clause-answers : goal.walk::compared_at-returns-in-Ok-clause-answers
-walk::compared_at-returns-in-Ok-clause-answers t c =
+walk::compared_at-returns-in-Ok-clause-answers g t c =
     truth_compared c.args.scene.now c.args.place c.args.comparison c.requires.here c.right_of-right_place.result c.right_of-right_place.ensures c.args.left c.in-Ok.right c.requires.left
     c.in-Ok.ensures.answers c.ends_once.ensures c.comparisons_are_decided.ensures.any_reading c.requires.stands c.compare-in-Ok.result c.compare-in-Ok.ensures
 
 pub walk::compared_at-returns-clause-answers : goal.walk::compared_at-returns-clause-answers
-walk::compared_at-returns-clause-answers t c =
+walk::compared_at-returns-clause-answers g t c =
     by_stop (λ s. CountedDatum c.args.scene.now c.right_of-right_place.result (Err s)) (λ s. CountedDatum c.args.scene.now c.args.place (Err s))
     (λ fault. both_faults c.args.scene.now c.args.place (BinaryOperator.Comparison c.args.comparison) c.requires.here c.right_of-right_place.result c.right_of-right_place.ensures (λ type. datum_val (reading_at (slots_of c.args.scene.now.row.schema) type) c.args.left) fault tt c.requires.left)
     (λ is. tt) c.in-Err.behind c.in-Err.ensures.answers
@@ -254,59 +276,59 @@ walk::compared_at-returns-clause-answers t c =
 -- ---- a node that is none of truth values
 
 pub walk::plain_truth_at-kept_truth-requires : goal.walk::plain_truth_at-kept_truth-requires
-walk::plain_truth_at-kept_truth-requires t c = value_kept c.args.scene.now c.args.place c.in-Leaf.value.now c.in-Leaf.ensures.0 truth_values c.ends_once.ensures c.requires.stands
+walk::plain_truth_at-kept_truth-requires g t c = value_kept c.args.scene.now c.args.place c.in-Leaf.value.now c.in-Leaf.ensures.0 truth_values c.ends_once.ensures c.requires.stands
 
 pub walk::plain_truth_at-returns-in-Leaf-clause-answers : goal.walk::plain_truth_at-returns-in-Leaf-clause-answers
-walk::plain_truth_at-returns-in-Leaf-clause-answers t c = kept_value c.args.scene.now c.args.place c.in-Leaf.value.now c.in-Leaf.ensures.0 (truth_val c.kept_truth.result) c.kept_truth.ensures
+walk::plain_truth_at-returns-in-Leaf-clause-answers g t c = kept_value c.args.scene.now c.args.place c.in-Leaf.value.now c.in-Leaf.ensures.0 (truth_val c.kept_truth.result) c.kept_truth.ensures
 
 pub walk::numeric_truth_at-truth_of-requires : goal.walk::numeric_truth_at-truth_of-requires
-walk::numeric_truth_at-truth_of-requires t c = λ reading. value_there c.args.scene.now c.args.place truth_values c.ends_once.ensures c.datum_of_number.result c.requires.stands (made_value c.args.scene.now c.args.place c.datum_of_number.result (number_val c.in-Ok.number) c.in-Ok.ensures c.datum_of_number.ensures) reading
+walk::numeric_truth_at-truth_of-requires g t c = λ reading. value_there c.args.scene.now c.args.place truth_values c.ends_once.ensures c.datum_of_number.result c.requires.stands (made_value c.args.scene.now c.args.place c.datum_of_number.result (number_val c.in-Ok.number) c.in-Ok.ensures c.datum_of_number.ensures) reading
 
-pub walk::numeric_truth_at-returns-in-Ok : goal.walk::numeric_truth_at-returns-in-Ok
-walk::numeric_truth_at-returns-in-Ok t c = read_value c.args.scene.now c.args.place c.datum_of_number.result (truth_val c.truth_of.result) (made_value c.args.scene.now c.args.place c.datum_of_number.result (number_val c.in-Ok.number) c.in-Ok.ensures c.datum_of_number.ensures) c.truth_of.ensures
+pub walk::numeric_truth_at-returns-in-Ok-clause-answers : goal.walk::numeric_truth_at-returns-in-Ok-clause-answers
+walk::numeric_truth_at-returns-in-Ok-clause-answers g t c = read_value c.args.scene.now c.args.place c.datum_of_number.result (truth_val c.truth_of.result) (made_value c.args.scene.now c.args.place c.datum_of_number.result (number_val c.in-Ok.number) c.in-Ok.ensures c.datum_of_number.ensures) c.truth_of.ensures
 
 -- ---- a comparison in place
 
 pub walk::compared_truth_at-right_of-right_place-requires : goal.walk::compared_truth_at-right_of-right_place-requires
-walk::compared_truth_at-right_of-right_place-requires t c = right_there c.args.scene.now c.args.place (BinaryOperator.Comparison c.args.comparison) c.requires.here (typed_part c.args.scene.now c.args.place IsBooleanOrNull c.requires.stands)
+walk::compared_truth_at-right_of-right_place-requires g t c = right_there c.args.scene.now c.args.place (BinaryOperator.Comparison c.args.comparison) c.requires.here (typed_part c.args.scene.now c.args.place IsBooleanOrNull c.requires.stands)
 
 pub walk::compared_truth_at-overflow_add-place : goal.walk::compared_truth_at-overflow_add-place
-walk::compared_truth_at-overflow_add-place t c =
+walk::compared_truth_at-overflow_add-place g t c =
     let behind = right_further c.args.scene.now c.args.place (BinaryOperator.Comparison c.args.comparison) c.requires.here (typed_part c.args.scene.now c.args.place IsBooleanOrNull c.requires.stands) c.right_of-right_place.result c.right_of-right_place.ensures in
     omega (arith, behind, c.right_of-right_place.type_inv)
 
 pub walk::compared_truth_at-compare_kept-requires : goal.walk::compared_truth_at-compare_kept-requires
-walk::compared_truth_at-compare_kept-requires t c =
+walk::compared_truth_at-compare_kept-requires g t c =
     let here = c.requires.here in
     may_compare_kept c.args.scene.now c.args.place c.args.comparison here c.right_of-right_place.result c.right_of-right_place.ensures c.in-Leaf.left.now c.in-Leaf-part_at.right.now c.in-Leaf.ensures.0 c.in-Leaf-part_at.ensures.0 c.ends_once.ensures c.comparisons_are_decided.ensures.any_contents (typed_part c.args.scene.now c.args.place IsBooleanOrNull c.requires.stands)
 
 pub walk::compared_truth_at-returns-in-Leaf-part_at-clause-answers : goal.walk::compared_truth_at-returns-in-Leaf-part_at-clause-answers
-walk::compared_truth_at-returns-in-Leaf-part_at-clause-answers t c =
+walk::compared_truth_at-returns-in-Leaf-part_at-clause-answers g t c =
     let here = c.requires.here in
     kept_compared c.args.scene.now c.args.place c.args.comparison here c.right_of-right_place.result c.right_of-right_place.ensures c.in-Leaf.left.now c.in-Leaf-part_at.right.now c.in-Leaf.ensures.0 c.in-Leaf-part_at.ensures.0 c.ends_once.ensures c.comparisons_are_decided.ensures.any_contents (typed_part c.args.scene.now c.args.place IsBooleanOrNull c.requires.stands) c.compare_kept.result c.compare_kept.ensures
 
 pub walk::compared_truth_at-kept_compared_at-requires : goal.walk::compared_truth_at-kept_compared_at-requires
-walk::compared_truth_at-kept_compared_at-requires t c = record {
+walk::compared_truth_at-kept_compared_at-requires g t c = record {
   stands = typed_part c.args.scene.now c.args.place IsBooleanOrNull c.requires.stands;
   here = c.requires.here;
 }
 
 pub walk::compared_truth_at-returns-in-Some-clause-answers : goal.walk::compared_truth_at-returns-in-Some-clause-answers
-walk::compared_truth_at-returns-in-Some-clause-answers t c = c.in-Some.ensures.answers
+walk::compared_truth_at-returns-in-Some-clause-answers g t c = c.in-Some.ensures.answers
 
 pub walk::compared_truth_at-returns-in-Some-clause-spent : goal.walk::compared_truth_at-returns-in-Some-clause-spent
-walk::compared_truth_at-returns-in-Some-clause-spent t c = c.in-Some.ensures.spent c.args.budget.now
+walk::compared_truth_at-returns-in-Some-clause-spent g t c = c.in-Some.ensures.spent (g.B.Counting.left c.args.budget.now)
 
 pub walk::numbers_truth_at-right_of-right_place-requires : goal.walk::numbers_truth_at-right_of-right_place-requires
-walk::numbers_truth_at-right_of-right_place-requires t c = right_there c.args.scene.now c.args.place (BinaryOperator.Comparison c.args.comparison) c.requires.here (typed_part c.args.scene.now c.args.place IsBooleanOrNull c.requires.stands)
+walk::numbers_truth_at-right_of-right_place-requires g t c = right_there c.args.scene.now c.args.place (BinaryOperator.Comparison c.args.comparison) c.requires.here (typed_part c.args.scene.now c.args.place IsBooleanOrNull c.requires.stands)
 
 pub walk::numbers_truth_at-overflow_add-place : goal.walk::numbers_truth_at-overflow_add-place
-walk::numbers_truth_at-overflow_add-place t c =
+walk::numbers_truth_at-overflow_add-place g t c =
     let behind = right_further c.args.scene.now c.args.place (BinaryOperator.Comparison c.args.comparison) c.requires.here (typed_part c.args.scene.now c.args.place IsBooleanOrNull c.requires.stands) c.right_of-right_place.result c.right_of-right_place.ensures in
     omega (arith, behind, c.right_of-right_place.type_inv)
 
 pub walk::numbers_truth_at-number_chain_at-requires : goal.walk::numbers_truth_at-number_chain_at-requires
-walk::numbers_truth_at-number_chain_at-requires t c =
+walk::numbers_truth_at-number_chain_at-requires g t c =
     let part = typed_part c.args.scene.now c.args.place IsBooleanOrNull c.requires.stands in
     let inside : c.args.place < length c.args.scene.now.list.nodes = part_inside c.args.scene.now c.args.place part in
     let smaller : 16 * (length c.args.scene.now.list.nodes - (c.args.place + 1)) + 10 < 16 * (length c.args.scene.now.list.nodes - c.args.place) + 8 = omega arith in
@@ -314,16 +336,16 @@ walk::numbers_truth_at-number_chain_at-requires t c =
     search rules
 
 pub walk::numbers_truth_at-part_at-requires : goal.walk::numbers_truth_at-part_at-requires
-walk::numbers_truth_at-part_at-requires t c = record {
+walk::numbers_truth_at-part_at-requires g t c = record {
   stands = right_part c.args.scene.now c.args.place (BinaryOperator.Comparison c.args.comparison) c.requires.here (typed_part c.args.scene.now c.args.place IsBooleanOrNull c.requires.stands) c.right_of-right_place.result
       c.right_of-right_place.ensures;
 }
 
 pub walk::numbers_truth_at-returns-in-Err-clause-answers : goal.walk::numbers_truth_at-returns-in-Err-clause-answers
-walk::numbers_truth_at-returns-in-Err-clause-answers t c = first_faults c.args.scene.now c.args.place WalkClass.Eager c.in-Err.fault (λ leaf. cc) (walks_by c.args.scene.now.list c.args.place (BinaryOperator.Comparison c.args.comparison) WalkClass.Eager c.requires.here refl) c.in-Err.ensures
+walk::numbers_truth_at-returns-in-Err-clause-answers g t c = first_faults c.args.scene.now c.args.place WalkClass.Eager c.in-Err.fault (λ leaf. cc) (walks_by c.args.scene.now.list c.args.place (BinaryOperator.Comparison c.args.comparison) WalkClass.Eager c.requires.here refl) c.in-Err.ensures
 
 pub walk::numbers_truth_at-number_at-requires : goal.walk::numbers_truth_at-number_at-requires
-walk::numbers_truth_at-number_at-requires t c =
+walk::numbers_truth_at-number_at-requires g t c =
     let part = typed_part c.args.scene.now c.args.place IsBooleanOrNull c.requires.stands in
     let inside : c.args.place < length c.args.scene.now.list.nodes = part_inside c.args.scene.now c.args.place part in
     let behind : c.args.place < c.right_of-right_place.result = right_further c.args.scene.now c.args.place (BinaryOperator.Comparison c.args.comparison) c.requires.here part c.right_of-right_place.result c.right_of-right_place.ensures in
@@ -332,10 +354,10 @@ walk::numbers_truth_at-number_at-requires t c =
     search rules
 
 pub walk::numbers_truth_at-returns-in-Err-number_at-clause-answers : goal.walk::numbers_truth_at-returns-in-Err-number_at-clause-answers
-walk::numbers_truth_at-returns-in-Err-number_at-clause-answers t c = both_faults c.args.scene.now c.args.place (BinaryOperator.Comparison c.args.comparison) c.requires.here c.right_of-right_place.result c.right_of-right_place.ensures (λ type. number_val c.in-Ok.left) c.in-Err-number_at.fault tt c.in-Ok.ensures c.in-Err-number_at.ensures
+walk::numbers_truth_at-returns-in-Err-number_at-clause-answers g t c = both_faults c.args.scene.now c.args.place (BinaryOperator.Comparison c.args.comparison) c.requires.here c.right_of-right_place.result c.right_of-right_place.ensures (λ type. number_val c.in-Ok.left) c.in-Err-number_at.fault tt c.in-Ok.ensures c.in-Err-number_at.ensures
 
 pub walk::logical_at-connected_at-requires : goal.walk::logical_at-connected_at-requires
-walk::logical_at-connected_at-requires t c =
+walk::logical_at-connected_at-requires g t c =
     let operator = BinaryOperator.Logical c.in-Some.operator in
     let here : HasOperator c.args.scene.now.list c.args.place operator = there_found (λ (f : CheckedNode). f.kind ≡ NodeKind.Binary operator) (slice_get c.args.scene.now.list.nodes c.args.place) c.node.result.now c.node.ensures c.in-Some.ensures.some in
     let left : AnswersTruth c.args.scene.now (c.args.place + 1) (Ok c.in-Ok.first) = subst (λ (r : Result (Option Bool) EvalStop). CountedTruth c.args.scene.now (c.args.place + 1) r) c.in-Ok.is c.requires.first in
@@ -343,7 +365,7 @@ walk::logical_at-connected_at-requires t c =
     search rules
 
 pub number_walk::numeric_at-calculated_at-requires : goal.number_walk::numeric_at-calculated_at-requires
-number_walk::numeric_at-calculated_at-requires t c =
+number_walk::numeric_at-calculated_at-requires g t c =
     let operator = BinaryOperator.Arithmetic c.in-Some.operator in
     let here : HasOperator c.args.scene.now.list c.args.place operator = there_found (λ (f : CheckedNode). f.kind ≡ NodeKind.Binary operator) (slice_get c.args.scene.now.list.nodes c.args.place) c.node-node.result.now c.node-node.ensures c.in-Some.ensures.some in
     let left : AnswersNumber c.args.scene.now (c.args.place + 1) (Ok c.in-Ok.first) = subst (λ (r : Result (Option ℤ) EvalFault). AnswersNumber c.args.scene.now (c.args.place + 1) r) c.in-Ok.is c.requires.first in
@@ -351,7 +373,7 @@ number_walk::numeric_at-calculated_at-requires t c =
     search rules
 
 pub walk::made_at-compared_at-requires : goal.walk::made_at-compared_at-requires
-walk::made_at-compared_at-requires t c =
+walk::made_at-compared_at-requires g t c =
     let operator = BinaryOperator.Comparison c.in-Comparison.comparison in
     let here : HasOperator c.args.scene.now.list c.args.place operator = there_found (λ (f : CheckedNode). f.kind ≡ NodeKind.Binary operator) (slice_get c.args.scene.now.list.nodes c.args.place) c.node.result.now c.node.ensures (c.in-Binary.is ∙ ap NodeKind.Binary c.in-Comparison.is) in
     let left : AnswersDatum c.args.scene.now (c.args.place + 1) (Ok c.in-Ok.first) = subst (λ (r : Result Datum EvalStop). CountedDatum c.args.scene.now (c.args.place + 1) r) c.in-Ok.is c.requires.first in
@@ -359,7 +381,7 @@ walk::made_at-compared_at-requires t c =
     search rules
 
 pub walk::plain_truth_at-compared_truth_at-requires : goal.walk::plain_truth_at-compared_truth_at-requires
-walk::plain_truth_at-compared_truth_at-requires t c =
+walk::plain_truth_at-compared_truth_at-requires g t c =
     let operator = BinaryOperator.Comparison c.in-Comparison.comparison in
     let here : HasOperator c.args.scene.now.list c.args.place operator = there_found (λ (f : CheckedNode). f.kind ≡ NodeKind.Binary operator) (slice_get c.args.scene.now.list.nodes c.args.place) c.node.result.now c.node.ensures (c.in-Binary.is ∙ ap NodeKind.Binary c.in-Comparison.is) in
     let smaller : 16 * (length c.args.scene.now.list.nodes - c.args.place) + 9 < 16 * (length c.args.scene.now.list.nodes - c.args.place) + 10 = omega arith in
@@ -368,14 +390,14 @@ walk::plain_truth_at-compared_truth_at-requires t c =
 -- ---- `not`, and `-`
 
 pub walk::logical_at-returns-in-None-clause-answers : goal.walk::logical_at-returns-in-None-clause-answers
-walk::logical_at-returns-in-None-clause-answers t c =
+walk::logical_at-returns-in-None-clause-answers g t c =
     let first = subst (λ (r : Result (Option Bool) EvalStop). CountedTruth c.args.scene.now (c.args.place + 1) r) c.in-Ok.is c.requires.first in
     let walk = found_there (λ (f : CheckedNode). walk_of_kind f.kind ≡ WalkClass.Logical) (slice_get c.args.scene.now.list.nodes c.args.place) c.node.result.now c.node.ensures c.requires.logical in
     let here = there_found (λ (f : CheckedNode). f.kind ≡ NodeKind.Not) (slice_get c.args.scene.now.list.nodes c.args.place) c.node.result.now c.node.ensures (only_not c.node.result.now.kind walk c.in-None.ensures.none) in
     subst (λ (r : Option Bool). AnswersTruth c.args.scene.now c.args.place (Ok r)) (sym c.not3.ensures) (not_answers c.args.scene.now c.args.place c.in-Ok.first here first)
 
 pub number_walk::numeric_at-negated-requires : goal.number_walk::numeric_at-negated-requires
-number_walk::numeric_at-negated-requires t c =
+number_walk::numeric_at-negated-requires g t c =
     let first = subst (λ (r : Result (Option ℤ) EvalFault). AnswersNumber c.args.scene.now (c.args.place + 1) r) c.in-Ok.is c.requires.first in
     let walk = found_there (λ (f : CheckedNode). walk_of_kind f.kind ≡ WalkClass.Numeric) (slice_get c.args.scene.now.list.nodes c.args.place) c.node-node.result.now c.node-node.ensures c.requires.numeric in
     let here = there_found (λ (f : CheckedNode). f.kind ≡ NodeKind.Neg) (slice_get c.args.scene.now.list.nodes c.args.place) c.node-node.result.now c.node-node.ensures (only_neg c.node-node.result.now.kind walk c.in-None.ensures.none) in
@@ -383,7 +405,7 @@ number_walk::numeric_at-negated-requires t c =
     negated_operand c.args.scene.now c.args.place c.in-Ok.first c.node-node.result.now c.node-node.ensures here first c.ends_once.ensures promotes c.requires.stands
 
 pub number_walk::numeric_at-returns-in-None : goal.number_walk::numeric_at-returns-in-None
-number_walk::numeric_at-returns-in-None t c =
+number_walk::numeric_at-returns-in-None g t c =
     let first = subst (λ (r : Result (Option ℤ) EvalFault). AnswersNumber c.args.scene.now (c.args.place + 1) r) c.in-Ok.is c.requires.first in
     let walk = found_there (λ (f : CheckedNode). walk_of_kind f.kind ≡ WalkClass.Numeric) (slice_get c.args.scene.now.list.nodes c.args.place) c.node-node.result.now c.node-node.ensures c.requires.numeric in
     let here = there_found (λ (f : CheckedNode). f.kind ≡ NodeKind.Neg) (slice_get c.args.scene.now.list.nodes c.args.place) c.node-node.result.now c.node-node.ensures (only_neg c.node-node.result.now.kind walk c.in-None.ensures.none) in
@@ -392,10 +414,10 @@ number_walk::numeric_at-returns-in-None t c =
 -- ---- chains of numbers
 
 pub number_walk::number_at-returns : goal.number_walk::number_at-returns
-number_walk::number_at-returns t c = at_top (λ k. AnswersNumber c.args.scene.now k c.loop-at.answer) c.loop-at.at c.args.place c.loop-at.invariant.above (omega arith) c.loop-at.invariant.answers
+number_walk::number_at-returns g t c = at_top (λ k. AnswersNumber c.args.scene.now k c.loop-at.answer) c.loop-at.at c.args.place c.loop-at.invariant.above (omega arith) c.loop-at.invariant.answers
 
 pub number_walk::number_at-number_operand_at-answer-requires : goal.number_walk::number_at-number_operand_at-answer-requires
-number_walk::number_at-number_operand_at-answer-requires t c =
+number_walk::number_at-number_operand_at-answer-requires g t c =
     let inside : c.args.place < length c.args.scene.now.list.nodes = part_inside c.args.scene.now c.args.place c.requires.stands in
     let behind : c.args.place < c.spine_bottom-bottom.result = below_bottom c.args.scene.now.list WalkClass.Numeric c.args.place c.spine_bottom-bottom.result c.spine_bottom-bottom.ensures.below c.requires.numeric c.spine_bottom-bottom.ensures.bottom in
     let smaller : 16 * (length c.args.scene.now.list.nodes - c.spine_bottom-bottom.result) + 15 < 16 * (length c.args.scene.now.list.nodes - c.args.place) + 8 = omega arith in
@@ -403,7 +425,7 @@ number_walk::number_at-number_operand_at-answer-requires t c =
     search rules
 
 pub number_walk::number_at-numeric_at-answer-requires : goal.number_walk::number_at-numeric_at-answer-requires
-number_walk::number_at-numeric_at-answer-requires t c =
+number_walk::number_at-numeric_at-answer-requires g t c =
     let l = c.loop-at in
     let above : c.args.place < l.at = omega arith in
     let smaller : 16 * (length c.args.scene.now.list.nodes - (l.at - 1)) + 4 < 16 * (length c.args.scene.now.list.nodes - c.args.place) + 8 = omega arith in
@@ -411,22 +433,22 @@ number_walk::number_at-numeric_at-answer-requires t c =
     search rules
 
 pub number_walk::number_on_leaf_at-kept_number-requires : goal.number_walk::number_on_leaf_at-kept_number-requires
-number_walk::number_on_leaf_at-kept_number-requires t c = value_kept c.args.scene.now (c.args.place + 1) c.in-Leaf.first.now c.in-Leaf.ensures.0 number_values c.ends_once.ensures (first_step c.args.scene.now c.args.place WalkClass.Numeric (λ leaf. cc) c.requires.numeric c.requires.stands)
+number_walk::number_on_leaf_at-kept_number-requires g t c = value_kept c.args.scene.now (c.args.place + 1) c.in-Leaf.first.now c.in-Leaf.ensures.0 number_values c.ends_once.ensures (first_step c.args.scene.now c.args.place WalkClass.Numeric (λ leaf. cc) c.requires.numeric c.requires.stands)
 
 pub number_walk::number_on_leaf_at-numeric_at-requires : goal.number_walk::number_on_leaf_at-numeric_at-requires
-number_walk::number_on_leaf_at-numeric_at-requires t c =
+number_walk::number_on_leaf_at-numeric_at-requires g t c =
     let smaller : 16 * (length c.args.scene.now.list.nodes - c.args.place) + 4 < 16 * (length c.args.scene.now.list.nodes - c.args.place) + 9 = omega arith in
     let first : AnswersNumber c.args.scene.now (c.args.place + 1) (Ok c.kept_number.result) = kept_value c.args.scene.now (c.args.place + 1) c.in-Leaf.first.now c.in-Leaf.ensures.0 (number_val c.kept_number.result) c.kept_number.ensures in
     search rules
 
 pub number_walk::number_operand_at-kept_number-requires : goal.number_walk::number_operand_at-kept_number-requires
-number_walk::number_operand_at-kept_number-requires t c = value_kept c.args.scene.now c.args.place c.in-Leaf.value.now c.in-Leaf.ensures.0 number_values c.ends_once.ensures c.requires.stands
+number_walk::number_operand_at-kept_number-requires g t c = value_kept c.args.scene.now c.args.place c.in-Leaf.value.now c.in-Leaf.ensures.0 number_values c.ends_once.ensures c.requires.stands
 
 pub number_walk::number_operand_at-returns-in-Leaf : goal.number_walk::number_operand_at-returns-in-Leaf
-number_walk::number_operand_at-returns-in-Leaf t c = kept_value c.args.scene.now c.args.place c.in-Leaf.value.now c.in-Leaf.ensures.0 (number_val c.kept_number.result) c.kept_number.ensures
+number_walk::number_operand_at-returns-in-Leaf g t c = kept_value c.args.scene.now c.args.place c.in-Leaf.value.now c.in-Leaf.ensures.0 (number_val c.kept_number.result) c.kept_number.ensures
 
 pub walk::numbers_truth_at-returns-in-Int-clause-answers : goal.walk::numbers_truth_at-returns-in-Int-clause-answers
-walk::numbers_truth_at-returns-in-Int-clause-answers t c =
+walk::numbers_truth_at-returns-in-Int-clause-answers g t c =
     let here = c.requires.here in
     let right = kept_value c.args.scene.now c.right_of-right_place.result c.in-Leaf.value.now c.in-Leaf.ensures.0 (number_val (Some c.in-Int.right)) (ap plain_val c.in-Int.is) in
     let fits : SFits w64 c.in-Int.right = search rules in
@@ -435,18 +457,18 @@ walk::numbers_truth_at-returns-in-Int-clause-answers t c =
     numbers_compared c.args.scene.now c.args.place c.args.comparison here c.right_of-right_place.result c.right_of-right_place.ensures c.in-Ok.left (Some c.in-Int.right) c.compare_numbers.result c.in-Ok.ensures right compared
 
 pub walk::numbers_truth_at-returns-in-Ok-number_at-clause-answers : goal.walk::numbers_truth_at-returns-in-Ok-number_at-clause-answers
-walk::numbers_truth_at-returns-in-Ok-number_at-clause-answers t c =
+walk::numbers_truth_at-returns-in-Ok-number_at-clause-answers g t c =
     let here = c.requires.here in
     numbers_compared c.args.scene.now c.args.place c.args.comparison here c.right_of-right_place.result c.right_of-right_place.ensures c.in-Ok.left c.in-Ok-number_at.right c.compare_numbers-in-Ok-number_at.result c.in-Ok.ensures c.in-Ok-number_at.ensures c.compare_numbers-in-Ok-number_at.ensures
 
 pub walk::compared_truth_at-part_at-requires : goal.walk::compared_truth_at-part_at-requires
-walk::compared_truth_at-part_at-requires t c = record {
+walk::compared_truth_at-part_at-requires g t c = record {
   stands = first_part c.args.scene.now c.args.place WalkClass.Eager (λ leaf. cc) (walks_by c.args.scene.now.list c.args.place (BinaryOperator.Comparison c.args.comparison) WalkClass.Eager c.requires.here refl)
       (typed_part c.args.scene.now c.args.place IsBooleanOrNull c.requires.stands);
 }
 
 pub walk::compared_truth_at-part_at-requires-in-Leaf : goal.walk::compared_truth_at-part_at-requires-in-Leaf
-walk::compared_truth_at-part_at-requires-in-Leaf t c = record {
+walk::compared_truth_at-part_at-requires-in-Leaf g t c = record {
   stands = right_part c.args.scene.now c.args.place (BinaryOperator.Comparison c.args.comparison) c.requires.here (typed_part c.args.scene.now c.args.place IsBooleanOrNull c.requires.stands) c.right_of-right_place.result
       c.right_of-right_place.ensures;
 }
@@ -454,14 +476,14 @@ walk::compared_truth_at-part_at-requires-in-Leaf t c = record {
 -- ---- a call
 
 pub walk::made_at-called_at-requires : goal.walk::made_at-called_at-requires
-walk::made_at-called_at-requires t c =
+walk::made_at-called_at-requires g t c =
     let first : AnswersDatum c.args.scene.now (c.args.place + 1) (Ok c.in-Ok.first) = subst (λ (r : Result Datum EvalStop). CountedDatum c.args.scene.now (c.args.place + 1) r) c.in-Ok.is c.requires.first in
     let here : HasCall c.args.scene.now.list c.args.place c.in-Call.function = there_found (λ (f : CheckedNode). f.kind ≡ NodeKind.Call c.in-Call.function) (slice_get c.args.scene.now.list.nodes c.args.place) c.node.result.now c.node.ensures c.in-Call.is in
     let smaller : 16 * (length c.args.scene.now.list.nodes - c.args.place) + 3 < 16 * (length c.args.scene.now.list.nodes - c.args.place) + 4 = omega arith in
     search rules
 
 pub walk::called_at-stop_of-own_stop-requires : goal.walk::called_at-stop_of-own_stop-requires
-walk::called_at-stop_of-own_stop-requires t c = part_inside c.args.scene.now c.args.place c.requires.stands
+walk::called_at-stop_of-own_stop-requires g t c = part_inside c.args.scene.now c.args.place c.requires.stands
 
 -- the first argument stands there
 first_there : (scene : SceneModel) → OneName → (place : ℕ) (function : Function) → HasCall scene.list place function → (own : ℕ) → IsStopOf scene.list place own → PartStands scene place
@@ -470,7 +492,7 @@ first_there scene names place function here own is_own part =
     argument_stands scene names place function here own is_own (place + 1) [] part refl (first_argument scene names place function here own is_own part)
 
 pub walk::called_at-stop_of-second_place-requires : goal.walk::called_at-stop_of-second_place-requires
-walk::called_at-stop_of-second_place-requires t c =
+walk::called_at-stop_of-second_place-requires g t c =
     part_inside c.args.scene.now (c.args.place + 1) (first_there c.args.scene.now c.calls_have_one_type.ensures.named c.args.place c.args.function c.requires.here c.stop_of-own_stop.result c.stop_of-own_stop.ensures c.requires.stands)
 
 -- the first argument, the first two, and three
@@ -495,19 +517,19 @@ three_answered scene names place function here own is_own part second is_second 
     (second, is_second, first_argument scene names place function here own is_own part, answers, (third, is_third, further, next_answers, (own, stops, later, last_answers, refl)))
 
 pub walk::called_at-called_on_one-requires : goal.walk::called_at-called_on_one-requires
-walk::called_at-called_on_one-requires t c =
+walk::called_at-called_on_one-requires g t c =
     call_applies c.args.scene.now c.calls_have_one_type.ensures.named c.args.place c.args.function c.requires.here c.stop_of-own_stop.result c.stop_of-own_stop.ensures c.ends_once.ensures (c.args.first ∷ [])
     (subst (λ (k : ℕ). AllAnswered c.args.scene.now (c.args.place + 1) k c.stop_of-own_stop.result (c.args.first ∷ [])) c.if-second_place-own_stop.true
     (one_answered c.args.scene.now c.calls_have_one_type.ensures.named c.args.place c.args.function c.requires.here c.stop_of-own_stop.result c.stop_of-own_stop.ensures c.requires.stands c.stop_of-second_place.result c.stop_of-second_place.ensures c.args.first c.requires.first)) c.requires.stands
 
 pub walk::called_at-returns-then-second_place-own_stop : goal.walk::called_at-returns-then-second_place-own_stop
-walk::called_at-returns-then-second_place-own_stop t c =
+walk::called_at-returns-then-second_place-own_stop g t c =
     call_answers c.args.scene.now c.calls_have_one_type.ensures.named c.args.place c.args.function c.requires.here c.stop_of-own_stop.result c.stop_of-own_stop.ensures c.ends_once.ensures (c.args.first ∷ [])
     (subst (λ (k : ℕ). AllAnswered c.args.scene.now (c.args.place + 1) k c.stop_of-own_stop.result (c.args.first ∷ [])) c.if-second_place-own_stop.true
     (one_answered c.args.scene.now c.calls_have_one_type.ensures.named c.args.place c.args.function c.requires.here c.stop_of-own_stop.result c.stop_of-own_stop.ensures c.requires.stands c.stop_of-second_place.result c.stop_of-second_place.ensures c.args.first c.requires.first)) c.called_on_one.result (λ r s. c.called_on_one.ensures c.args.scene.now.moment r s)
 
 pub walk::called_at-operand_at-requires : goal.walk::called_at-operand_at-requires
-walk::called_at-operand_at-requires t c =
+walk::called_at-operand_at-requires g t c =
     let inside : c.args.place < length c.args.scene.now.list.nodes = part_inside c.args.scene.now c.args.place c.requires.stands in
     let behind : c.args.place < c.stop_of-second_place.result = argument_behind c.args.scene.now c.calls_have_one_type.ensures.named c.args.place c.args.function c.requires.here c.stop_of-own_stop.result c.stop_of-own_stop.ensures c.stop_of-second_place.result (c.args.first ∷ []) c.requires.stands (one_answered c.args.scene.now c.calls_have_one_type.ensures.named c.args.place c.args.function c.requires.here c.stop_of-own_stop.result c.stop_of-own_stop.ensures c.requires.stands c.stop_of-second_place.result c.stop_of-second_place.ensures c.args.first c.requires.first) in
     let smaller : 16 * (length c.args.scene.now.list.nodes - c.stop_of-second_place.result) + 13 < 16 * (length c.args.scene.now.list.nodes - c.args.place) + 3 = omega arith in
@@ -515,27 +537,27 @@ walk::called_at-operand_at-requires t c =
     search rules
 
 pub walk::called_at-returns-in-Err : goal.walk::called_at-returns-in-Err
-walk::called_at-returns-in-Err t c =
+walk::called_at-returns-in-Err g t c =
     argument_faults c.args.scene.now c.calls_have_one_type.ensures.named c.args.place c.args.function c.requires.here c.stop_of-own_stop.result c.stop_of-own_stop.ensures c.stop_of-second_place.result (c.args.first ∷ []) c.in-Err.further (one_answered c.args.scene.now c.calls_have_one_type.ensures.named c.args.place c.args.function c.requires.here c.stop_of-own_stop.result c.stop_of-own_stop.ensures c.requires.stands c.stop_of-second_place.result c.stop_of-second_place.ensures c.args.first c.requires.first) c.if-second_place-own_stop.false c.in-Err.ensures
 
 pub walk::called_at-stop_of-third_place-requires : goal.walk::called_at-stop_of-third_place-requires
-walk::called_at-stop_of-third_place-requires t c =
+walk::called_at-stop_of-third_place-requires g t c =
     part_inside c.args.scene.now c.stop_of-second_place.result (argument_stands c.args.scene.now c.calls_have_one_type.ensures.named c.args.place c.args.function c.requires.here c.stop_of-own_stop.result c.stop_of-own_stop.ensures c.stop_of-second_place.result (c.args.first ∷ []) c.requires.stands (one_answered c.args.scene.now c.calls_have_one_type.ensures.named c.args.place c.args.function c.requires.here c.stop_of-own_stop.result c.stop_of-own_stop.ensures c.requires.stands c.stop_of-second_place.result c.stop_of-second_place.ensures c.args.first c.requires.first) c.if-second_place-own_stop.false)
 
 pub walk::called_at-called_on_two-requires : goal.walk::called_at-called_on_two-requires
-walk::called_at-called_on_two-requires t c =
+walk::called_at-called_on_two-requires g t c =
     call_applies c.args.scene.now c.calls_have_one_type.ensures.named c.args.place c.args.function c.requires.here c.stop_of-own_stop.result c.stop_of-own_stop.ensures c.ends_once.ensures (c.args.first ∷ c.in-Ok.second ∷ [])
     (subst (λ (k : ℕ). AllAnswered c.args.scene.now (c.args.place + 1) k c.stop_of-own_stop.result (c.args.first ∷ c.in-Ok.second ∷ [])) c.if-third_place-own_stop.true
     (two_answered c.args.scene.now c.calls_have_one_type.ensures.named c.args.place c.args.function c.requires.here c.stop_of-own_stop.result c.stop_of-own_stop.ensures c.requires.stands c.stop_of-second_place.result c.stop_of-second_place.ensures c.args.first c.requires.first c.if-second_place-own_stop.false c.stop_of-third_place.result c.stop_of-third_place.ensures c.in-Ok.second c.in-Ok.ensures)) c.requires.stands
 
 pub walk::called_at-returns-then-third_place-own_stop : goal.walk::called_at-returns-then-third_place-own_stop
-walk::called_at-returns-then-third_place-own_stop t c =
+walk::called_at-returns-then-third_place-own_stop g t c =
     call_answers c.args.scene.now c.calls_have_one_type.ensures.named c.args.place c.args.function c.requires.here c.stop_of-own_stop.result c.stop_of-own_stop.ensures c.ends_once.ensures (c.args.first ∷ c.in-Ok.second ∷ [])
     (subst (λ (k : ℕ). AllAnswered c.args.scene.now (c.args.place + 1) k c.stop_of-own_stop.result (c.args.first ∷ c.in-Ok.second ∷ [])) c.if-third_place-own_stop.true
     (two_answered c.args.scene.now c.calls_have_one_type.ensures.named c.args.place c.args.function c.requires.here c.stop_of-own_stop.result c.stop_of-own_stop.ensures c.requires.stands c.stop_of-second_place.result c.stop_of-second_place.ensures c.args.first c.requires.first c.if-second_place-own_stop.false c.stop_of-third_place.result c.stop_of-third_place.ensures c.in-Ok.second c.in-Ok.ensures)) c.called_on_two.result (λ r s. c.called_on_two.ensures c.args.scene.now.moment r s)
 
 pub walk::called_at-operand_at-requires-2 : goal.walk::called_at-operand_at-requires-2
-walk::called_at-operand_at-requires-2 t c =
+walk::called_at-operand_at-requires-2 g t c =
     let inside : c.args.place < length c.args.scene.now.list.nodes = part_inside c.args.scene.now c.args.place c.requires.stands in
     let behind : c.args.place < c.stop_of-third_place.result = argument_behind c.args.scene.now c.calls_have_one_type.ensures.named c.args.place c.args.function c.requires.here c.stop_of-own_stop.result c.stop_of-own_stop.ensures c.stop_of-third_place.result (c.args.first ∷ c.in-Ok.second ∷ []) c.requires.stands (two_answered c.args.scene.now c.calls_have_one_type.ensures.named c.args.place c.args.function c.requires.here c.stop_of-own_stop.result c.stop_of-own_stop.ensures c.requires.stands c.stop_of-second_place.result c.stop_of-second_place.ensures c.args.first c.requires.first c.if-second_place-own_stop.false c.stop_of-third_place.result c.stop_of-third_place.ensures c.in-Ok.second c.in-Ok.ensures) in
     let smaller : 16 * (length c.args.scene.now.list.nodes - c.stop_of-third_place.result) + 13 < 16 * (length c.args.scene.now.list.nodes - c.args.place) + 3 = omega arith in
@@ -543,17 +565,17 @@ walk::called_at-operand_at-requires-2 t c =
     search rules
 
 pub walk::called_at-called_on_three-requires : goal.walk::called_at-called_on_three-requires
-walk::called_at-called_on_three-requires t c =
+walk::called_at-called_on_three-requires g t c =
     call_applies c.args.scene.now c.calls_have_one_type.ensures.named c.args.place c.args.function c.requires.here c.stop_of-own_stop.result c.stop_of-own_stop.ensures c.ends_once.ensures (c.args.first ∷ c.in-Ok.second ∷ c.in-Ok-operand_at.third ∷ [])
     (three_answered c.args.scene.now c.calls_have_one_type.ensures.named c.args.place c.args.function c.requires.here c.stop_of-own_stop.result c.stop_of-own_stop.ensures c.requires.stands c.stop_of-second_place.result c.stop_of-second_place.ensures c.args.first c.requires.first c.if-second_place-own_stop.false c.stop_of-third_place.result c.stop_of-third_place.ensures c.in-Ok.second c.in-Ok.ensures c.if-third_place-own_stop.false c.in-Ok-operand_at.third c.in-Ok-operand_at.ensures) c.requires.stands
 
 pub walk::called_at-returns-in-Ok-operand_at : goal.walk::called_at-returns-in-Ok-operand_at
-walk::called_at-returns-in-Ok-operand_at t c =
+walk::called_at-returns-in-Ok-operand_at g t c =
     call_answers c.args.scene.now c.calls_have_one_type.ensures.named c.args.place c.args.function c.requires.here c.stop_of-own_stop.result c.stop_of-own_stop.ensures c.ends_once.ensures (c.args.first ∷ c.in-Ok.second ∷ c.in-Ok-operand_at.third ∷ [])
     (three_answered c.args.scene.now c.calls_have_one_type.ensures.named c.args.place c.args.function c.requires.here c.stop_of-own_stop.result c.stop_of-own_stop.ensures c.requires.stands c.stop_of-second_place.result c.stop_of-second_place.ensures c.args.first c.requires.first c.if-second_place-own_stop.false c.stop_of-third_place.result c.stop_of-third_place.ensures c.in-Ok.second c.in-Ok.ensures c.if-third_place-own_stop.false c.in-Ok-operand_at.third c.in-Ok-operand_at.ensures) c.called_on_three.result (λ r s. c.called_on_three.ensures c.args.scene.now.moment r s)
 
 pub walk::called_at-returns : goal.walk::called_at-returns
-walk::called_at-returns t c =
+walk::called_at-returns g t c =
     argument_faults c.args.scene.now c.calls_have_one_type.ensures.named c.args.place c.args.function c.requires.here c.stop_of-own_stop.result c.stop_of-own_stop.ensures c.stop_of-third_place.result (c.args.first ∷ c.in-Ok.second ∷ []) c.in-Err-operand_at.fault (two_answered c.args.scene.now c.calls_have_one_type.ensures.named c.args.place c.args.function c.requires.here c.stop_of-own_stop.result c.stop_of-own_stop.ensures c.requires.stands c.stop_of-second_place.result c.stop_of-second_place.ensures c.args.first c.requires.first c.if-second_place-own_stop.false c.stop_of-third_place.result c.stop_of-third_place.ensures c.in-Ok.second c.in-Ok.ensures) c.if-third_place-own_stop.false c.in-Err-operand_at.ensures
 
 -- ---- a call of two stored values
@@ -573,43 +595,43 @@ two_are_all scene names place function here own is_own part second is_second fir
     (two_answered scene names place function here own is_own part second is_second first answers further third is_third next next_answers)
 
 pub walk::called_truth_at-stop_of-own_stop-requires : goal.walk::called_truth_at-stop_of-own_stop-requires
-walk::called_truth_at-stop_of-own_stop-requires t c = part_inside c.args.scene.now c.args.place (typed_part c.args.scene.now c.args.place IsBooleanOrNull c.requires.stands)
+walk::called_truth_at-stop_of-own_stop-requires g t c = part_inside c.args.scene.now c.args.place (typed_part c.args.scene.now c.args.place IsBooleanOrNull c.requires.stands)
 
 pub walk::called_truth_at-part_at-requires : goal.walk::called_truth_at-part_at-requires
-walk::called_truth_at-part_at-requires t c = record { stands = first_there c.args.scene.now c.calls_have_one_type.ensures.named c.args.place c.args.function c.requires.here c.stop_of-own_stop.result c.stop_of-own_stop.ensures (typed_part c.args.scene.now c.args.place IsBooleanOrNull c.requires.stands) }
+walk::called_truth_at-part_at-requires g t c = record { stands = first_there c.args.scene.now c.calls_have_one_type.ensures.named c.args.place c.args.function c.requires.here c.stop_of-own_stop.result c.stop_of-own_stop.ensures (typed_part c.args.scene.now c.args.place IsBooleanOrNull c.requires.stands) }
 
 pub walk::called_truth_at-lower_start_at-requires : goal.walk::called_truth_at-lower_start_at-requires
-walk::called_truth_at-lower_start_at-requires t c = record { stands = typed_part c.args.scene.now c.args.place IsBooleanOrNull c.requires.stands; here = c.requires.here }
+walk::called_truth_at-lower_start_at-requires g t c = record { stands = typed_part c.args.scene.now c.args.place IsBooleanOrNull c.requires.stands; here = c.requires.here }
 
 pub walk::called_truth_at-returns-in-Some-clause-answers : goal.walk::called_truth_at-returns-in-Some-clause-answers
-walk::called_truth_at-returns-in-Some-clause-answers t c = c.in-Some.ensures
+walk::called_truth_at-returns-in-Some-clause-answers g t c = c.in-Some.ensures
 
 pub walk::called_truth_at-returns-in-Some-clause-spent : goal.walk::called_truth_at-returns-in-Some-clause-spent
-walk::called_truth_at-returns-in-Some-clause-spent t c =
-    free_spends c.args.scene.now c.args.place None c.args.budget.now (called_free c.args.scene.now c.args.place c.args.function c.requires.here) (takes_nothing c.args.budget.now)
+walk::called_truth_at-returns-in-Some-clause-spent g t c =
+    free_spends c.args.scene.now c.args.place None (g.B.Counting.left c.args.budget.now) (called_free c.args.scene.now c.args.place c.args.function c.requires.here) (takes_nothing (g.B.Counting.left c.args.budget.now))
 
 pub walk::called_truth_at-stop_of-second_place-requires : goal.walk::called_truth_at-stop_of-second_place-requires
-walk::called_truth_at-stop_of-second_place-requires t c = part_inside c.args.scene.now (c.args.place + 1) (first_there c.args.scene.now c.calls_have_one_type.ensures.named c.args.place c.args.function c.requires.here c.stop_of-own_stop.result c.stop_of-own_stop.ensures (typed_part c.args.scene.now c.args.place IsBooleanOrNull c.requires.stands))
+walk::called_truth_at-stop_of-second_place-requires g t c = part_inside c.args.scene.now (c.args.place + 1) (first_there c.args.scene.now c.calls_have_one_type.ensures.named c.args.place c.args.function c.requires.here c.stop_of-own_stop.result c.stop_of-own_stop.ensures (typed_part c.args.scene.now c.args.place IsBooleanOrNull c.requires.stands))
 
 pub walk::called_truth_at-stop_of-requires : goal.walk::called_truth_at-stop_of-requires
-walk::called_truth_at-stop_of-requires t c =
+walk::called_truth_at-stop_of-requires g t c =
     let first : AnswersDatum c.args.scene.now (c.args.place + 1) (Ok c.datum_of-first.result) = kept_datum c.args.scene.now (c.args.place + 1) c.in-Leaf.value.now c.datum_of-first.result c.in-Leaf.ensures.0 c.datum_of-first.ensures in
     part_inside c.args.scene.now c.stop_of-second_place.result (second_there c.args.scene.now c.calls_have_one_type.ensures.named c.args.place c.args.function c.requires.here c.stop_of-own_stop.result c.stop_of-own_stop.ensures (typed_part c.args.scene.now c.args.place IsBooleanOrNull c.requires.stands) c.stop_of-second_place.result c.stop_of-second_place.ensures c.datum_of-first.result first c.if-second_place-own_stop.false)
 
 pub walk::called_truth_at-part_at-requires-2 : goal.walk::called_truth_at-part_at-requires-2
-walk::called_truth_at-part_at-requires-2 t c =
+walk::called_truth_at-part_at-requires-2 g t c =
     let first : AnswersDatum c.args.scene.now (c.args.place + 1) (Ok c.datum_of-first.result) = kept_datum c.args.scene.now (c.args.place + 1) c.in-Leaf.value.now c.datum_of-first.result c.in-Leaf.ensures.0 c.datum_of-first.ensures in
     record { stands = second_there c.args.scene.now c.calls_have_one_type.ensures.named c.args.place c.args.function c.requires.here c.stop_of-own_stop.result c.stop_of-own_stop.ensures (typed_part c.args.scene.now c.args.place IsBooleanOrNull c.requires.stands) c.stop_of-second_place.result c.stop_of-second_place.ensures c.datum_of-first.result first c.if-second_place-own_stop.false }
 
 pub walk::called_truth_at-called_on_two-requires : goal.walk::called_truth_at-called_on_two-requires
-walk::called_truth_at-called_on_two-requires t c =
+walk::called_truth_at-called_on_two-requires g t c =
     let first : AnswersDatum c.args.scene.now (c.args.place + 1) (Ok c.datum_of-first.result) = kept_datum c.args.scene.now (c.args.place + 1) c.in-Leaf.value.now c.datum_of-first.result c.in-Leaf.ensures.0 c.datum_of-first.ensures in
     let next : AnswersDatum c.args.scene.now c.stop_of-second_place.result (Ok c.datum_of-second.result) = kept_datum c.args.scene.now c.stop_of-second_place.result c.in-Leaf-part_at.value.now c.datum_of-second.result c.in-Leaf-part_at.ensures.0 c.datum_of-second.ensures in
     let all = two_are_all c.args.scene.now c.calls_have_one_type.ensures.named c.args.place c.args.function c.requires.here c.stop_of-own_stop.result c.stop_of-own_stop.ensures (typed_part c.args.scene.now c.args.place IsBooleanOrNull c.requires.stands) c.stop_of-second_place.result c.stop_of-second_place.ensures c.datum_of-first.result first c.if-second_place-own_stop.false c.stop_of.result c.stop_of.ensures c.if-stop_of-own_stop.false c.datum_of-second.result next in
     call_applies c.args.scene.now c.calls_have_one_type.ensures.named c.args.place c.args.function c.requires.here c.stop_of-own_stop.result c.stop_of-own_stop.ensures c.ends_once.ensures (c.datum_of-first.result ∷ c.datum_of-second.result ∷ []) all (typed_part c.args.scene.now c.args.place IsBooleanOrNull c.requires.stands)
 
 pub walk::called_truth_at-truth_of-requires : goal.walk::called_truth_at-truth_of-requires
-walk::called_truth_at-truth_of-requires t c =
+walk::called_truth_at-truth_of-requires g t c =
     let first : AnswersDatum c.args.scene.now (c.args.place + 1) (Ok c.datum_of-first.result) = kept_datum c.args.scene.now (c.args.place + 1) c.in-Leaf.value.now c.datum_of-first.result c.in-Leaf.ensures.0 c.datum_of-first.ensures in
     let next : AnswersDatum c.args.scene.now c.stop_of-second_place.result (Ok c.datum_of-second.result) = kept_datum c.args.scene.now c.stop_of-second_place.result c.in-Leaf-part_at.value.now c.datum_of-second.result c.in-Leaf-part_at.ensures.0 c.datum_of-second.ensures in
     let all = two_are_all c.args.scene.now c.calls_have_one_type.ensures.named c.args.place c.args.function c.requires.here c.stop_of-own_stop.result c.stop_of-own_stop.ensures (typed_part c.args.scene.now c.args.place IsBooleanOrNull c.requires.stands) c.stop_of-second_place.result c.stop_of-second_place.ensures c.datum_of-first.result first c.if-second_place-own_stop.false c.stop_of.result c.stop_of.ensures c.if-stop_of-own_stop.false c.datum_of-second.result next in
@@ -618,7 +640,7 @@ walk::called_truth_at-truth_of-requires t c =
     λ reading. value_there c.args.scene.now c.args.place truth_values c.ends_once.ensures c.in-Ok.value c.requires.stands made reading
 
 pub walk::called_truth_at-returns-in-Ok-clause-answers : goal.walk::called_truth_at-returns-in-Ok-clause-answers
-walk::called_truth_at-returns-in-Ok-clause-answers t c =
+walk::called_truth_at-returns-in-Ok-clause-answers g t c =
     let first : AnswersDatum c.args.scene.now (c.args.place + 1) (Ok c.datum_of-first.result) = kept_datum c.args.scene.now (c.args.place + 1) c.in-Leaf.value.now c.datum_of-first.result c.in-Leaf.ensures.0 c.datum_of-first.ensures in
     let next : AnswersDatum c.args.scene.now c.stop_of-second_place.result (Ok c.datum_of-second.result) = kept_datum c.args.scene.now c.stop_of-second_place.result c.in-Leaf-part_at.value.now c.datum_of-second.result c.in-Leaf-part_at.ensures.0 c.datum_of-second.ensures in
     let all = two_are_all c.args.scene.now c.calls_have_one_type.ensures.named c.args.place c.args.function c.requires.here c.stop_of-own_stop.result c.stop_of-own_stop.ensures (typed_part c.args.scene.now c.args.place IsBooleanOrNull c.requires.stands) c.stop_of-second_place.result c.stop_of-second_place.ensures c.datum_of-first.result first c.if-second_place-own_stop.false c.stop_of.result c.stop_of.ensures c.if-stop_of-own_stop.false c.datum_of-second.result next in
@@ -627,7 +649,7 @@ walk::called_truth_at-returns-in-Ok-clause-answers t c =
     read_value c.args.scene.now c.args.place c.in-Ok.value (truth_val c.truth_of.result) made c.truth_of.ensures
 
 pub walk::called_truth_at-returns-in-Err-clause-answers : goal.walk::called_truth_at-returns-in-Err-clause-answers
-walk::called_truth_at-returns-in-Err-clause-answers t c =
+walk::called_truth_at-returns-in-Err-clause-answers g t c =
     let first : AnswersDatum c.args.scene.now (c.args.place + 1) (Ok c.datum_of-first.result) = kept_datum c.args.scene.now (c.args.place + 1) c.in-Leaf.value.now c.datum_of-first.result c.in-Leaf.ensures.0 c.datum_of-first.ensures in
     let next : AnswersDatum c.args.scene.now c.stop_of-second_place.result (Ok c.datum_of-second.result) = kept_datum c.args.scene.now c.stop_of-second_place.result c.in-Leaf-part_at.value.now c.datum_of-second.result c.in-Leaf-part_at.ensures.0 c.datum_of-second.ensures in
     let all = two_are_all c.args.scene.now c.calls_have_one_type.ensures.named c.args.place c.args.function c.requires.here c.stop_of-own_stop.result c.stop_of-own_stop.ensures (typed_part c.args.scene.now c.args.place IsBooleanOrNull c.requires.stands) c.stop_of-second_place.result c.stop_of-second_place.ensures c.datum_of-first.result first c.if-second_place-own_stop.false c.stop_of.result c.stop_of.ensures c.if-stop_of-own_stop.false c.datum_of-second.result next in
@@ -637,55 +659,55 @@ walk::called_truth_at-returns-in-Err-clause-answers t c =
 -- ---- a collection: `$count`, `any()`, `in`; and `has`
 
 pub walk::made_at-count_of-requires : goal.walk::made_at-count_of-requires
-walk::made_at-count_of-requires t c =
+walk::made_at-count_of-requires g t c =
     let first : AnswersDatum c.args.scene.now (c.args.place + 1) (Ok c.in-Ok.first) = subst (λ (r : Result Datum EvalStop). CountedDatum c.args.scene.now (c.args.place + 1) r) c.in-Ok.is c.requires.first in
     let here : HasKind c.args.scene.now.list c.args.place NodeKind.Count = there_found (λ (f : CheckedNode). f.kind ≡ NodeKind.Count) (slice_get c.args.scene.now.list.nodes c.args.place) c.node.result.now c.node.ensures c.in-Count.is in
     base_members c.args.scene.now c.args.place CountGives (count_base c.args.scene.now c.args.place here) c.in-Ok.first first c.ends_once.ensures c.requires.stands
 
 pub walk::made_at-returns-in-Count-clause-answers : goal.walk::made_at-returns-in-Count-clause-answers
-walk::made_at-returns-in-Count-clause-answers t c =
+walk::made_at-returns-in-Count-clause-answers g t c =
     let first : AnswersDatum c.args.scene.now (c.args.place + 1) (Ok c.in-Ok.first) = subst (λ (r : Result Datum EvalStop). CountedDatum c.args.scene.now (c.args.place + 1) r) c.in-Ok.is c.requires.first in
     let here : HasKind c.args.scene.now.list c.args.place NodeKind.Count = there_found (λ (f : CheckedNode). f.kind ≡ NodeKind.Count) (slice_get c.args.scene.now.list.nodes c.args.place) c.node.result.now c.node.ensures c.in-Count.is in
     as_counted c.args.scene.now c.args.place c.count_of.result c.as_stop-in-Count.result c.as_stop-in-Count.ensures (base_answers c.args.scene.now c.args.place CountGives (count_base c.args.scene.now c.args.place here) c.in-Ok.first first c.count_of.result c.count_of.ensures)
 
 pub walk::made_at-any_item_of-requires : goal.walk::made_at-any_item_of-requires
-walk::made_at-any_item_of-requires t c =
+walk::made_at-any_item_of-requires g t c =
     let first : AnswersDatum c.args.scene.now (c.args.place + 1) (Ok c.in-Ok.first) = subst (λ (r : Result Datum EvalStop). CountedDatum c.args.scene.now (c.args.place + 1) r) c.in-Ok.is c.requires.first in
     let here : HasKind c.args.scene.now.list c.args.place NodeKind.AnyItem = there_found (λ (f : CheckedNode). f.kind ≡ NodeKind.AnyItem) (slice_get c.args.scene.now.list.nodes c.args.place) c.node.result.now c.node.ensures c.in-AnyItem.is in
     base_members c.args.scene.now c.args.place AnyItemGives (any_item_base c.args.scene.now c.args.place here) c.in-Ok.first first c.ends_once.ensures c.requires.stands
 
 pub walk::made_at-returns-in-AnyItem-clause-answers : goal.walk::made_at-returns-in-AnyItem-clause-answers
-walk::made_at-returns-in-AnyItem-clause-answers t c =
+walk::made_at-returns-in-AnyItem-clause-answers g t c =
     let first : AnswersDatum c.args.scene.now (c.args.place + 1) (Ok c.in-Ok.first) = subst (λ (r : Result Datum EvalStop). CountedDatum c.args.scene.now (c.args.place + 1) r) c.in-Ok.is c.requires.first in
     let here : HasKind c.args.scene.now.list c.args.place NodeKind.AnyItem = there_found (λ (f : CheckedNode). f.kind ≡ NodeKind.AnyItem) (slice_get c.args.scene.now.list.nodes c.args.place) c.node.result.now c.node.ensures c.in-AnyItem.is in
     base_answers c.args.scene.now c.args.place AnyItemGives (any_item_base c.args.scene.now c.args.place here) c.in-Ok.first first (Ok c.any_item_of.result) c.any_item_of.ensures
 
 pub walk::made_at-flags_at-requires : goal.walk::made_at-flags_at-requires
-walk::made_at-flags_at-requires t c =
+walk::made_at-flags_at-requires g t c =
     let first : AnswersDatum c.args.scene.now (c.args.place + 1) (Ok c.in-Ok.first) = subst (λ (r : Result Datum EvalStop). CountedDatum c.args.scene.now (c.args.place + 1) r) c.in-Ok.is c.requires.first in
     let here : HasKind c.args.scene.now.list c.args.place NodeKind.Has = there_found (λ (f : CheckedNode). f.kind ≡ NodeKind.Has) (slice_get c.args.scene.now.list.nodes c.args.place) c.node.result.now c.node.ensures c.in-Has.is in
     let smaller : 16 * (length c.args.scene.now.list.nodes - c.args.place) + 3 < 16 * (length c.args.scene.now.list.nodes - c.args.place) + 4 = omega arith in
     search rules
 
 pub walk::made_at-among_at-requires : goal.walk::made_at-among_at-requires
-walk::made_at-among_at-requires t c =
+walk::made_at-among_at-requires g t c =
     let first : AnswersDatum c.args.scene.now (c.args.place + 1) (Ok c.in-Ok.first) = subst (λ (r : Result Datum EvalStop). CountedDatum c.args.scene.now (c.args.place + 1) r) c.in-Ok.is c.requires.first in
     let here : HasKind c.args.scene.now.list c.args.place NodeKind.InPath = there_found (λ (f : CheckedNode). f.kind ≡ NodeKind.InPath) (slice_get c.args.scene.now.list.nodes c.args.place) c.node.result.now c.node.ensures c.in-InPath.is in
     let smaller : 16 * (length c.args.scene.now.list.nodes - c.args.place) + 3 < 16 * (length c.args.scene.now.list.nodes - c.args.place) + 4 = omega arith in
     search rules
 
 pub walk::made_at-listed_at-requires : goal.walk::made_at-listed_at-requires
-walk::made_at-listed_at-requires t c =
+walk::made_at-listed_at-requires g t c =
     let first : AnswersDatum c.args.scene.now (c.args.place + 1) (Ok c.in-Ok.first) = subst (λ (r : Result Datum EvalStop). CountedDatum c.args.scene.now (c.args.place + 1) r) c.in-Ok.is c.requires.first in
     let here : HasKind c.args.scene.now.list c.args.place NodeKind.InList = there_found (λ (f : CheckedNode). f.kind ≡ NodeKind.InList) (slice_get c.args.scene.now.list.nodes c.args.place) c.node.result.now c.node.ensures c.in-InList.is in
     let smaller : 16 * (length c.args.scene.now.list.nodes - c.args.place) + 3 < 16 * (length c.args.scene.now.list.nodes - c.args.place) + 4 = omega arith in
     search rules
 
 pub collection_walk::flags_at-right_of-requires : goal.collection_walk::flags_at-right_of-requires
-collection_walk::flags_at-right_of-requires t c = next_there c.args.scene.now c.args.place AreFlags HasGives (flags_sides c.args.scene.now c.args.place c.requires.here) c.requires.stands
+collection_walk::flags_at-right_of-requires g t c = next_there c.args.scene.now c.args.place AreFlags HasGives (flags_sides c.args.scene.now c.args.place c.requires.here) c.requires.stands
 
 pub collection_walk::flags_at-operand_at-requires : goal.collection_walk::flags_at-operand_at-requires
-collection_walk::flags_at-operand_at-requires t c =
+collection_walk::flags_at-operand_at-requires g t c =
     let inside : c.args.place < length c.args.scene.now.list.nodes = part_inside c.args.scene.now c.args.place c.requires.stands in
     let behind : c.args.place < c.right_of.result = next_further c.args.scene.now c.args.place AreFlags HasGives (flags_sides c.args.scene.now c.args.place c.requires.here) c.right_of.result c.right_of.ensures c.requires.stands in
     let smaller : 16 * (length c.args.scene.now.list.nodes - c.right_of.result) + 13 < 16 * (length c.args.scene.now.list.nodes - c.args.place) + 3 = omega arith in
@@ -693,25 +715,25 @@ collection_walk::flags_at-operand_at-requires t c =
     search rules
 
 pub collection_walk::flags_at-flags_of-requires : goal.collection_walk::flags_at-flags_of-requires
-collection_walk::flags_at-flags_of-requires t c =
+collection_walk::flags_at-flags_of-requires g t c =
     let there = some_sides c.args.scene.now c.args.place AreFlags HasGives (flags_sides c.args.scene.now c.args.place c.requires.here) c.right_of.result c.right_of.ensures c.args.left.now c.requires.left c.in-Ok.right c.in-Ok.ensures c.ends_once.ensures c.requires.stands in
     let are = flags_are (slots_of c.args.scene.now.row.schema) there.0 there.1 c.args.left.now c.in-Ok.right there.2.0 there.2.1 there.2.2 in
     record { left = are.0; right = are.1 }
 
 pub collection_walk::flags_at-returns-in-Ok : goal.collection_walk::flags_at-returns-in-Ok
-collection_walk::flags_at-returns-in-Ok t c =
+collection_walk::flags_at-returns-in-Ok g t c =
     let slots = slots_of c.args.scene.now.row.schema in
     sides_answer c.args.scene.now c.args.place AreFlags HasGives (flags_sides c.args.scene.now c.args.place c.requires.here) c.right_of.result c.right_of.ensures c.args.left.now c.requires.left c.in-Ok.right c.in-Ok.ensures c.ends_once.ensures c.flags_of.result
     (λ s t type are of_left of_right. c.flags_of.ensures (reading_at slots s) (reading_at slots t) (reading_at slots type))
 
 pub collection_walk::flags_at-returns-in-Err : goal.collection_walk::flags_at-returns-in-Err
-collection_walk::flags_at-returns-in-Err t c = next_faults c.args.scene.now c.args.place AreFlags HasGives (flags_sides c.args.scene.now c.args.place c.requires.here) c.right_of.result c.right_of.ensures c.args.left.now c.requires.left c.in-Err.fault c.in-Err.ensures
+collection_walk::flags_at-returns-in-Err g t c = next_faults c.args.scene.now c.args.place AreFlags HasGives (flags_sides c.args.scene.now c.args.place c.requires.here) c.right_of.result c.right_of.ensures c.args.left.now c.requires.left c.in-Err.fault c.in-Err.ensures
 
 pub collection_walk::among_at-right_of-requires : goal.collection_walk::among_at-right_of-requires
-collection_walk::among_at-right_of-requires t c = next_there c.args.scene.now c.args.place IsComparableWithMembers InGives (path_sides c.args.scene.now c.args.place c.requires.here) c.requires.stands
+collection_walk::among_at-right_of-requires g t c = next_there c.args.scene.now c.args.place IsComparableWithMembers InGives (path_sides c.args.scene.now c.args.place c.requires.here) c.requires.stands
 
 pub collection_walk::among_at-operand_at-requires : goal.collection_walk::among_at-operand_at-requires
-collection_walk::among_at-operand_at-requires t c =
+collection_walk::among_at-operand_at-requires g t c =
     let inside : c.args.place < length c.args.scene.now.list.nodes = part_inside c.args.scene.now c.args.place c.requires.stands in
     let behind : c.args.place < c.right_of.result = next_further c.args.scene.now c.args.place IsComparableWithMembers InGives (path_sides c.args.scene.now c.args.place c.requires.here) c.right_of.result c.right_of.ensures c.requires.stands in
     let smaller : 16 * (length c.args.scene.now.list.nodes - c.right_of.result) + 13 < 16 * (length c.args.scene.now.list.nodes - c.args.place) + 3 = omega arith in
@@ -719,75 +741,75 @@ collection_walk::among_at-operand_at-requires t c =
     search rules
 
 pub collection_walk::among_at-among-requires : goal.collection_walk::among_at-among-requires
-collection_walk::among_at-among-requires t c =
+collection_walk::among_at-among-requires g t c =
     let slots = slots_of c.args.scene.now.row.schema in
     let there = some_sides c.args.scene.now c.args.place IsComparableWithMembers InGives (path_sides c.args.scene.now c.args.place c.requires.here) c.right_of.result c.right_of.ensures c.args.left.now c.requires.left c.in-Ok.path c.in-Ok.ensures c.ends_once.ensures c.requires.stands in
     some_compared slots there.0 there.1 c.args.left.now c.in-Ok.path there.2.0 there.2.1 there.2.2
 
 pub collection_walk::among_at-returns-in-Ok : goal.collection_walk::among_at-returns-in-Ok
-collection_walk::among_at-returns-in-Ok t c =
+collection_walk::among_at-returns-in-Ok g t c =
     let slots = slots_of c.args.scene.now.row.schema in
     sides_answer c.args.scene.now c.args.place IsComparableWithMembers InGives (path_sides c.args.scene.now c.args.place c.requires.here) c.right_of.result c.right_of.ensures c.args.left.now c.requires.left c.in-Ok.path c.in-Ok.ensures c.ends_once.ensures c.among.result
     (λ s t type alike of_left of_path. path_gives slots s t c.args.left.now c.in-Ok.path (gives (datum_val (reading_at slots type) c.among.result)) alike of_left of_path (λ member may. c.among.ensures slots s member (reading_at slots type) may))
 
 pub collection_walk::among_at-returns-in-Err : goal.collection_walk::among_at-returns-in-Err
-collection_walk::among_at-returns-in-Err t c = next_faults c.args.scene.now c.args.place IsComparableWithMembers InGives (path_sides c.args.scene.now c.args.place c.requires.here) c.right_of.result c.right_of.ensures c.args.left.now c.requires.left c.in-Err.fault c.in-Err.ensures
+collection_walk::among_at-returns-in-Err g t c = next_faults c.args.scene.now c.args.place IsComparableWithMembers InGives (path_sides c.args.scene.now c.args.place c.requires.here) c.right_of.result c.right_of.ensures c.args.left.now c.requires.left c.in-Err.fault c.in-Err.ensures
 
 pub collection_walk::listed_at-stop_of-own_stop-requires : goal.collection_walk::listed_at-stop_of-own_stop-requires
-collection_walk::listed_at-stop_of-own_stop-requires t c = part_inside c.args.scene.now c.args.place c.requires.stands
+collection_walk::listed_at-stop_of-own_stop-requires g t c = part_inside c.args.scene.now c.args.place c.requires.stands
 
 pub collection_walk::listed_at-right_of-at-requires : goal.collection_walk::listed_at-right_of-at-requires
-collection_walk::listed_at-right_of-at-requires t c = items_there c.args.scene.now c.args.place None (plain_lists c.args.scene.now c.args.place c.requires.here) c.requires.stands
+collection_walk::listed_at-right_of-at-requires g t c = items_there c.args.scene.now c.args.place None (plain_lists c.args.scene.now c.args.place c.requires.here) c.requires.stands
 
 pub collection_walk::listed_at-loop-at-init : goal.collection_walk::listed_at-loop-at-init
-collection_walk::listed_at-loop-at-init t c =
+collection_walk::listed_at-loop-at-init g t c =
     list_begins c.args.scene.now c.args.place None (plain_lists c.args.scene.now c.args.place c.requires.here) c.stop_of-own_stop.result c.stop_of-own_stop.ensures c.right_of-at.result c.right_of-at.ensures c.args.left.now c.requires.left c.ends_once.ensures c.requires.stands
-    (Takes c.args.budget.now c.args.budget.now) (takes_nothing c.args.budget.now)
+    (Takes (g.B.Counting.left c.args.budget.now) (g.B.Counting.left c.args.budget.now)) (takes_nothing (g.B.Counting.left c.args.budget.now))
 
 pub collection_walk::listed_at-counted_at-requires : goal.collection_walk::listed_at-counted_at-requires
-collection_walk::listed_at-counted_at-requires t c =
+collection_walk::listed_at-counted_at-requires g t c =
     let inside : c.args.place < length c.args.scene.now.list.nodes = part_inside c.args.scene.now c.args.place c.requires.stands in
     let behind : c.args.place < c.loop-at.at = c.loop-at.invariant.behind in
     let smaller : 16 * (length c.args.scene.now.list.nodes - c.loop-at.at) + 12 < 16 * (length c.args.scene.now.list.nodes - c.args.place) + 3 = omega arith in
-    let stands : PartStands c.args.scene.now c.loop-at.at = next_item c.args.scene.now c.args.place c.stop_of-own_stop.result c.loop-at.at (Takes c.args.budget.now c.loop-at.budget) None c.args.left.now c.loop-at.invariant c.requires.stands c.loop-at-test.true in
+    let stands : PartStands c.args.scene.now c.loop-at.at = next_item c.args.scene.now c.args.place c.stop_of-own_stop.result c.loop-at.at (Takes (g.B.Counting.left c.args.budget.now) (g.B.Counting.left c.loop-at.budget)) None c.args.left.now c.loop-at.invariant c.requires.stands c.loop-at-test.true in
     search rules
 
 pub collection_walk::listed_at-compare-requires : goal.collection_walk::listed_at-compare-requires
-collection_walk::listed_at-compare-requires t c = may_compare_item c.args.scene.now c.args.place c.stop_of-own_stop.result c.loop-at.at (Takes c.args.budget.now c.loop-at.budget) None c.args.left.now c.loop-at.invariant c.trees_have_one_type.ensures c.in-Ok.item (alone_answers c.args.scene.now c.loop-at.at (λ type. Some (gives (datum_val (reading_at (slots_of c.args.scene.now.row.schema) type) c.in-Ok.item))) c.in-Ok.ensures.answers) c.loop-at-test.true c.ends_once.ensures c.comparisons_are_decided.ensures.any_reading c.requires.stands
+collection_walk::listed_at-compare-requires g t c = may_compare_item c.args.scene.now c.args.place c.stop_of-own_stop.result c.loop-at.at (Takes (g.B.Counting.left c.args.budget.now) (g.B.Counting.left c.loop-at.budget)) None c.args.left.now c.loop-at.invariant c.trees_have_one_type.ensures c.in-Ok.item (alone_answers c.args.scene.now c.loop-at.at (λ type. Some (gives (datum_val (reading_at (slots_of c.args.scene.now.row.schema) type) c.in-Ok.item))) c.in-Ok.ensures.answers) c.loop-at-test.true c.ends_once.ensures c.comparisons_are_decided.ensures.any_reading c.requires.stands
 
 pub collection_walk::listed_at-returns-then-compare-clause-answers : goal.collection_walk::listed_at-returns-then-compare-clause-answers
-collection_walk::listed_at-returns-then-compare-clause-answers t c = item_equals c.args.scene.now c.args.place c.stop_of-own_stop.result c.loop-at.at (Takes c.args.budget.now c.loop-at.budget) None c.args.left.now c.loop-at.invariant c.trees_have_one_type.ensures c.in-Ok.item (alone_answers c.args.scene.now c.loop-at.at (λ type. Some (gives (datum_val (reading_at (slots_of c.args.scene.now.row.schema) type) c.in-Ok.item))) c.in-Ok.ensures.answers) c.loop-at-test.true c.ends_once.ensures c.compare.result c.compare.ensures c.if-compare.true
+collection_walk::listed_at-returns-then-compare-clause-answers g t c = item_equals c.args.scene.now c.args.place c.stop_of-own_stop.result c.loop-at.at (Takes (g.B.Counting.left c.args.budget.now) (g.B.Counting.left c.loop-at.budget)) None c.args.left.now c.loop-at.invariant c.trees_have_one_type.ensures c.in-Ok.item (alone_answers c.args.scene.now c.loop-at.at (λ type. Some (gives (datum_val (reading_at (slots_of c.args.scene.now.row.schema) type) c.in-Ok.item))) c.in-Ok.ensures.answers) c.loop-at-test.true c.ends_once.ensures c.compare.result c.compare.ensures c.if-compare.true
 
 pub collection_walk::listed_at-returns-in-Err-clause-answers : goal.collection_walk::listed_at-returns-in-Err-clause-answers
-collection_walk::listed_at-returns-in-Err-clause-answers t c =
+collection_walk::listed_at-returns-in-Err-clause-answers g t c =
     by_stop (λ s. CountedDatum c.args.scene.now c.loop-at.at (Err s)) (λ s. CountedDatum c.args.scene.now c.args.place (Err s))
-    (λ fault is. item_faults c.args.scene.now c.args.place c.stop_of-own_stop.result c.loop-at.at (Takes c.args.budget.now c.loop-at.budget) None c.args.left.now c.loop-at.invariant c.loop-at-test.true fault (alone_answers c.args.scene.now c.loop-at.at (λ type. fault_outcome fault) is))
+    (λ fault is. item_faults c.args.scene.now c.args.place c.stop_of-own_stop.result c.loop-at.at (Takes (g.B.Counting.left c.args.budget.now) (g.B.Counting.left c.loop-at.budget)) None c.args.left.now c.loop-at.invariant c.loop-at-test.true fault (alone_answers c.args.scene.now c.loop-at.at (λ type. fault_outcome fault) is))
     (λ is. tt) c.in-Err.stop c.in-Err.ensures.answers
 
 pub collection_walk::listed_at-stop_of-at-requires : goal.collection_walk::listed_at-stop_of-at-requires
-collection_walk::listed_at-stop_of-at-requires t c = part_inside c.args.scene.now c.loop-at.at (next_item c.args.scene.now c.args.place c.stop_of-own_stop.result c.loop-at.at (Takes c.args.budget.now c.loop-at.budget) None c.args.left.now c.loop-at.invariant c.requires.stands c.loop-at-test.true)
+collection_walk::listed_at-stop_of-at-requires g t c = part_inside c.args.scene.now c.loop-at.at (next_item c.args.scene.now c.args.place c.stop_of-own_stop.result c.loop-at.at (Takes (g.B.Counting.left c.args.budget.now) (g.B.Counting.left c.loop-at.budget)) None c.args.left.now c.loop-at.invariant c.requires.stands c.loop-at-test.true)
 
 pub collection_walk::listed_at-loop-at-preserved : goal.collection_walk::listed_at-loop-at-preserved
-collection_walk::listed_at-loop-at-preserved t c = item_differs c.args.scene.now c.args.place c.stop_of-own_stop.result c.loop-at.at (Takes c.args.budget.now c.loop-at.budget) None c.args.left.now c.loop-at.invariant c.trees_have_one_type.ensures c.in-Ok.item (alone_answers c.args.scene.now c.loop-at.at (λ type. Some (gives (datum_val (reading_at (slots_of c.args.scene.now.row.schema) type) c.in-Ok.item))) c.in-Ok.ensures.answers) c.loop-at-test.true c.ends_once.ensures c.compare.result c.compare.ensures c.if-compare.false c.requires.stands c.stop_of-at.result c.stop_of-at.ensures
-    (Takes c.args.budget.now c.counted_at.new.budget) (item_pays c.args.scene.now c.args.place c.stop_of-own_stop.result c.loop-at.at None c.args.left.now c.args.budget.now c.loop-at.budget c.loop-at.invariant c.take_item.new.budget c.counted_at.new.budget (subst (λ (b : Bool). IsTaken b c.loop-at.budget c.take_item.new.budget (item_cost (environment_of c.args.scene.now))) c.if-not-take_item.false c.take_item.ensures) (item_spends c.args.scene.now c.loop-at.at c.take_item.new.budget c.counted_at.new.budget None None c.in-Ok.ensures.spent))
+collection_walk::listed_at-loop-at-preserved g t c = item_differs c.args.scene.now c.args.place c.stop_of-own_stop.result c.loop-at.at (Takes (g.B.Counting.left c.args.budget.now) (g.B.Counting.left c.loop-at.budget)) None c.args.left.now c.loop-at.invariant c.trees_have_one_type.ensures c.in-Ok.item (alone_answers c.args.scene.now c.loop-at.at (λ type. Some (gives (datum_val (reading_at (slots_of c.args.scene.now.row.schema) type) c.in-Ok.item))) c.in-Ok.ensures.answers) c.loop-at-test.true c.ends_once.ensures c.compare.result c.compare.ensures c.if-compare.false c.requires.stands c.stop_of-at.result c.stop_of-at.ensures
+    (Takes (g.B.Counting.left c.args.budget.now) (g.B.Counting.left c.counted_at.new.budget)) (item_pays c.args.scene.now c.args.place c.stop_of-own_stop.result c.loop-at.at None c.args.left.now (g.B.Counting.left c.args.budget.now) (g.B.Counting.left c.loop-at.budget) c.loop-at.invariant (g.B.Counting.left c.take_item.new.budget) (g.B.Counting.left c.counted_at.new.budget) (subst (λ (b : Bool). IsTaken b (g.B.Counting.left c.loop-at.budget) (g.B.Counting.left c.take_item.new.budget) (item_cost (environment_of c.args.scene.now))) c.if-not-take_item.false c.take_item.ensures) (item_spends c.args.scene.now c.loop-at.at (g.B.Counting.left c.take_item.new.budget) (g.B.Counting.left c.counted_at.new.budget) None None c.in-Ok.ensures.spent))
 
 pub collection_walk::listed_at-loop-at-smaller : goal.collection_walk::listed_at-loop-at-smaller
-collection_walk::listed_at-loop-at-smaller t c =
-    let later : c.loop-at.at < c.stop_of-at.result = stop_further c.args.scene.now c.loop-at.at c.stop_of-at.result (next_item c.args.scene.now c.args.place c.stop_of-own_stop.result c.loop-at.at (Takes c.args.budget.now c.loop-at.budget) None c.args.left.now c.loop-at.invariant c.requires.stands c.loop-at-test.true) c.stop_of-at.ensures in
+collection_walk::listed_at-loop-at-smaller g t c =
+    let later : c.loop-at.at < c.stop_of-at.result = stop_further c.args.scene.now c.loop-at.at c.stop_of-at.result (next_item c.args.scene.now c.args.place c.stop_of-own_stop.result c.loop-at.at (Takes (g.B.Counting.left c.args.budget.now) (g.B.Counting.left c.loop-at.budget)) None c.args.left.now c.loop-at.invariant c.requires.stands c.loop-at-test.true) c.stop_of-at.ensures in
     let within : c.loop-at.at ≤ c.stop_of-own_stop.result = c.loop-at.invariant.within in
     let remains = c.loop-at-test.true in
     omega (arith, remains)
 
 pub collection_walk::listed_at-returns-clause-answers : goal.collection_walk::listed_at-returns-clause-answers
-collection_walk::listed_at-returns-clause-answers t c = no_item c.args.scene.now c.args.place c.stop_of-own_stop.result c.loop-at.at (Takes c.args.budget.now c.loop-at.budget) None c.args.left.now c.loop-at.invariant c.loop-at-test.false
+collection_walk::listed_at-returns-clause-answers g t c = no_item c.args.scene.now c.args.place c.stop_of-own_stop.result c.loop-at.at (Takes (g.B.Counting.left c.args.budget.now) (g.B.Counting.left c.loop-at.budget)) None c.args.left.now c.loop-at.invariant c.loop-at-test.false
 
 -- ---- the left operand read as a number
 
 pub paired_walk::compared_left_at-right_of-requires : goal.paired_walk::compared_left_at-right_of-requires
-paired_walk::compared_left_at-right_of-requires t c = left_next c.args.scene.now c.args.place c.args.operator c.args.number c.requires.stands c.requires.here
+paired_walk::compared_left_at-right_of-requires g t c = left_next c.args.scene.now c.args.place c.args.operator c.args.number c.requires.stands c.requires.here
 
 pub paired_walk::compared_left_at-operand_at-requires : goal.paired_walk::compared_left_at-operand_at-requires
-paired_walk::compared_left_at-operand_at-requires t c =
+paired_walk::compared_left_at-operand_at-requires g t c =
     let inside : c.args.place < length c.args.scene.now.list.nodes = part_inside c.args.scene.now c.args.place c.requires.stands in
     let behind : c.args.place < c.right_of.result = left_further c.args.scene.now c.args.place c.args.operator c.args.number c.requires.stands c.requires.here c.right_of.result c.right_of.ensures in
     let smaller : 16 * (length c.args.scene.now.list.nodes - c.right_of.result) + 13 < 16 * (length c.args.scene.now.list.nodes - c.args.place) + 3 = omega arith in
@@ -795,60 +817,60 @@ paired_walk::compared_left_at-operand_at-requires t c =
     search rules
 
 pub paired_walk::compared_left_at-literal-requires : goal.paired_walk::compared_left_at-literal-requires
-paired_walk::compared_left_at-literal-requires t c = (left_within c.trees_have_one_type.ensures c.args.scene.now c.args.place c.args.operator c.args.number c.requires.here c.requires.stands).1.1
+paired_walk::compared_left_at-literal-requires g t c = (left_within c.trees_have_one_type.ensures c.args.scene.now c.args.place c.args.operator c.args.number c.requires.here c.requires.stands).1.1
 
 pub paired_walk::compared_left_at-equality_of-requires : goal.paired_walk::compared_left_at-equality_of-requires
-paired_walk::compared_left_at-equality_of-requires t c = (left_within c.trees_have_one_type.ensures c.args.scene.now c.args.place c.args.operator c.args.number c.requires.here c.requires.stands).1.2
+paired_walk::compared_left_at-equality_of-requires g t c = (left_within c.trees_have_one_type.ensures c.args.scene.now c.args.place c.args.operator c.args.number c.requires.here c.requires.stands).1.2
 
 pub paired_walk::compared_left_at-compare-requires : goal.paired_walk::compared_left_at-compare-requires
-paired_walk::compared_left_at-compare-requires t c =
+paired_walk::compared_left_at-compare-requires g t c =
     may_compare_left c.trees_have_one_type.ensures c.args.scene.now c.args.place c.args.operator c.args.number c.equality_of.result c.equality_of.ensures c.literal.result.now c.literal.ensures c.datum_of-left.result c.datum_of-left.ensures
     c.in-Ok.right c.right_of.result c.right_of.ensures c.requires.here c.in-Ok.ensures c.ends_once.ensures c.comparisons_are_decided.ensures.any_reading c.requires.stands
 
 pub paired_walk::compared_left_at-returns-in-Ok : goal.paired_walk::compared_left_at-returns-in-Ok
-paired_walk::compared_left_at-returns-in-Ok t c =
+paired_walk::compared_left_at-returns-in-Ok g t c =
     left_answers c.trees_have_one_type.ensures c.args.scene.now c.args.place c.args.operator c.args.number c.equality_of.result c.equality_of.ensures c.literal.result.now c.literal.ensures c.datum_of-left.result c.datum_of-left.ensures
     c.in-Ok.right c.right_of.result c.right_of.ensures c.requires.here c.in-Ok.ensures c.ends_once.ensures c.requires.stands c.compare.result c.compare.ensures
 
 pub paired_walk::compared_left_at-returns-in-Err : goal.paired_walk::compared_left_at-returns-in-Err
-paired_walk::compared_left_at-returns-in-Err t c =
+paired_walk::compared_left_at-returns-in-Err g t c =
     left_faults c.trees_have_one_type.ensures c.args.scene.now c.args.place c.args.operator c.args.number c.right_of.result c.right_of.ensures c.requires.here c.requires.stands c.in-Err.fault c.in-Err.ensures
 
 -- ---- a pair of stored values, one of them a number that is read
 
 pub paired_walk::right_read_truth_at-overflow_add-place : goal.paired_walk::right_read_truth_at-overflow_add-place
-paired_walk::right_read_truth_at-overflow_add-place t c =
+paired_walk::right_read_truth_at-overflow_add-place g t c =
     let within : c.args.place + 1 < length c.args.scene.now.list.nodes = part_inside c.args.scene.now (c.args.place + 1) (first_part c.args.scene.now c.args.place WalkClass.Eager (λ leaf. cc) (kind_walks c.args.scene.now.list c.args.place (NodeKind.PairedRight c.args.operator c.args.number) WalkClass.Eager refl c.requires.here) (typed_part c.args.scene.now c.args.place IsBooleanOrNull c.requires.stands)) in
     let same = c.nodes-nodes.ensures in
     search rules
 
 pub paired_walk::right_read_truth_at-part_at-requires : goal.paired_walk::right_read_truth_at-part_at-requires
-paired_walk::right_read_truth_at-part_at-requires t c = record { stands = first_part c.args.scene.now c.args.place WalkClass.Eager (λ leaf. cc) (kind_walks c.args.scene.now.list c.args.place (NodeKind.PairedRight c.args.operator c.args.number) WalkClass.Eager refl c.requires.here) (typed_part c.args.scene.now c.args.place IsBooleanOrNull c.requires.stands) }
+paired_walk::right_read_truth_at-part_at-requires g t c = record { stands = first_part c.args.scene.now c.args.place WalkClass.Eager (λ leaf. cc) (kind_walks c.args.scene.now.list c.args.place (NodeKind.PairedRight c.args.operator c.args.number) WalkClass.Eager refl c.requires.here) (typed_part c.args.scene.now c.args.place IsBooleanOrNull c.requires.stands) }
 
 pub paired_walk::right_read_truth_at-compared_kept_right-requires : goal.paired_walk::right_read_truth_at-compared_kept_right-requires
-paired_walk::right_read_truth_at-compared_kept_right-requires t c = record { stands = typed_part c.args.scene.now c.args.place IsBooleanOrNull c.requires.stands; here = c.requires.here; left = c.in-Leaf.ensures.0 }
+paired_walk::right_read_truth_at-compared_kept_right-requires g t c = record { stands = typed_part c.args.scene.now c.args.place IsBooleanOrNull c.requires.stands; here = c.requires.here; left = c.in-Leaf.ensures.0 }
 
 pub paired_walk::right_read_truth_at-made_truth_at-requires : goal.paired_walk::right_read_truth_at-made_truth_at-requires
-paired_walk::right_read_truth_at-made_truth_at-requires t c =
+paired_walk::right_read_truth_at-made_truth_at-requires g t c =
     let eager : IsClassAt c.args.scene.now.list WalkClass.Eager c.args.place = kind_walks c.args.scene.now.list c.args.place (NodeKind.PairedRight c.args.operator c.args.number) WalkClass.Eager refl c.requires.here in
     let smaller : 16 * (length c.args.scene.now.list.nodes - c.args.place) + 7 < 16 * (length c.args.scene.now.list.nodes - c.args.place) + 9 = omega arith in
     search rules
 
 pub paired_walk::left_read_truth_at-right_of-requires : goal.paired_walk::left_read_truth_at-right_of-requires
-paired_walk::left_read_truth_at-right_of-requires t c = left_next c.args.scene.now c.args.place c.args.operator c.args.number (typed_part c.args.scene.now c.args.place IsBooleanOrNull c.requires.stands) c.requires.here
+paired_walk::left_read_truth_at-right_of-requires g t c = left_next c.args.scene.now c.args.place c.args.operator c.args.number (typed_part c.args.scene.now c.args.place IsBooleanOrNull c.requires.stands) c.requires.here
 
 pub paired_walk::left_read_truth_at-part_at-requires : goal.paired_walk::left_read_truth_at-part_at-requires
-paired_walk::left_read_truth_at-part_at-requires t c = record { stands = left_part c.args.scene.now c.args.place c.args.operator c.args.number (typed_part c.args.scene.now c.args.place IsBooleanOrNull c.requires.stands) c.requires.here c.right_of.result c.right_of.ensures }
+paired_walk::left_read_truth_at-part_at-requires g t c = record { stands = left_part c.args.scene.now c.args.place c.args.operator c.args.number (typed_part c.args.scene.now c.args.place IsBooleanOrNull c.requires.stands) c.requires.here c.right_of.result c.right_of.ensures }
 
 pub paired_walk::left_read_truth_at-compared_kept_left-requires : goal.paired_walk::left_read_truth_at-compared_kept_left-requires
-paired_walk::left_read_truth_at-compared_kept_left-requires t c = record {
+paired_walk::left_read_truth_at-compared_kept_left-requires g t c = record {
   stands = typed_part c.args.scene.now c.args.place IsBooleanOrNull c.requires.stands;
   here = c.requires.here;
   right = kept_everywhere c.args.scene.now c.args.place c.right_of.result c.in-Leaf.right.now c.right_of.ensures c.in-Leaf.ensures.0;
 }
 
 pub paired_walk::left_read_truth_at-made_truth_at-requires : goal.paired_walk::left_read_truth_at-made_truth_at-requires
-paired_walk::left_read_truth_at-made_truth_at-requires t c =
+paired_walk::left_read_truth_at-made_truth_at-requires g t c =
     let eager : IsClassAt c.args.scene.now.list WalkClass.Eager c.args.place = kind_walks c.args.scene.now.list c.args.place (NodeKind.PairedLeft c.args.operator c.args.number) WalkClass.Eager refl c.requires.here in
     let smaller : 16 * (length c.args.scene.now.list.nodes - c.args.place) + 7 < 16 * (length c.args.scene.now.list.nodes - c.args.place) + 9 = omega arith in
     search rules
@@ -856,7 +878,7 @@ paired_walk::left_read_truth_at-made_truth_at-requires t c =
 -- ---- items read as numbers
 
 pub paired_walk::numbered_item_at-returns-in-Enum-clause-answers : goal.paired_walk::numbered_item_at-returns-in-Enum-clause-answers
-paired_walk::numbered_item_at-returns-in-Enum-clause-answers t c =
+paired_walk::numbered_item_at-returns-in-Enum-clause-answers g t c =
     let slots = slots_of c.args.scene.now.row.schema in
     let fits : SFits w64 c.in-Enum.n = search rules in
     let told = number_item c.args.scene.now c.args.place c.args.number c.literal.result.now c.literal.ensures c.in-Enum.n c.in-Enum.is in
@@ -864,89 +886,89 @@ paired_walk::numbered_item_at-returns-in-Enum-clause-answers t c =
     (sym (to_z-of_z w64 c.in-Enum.n fits)) told
 
 pub paired_walk::numbered_item_at-returns-in_default-clause-answers : goal.paired_walk::numbered_item_at-returns-in_default-clause-answers
-paired_walk::numbered_item_at-returns-in_default-clause-answers t c = other_counted c.args.scene.now c.args.place c.args.number c.literal.result.now c.literal.ensures c.in_default.not-Enum c.counted_at.result c.counted_at.ensures.answers
+paired_walk::numbered_item_at-returns-in_default-clause-answers g t c = other_counted c.args.scene.now c.args.place c.args.number c.literal.result.now c.literal.ensures c.in_default.not-Enum c.counted_at.result c.counted_at.ensures.answers
 
 pub paired_walk::numbered_item_at-counted_at-requires : goal.paired_walk::numbered_item_at-counted_at-requires
-paired_walk::numbered_item_at-counted_at-requires t c =
+paired_walk::numbered_item_at-counted_at-requires g t c =
     let smaller : 16 * (length c.args.scene.now.list.nodes - c.args.place) + 12 < 16 * (length c.args.scene.now.list.nodes - c.args.place) + 13 = omega arith in
     search rules
 
 pub paired_walk::numbered_at-stop_of-own_stop-requires : goal.paired_walk::numbered_at-stop_of-own_stop-requires
-paired_walk::numbered_at-stop_of-own_stop-requires t c = part_inside c.args.scene.now c.args.place c.requires.stands
+paired_walk::numbered_at-stop_of-own_stop-requires g t c = part_inside c.args.scene.now c.args.place c.requires.stands
 
 pub paired_walk::numbered_at-right_of-at-requires : goal.paired_walk::numbered_at-right_of-at-requires
-paired_walk::numbered_at-right_of-at-requires t c = items_there c.args.scene.now c.args.place (Some c.args.numbers) (numbered_lists c.args.scene.now c.args.place c.args.numbers c.requires.here) c.requires.stands
+paired_walk::numbered_at-right_of-at-requires g t c = items_there c.args.scene.now c.args.place (Some c.args.numbers) (numbered_lists c.args.scene.now c.args.place c.args.numbers c.requires.here) c.requires.stands
 
 pub paired_walk::numbered_at-loop-at-init : goal.paired_walk::numbered_at-loop-at-init
-paired_walk::numbered_at-loop-at-init t c =
+paired_walk::numbered_at-loop-at-init g t c =
     list_begins c.args.scene.now c.args.place (Some c.args.numbers) (numbered_lists c.args.scene.now c.args.place c.args.numbers c.requires.here) c.stop_of-own_stop.result c.stop_of-own_stop.ensures c.right_of-at.result c.right_of-at.ensures c.args.left.now c.requires.left c.ends_once.ensures c.requires.stands
-    (Takes c.args.budget.now c.args.budget.now) (takes_nothing c.args.budget.now)
+    (Takes (g.B.Counting.left c.args.budget.now) (g.B.Counting.left c.args.budget.now)) (takes_nothing (g.B.Counting.left c.args.budget.now))
 
 pub paired_walk::numbered_at-numbered_item_at-requires : goal.paired_walk::numbered_at-numbered_item_at-requires
-paired_walk::numbered_at-numbered_item_at-requires t c =
+paired_walk::numbered_at-numbered_item_at-requires g t c =
     let inside : c.args.place < length c.args.scene.now.list.nodes = part_inside c.args.scene.now c.args.place c.requires.stands in
     let behind : c.args.place < c.loop-at.at = c.loop-at.invariant.behind in
     let smaller : 16 * (length c.args.scene.now.list.nodes - c.loop-at.at) + 13 < 16 * (length c.args.scene.now.list.nodes - c.args.place) + 3 = omega arith in
-    let stands : PartStands c.args.scene.now c.loop-at.at = next_item c.args.scene.now c.args.place c.stop_of-own_stop.result c.loop-at.at (Takes c.args.budget.now c.loop-at.budget) (Some c.loop-at.number) c.args.left.now c.loop-at.invariant c.requires.stands c.loop-at-test.true in
-    let within : c.loop-at.number < length c.args.scene.now.list.values = number_within c.args.scene.now c.args.place c.stop_of-own_stop.result c.loop-at.at c.loop-at.number (Takes c.args.budget.now c.loop-at.budget) c.args.left.now c.loop-at.invariant c.requires.stands c.loop-at-test.true in
+    let stands : PartStands c.args.scene.now c.loop-at.at = next_item c.args.scene.now c.args.place c.stop_of-own_stop.result c.loop-at.at (Takes (g.B.Counting.left c.args.budget.now) (g.B.Counting.left c.loop-at.budget)) (Some c.loop-at.number) c.args.left.now c.loop-at.invariant c.requires.stands c.loop-at-test.true in
+    let within : c.loop-at.number < length c.args.scene.now.list.values = number_within c.args.scene.now c.args.place c.stop_of-own_stop.result c.loop-at.at c.loop-at.number (Takes (g.B.Counting.left c.args.budget.now) (g.B.Counting.left c.loop-at.budget)) c.args.left.now c.loop-at.invariant c.requires.stands c.loop-at-test.true in
     search rules
 
 pub paired_walk::numbered_at-compare-requires : goal.paired_walk::numbered_at-compare-requires
-paired_walk::numbered_at-compare-requires t c = may_compare_item c.args.scene.now c.args.place c.stop_of-own_stop.result c.loop-at.at (Takes c.args.budget.now c.loop-at.budget) (Some c.loop-at.number) c.args.left.now c.loop-at.invariant c.trees_have_one_type.ensures c.in-Ok.item c.in-Ok.ensures.answers c.loop-at-test.true c.ends_once.ensures c.comparisons_are_decided.ensures.any_reading c.requires.stands
+paired_walk::numbered_at-compare-requires g t c = may_compare_item c.args.scene.now c.args.place c.stop_of-own_stop.result c.loop-at.at (Takes (g.B.Counting.left c.args.budget.now) (g.B.Counting.left c.loop-at.budget)) (Some c.loop-at.number) c.args.left.now c.loop-at.invariant c.trees_have_one_type.ensures c.in-Ok.item c.in-Ok.ensures.answers c.loop-at-test.true c.ends_once.ensures c.comparisons_are_decided.ensures.any_reading c.requires.stands
 
 pub paired_walk::numbered_at-returns-then-compare-clause-answers : goal.paired_walk::numbered_at-returns-then-compare-clause-answers
-paired_walk::numbered_at-returns-then-compare-clause-answers t c = item_equals c.args.scene.now c.args.place c.stop_of-own_stop.result c.loop-at.at (Takes c.args.budget.now c.loop-at.budget) (Some c.loop-at.number) c.args.left.now c.loop-at.invariant c.trees_have_one_type.ensures c.in-Ok.item c.in-Ok.ensures.answers c.loop-at-test.true c.ends_once.ensures c.compare.result c.compare.ensures c.if-compare.true
+paired_walk::numbered_at-returns-then-compare-clause-answers g t c = item_equals c.args.scene.now c.args.place c.stop_of-own_stop.result c.loop-at.at (Takes (g.B.Counting.left c.args.budget.now) (g.B.Counting.left c.loop-at.budget)) (Some c.loop-at.number) c.args.left.now c.loop-at.invariant c.trees_have_one_type.ensures c.in-Ok.item c.in-Ok.ensures.answers c.loop-at-test.true c.ends_once.ensures c.compare.result c.compare.ensures c.if-compare.true
 
 pub paired_walk::numbered_at-returns-in-Err-clause-answers : goal.paired_walk::numbered_at-returns-in-Err-clause-answers
-paired_walk::numbered_at-returns-in-Err-clause-answers t c =
+paired_walk::numbered_at-returns-in-Err-clause-answers g t c =
     by_stop (λ s. CountedItem c.args.scene.now c.loop-at.at (Some c.loop-at.number) (Err s)) (λ s. CountedDatum c.args.scene.now c.args.place (Err s))
-    (λ fault. item_faults c.args.scene.now c.args.place c.stop_of-own_stop.result c.loop-at.at (Takes c.args.budget.now c.loop-at.budget) (Some c.loop-at.number) c.args.left.now c.loop-at.invariant c.loop-at-test.true fault)
+    (λ fault. item_faults c.args.scene.now c.args.place c.stop_of-own_stop.result c.loop-at.at (Takes (g.B.Counting.left c.args.budget.now) (g.B.Counting.left c.loop-at.budget)) (Some c.loop-at.number) c.args.left.now c.loop-at.invariant c.loop-at-test.true fault)
     (λ is. tt) c.in-Err.stop c.in-Err.ensures.answers
 
 pub paired_walk::numbered_at-stop_of-at-requires : goal.paired_walk::numbered_at-stop_of-at-requires
-paired_walk::numbered_at-stop_of-at-requires t c = part_inside c.args.scene.now c.loop-at.at (next_item c.args.scene.now c.args.place c.stop_of-own_stop.result c.loop-at.at (Takes c.args.budget.now c.loop-at.budget) (Some c.loop-at.number) c.args.left.now c.loop-at.invariant c.requires.stands c.loop-at-test.true)
+paired_walk::numbered_at-stop_of-at-requires g t c = part_inside c.args.scene.now c.loop-at.at (next_item c.args.scene.now c.args.place c.stop_of-own_stop.result c.loop-at.at (Takes (g.B.Counting.left c.args.budget.now) (g.B.Counting.left c.loop-at.budget)) (Some c.loop-at.number) c.args.left.now c.loop-at.invariant c.requires.stands c.loop-at-test.true)
 
 pub paired_walk::numbered_at-loop-at-preserved : goal.paired_walk::numbered_at-loop-at-preserved
-paired_walk::numbered_at-loop-at-preserved t c = item_differs c.args.scene.now c.args.place c.stop_of-own_stop.result c.loop-at.at (Takes c.args.budget.now c.loop-at.budget) (Some c.loop-at.number) c.args.left.now c.loop-at.invariant c.trees_have_one_type.ensures c.in-Ok.item c.in-Ok.ensures.answers c.loop-at-test.true c.ends_once.ensures c.compare.result c.compare.ensures c.if-compare.false c.requires.stands c.stop_of-at.result c.stop_of-at.ensures
-    (Takes c.args.budget.now c.numbered_item_at.new.budget) (item_pays c.args.scene.now c.args.place c.stop_of-own_stop.result c.loop-at.at (Some c.loop-at.number) c.args.left.now c.args.budget.now c.loop-at.budget c.loop-at.invariant c.take_item.new.budget c.numbered_item_at.new.budget (subst (λ (b : Bool). IsTaken b c.loop-at.budget c.take_item.new.budget (item_cost (environment_of c.args.scene.now))) c.if-not-take_item.false c.take_item.ensures) c.in-Ok.ensures.spent)
+paired_walk::numbered_at-loop-at-preserved g t c = item_differs c.args.scene.now c.args.place c.stop_of-own_stop.result c.loop-at.at (Takes (g.B.Counting.left c.args.budget.now) (g.B.Counting.left c.loop-at.budget)) (Some c.loop-at.number) c.args.left.now c.loop-at.invariant c.trees_have_one_type.ensures c.in-Ok.item c.in-Ok.ensures.answers c.loop-at-test.true c.ends_once.ensures c.compare.result c.compare.ensures c.if-compare.false c.requires.stands c.stop_of-at.result c.stop_of-at.ensures
+    (Takes (g.B.Counting.left c.args.budget.now) (g.B.Counting.left c.numbered_item_at.new.budget)) (item_pays c.args.scene.now c.args.place c.stop_of-own_stop.result c.loop-at.at (Some c.loop-at.number) c.args.left.now (g.B.Counting.left c.args.budget.now) (g.B.Counting.left c.loop-at.budget) c.loop-at.invariant (g.B.Counting.left c.take_item.new.budget) (g.B.Counting.left c.numbered_item_at.new.budget) (subst (λ (b : Bool). IsTaken b (g.B.Counting.left c.loop-at.budget) (g.B.Counting.left c.take_item.new.budget) (item_cost (environment_of c.args.scene.now))) c.if-not-take_item.false c.take_item.ensures) c.in-Ok.ensures.spent)
 
 pub paired_walk::numbered_at-overflow_add-number : goal.paired_walk::numbered_at-overflow_add-number
-paired_walk::numbered_at-overflow_add-number t c =
-    let within : c.loop-at.number < length c.args.scene.now.list.values = number_within c.args.scene.now c.args.place c.stop_of-own_stop.result c.loop-at.at c.loop-at.number (Takes c.args.budget.now c.loop-at.budget) c.args.left.now c.loop-at.invariant c.requires.stands c.loop-at-test.true in
+paired_walk::numbered_at-overflow_add-number g t c =
+    let within : c.loop-at.number < length c.args.scene.now.list.values = number_within c.args.scene.now c.args.place c.stop_of-own_stop.result c.loop-at.at c.loop-at.number (Takes (g.B.Counting.left c.args.budget.now) (g.B.Counting.left c.loop-at.budget)) c.args.left.now c.loop-at.invariant c.requires.stands c.loop-at-test.true in
     let same = c.values-values.ensures in
     search rules
 
 pub paired_walk::numbered_at-loop-at-smaller : goal.paired_walk::numbered_at-loop-at-smaller
-paired_walk::numbered_at-loop-at-smaller t c =
-    let later : c.loop-at.at < c.stop_of-at.result = stop_further c.args.scene.now c.loop-at.at c.stop_of-at.result (next_item c.args.scene.now c.args.place c.stop_of-own_stop.result c.loop-at.at (Takes c.args.budget.now c.loop-at.budget) (Some c.loop-at.number) c.args.left.now c.loop-at.invariant c.requires.stands c.loop-at-test.true) c.stop_of-at.ensures in
+paired_walk::numbered_at-loop-at-smaller g t c =
+    let later : c.loop-at.at < c.stop_of-at.result = stop_further c.args.scene.now c.loop-at.at c.stop_of-at.result (next_item c.args.scene.now c.args.place c.stop_of-own_stop.result c.loop-at.at (Takes (g.B.Counting.left c.args.budget.now) (g.B.Counting.left c.loop-at.budget)) (Some c.loop-at.number) c.args.left.now c.loop-at.invariant c.requires.stands c.loop-at-test.true) c.stop_of-at.ensures in
     let within : c.loop-at.at ≤ c.stop_of-own_stop.result = c.loop-at.invariant.within in
     let remains = c.loop-at-test.true in
     omega (arith, remains)
 
 pub paired_walk::numbered_at-returns-clause-answers : goal.paired_walk::numbered_at-returns-clause-answers
-paired_walk::numbered_at-returns-clause-answers t c = no_item c.args.scene.now c.args.place c.stop_of-own_stop.result c.loop-at.at (Takes c.args.budget.now c.loop-at.budget) (Some c.loop-at.number) c.args.left.now c.loop-at.invariant c.loop-at-test.false
+paired_walk::numbered_at-returns-clause-answers g t c = no_item c.args.scene.now c.args.place c.stop_of-own_stop.result c.loop-at.at (Takes (g.B.Counting.left c.args.budget.now) (g.B.Counting.left c.loop-at.budget)) (Some c.loop-at.number) c.args.left.now c.loop-at.invariant c.loop-at-test.false
 
 pub walk::made_at-compared_right-requires : goal.walk::made_at-compared_right-requires
-walk::made_at-compared_right-requires t c =
+walk::made_at-compared_right-requires g t c =
     let first : AnswersDatum c.args.scene.now (c.args.place + 1) (Ok c.in-Ok.first) = subst (λ (r : Result Datum EvalStop). CountedDatum c.args.scene.now (c.args.place + 1) r) c.in-Ok.is c.requires.first in
     let here : HasKind c.args.scene.now.list c.args.place (NodeKind.PairedRight c.in-PairedRight.operator c.in-PairedRight.number) = there_found (λ (f : CheckedNode). f.kind ≡ NodeKind.PairedRight c.in-PairedRight.operator c.in-PairedRight.number) (slice_get c.args.scene.now.list.nodes c.args.place) c.node.result.now c.node.ensures c.in-PairedRight.is in
     search rules
 
 pub walk::made_at-compared_left_at-requires : goal.walk::made_at-compared_left_at-requires
-walk::made_at-compared_left_at-requires t c =
+walk::made_at-compared_left_at-requires g t c =
     let first : AnswersDatum c.args.scene.now (c.args.place + 1) (Ok c.in-Ok.first) = subst (λ (r : Result Datum EvalStop). CountedDatum c.args.scene.now (c.args.place + 1) r) c.in-Ok.is c.requires.first in
     let here : HasKind c.args.scene.now.list c.args.place (NodeKind.PairedLeft c.in-PairedLeft.operator c.in-PairedLeft.number) = there_found (λ (f : CheckedNode). f.kind ≡ NodeKind.PairedLeft c.in-PairedLeft.operator c.in-PairedLeft.number) (slice_get c.args.scene.now.list.nodes c.args.place) c.node.result.now c.node.ensures c.in-PairedLeft.is in
     let smaller : 16 * (length c.args.scene.now.list.nodes - c.args.place) + 3 < 16 * (length c.args.scene.now.list.nodes - c.args.place) + 4 = omega arith in
     search rules
 
 pub walk::made_at-flags_right-requires : goal.walk::made_at-flags_right-requires
-walk::made_at-flags_right-requires t c =
+walk::made_at-flags_right-requires g t c =
     let first : AnswersDatum c.args.scene.now (c.args.place + 1) (Ok c.in-Ok.first) = subst (λ (r : Result Datum EvalStop). CountedDatum c.args.scene.now (c.args.place + 1) r) c.in-Ok.is c.requires.first in
     let here : HasKind c.args.scene.now.list c.args.place (NodeKind.PairedHas c.in-PairedHas.number) = there_found (λ (f : CheckedNode). f.kind ≡ NodeKind.PairedHas c.in-PairedHas.number) (slice_get c.args.scene.now.list.nodes c.args.place) c.node.result.now c.node.ensures c.in-PairedHas.is in
     search rules
 
 pub walk::made_at-numbered_at-requires : goal.walk::made_at-numbered_at-requires
-walk::made_at-numbered_at-requires t c =
+walk::made_at-numbered_at-requires g t c =
     let first : AnswersDatum c.args.scene.now (c.args.place + 1) (Ok c.in-Ok.first) = subst (λ (r : Result Datum EvalStop). CountedDatum c.args.scene.now (c.args.place + 1) r) c.in-Ok.is c.requires.first in
     let here : HasKind c.args.scene.now.list c.args.place (NodeKind.PairedList c.in-PairedList.numbers) = there_found (λ (f : CheckedNode). f.kind ≡ NodeKind.PairedList c.in-PairedList.numbers) (slice_get c.args.scene.now.list.nodes c.args.place) c.node.result.now c.node.ensures c.in-PairedList.is in
     let smaller : 16 * (length c.args.scene.now.list.nodes - c.args.place) + 3 < 16 * (length c.args.scene.now.list.nodes - c.args.place) + 4 = omega arith in
@@ -955,23 +977,23 @@ walk::made_at-numbered_at-requires t c =
 -- ---- a lambda operator
 
 pub walk::made_at-lambda_at-requires : goal.walk::made_at-lambda_at-requires
-walk::made_at-lambda_at-requires t c =
+walk::made_at-lambda_at-requires g t c =
     let first : AnswersDatum c.args.scene.now (c.args.place + 1) (Ok c.in-Ok.first) = subst (λ (r : Result Datum EvalStop). CountedDatum c.args.scene.now (c.args.place + 1) r) c.in-Ok.is c.requires.first in
     let here : HasKind c.args.scene.now.list c.args.place (NodeKind.Lambda c.in-Lambda.quantifier) = there_found (λ (f : CheckedNode). f.kind ≡ NodeKind.Lambda c.in-Lambda.quantifier) (slice_get c.args.scene.now.list.nodes c.args.place) c.node.result.now c.node.ensures c.in-Lambda.is in
     let smaller : 16 * (length c.args.scene.now.list.nodes - c.args.place) + 3 < 16 * (length c.args.scene.now.list.nodes - c.args.place) + 4 = omega arith in
     search rules
 
 pub lambda_walk::lambda_at-returns-in_default-clause-answers : goal.lambda_walk::lambda_at-returns-in_default-clause-answers
-lambda_walk::lambda_at-returns-in_default-clause-answers t c = null_answers c.trees_have_one_type.ensures c.args.scene.now c.args.place c.args.quantifier c.requires.here c.ends_once.ensures c.args.base c.requires.first c.in_default.not-List
+lambda_walk::lambda_at-returns-in_default-clause-answers g t c = null_answers c.trees_have_one_type.ensures c.args.scene.now c.args.place c.args.quantifier c.requires.here c.ends_once.ensures c.args.base c.requires.first c.in_default.not-List
 
 pub lambda_walk::lambda_at-variable_bound-variable-requires : goal.lambda_walk::lambda_at-variable_bound-variable-requires
-lambda_walk::lambda_at-variable_bound-variable-requires t c = over_members c.trees_have_one_type.ensures c.args.scene.now c.args.place c.args.quantifier c.requires.here c.requires.stands
+lambda_walk::lambda_at-variable_bound-variable-requires g t c = over_members c.trees_have_one_type.ensures c.args.scene.now c.args.place c.args.quantifier c.requires.here c.requires.stands
 
 pub lambda_walk::lambda_at-right_of-requires : goal.lambda_walk::lambda_at-right_of-requires
-lambda_walk::lambda_at-right_of-requires t c = body_place c.trees_have_one_type.ensures c.args.scene.now c.args.place c.args.quantifier c.requires.here c.requires.stands
+lambda_walk::lambda_at-right_of-requires g t c = body_place c.trees_have_one_type.ensures c.args.scene.now c.args.place c.args.quantifier c.requires.here c.requires.stands
 
 pub lambda_walk::lambda_at-members_at-requires : goal.lambda_walk::lambda_at-members_at-requires
-lambda_walk::lambda_at-members_at-requires t c =
+lambda_walk::lambda_at-members_at-requires g t c =
     let inside : c.args.place < length c.args.scene.now.list.nodes = part_inside c.args.scene.now c.args.place c.requires.stands in
     let behind : c.args.place < c.right_of.result = body_behind c.trees_have_one_type.ensures c.args.scene.now c.args.place c.args.quantifier c.requires.here c.right_of.result c.right_of.ensures c.requires.stands in
     let smaller : 16 * (length c.args.scene.now.list.nodes - c.right_of.result) + 13 < 16 * (length c.args.scene.now.list.nodes - c.args.place) + 3 = omega arith in
@@ -980,28 +1002,28 @@ lambda_walk::lambda_at-members_at-requires t c =
     search rules
 
 pub lambda_walk::lambda_at-returns-in-Ok-clause-answers : goal.lambda_walk::lambda_at-returns-in-Ok-clause-answers
-lambda_walk::lambda_at-returns-in-Ok-clause-answers t c =
+lambda_walk::lambda_at-returns-in-Ok-clause-answers g t c =
     made_value c.args.scene.now c.args.place c.datum_of_truth.result (truth_val c.in-Ok.truth) (truth_answers c.trees_have_one_type.ensures c.args.scene.now c.args.place c.args.quantifier c.requires.here c.variable_bound-variable.result c.variable_bound-variable.ensures c.right_of.result c.right_of.ensures c.in-List.members (subst (λ (d : Datum). AnswersDatum c.args.scene.now (c.args.place + 1) (Ok d)) c.in-List.is c.requires.first) c.in-Ok.truth c.in-Ok.ensures.answers) c.datum_of_truth.ensures
 
 pub lambda_walk::lambda_at-returns-in-Err-clause-answers : goal.lambda_walk::lambda_at-returns-in-Err-clause-answers
-lambda_walk::lambda_at-returns-in-Err-clause-answers t c =
+lambda_walk::lambda_at-returns-in-Err-clause-answers g t c =
     by_stop (λ s. CountedMembers c.args.scene.now c.right_of.result c.args.quantifier c.variable_bound-variable.result c.in-List.members.now (Err s)) (λ s. CountedDatum c.args.scene.now c.args.place (Err s))
     (λ fault. fault_answers c.trees_have_one_type.ensures c.args.scene.now c.args.place c.args.quantifier c.requires.here c.variable_bound-variable.result c.variable_bound-variable.ensures c.right_of.result c.right_of.ensures c.in-List.members (subst (λ (d : Datum). AnswersDatum c.args.scene.now (c.args.place + 1) (Ok d)) c.in-List.is c.requires.first) fault)
     (λ is. tt) c.in-Err.stop c.in-Err.ensures.answers
 
 pub lambda_walk::members_at-loop-at-init : goal.lambda_walk::members_at-loop-at-init
-lambda_walk::members_at-loop-at-init t c = record {
+lambda_walk::members_at-loop-at-init g t c = record {
   left = none_yet c.args.scene.now c.args.body.place c.args.body.quantifier c.args.variable.now c.args.members.now;
-  paid = none_paid c.args.scene.now c.args.body.place c.args.body.quantifier c.args.variable.now c.args.members.now c.args.budget.now;
+  paid = none_paid c.args.scene.now c.args.body.place c.args.body.quantifier c.args.variable.now c.args.members.now (g.B.Counting.left c.args.budget.now);
 }
 
 pub lambda_walk::members_at-with-bound-requires : goal.lambda_walk::members_at-with-bound-requires
-lambda_walk::members_at-with-bound-requires t c =
+lambda_walk::members_at-with-bound-requires g t c =
     each_is (Suits c.args.scene.now c.args.variable.now) c.args.members.now c.loop-at.at c.index-members-at.result c.requires.suit
     (slice_get_read c.args.members.now (length c.args.members.now) c.loop-at.at c.index-members-at.result refl c.loop-at-test.true c.index-members-at.is)
 
 pub lambda_walk::members_at-side_at-requires : goal.lambda_walk::members_at-side_at-requires
-lambda_walk::members_at-side_at-requires t c =
+lambda_walk::members_at-side_at-requires g t c =
     let bound = c.with-bound.result in
     let same : bound ≡ with_frame c.args.scene.now (frame_of c.args.variable.now c.index-members-at.result) = c.with-bound.ensures in
     let stands : TruthStands bound c.args.body.place = subst (λ (s : SceneModel). TruthStands s c.args.body.place) (sym same) (body_truth c.args.scene.now c.args.variable.now c.args.body.place c.index-members-at.result c.requires.body) in
@@ -1010,83 +1032,83 @@ lambda_walk::members_at-side_at-requires t c =
     search rules
 
 pub lambda_walk::members_at-returns-then-not-is_undecided-clause-answers : goal.lambda_walk::members_at-returns-then-not-is_undecided-clause-answers
-lambda_walk::members_at-returns-then-not-is_undecided-clause-answers t c =
+lambda_walk::members_at-returns-then-not-is_undecided-clause-answers g t c =
     decided_at c.args.scene.now c.args.body.place c.args.body.quantifier c.args.variable.now c.args.members.now c.loop-at.at c.loop-at.invariant.left c.loop-at-test.true c.index-members-at.result (sym c.index-members-at.is) c.in-Ok.truth c.undecided.result (subst (λ (s : SceneModel). AnswersTruth s c.args.body.place (Ok c.in-Ok.truth)) c.with-bound.ensures c.in-Ok.ensures.answers) c.undecided.ensures
     (λ passes. let e = c.is_undecided.ensures.1 passes in cc)
 
 pub lambda_walk::members_at-loop-at-preserved : goal.lambda_walk::members_at-loop-at-preserved
-lambda_walk::members_at-loop-at-preserved t c = record {
+lambda_walk::members_at-loop-at-preserved g t c = record {
   left = undecided_at c.args.scene.now c.args.body.place c.args.body.quantifier c.args.variable.now c.args.members.now c.loop-at.at c.loop-at.invariant.left c.loop-at-test.true c.index-members-at.result (sym c.index-members-at.is) c.in-Ok.truth (subst (λ (s : SceneModel). AnswersTruth s c.args.body.place (Ok c.in-Ok.truth)) c.with-bound.ensures c.in-Ok.ensures.answers)
       (c.is_undecided.ensures.0 c.if-not-is_undecided.false);
-  paid = body_passes c.args.scene.now c.args.body.place c.args.body.quantifier c.args.variable.now c.args.members.now c.loop-at.at c.args.budget.now c.loop-at.budget c.loop-at.invariant.paid c.loop-at-test.true c.index-members-at.result (sym c.index-members-at.is) c.take_one.new.budget (subst (λ (b : Bool). IsTaken b c.loop-at.budget c.take_one.new.budget 1) c.if-not-take_one.false c.take_one.ensures) c.side_at.new.budget (subst (λ (s : SceneModel). EndsOnceHere s) c.with-bound.ensures c.ends_once.ensures) c.in-Ok.truth
+  paid = body_passes c.args.scene.now c.args.body.place c.args.body.quantifier c.args.variable.now c.args.members.now c.loop-at.at (g.B.Counting.left c.args.budget.now) (g.B.Counting.left c.loop-at.budget) c.loop-at.invariant.paid c.loop-at-test.true c.index-members-at.result (sym c.index-members-at.is) (g.B.Counting.left c.take_one.new.self) (subst (λ (b : Bool). IsTaken b (g.B.Counting.left c.loop-at.budget) (g.B.Counting.left c.take_one.new.self) 1) c.if-not-take_one.false c.take_one.ensures) (g.B.Counting.left c.side_at.new.budget) (subst (λ (s : SceneModel). EndsOnceHere s) c.with-bound.ensures c.ends_once.ensures) c.in-Ok.truth
       (subst (λ (s : SceneModel). AnswersTruth s c.args.body.place (Ok c.in-Ok.truth)) c.with-bound.ensures c.in-Ok.ensures.answers)
-      (subst (λ (s : SceneModel). SpendsAt s c.args.body.place c.take_one.new.budget c.side_at.new.budget None) c.with-bound.ensures c.in-Ok.ensures.spent) (c.is_undecided.ensures.0 c.if-not-is_undecided.false);
+      (subst (λ (s : SceneModel). SpendsAt s c.args.body.place (g.B.Counting.left c.take_one.new.self) (g.B.Counting.left c.side_at.new.budget) None) c.with-bound.ensures c.in-Ok.ensures.spent) (c.is_undecided.ensures.0 c.if-not-is_undecided.false);
 }
 
 pub lambda_walk::members_at-returns-in-Err-clause-answers : goal.lambda_walk::members_at-returns-in-Err-clause-answers
-lambda_walk::members_at-returns-in-Err-clause-answers t c =
+lambda_walk::members_at-returns-in-Err-clause-answers g t c =
     by_stop (λ s. CountedTruth (with_frame c.args.scene.now (frame_of c.args.variable.now c.index-members-at.result)) c.args.body.place (Err s)) (λ s. CountedMembers c.args.scene.now c.args.body.place c.args.body.quantifier c.args.variable.now c.args.members.now (Err s))
     (λ fault. fault_at c.args.scene.now c.args.body.place c.args.body.quantifier c.args.variable.now c.args.members.now c.loop-at.at c.loop-at.invariant.left c.loop-at-test.true c.index-members-at.result (sym c.index-members-at.is) fault)
     (λ is. tt) c.in-Err.stop (subst (λ (s : SceneModel). CountedTruth s c.args.body.place (Err c.in-Err.stop)) c.with-bound.ensures c.in-Err.ensures.answers)
 
 pub lambda_walk::members_at-returns-clause-answers : goal.lambda_walk::members_at-returns-clause-answers
-lambda_walk::members_at-returns-clause-answers t c = all_undecided c.args.scene.now c.args.body.place c.args.body.quantifier c.args.variable.now c.args.members.now c.loop-at.at c.loop-at.invariant.left c.loop-at-test.false c.undecided-2.result c.undecided-2.ensures
+lambda_walk::members_at-returns-clause-answers g t c = all_undecided c.args.scene.now c.args.body.place c.args.body.quantifier c.args.variable.now c.args.members.now c.loop-at.at c.loop-at.invariant.left c.loop-at-test.false c.undecided-2.result c.undecided-2.ensures
 
 -- ---- what search does not find any more with so many kinds
 
 pub number_walk::number_chain_at-class_at-requires : goal.number_walk::number_chain_at-class_at-requires
-number_walk::number_chain_at-class_at-requires t c = part_inside c.args.scene.now (c.args.place + 1) (first_part c.args.scene.now c.args.place WalkClass.Numeric (λ leaf. cc) c.requires.numeric c.requires.stands)
+number_walk::number_chain_at-class_at-requires g t c = part_inside c.args.scene.now (c.args.place + 1) (first_part c.args.scene.now c.args.place WalkClass.Numeric (λ leaf. cc) c.requires.numeric c.requires.stands)
 
 pub number_walk::number_chain_at-overflow_add-place-in-Numeric : goal.number_walk::number_chain_at-overflow_add-place-in-Numeric
-number_walk::number_chain_at-overflow_add-place-in-Numeric t c =
+number_walk::number_chain_at-overflow_add-place-in-Numeric g t c =
     let within : c.args.place + 1 < length c.args.scene.now.list.nodes = part_inside c.args.scene.now (c.args.place + 1) (first_part c.args.scene.now c.args.place WalkClass.Numeric (λ leaf. cc) c.requires.numeric c.requires.stands) in
     let same = c.nodes-nodes.ensures in
     search rules
 
 pub number_walk::number_chain_at-number_on_leaf_at-first-requires : goal.number_walk::number_chain_at-number_on_leaf_at-first-requires
-number_walk::number_chain_at-number_on_leaf_at-first-requires t c =
+number_walk::number_chain_at-number_on_leaf_at-first-requires g t c =
     let inside : c.args.place < length c.args.scene.now.list.nodes = part_inside c.args.scene.now c.args.place c.requires.stands in
     let smaller : 16 * (length c.args.scene.now.list.nodes - (c.args.place + 1)) + 9 < 16 * (length c.args.scene.now.list.nodes - c.args.place) + 10 = omega arith in
     let stands : PartStands c.args.scene.now (c.args.place + 1) = first_part c.args.scene.now c.args.place WalkClass.Numeric (λ leaf. cc) c.requires.numeric c.requires.stands in
     search rules
 
 pub number_walk::number_on_leaf_at-part_at-requires : goal.number_walk::number_on_leaf_at-part_at-requires
-number_walk::number_on_leaf_at-part_at-requires t c = record { stands = first_part c.args.scene.now c.args.place WalkClass.Numeric (λ leaf. cc) c.requires.numeric c.requires.stands }
+number_walk::number_on_leaf_at-part_at-requires g t c = record { stands = first_part c.args.scene.now c.args.place WalkClass.Numeric (λ leaf. cc) c.requires.numeric c.requires.stands }
 
 pub walk::compared_at-part_at-requires : goal.walk::compared_at-part_at-requires
-walk::compared_at-part_at-requires t c =
+walk::compared_at-part_at-requires g t c =
     record { stands = right_part c.args.scene.now c.args.place (BinaryOperator.Comparison c.args.comparison) c.requires.here c.requires.stands c.right_of-right_place.result c.right_of-right_place.ensures }
 
 pub walk::counted_at-truth_at-requires : goal.walk::counted_at-truth_at-requires
-walk::counted_at-truth_at-requires t c =
+walk::counted_at-truth_at-requires g t c =
     let stands : TruthStands c.args.scene.now c.args.place = logical_stands c.args.scene.now c.args.place c.in-Logical.ensures c.requires.stands in
     let smaller : 16 * (length c.args.scene.now.list.nodes - c.args.place) + 11 < 16 * (length c.args.scene.now.list.nodes - c.args.place) + 12 = omega arith in
     search rules
 
 pub walk::made_at-returns-in-Call-clause-answers : goal.walk::made_at-returns-in-Call-clause-answers
-walk::made_at-returns-in-Call-clause-answers t c = as_counted c.args.scene.now c.args.place c.called_at.result c.as_stop.result c.as_stop.ensures c.called_at.ensures
+walk::made_at-returns-in-Call-clause-answers g t c = as_counted c.args.scene.now c.args.place c.called_at.result c.as_stop.result c.as_stop.ensures c.called_at.ensures
 
 pub walk::made_at-returns-in-PairedLeft-clause-answers : goal.walk::made_at-returns-in-PairedLeft-clause-answers
-walk::made_at-returns-in-PairedLeft-clause-answers t c = as_counted c.args.scene.now c.args.place c.compared_left_at.result c.as_stop-in-PairedLeft.result c.as_stop-in-PairedLeft.ensures c.compared_left_at.ensures
+walk::made_at-returns-in-PairedLeft-clause-answers g t c = as_counted c.args.scene.now c.args.place c.compared_left_at.result c.as_stop-in-PairedLeft.result c.as_stop-in-PairedLeft.ensures c.compared_left_at.ensures
 
 pub walk::made_at-returns-in-Has-clause-answers : goal.walk::made_at-returns-in-Has-clause-answers
-walk::made_at-returns-in-Has-clause-answers t c = as_counted c.args.scene.now c.args.place c.flags_at.result c.as_stop-in-Has.result c.as_stop-in-Has.ensures c.flags_at.ensures
+walk::made_at-returns-in-Has-clause-answers g t c = as_counted c.args.scene.now c.args.place c.flags_at.result c.as_stop-in-Has.result c.as_stop-in-Has.ensures c.flags_at.ensures
 
 pub walk::made_at-returns-in-InPath-clause-answers : goal.walk::made_at-returns-in-InPath-clause-answers
-walk::made_at-returns-in-InPath-clause-answers t c = as_counted c.args.scene.now c.args.place c.among_at.result c.as_stop-in-InPath.result c.as_stop-in-InPath.ensures c.among_at.ensures
+walk::made_at-returns-in-InPath-clause-answers g t c = as_counted c.args.scene.now c.args.place c.among_at.result c.as_stop-in-InPath.result c.as_stop-in-InPath.ensures c.among_at.ensures
 
 -- ---- what is taken from the budget
 
 pub walk::truth_at-returns-clause-spent : goal.walk::truth_at-returns-clause-spent
-walk::truth_at-returns-clause-spent t c =
-    at_top (λ k. SpendsAt c.args.scene.now k c.args.budget.now c.loop-at.budget (stopped_by c.loop-at.answer)) c.loop-at.at c.args.place c.loop-at.invariant.above (omega arith) c.loop-at.invariant.spent
+walk::truth_at-returns-clause-spent g t c =
+    at_top (λ k. SpendsAt c.args.scene.now k (g.B.Counting.left c.args.budget.now) (g.B.Counting.left c.loop-at.budget) (stopped_by c.loop-at.answer)) c.loop-at.at c.args.place c.loop-at.invariant.above (omega arith) c.loop-at.invariant.spent
 
 pub walk::eager_at-returns-clause-spent : goal.walk::eager_at-returns-clause-spent
-walk::eager_at-returns-clause-spent t c =
-    at_top (λ k. SpendsAt c.args.scene.now k c.args.budget.now c.loop-at.budget (datum_stop c.loop-at.answer)) c.loop-at.at c.args.place c.loop-at.invariant.above (omega arith) c.loop-at.invariant.spent
+walk::eager_at-returns-clause-spent g t c =
+    at_top (λ k. SpendsAt c.args.scene.now k (g.B.Counting.left c.args.budget.now) (g.B.Counting.left c.loop-at.budget) (datum_stop c.loop-at.answer)) c.loop-at.at c.args.place c.loop-at.invariant.above (omega arith) c.loop-at.invariant.spent
 
 pub walk::truth_at-loop-at-preserved : goal.walk::truth_at-loop-at-preserved
-walk::truth_at-loop-at-preserved t c =
+walk::truth_at-loop-at-preserved g t c =
     let l = c.loop-at in
     let above : c.args.place < l.at = omega arith in
     let within : l.at ≤ c.spine_bottom-bottom.result = l.invariant.within in
@@ -1094,11 +1116,11 @@ walk::truth_at-loop-at-preserved t c =
       above = omega arith;
       within = omega arith;
       answers = c.logical_at-answer.ensures.answers;
-      spent = c.logical_at-answer.ensures.spent c.args.budget.now (next_spent c.args.scene.now l.at c.args.place c.args.budget.now l.budget (stopped_by l.answer) above l.invariant.spent);
+      spent = c.logical_at-answer.ensures.spent (g.B.Counting.left c.args.budget.now) (next_spent c.args.scene.now l.at c.args.place (g.B.Counting.left c.args.budget.now) (g.B.Counting.left l.budget) (stopped_by l.answer) above l.invariant.spent);
     }
 
 pub walk::eager_at-loop-at-preserved : goal.walk::eager_at-loop-at-preserved
-walk::eager_at-loop-at-preserved t c =
+walk::eager_at-loop-at-preserved g t c =
     let l = c.loop-at in
     let above : c.args.place < l.at = omega arith in
     let within : l.at ≤ c.spine_bottom-bottom.result = l.invariant.within in
@@ -1106,269 +1128,273 @@ walk::eager_at-loop-at-preserved t c =
       above = omega arith;
       within = omega arith;
       answers = c.made_at-answer.ensures.answers;
-      spent = c.made_at-answer.ensures.spent c.args.budget.now (next_spent c.args.scene.now l.at c.args.place c.args.budget.now l.budget (datum_stop l.answer) above l.invariant.spent);
+      spent = c.made_at-answer.ensures.spent (g.B.Counting.left c.args.budget.now) (next_spent c.args.scene.now l.at c.args.place (g.B.Counting.left c.args.budget.now) (g.B.Counting.left l.budget) (datum_stop l.answer) above l.invariant.spent);
     }
 
 pub walk::plain_truth_at-returns-in-Leaf-clause-spent : goal.walk::plain_truth_at-returns-in-Leaf-clause-spent
-walk::plain_truth_at-returns-in-Leaf-clause-spent t c =
-    free_spends c.args.scene.now c.args.place None c.args.budget.now (leaf_free c.args.scene.now c.args.place c.in-Leaf.ensures.1) (takes_nothing c.args.budget.now)
+walk::plain_truth_at-returns-in-Leaf-clause-spent g t c =
+    free_spends c.args.scene.now c.args.place None (g.B.Counting.left c.args.budget.now) (leaf_free c.args.scene.now c.args.place c.in-Leaf.ensures.1) (takes_nothing (g.B.Counting.left c.args.budget.now))
 
-pub walk::plain_truth_at-returns-in-Ok-clause-spent : goal.walk::plain_truth_at-returns-in-Ok-clause-spent
-walk::plain_truth_at-returns-in-Ok-clause-spent t c =
-    free_spends c.args.scene.now c.args.place None c.args.budget.now (numeric_free c.args.scene.now c.args.place c.in-Numeric.ensures) (takes_nothing c.args.budget.now)
+pub walk::numeric_truth_at-returns-in-Ok-clause-spent : goal.walk::numeric_truth_at-returns-in-Ok-clause-spent
+walk::numeric_truth_at-returns-in-Ok-clause-spent g t c =
+    free_spends c.args.scene.now c.args.place None (g.B.Counting.left c.args.budget.now) (numeric_free c.args.scene.now c.args.place c.requires.numeric) (takes_nothing (g.B.Counting.left c.args.budget.now))
 
-pub walk::plain_truth_at-returns-in-Err-clause-spent : goal.walk::plain_truth_at-returns-in-Err-clause-spent
-walk::plain_truth_at-returns-in-Err-clause-spent t c =
-    free_spends c.args.scene.now c.args.place (Some (EvalStop.Fault c.in-Err.fault)) c.args.budget.now (numeric_free c.args.scene.now c.args.place c.in-Numeric.ensures) (fault_nothing c.in-Err.fault c.args.budget.now)
+pub walk::numeric_truth_at-returns-in-Err-clause-spent : goal.walk::numeric_truth_at-returns-in-Err-clause-spent
+walk::numeric_truth_at-returns-in-Err-clause-spent g t c =
+    free_spends c.args.scene.now c.args.place (Some (EvalStop.Fault c.in-Err.fault)) (g.B.Counting.left c.args.budget.now) (numeric_free c.args.scene.now c.args.place c.requires.numeric) (fault_nothing c.in-Err.fault (g.B.Counting.left c.args.budget.now))
 
 pub walk::compared_truth_at-returns-in-Leaf-part_at-clause-spent : goal.walk::compared_truth_at-returns-in-Leaf-part_at-clause-spent
-walk::compared_truth_at-returns-in-Leaf-part_at-clause-spent t c =
-    free_spends c.args.scene.now c.args.place None c.args.budget.now
+walk::compared_truth_at-returns-in-Leaf-part_at-clause-spent g t c =
+    free_spends c.args.scene.now c.args.place None (g.B.Counting.left c.args.budget.now)
     (both_free c.args.scene.now c.args.place (BinaryOperator.Comparison c.args.comparison) c.requires.here c.right_of-right_place.result c.right_of-right_place.ensures (leaf_free c.args.scene.now (c.args.place + 1) c.in-Leaf.ensures.1) (leaf_free c.args.scene.now c.right_of-right_place.result c.in-Leaf-part_at.ensures.1))
-    (takes_nothing c.args.budget.now)
+    (takes_nothing (g.B.Counting.left c.args.budget.now))
 
 pub walk::numbers_truth_at-returns-in-Err-clause-spent : goal.walk::numbers_truth_at-returns-in-Err-clause-spent
-walk::numbers_truth_at-returns-in-Err-clause-spent t c =
-    first_stops c.args.scene.now c.ends_once.ensures c.args.place WalkClass.Eager (λ leaf. cc) (walks_by c.args.scene.now.list c.args.place (BinaryOperator.Comparison c.args.comparison) WalkClass.Eager c.requires.here refl) (EvalStop.Fault c.in-Err.fault) c.in-Err.ensures c.args.budget.now c.args.budget.now
-    (free_spends c.args.scene.now (c.args.place + 1) (Some (EvalStop.Fault c.in-Err.fault)) c.args.budget.now (numeric_free c.args.scene.now (c.args.place + 1) c.requires.numeric) (fault_nothing c.in-Err.fault c.args.budget.now))
+walk::numbers_truth_at-returns-in-Err-clause-spent g t c =
+    first_stops c.args.scene.now c.ends_once.ensures c.args.place WalkClass.Eager (λ leaf. cc) (walks_by c.args.scene.now.list c.args.place (BinaryOperator.Comparison c.args.comparison) WalkClass.Eager c.requires.here refl) (EvalStop.Fault c.in-Err.fault) c.in-Err.ensures (g.B.Counting.left c.args.budget.now) (g.B.Counting.left c.args.budget.now)
+    (free_spends c.args.scene.now (c.args.place + 1) (Some (EvalStop.Fault c.in-Err.fault)) (g.B.Counting.left c.args.budget.now) (numeric_free c.args.scene.now (c.args.place + 1) c.requires.numeric) (fault_nothing c.in-Err.fault (g.B.Counting.left c.args.budget.now)))
 
 pub walk::numbers_truth_at-returns-in-Int-clause-spent : goal.walk::numbers_truth_at-returns-in-Int-clause-spent
-walk::numbers_truth_at-returns-in-Int-clause-spent t c =
-    free_spends c.args.scene.now c.args.place None c.args.budget.now
+walk::numbers_truth_at-returns-in-Int-clause-spent g t c =
+    free_spends c.args.scene.now c.args.place None (g.B.Counting.left c.args.budget.now)
     (both_free c.args.scene.now c.args.place (BinaryOperator.Comparison c.args.comparison) c.requires.here c.right_of-right_place.result c.right_of-right_place.ensures (numeric_free c.args.scene.now (c.args.place + 1) c.requires.numeric) (leaf_free c.args.scene.now c.right_of-right_place.result c.in-Leaf.ensures.1))
-    (takes_nothing c.args.budget.now)
+    (takes_nothing (g.B.Counting.left c.args.budget.now))
 
 pub walk::numbers_truth_at-returns-in-Ok-number_at-clause-spent : goal.walk::numbers_truth_at-returns-in-Ok-number_at-clause-spent
-walk::numbers_truth_at-returns-in-Ok-number_at-clause-spent t c =
-    free_spends c.args.scene.now c.args.place None c.args.budget.now
+walk::numbers_truth_at-returns-in-Ok-number_at-clause-spent g t c =
+    free_spends c.args.scene.now c.args.place None (g.B.Counting.left c.args.budget.now)
     (both_free c.args.scene.now c.args.place (BinaryOperator.Comparison c.args.comparison) c.requires.here c.right_of-right_place.result c.right_of-right_place.ensures (numeric_free c.args.scene.now (c.args.place + 1) c.requires.numeric) (numeric_free c.args.scene.now c.right_of-right_place.result c.in-Numeric.ensures))
-    (takes_nothing c.args.budget.now)
+    (takes_nothing (g.B.Counting.left c.args.budget.now))
 
 pub walk::numbers_truth_at-returns-in-Err-number_at-clause-spent : goal.walk::numbers_truth_at-returns-in-Err-number_at-clause-spent
-walk::numbers_truth_at-returns-in-Err-number_at-clause-spent t c =
-    free_spends c.args.scene.now c.args.place (Some (EvalStop.Fault c.in-Err-number_at.fault)) c.args.budget.now
+walk::numbers_truth_at-returns-in-Err-number_at-clause-spent g t c =
+    free_spends c.args.scene.now c.args.place (Some (EvalStop.Fault c.in-Err-number_at.fault)) (g.B.Counting.left c.args.budget.now)
     (both_free c.args.scene.now c.args.place (BinaryOperator.Comparison c.args.comparison) c.requires.here c.right_of-right_place.result c.right_of-right_place.ensures (numeric_free c.args.scene.now (c.args.place + 1) c.requires.numeric) (numeric_free c.args.scene.now c.right_of-right_place.result c.in-Numeric.ensures))
-    (fault_nothing c.in-Err-number_at.fault c.args.budget.now)
+    (fault_nothing c.in-Err-number_at.fault (g.B.Counting.left c.args.budget.now))
 
 pub walk::called_truth_at-returns-in-Ok-clause-spent : goal.walk::called_truth_at-returns-in-Ok-clause-spent
-walk::called_truth_at-returns-in-Ok-clause-spent t c =
-    free_spends c.args.scene.now c.args.place None c.args.budget.now (called_free c.args.scene.now c.args.place c.args.function c.requires.here) (takes_nothing c.args.budget.now)
+walk::called_truth_at-returns-in-Ok-clause-spent g t c =
+    free_spends c.args.scene.now c.args.place None (g.B.Counting.left c.args.budget.now) (called_free c.args.scene.now c.args.place c.args.function c.requires.here) (takes_nothing (g.B.Counting.left c.args.budget.now))
 
 pub walk::called_truth_at-returns-in-Err-clause-spent : goal.walk::called_truth_at-returns-in-Err-clause-spent
-walk::called_truth_at-returns-in-Err-clause-spent t c =
-    free_spends c.args.scene.now c.args.place (Some (EvalStop.Fault c.in-Err.fault)) c.args.budget.now (called_free c.args.scene.now c.args.place c.args.function c.requires.here) (fault_nothing c.in-Err.fault c.args.budget.now)
+walk::called_truth_at-returns-in-Err-clause-spent g t c =
+    free_spends c.args.scene.now c.args.place (Some (EvalStop.Fault c.in-Err.fault)) (g.B.Counting.left c.args.budget.now) (called_free c.args.scene.now c.args.place c.args.function c.requires.here) (fault_nothing c.in-Err.fault (g.B.Counting.left c.args.budget.now))
 
 pub walk::logical_at-returns-in-Err-clause-spent : goal.walk::logical_at-returns-in-Err-clause-spent
-walk::logical_at-returns-in-Err-clause-spent t c =
-    after_stop (Option Bool) c.args.scene.now c.args.place c.args.first c.in-Err.stop c.args.budget.now c.args.budget.now (Some c.in-Err.stop) c.in-Err.is
+walk::logical_at-returns-in-Err-clause-spent g t c =
+    after_stop (Option Bool) c.args.scene.now c.args.place c.args.first c.in-Err.stop (g.B.Counting.left c.args.budget.now) (g.B.Counting.left c.args.budget.now) (Some c.in-Err.stop) c.in-Err.is
     (first_stops c.args.scene.now c.ends_once.ensures c.args.place WalkClass.Logical (λ leaf. cc) c.requires.logical c.in-Err.stop
-    (truth_faults c.args.scene.now (c.args.place + 1) c.in-Err.stop (subst (λ (r : Result (Option Bool) EvalStop). CountedTruth c.args.scene.now (c.args.place + 1) r) c.in-Err.is c.requires.first)) c.args.budget.now)
+    (truth_faults c.args.scene.now (c.args.place + 1) c.in-Err.stop (subst (λ (r : Result (Option Bool) EvalStop). CountedTruth c.args.scene.now (c.args.place + 1) r) c.in-Err.is c.requires.first)) (g.B.Counting.left c.args.budget.now))
 
 pub walk::logical_at-returns-in-Some-clause-spent : goal.walk::logical_at-returns-in-Some-clause-spent
-walk::logical_at-returns-in-Some-clause-spent t c =
-    after_value (Option Bool) c.args.scene.now c.args.place c.args.first c.in-Ok.first c.args.budget.now c.connected_at.new.budget (stopped_by c.connected_at.result) c.in-Ok.is c.connected_at.ensures.spent
+walk::logical_at-returns-in-Some-clause-spent g t c =
+    after_value (Option Bool) c.args.scene.now c.args.place c.args.first c.in-Ok.first (g.B.Counting.left c.args.budget.now) (g.B.Counting.left c.connected_at.new.budget) (stopped_by c.connected_at.result) c.in-Ok.is c.connected_at.ensures.spent
 
 pub walk::logical_at-returns-in-None-clause-spent : goal.walk::logical_at-returns-in-None-clause-spent
-walk::logical_at-returns-in-None-clause-spent t c =
+walk::logical_at-returns-in-None-clause-spent g t c =
     let walk = found_there (λ (f : CheckedNode). walk_of_kind f.kind ≡ WalkClass.Logical) (slice_get c.args.scene.now.list.nodes c.args.place) c.node.result.now c.node.ensures c.requires.logical in
     let here = there_found (λ (f : CheckedNode). f.kind ≡ NodeKind.Not) (slice_get c.args.scene.now.list.nodes c.args.place) c.node.result.now c.node.ensures (only_not c.node.result.now.kind walk c.in-None.ensures.none) in
-    after_value (Option Bool) c.args.scene.now c.args.place c.args.first c.in-Ok.first c.args.budget.now c.args.budget.now None c.in-Ok.is (nothing_more c.args.scene.now c.args.place NodeKind.Not tt here c.args.budget.now None (takes_nothing c.args.budget.now))
+    after_value (Option Bool) c.args.scene.now c.args.place c.args.first c.in-Ok.first (g.B.Counting.left c.args.budget.now) (g.B.Counting.left c.args.budget.now) None c.in-Ok.is (nothing_more c.args.scene.now c.args.place NodeKind.Not tt here (g.B.Counting.left c.args.budget.now) None (takes_nothing (g.B.Counting.left c.args.budget.now)))
 
 pub walk::connected_at-returns-then-decides-clause-spent : goal.walk::connected_at-returns-then-decides-clause-spent
-walk::connected_at-returns-then-decides-clause-spent t c =
-    right_left_out c.args.scene.now c.args.place c.args.operator c.requires.here c.ends_once.ensures c.args.left c.requires.left (c.decides.ensures.0 c.if-decides.true) c.args.budget.now
+walk::connected_at-returns-then-decides-clause-spent g t c =
+    right_left_out c.args.scene.now c.args.place c.args.operator c.requires.here c.ends_once.ensures c.args.left c.requires.left (c.decides.ensures.0 c.if-decides.true) (g.B.Counting.left c.args.budget.now)
 
 pub walk::connected_at-returns-in-Ok-clause-spent : goal.walk::connected_at-returns-in-Ok-clause-spent
-walk::connected_at-returns-in-Ok-clause-spent t c =
-    right_asked c.args.scene.now c.args.place c.args.operator c.requires.here c.ends_once.ensures c.args.left c.requires.left (λ decided. let e = c.decides.ensures.1 decided in cc) c.right_of.result c.right_of.ensures c.args.budget.now c.side_at.new.budget None c.in-Ok.ensures.spent
+walk::connected_at-returns-in-Ok-clause-spent g t c =
+    right_asked c.args.scene.now c.args.place c.args.operator c.requires.here c.ends_once.ensures c.args.left c.requires.left (λ decided. let e = c.decides.ensures.1 decided in cc) c.right_of-right_place.result c.right_of-right_place.ensures (g.B.Counting.left c.args.budget.now) (g.B.Counting.left c.side_at.new.budget) None c.in-Ok.ensures.spent
 
 pub walk::connected_at-returns-in-Err-clause-spent : goal.walk::connected_at-returns-in-Err-clause-spent
-walk::connected_at-returns-in-Err-clause-spent t c =
-    right_asked c.args.scene.now c.args.place c.args.operator c.requires.here c.ends_once.ensures c.args.left c.requires.left (λ decided. let e = c.decides.ensures.1 decided in cc) c.right_of.result c.right_of.ensures c.args.budget.now c.side_at.new.budget (Some c.in-Err.stop) c.in-Err.ensures.spent
+walk::connected_at-returns-in-Err-clause-spent g t c =
+    right_asked c.args.scene.now c.args.place c.args.operator c.requires.here c.ends_once.ensures c.args.left c.requires.left (λ decided. let e = c.decides.ensures.1 decided in cc) c.right_of-right_place.result c.right_of-right_place.ensures (g.B.Counting.left c.args.budget.now) (g.B.Counting.left c.side_at.new.budget) (Some c.in-Err.stop) c.in-Err.ensures.spent
 
 pub walk::counted_at-returns-in-Leaf-clause-spent : goal.walk::counted_at-returns-in-Leaf-clause-spent
-walk::counted_at-returns-in-Leaf-clause-spent t c =
-    free_spends c.args.scene.now c.args.place None c.args.budget.now (leaf_free c.args.scene.now c.args.place c.in-Leaf.ensures.1) (takes_nothing c.args.budget.now)
+walk::counted_at-returns-in-Leaf-clause-spent g t c =
+    free_spends c.args.scene.now c.args.place None (g.B.Counting.left c.args.budget.now) (leaf_free c.args.scene.now c.args.place c.in-Leaf.ensures.1) (takes_nothing (g.B.Counting.left c.args.budget.now))
 
 pub walk::counted_at-returns-in-Ok-number_at-clause-spent : goal.walk::counted_at-returns-in-Ok-number_at-clause-spent
-walk::counted_at-returns-in-Ok-number_at-clause-spent t c =
-    free_spends c.args.scene.now c.args.place None c.args.budget.now (numeric_free c.args.scene.now c.args.place c.in-Numeric.ensures) (takes_nothing c.args.budget.now)
+walk::counted_at-returns-in-Ok-number_at-clause-spent g t c =
+    free_spends c.args.scene.now c.args.place None (g.B.Counting.left c.args.budget.now) (numeric_free c.args.scene.now c.args.place c.in-Numeric.ensures) (takes_nothing (g.B.Counting.left c.args.budget.now))
 
 pub walk::counted_at-returns-in-Err-number_at-clause-spent : goal.walk::counted_at-returns-in-Err-number_at-clause-spent
-walk::counted_at-returns-in-Err-number_at-clause-spent t c =
-    free_spends c.args.scene.now c.args.place (Some (EvalStop.Fault c.in-Err-number_at.fault)) c.args.budget.now (numeric_free c.args.scene.now c.args.place c.in-Numeric.ensures) (fault_nothing c.in-Err-number_at.fault c.args.budget.now)
+walk::counted_at-returns-in-Err-number_at-clause-spent g t c =
+    free_spends c.args.scene.now c.args.place (Some (EvalStop.Fault c.in-Err-number_at.fault)) (g.B.Counting.left c.args.budget.now) (numeric_free c.args.scene.now c.args.place c.in-Numeric.ensures) (fault_nothing c.in-Err-number_at.fault (g.B.Counting.left c.args.budget.now))
 
 pub walk::made_at-returns-in-Err-clause-spent : goal.walk::made_at-returns-in-Err-clause-spent
-walk::made_at-returns-in-Err-clause-spent t c =
-    after_stop Datum c.args.scene.now c.args.place c.args.first c.in-Err.before c.args.budget.now c.args.budget.now (Some c.in-Err.before) c.in-Err.is
+walk::made_at-returns-in-Err-clause-spent g t c =
+    after_stop Datum c.args.scene.now c.args.place c.args.first c.in-Err.before (g.B.Counting.left c.args.budget.now) (g.B.Counting.left c.args.budget.now) (Some c.in-Err.before) c.in-Err.is
     (first_stops c.args.scene.now c.ends_once.ensures c.args.place WalkClass.Eager (λ leaf. cc) c.requires.eager c.in-Err.before
-    (datum_faults c.args.scene.now (c.args.place + 1) c.in-Err.before (subst (λ (r : Result Datum EvalStop). CountedDatum c.args.scene.now (c.args.place + 1) r) c.in-Err.is c.requires.first)) c.args.budget.now)
+    (datum_faults c.args.scene.now (c.args.place + 1) c.in-Err.before (subst (λ (r : Result Datum EvalStop). CountedDatum c.args.scene.now (c.args.place + 1) r) c.in-Err.is c.requires.first)) (g.B.Counting.left c.args.budget.now))
 
 pub walk::made_at-returns-in-Member-clause-spent : goal.walk::made_at-returns-in-Member-clause-spent
-walk::made_at-returns-in-Member-clause-spent t c =
+walk::made_at-returns-in-Member-clause-spent g t c =
     let here : HasKind c.args.scene.now.list c.args.place (NodeKind.Member c.in-Member.slot) = there_found (λ (f : CheckedNode). f.kind ≡ (NodeKind.Member c.in-Member.slot)) (slice_get c.args.scene.now.list.nodes c.args.place) c.node.result.now c.node.ensures c.in-Member.is in
-    after_value Datum c.args.scene.now c.args.place c.args.first c.in-Ok.first c.args.budget.now c.args.budget.now None c.in-Ok.is (nothing_more c.args.scene.now c.args.place (NodeKind.Member c.in-Member.slot) tt here c.args.budget.now None (takes_nothing c.args.budget.now))
+    after_value Datum c.args.scene.now c.args.place c.args.first c.in-Ok.first (g.B.Counting.left c.args.budget.now) (g.B.Counting.left c.args.budget.now) None c.in-Ok.is (nothing_more c.args.scene.now c.args.place (NodeKind.Member c.in-Member.slot) tt here (g.B.Counting.left c.args.budget.now) None (takes_nothing (g.B.Counting.left c.args.budget.now)))
 
 pub walk::made_at-returns-in-AnyItem-clause-spent : goal.walk::made_at-returns-in-AnyItem-clause-spent
-walk::made_at-returns-in-AnyItem-clause-spent t c =
+walk::made_at-returns-in-AnyItem-clause-spent g t c =
     let here : HasKind c.args.scene.now.list c.args.place (NodeKind.AnyItem) = there_found (λ (f : CheckedNode). f.kind ≡ (NodeKind.AnyItem)) (slice_get c.args.scene.now.list.nodes c.args.place) c.node.result.now c.node.ensures c.in-AnyItem.is in
-    after_value Datum c.args.scene.now c.args.place c.args.first c.in-Ok.first c.args.budget.now c.args.budget.now None c.in-Ok.is (nothing_more c.args.scene.now c.args.place (NodeKind.AnyItem) tt here c.args.budget.now None (takes_nothing c.args.budget.now))
+    after_value Datum c.args.scene.now c.args.place c.args.first c.in-Ok.first (g.B.Counting.left c.args.budget.now) (g.B.Counting.left c.args.budget.now) None c.in-Ok.is (nothing_more c.args.scene.now c.args.place (NodeKind.AnyItem) tt here (g.B.Counting.left c.args.budget.now) None (takes_nothing (g.B.Counting.left c.args.budget.now)))
 
 pub walk::made_at-returns-in-PairedRight-clause-spent : goal.walk::made_at-returns-in-PairedRight-clause-spent
-walk::made_at-returns-in-PairedRight-clause-spent t c =
+walk::made_at-returns-in-PairedRight-clause-spent g t c =
     let here : HasKind c.args.scene.now.list c.args.place (NodeKind.PairedRight c.in-PairedRight.operator c.in-PairedRight.number) = there_found (λ (f : CheckedNode). f.kind ≡ (NodeKind.PairedRight c.in-PairedRight.operator c.in-PairedRight.number)) (slice_get c.args.scene.now.list.nodes c.args.place) c.node.result.now c.node.ensures c.in-PairedRight.is in
-    after_value Datum c.args.scene.now c.args.place c.args.first c.in-Ok.first c.args.budget.now c.args.budget.now None c.in-Ok.is (nothing_more c.args.scene.now c.args.place (NodeKind.PairedRight c.in-PairedRight.operator c.in-PairedRight.number) tt here c.args.budget.now None (takes_nothing c.args.budget.now))
+    after_value Datum c.args.scene.now c.args.place c.args.first c.in-Ok.first (g.B.Counting.left c.args.budget.now) (g.B.Counting.left c.args.budget.now) None c.in-Ok.is (nothing_more c.args.scene.now c.args.place (NodeKind.PairedRight c.in-PairedRight.operator c.in-PairedRight.number) tt here (g.B.Counting.left c.args.budget.now) None (takes_nothing (g.B.Counting.left c.args.budget.now)))
 
 pub walk::made_at-returns-in-PairedHas-clause-spent : goal.walk::made_at-returns-in-PairedHas-clause-spent
-walk::made_at-returns-in-PairedHas-clause-spent t c =
+walk::made_at-returns-in-PairedHas-clause-spent g t c =
     let here : HasKind c.args.scene.now.list c.args.place (NodeKind.PairedHas c.in-PairedHas.number) = there_found (λ (f : CheckedNode). f.kind ≡ (NodeKind.PairedHas c.in-PairedHas.number)) (slice_get c.args.scene.now.list.nodes c.args.place) c.node.result.now c.node.ensures c.in-PairedHas.is in
-    after_value Datum c.args.scene.now c.args.place c.args.first c.in-Ok.first c.args.budget.now c.args.budget.now None c.in-Ok.is (nothing_more c.args.scene.now c.args.place (NodeKind.PairedHas c.in-PairedHas.number) tt here c.args.budget.now None (takes_nothing c.args.budget.now))
+    after_value Datum c.args.scene.now c.args.place c.args.first c.in-Ok.first (g.B.Counting.left c.args.budget.now) (g.B.Counting.left c.args.budget.now) None c.in-Ok.is (nothing_more c.args.scene.now c.args.place (NodeKind.PairedHas c.in-PairedHas.number) tt here (g.B.Counting.left c.args.budget.now) None (takes_nothing (g.B.Counting.left c.args.budget.now)))
 
 pub walk::made_at-returns-in-Call-clause-spent : goal.walk::made_at-returns-in-Call-clause-spent
-walk::made_at-returns-in-Call-clause-spent t c =
+walk::made_at-returns-in-Call-clause-spent g t c =
     let here : HasKind c.args.scene.now.list c.args.place (NodeKind.Call c.in-Call.function) = there_found (λ (f : CheckedNode). f.kind ≡ (NodeKind.Call c.in-Call.function)) (slice_get c.args.scene.now.list.nodes c.args.place) c.node.result.now c.node.ensures c.in-Call.is in
-    after_value Datum c.args.scene.now c.args.place c.args.first c.in-Ok.first c.args.budget.now c.args.budget.now (datum_stop c.as_stop.result) c.in-Ok.is
-    (nothing_more c.args.scene.now c.args.place (NodeKind.Call c.in-Call.function) tt here c.args.budget.now (datum_stop c.as_stop.result) (as_spent c.called_at.result c.as_stop.result c.args.budget.now c.as_stop.ensures))
+    after_value Datum c.args.scene.now c.args.place c.args.first c.in-Ok.first (g.B.Counting.left c.args.budget.now) (g.B.Counting.left c.args.budget.now) (datum_stop c.as_stop.result) c.in-Ok.is
+    (nothing_more c.args.scene.now c.args.place (NodeKind.Call c.in-Call.function) tt here (g.B.Counting.left c.args.budget.now) (datum_stop c.as_stop.result) (as_spent c.called_at.result c.as_stop.result (g.B.Counting.left c.args.budget.now) c.as_stop.ensures))
 
 pub walk::made_at-returns-in-Count-clause-spent : goal.walk::made_at-returns-in-Count-clause-spent
-walk::made_at-returns-in-Count-clause-spent t c =
+walk::made_at-returns-in-Count-clause-spent g t c =
     let here : HasKind c.args.scene.now.list c.args.place (NodeKind.Count) = there_found (λ (f : CheckedNode). f.kind ≡ (NodeKind.Count)) (slice_get c.args.scene.now.list.nodes c.args.place) c.node.result.now c.node.ensures c.in-Count.is in
-    after_value Datum c.args.scene.now c.args.place c.args.first c.in-Ok.first c.args.budget.now c.args.budget.now (datum_stop c.as_stop-in-Count.result) c.in-Ok.is
-    (nothing_more c.args.scene.now c.args.place (NodeKind.Count) tt here c.args.budget.now (datum_stop c.as_stop-in-Count.result) (as_spent c.count_of.result c.as_stop-in-Count.result c.args.budget.now c.as_stop-in-Count.ensures))
+    after_value Datum c.args.scene.now c.args.place c.args.first c.in-Ok.first (g.B.Counting.left c.args.budget.now) (g.B.Counting.left c.args.budget.now) (datum_stop c.as_stop-in-Count.result) c.in-Ok.is
+    (nothing_more c.args.scene.now c.args.place (NodeKind.Count) tt here (g.B.Counting.left c.args.budget.now) (datum_stop c.as_stop-in-Count.result) (as_spent c.count_of.result c.as_stop-in-Count.result (g.B.Counting.left c.args.budget.now) c.as_stop-in-Count.ensures))
 
 pub walk::made_at-returns-in-PairedLeft-clause-spent : goal.walk::made_at-returns-in-PairedLeft-clause-spent
-walk::made_at-returns-in-PairedLeft-clause-spent t c =
+walk::made_at-returns-in-PairedLeft-clause-spent g t c =
     let here : HasKind c.args.scene.now.list c.args.place (NodeKind.PairedLeft c.in-PairedLeft.operator c.in-PairedLeft.number) = there_found (λ (f : CheckedNode). f.kind ≡ (NodeKind.PairedLeft c.in-PairedLeft.operator c.in-PairedLeft.number)) (slice_get c.args.scene.now.list.nodes c.args.place) c.node.result.now c.node.ensures c.in-PairedLeft.is in
-    after_value Datum c.args.scene.now c.args.place c.args.first c.in-Ok.first c.args.budget.now c.args.budget.now (datum_stop c.as_stop-in-PairedLeft.result) c.in-Ok.is
-    (nothing_more c.args.scene.now c.args.place (NodeKind.PairedLeft c.in-PairedLeft.operator c.in-PairedLeft.number) tt here c.args.budget.now (datum_stop c.as_stop-in-PairedLeft.result) (as_spent c.compared_left_at.result c.as_stop-in-PairedLeft.result c.args.budget.now c.as_stop-in-PairedLeft.ensures))
+    after_value Datum c.args.scene.now c.args.place c.args.first c.in-Ok.first (g.B.Counting.left c.args.budget.now) (g.B.Counting.left c.args.budget.now) (datum_stop c.as_stop-in-PairedLeft.result) c.in-Ok.is
+    (nothing_more c.args.scene.now c.args.place (NodeKind.PairedLeft c.in-PairedLeft.operator c.in-PairedLeft.number) tt here (g.B.Counting.left c.args.budget.now) (datum_stop c.as_stop-in-PairedLeft.result) (as_spent c.compared_left_at.result c.as_stop-in-PairedLeft.result (g.B.Counting.left c.args.budget.now) c.as_stop-in-PairedLeft.ensures))
 
 pub walk::made_at-returns-in-Has-clause-spent : goal.walk::made_at-returns-in-Has-clause-spent
-walk::made_at-returns-in-Has-clause-spent t c =
+walk::made_at-returns-in-Has-clause-spent g t c =
     let here : HasKind c.args.scene.now.list c.args.place (NodeKind.Has) = there_found (λ (f : CheckedNode). f.kind ≡ (NodeKind.Has)) (slice_get c.args.scene.now.list.nodes c.args.place) c.node.result.now c.node.ensures c.in-Has.is in
-    after_value Datum c.args.scene.now c.args.place c.args.first c.in-Ok.first c.args.budget.now c.args.budget.now (datum_stop c.as_stop-in-Has.result) c.in-Ok.is
-    (nothing_more c.args.scene.now c.args.place (NodeKind.Has) tt here c.args.budget.now (datum_stop c.as_stop-in-Has.result) (as_spent c.flags_at.result c.as_stop-in-Has.result c.args.budget.now c.as_stop-in-Has.ensures))
+    after_value Datum c.args.scene.now c.args.place c.args.first c.in-Ok.first (g.B.Counting.left c.args.budget.now) (g.B.Counting.left c.args.budget.now) (datum_stop c.as_stop-in-Has.result) c.in-Ok.is
+    (nothing_more c.args.scene.now c.args.place (NodeKind.Has) tt here (g.B.Counting.left c.args.budget.now) (datum_stop c.as_stop-in-Has.result) (as_spent c.flags_at.result c.as_stop-in-Has.result (g.B.Counting.left c.args.budget.now) c.as_stop-in-Has.ensures))
 
 pub walk::made_at-returns-in-InPath-clause-spent : goal.walk::made_at-returns-in-InPath-clause-spent
-walk::made_at-returns-in-InPath-clause-spent t c =
+walk::made_at-returns-in-InPath-clause-spent g t c =
     let here : HasKind c.args.scene.now.list c.args.place (NodeKind.InPath) = there_found (λ (f : CheckedNode). f.kind ≡ (NodeKind.InPath)) (slice_get c.args.scene.now.list.nodes c.args.place) c.node.result.now c.node.ensures c.in-InPath.is in
-    after_value Datum c.args.scene.now c.args.place c.args.first c.in-Ok.first c.args.budget.now c.args.budget.now (datum_stop c.as_stop-in-InPath.result) c.in-Ok.is
-    (nothing_more c.args.scene.now c.args.place (NodeKind.InPath) tt here c.args.budget.now (datum_stop c.as_stop-in-InPath.result) (as_spent c.among_at.result c.as_stop-in-InPath.result c.args.budget.now c.as_stop-in-InPath.ensures))
+    after_value Datum c.args.scene.now c.args.place c.args.first c.in-Ok.first (g.B.Counting.left c.args.budget.now) (g.B.Counting.left c.args.budget.now) (datum_stop c.as_stop-in-InPath.result) c.in-Ok.is
+    (nothing_more c.args.scene.now c.args.place (NodeKind.InPath) tt here (g.B.Counting.left c.args.budget.now) (datum_stop c.as_stop-in-InPath.result) (as_spent c.among_at.result c.as_stop-in-InPath.result (g.B.Counting.left c.args.budget.now) c.as_stop-in-InPath.ensures))
 
 pub walk::made_at-returns-in-InList-clause-spent : goal.walk::made_at-returns-in-InList-clause-spent
-walk::made_at-returns-in-InList-clause-spent t c =
-    after_value Datum c.args.scene.now c.args.place c.args.first c.in-Ok.first c.args.budget.now c.listed_at.new.budget (datum_stop c.listed_at.result) c.in-Ok.is c.listed_at.ensures.spent
+walk::made_at-returns-in-InList-clause-spent g t c =
+    after_value Datum c.args.scene.now c.args.place c.args.first c.in-Ok.first (g.B.Counting.left c.args.budget.now) (g.B.Counting.left c.listed_at.new.budget) (datum_stop c.listed_at.result) c.in-Ok.is c.listed_at.ensures.spent
 
 pub walk::made_at-returns-in-PairedList-clause-spent : goal.walk::made_at-returns-in-PairedList-clause-spent
-walk::made_at-returns-in-PairedList-clause-spent t c =
-    after_value Datum c.args.scene.now c.args.place c.args.first c.in-Ok.first c.args.budget.now c.numbered_at.new.budget (datum_stop c.numbered_at.result) c.in-Ok.is c.numbered_at.ensures.spent
+walk::made_at-returns-in-PairedList-clause-spent g t c =
+    after_value Datum c.args.scene.now c.args.place c.args.first c.in-Ok.first (g.B.Counting.left c.args.budget.now) (g.B.Counting.left c.numbered_at.new.budget) (datum_stop c.numbered_at.result) c.in-Ok.is c.numbered_at.ensures.spent
 
 pub walk::made_at-returns-in-Lambda-clause-spent : goal.walk::made_at-returns-in-Lambda-clause-spent
-walk::made_at-returns-in-Lambda-clause-spent t c =
-    after_value Datum c.args.scene.now c.args.place c.args.first c.in-Ok.first c.args.budget.now c.lambda_at.new.budget (datum_stop c.lambda_at.result) c.in-Ok.is c.lambda_at.ensures.spent
+walk::made_at-returns-in-Lambda-clause-spent g t c =
+    after_value Datum c.args.scene.now c.args.place c.args.first c.in-Ok.first (g.B.Counting.left c.args.budget.now) (g.B.Counting.left c.lambda_at.new.budget) (datum_stop c.lambda_at.result) c.in-Ok.is c.lambda_at.ensures.spent
 
 pub walk::made_at-returns-in-Comparison-clause-spent : goal.walk::made_at-returns-in-Comparison-clause-spent
-walk::made_at-returns-in-Comparison-clause-spent t c =
-    after_value Datum c.args.scene.now c.args.place c.args.first c.in-Ok.first c.args.budget.now c.compared_at.new.budget (datum_stop c.compared_at.result) c.in-Ok.is c.compared_at.ensures.spent
+walk::made_at-returns-in-Comparison-clause-spent g t c =
+    after_value Datum c.args.scene.now c.args.place c.args.first c.in-Ok.first (g.B.Counting.left c.args.budget.now) (g.B.Counting.left c.compared_at.new.budget) (datum_stop c.compared_at.result) c.in-Ok.is c.compared_at.ensures.spent
 
 pub walk::compared_at-returns-in-Leaf-clause-spent : goal.walk::compared_at-returns-in-Leaf-clause-spent
-walk::compared_at-returns-in-Leaf-clause-spent t c =
-    right_compared c.args.scene.now c.args.place c.args.comparison c.requires.here c.ends_once.ensures (λ type. datum_val (reading_at (slots_of c.args.scene.now.row.schema) type) c.args.left) c.requires.left c.right_of-right_place.result c.right_of-right_place.ensures c.args.budget.now c.args.budget.now None
-    (free_spends c.args.scene.now c.right_of-right_place.result None c.args.budget.now (leaf_free c.args.scene.now c.right_of-right_place.result c.in-Leaf.ensures.1) (takes_nothing c.args.budget.now))
+walk::compared_at-returns-in-Leaf-clause-spent g t c =
+    right_compared c.args.scene.now c.args.place c.args.comparison c.requires.here c.ends_once.ensures (λ type. datum_val (reading_at (slots_of c.args.scene.now.row.schema) type) c.args.left) c.requires.left c.right_of-right_place.result c.right_of-right_place.ensures (g.B.Counting.left c.args.budget.now) (g.B.Counting.left c.args.budget.now) None
+    (free_spends c.args.scene.now c.right_of-right_place.result None (g.B.Counting.left c.args.budget.now) (leaf_free c.args.scene.now c.right_of-right_place.result c.in-Leaf.ensures.1) (takes_nothing (g.B.Counting.left c.args.budget.now)))
 
 pub walk::compared_at-returns-in-Ok-clause-spent : goal.walk::compared_at-returns-in-Ok-clause-spent
-walk::compared_at-returns-in-Ok-clause-spent t c =
-    right_compared c.args.scene.now c.args.place c.args.comparison c.requires.here c.ends_once.ensures (λ type. datum_val (reading_at (slots_of c.args.scene.now.row.schema) type) c.args.left) c.requires.left c.right_of-right_place.result c.right_of-right_place.ensures c.args.budget.now c.counted_at.new.budget None c.in-Ok.ensures.spent
+walk::compared_at-returns-in-Ok-clause-spent g t c =
+    right_compared c.args.scene.now c.args.place c.args.comparison c.requires.here c.ends_once.ensures (λ type. datum_val (reading_at (slots_of c.args.scene.now.row.schema) type) c.args.left) c.requires.left c.right_of-right_place.result c.right_of-right_place.ensures (g.B.Counting.left c.args.budget.now) (g.B.Counting.left c.counted_at.new.budget) None c.in-Ok.ensures.spent
 
 pub walk::compared_at-returns-clause-spent : goal.walk::compared_at-returns-clause-spent
-walk::compared_at-returns-clause-spent t c =
-    right_compared c.args.scene.now c.args.place c.args.comparison c.requires.here c.ends_once.ensures (λ type. datum_val (reading_at (slots_of c.args.scene.now.row.schema) type) c.args.left) c.requires.left c.right_of-right_place.result c.right_of-right_place.ensures c.args.budget.now c.counted_at.new.budget (Some c.in-Err.behind) c.in-Err.ensures.spent
+walk::compared_at-returns-clause-spent g t c =
+    right_compared c.args.scene.now c.args.place c.args.comparison c.requires.here c.ends_once.ensures (λ type. datum_val (reading_at (slots_of c.args.scene.now.row.schema) type) c.args.left) c.requires.left c.right_of-right_place.result c.right_of-right_place.ensures (g.B.Counting.left c.args.budget.now) (g.B.Counting.left c.counted_at.new.budget) (Some c.in-Err.behind) c.in-Err.ensures.spent
 
 pub paired_walk::right_read_truth_at-returns-in-Leaf-clause-spent : goal.paired_walk::right_read_truth_at-returns-in-Leaf-clause-spent
-paired_walk::right_read_truth_at-returns-in-Leaf-clause-spent t c =
-    free_spends c.args.scene.now c.args.place None c.args.budget.now (left_free c.args.scene.now c.args.place c.args.operator c.args.number c.requires.here (leaf_free c.args.scene.now (c.args.place + 1) c.in-Leaf.ensures.1)) (takes_nothing c.args.budget.now)
+paired_walk::right_read_truth_at-returns-in-Leaf-clause-spent g t c =
+    free_spends c.args.scene.now c.args.place None (g.B.Counting.left c.args.budget.now) (left_free c.args.scene.now c.args.place c.args.operator c.args.number c.requires.here (leaf_free c.args.scene.now (c.args.place + 1) c.in-Leaf.ensures.1)) (takes_nothing (g.B.Counting.left c.args.budget.now))
 
 pub paired_walk::left_read_truth_at-returns-in-Leaf-clause-spent : goal.paired_walk::left_read_truth_at-returns-in-Leaf-clause-spent
-paired_walk::left_read_truth_at-returns-in-Leaf-clause-spent t c =
-    free_spends c.args.scene.now c.args.place None c.args.budget.now (right_free c.args.scene.now c.args.place c.args.operator c.args.number c.requires.here c.right_of.result c.right_of.ensures (leaf_free c.args.scene.now c.right_of.result c.in-Leaf.ensures.1)) (takes_nothing c.args.budget.now)
+paired_walk::left_read_truth_at-returns-in-Leaf-clause-spent g t c =
+    free_spends c.args.scene.now c.args.place None (g.B.Counting.left c.args.budget.now) (right_free c.args.scene.now c.args.place c.args.operator c.args.number c.requires.here c.right_of.result c.right_of.ensures (leaf_free c.args.scene.now c.right_of.result c.in-Leaf.ensures.1)) (takes_nothing (g.B.Counting.left c.args.budget.now))
+
+pub walk::operand_at-returns-in-Leaf : goal.walk::operand_at-returns-in-Leaf
+walk::operand_at-returns-in-Leaf g t c = kept_datum c.args.scene.now c.args.place c.in-Leaf.value.now c.datum_of.result c.in-Leaf.ensures.0 c.datum_of.ensures
 
 pub walk::operand_at-fault_of-requires : goal.walk::operand_at-fault_of-requires
-walk::operand_at-fault_of-requires t c =
-    λ same. never_costly c.args.scene.now c.args.place c.requires.stands c.costs_once.ensures c.counted_at.new.budget
-    (subst (λ (s : EvalStop). SpendsAt c.args.scene.now c.args.place Budget.Unbounded c.counted_at.new.budget (Some s)) same c.in-Err.ensures.spent)
+walk::operand_at-fault_of-requires g t c =
+    λ same. never_costly c.args.scene.now c.args.place c.requires.stands c.costs_once.ensures (g.B.Counting.left c.counted_at.new.budget)
+    (subst (λ (b : Budget). SpendsAt c.args.scene.now c.args.place b (g.B.Counting.left c.counted_at.new.budget) (Some EvalStop.TooCostly)) c.without_bound-unbounded.ensures
+    (subst (λ (s : EvalStop). SpendsAt c.args.scene.now c.args.place (g.B.Counting.left c.without_bound-unbounded.result) (g.B.Counting.left c.counted_at.new.budget) (Some s)) same c.in-Err.ensures.spent))
 
 pub lambda_walk::lambda_at-returns-in_default-clause-spent : goal.lambda_walk::lambda_at-returns-in_default-clause-spent
-lambda_walk::lambda_at-returns-in_default-clause-spent t c =
-    null_spends c.trees_have_one_type.ensures c.args.scene.now c.args.place c.args.quantifier c.requires.here c.ends_once.ensures c.args.base c.requires.first c.in_default.not-List c.args.budget.now
+lambda_walk::lambda_at-returns-in_default-clause-spent g t c =
+    null_spends c.trees_have_one_type.ensures c.args.scene.now c.args.place c.args.quantifier c.requires.here c.ends_once.ensures c.args.base c.requires.first c.in_default.not-List (g.B.Counting.left c.args.budget.now)
 
 pub lambda_walk::lambda_at-returns-in-Ok-clause-spent : goal.lambda_walk::lambda_at-returns-in-Ok-clause-spent
-lambda_walk::lambda_at-returns-in-Ok-clause-spent t c =
+lambda_walk::lambda_at-returns-in-Ok-clause-spent g t c =
     members_spend c.trees_have_one_type.ensures c.args.scene.now c.args.place c.args.quantifier c.requires.here c.ends_once.ensures c.variable_bound-variable.result c.variable_bound-variable.ensures c.right_of.result c.right_of.ensures c.in-List.members
-    (subst (λ (d : Datum). AnswersDatum c.args.scene.now (c.args.place + 1) (Ok d)) c.in-List.is c.requires.first) c.args.budget.now c.members_at.new.budget None c.in-Ok.ensures.spent
+    (subst (λ (d : Datum). AnswersDatum c.args.scene.now (c.args.place + 1) (Ok d)) c.in-List.is c.requires.first) (g.B.Counting.left c.args.budget.now) (g.B.Counting.left c.members_at.new.budget) None c.in-Ok.ensures.spent
 
 pub lambda_walk::lambda_at-returns-in-Err-clause-spent : goal.lambda_walk::lambda_at-returns-in-Err-clause-spent
-lambda_walk::lambda_at-returns-in-Err-clause-spent t c =
+lambda_walk::lambda_at-returns-in-Err-clause-spent g t c =
     members_spend c.trees_have_one_type.ensures c.args.scene.now c.args.place c.args.quantifier c.requires.here c.ends_once.ensures c.variable_bound-variable.result c.variable_bound-variable.ensures c.right_of.result c.right_of.ensures c.in-List.members
-    (subst (λ (d : Datum). AnswersDatum c.args.scene.now (c.args.place + 1) (Ok d)) c.in-List.is c.requires.first) c.args.budget.now c.members_at.new.budget (Some c.in-Err.stop) c.in-Err.ensures.spent
+    (subst (λ (d : Datum). AnswersDatum c.args.scene.now (c.args.place + 1) (Ok d)) c.in-List.is c.requires.first) (g.B.Counting.left c.args.budget.now) (g.B.Counting.left c.members_at.new.budget) (Some c.in-Err.stop) c.in-Err.ensures.spent
 
 pub lambda_walk::members_at-returns-clause-spent : goal.lambda_walk::members_at-returns-clause-spent
-lambda_walk::members_at-returns-clause-spent t c =
-    all_paid c.args.scene.now c.args.body.place c.args.body.quantifier c.args.variable.now c.args.members.now c.loop-at.at c.args.budget.now c.loop-at.budget c.loop-at.invariant.paid c.loop-at-test.false
+lambda_walk::members_at-returns-clause-spent g t c =
+    all_paid c.args.scene.now c.args.body.place c.args.body.quantifier c.args.variable.now c.args.members.now c.loop-at.at (g.B.Counting.left c.args.budget.now) (g.B.Counting.left c.loop-at.budget) c.loop-at.invariant.paid c.loop-at-test.false
 
 pub lambda_walk::members_at-returns-then-not-take_one-clause-spent : goal.lambda_walk::members_at-returns-then-not-take_one-clause-spent
-lambda_walk::members_at-returns-then-not-take_one-clause-spent t c =
-    none_left c.args.scene.now c.args.body.place c.args.body.quantifier c.args.variable.now c.args.members.now c.loop-at.at c.args.budget.now c.loop-at.budget c.loop-at.invariant.paid c.loop-at-test.true
-    (subst (λ (b : Bool). IsTaken b c.loop-at.budget c.take_one.new.budget 1) c.if-not-take_one.true c.take_one.ensures) c.take_one.new.budget
+lambda_walk::members_at-returns-then-not-take_one-clause-spent g t c =
+    none_left c.args.scene.now c.args.body.place c.args.body.quantifier c.args.variable.now c.args.members.now c.loop-at.at (g.B.Counting.left c.args.budget.now) (g.B.Counting.left c.loop-at.budget) c.loop-at.invariant.paid c.loop-at-test.true
+    (subst (λ (b : Bool). IsTaken b (g.B.Counting.left c.loop-at.budget) (g.B.Counting.left c.take_one.new.self) 1) c.if-not-take_one.true c.take_one.ensures) (g.B.Counting.left c.take_one.new.self)
 
 pub lambda_walk::members_at-returns-in-Err-clause-spent : goal.lambda_walk::members_at-returns-in-Err-clause-spent
-lambda_walk::members_at-returns-in-Err-clause-spent t c =
-    body_stops c.args.scene.now c.args.body.place c.args.body.quantifier c.args.variable.now c.args.members.now c.loop-at.at c.args.budget.now c.loop-at.budget c.loop-at.invariant.paid c.loop-at-test.true c.index-members-at.result (sym c.index-members-at.is) c.take_one.new.budget (subst (λ (b : Bool). IsTaken b c.loop-at.budget c.take_one.new.budget 1) c.if-not-take_one.false c.take_one.ensures) c.side_at.new.budget (subst (λ (s : SceneModel). EndsOnceHere s) c.with-bound.ensures c.ends_once.ensures) c.in-Err.stop
-    (truth_faults (with_frame c.args.scene.now (frame_of c.args.variable.now c.index-members-at.result)) c.args.body.place c.in-Err.stop (subst (λ (s : SceneModel). CountedTruth s c.args.body.place (Err c.in-Err.stop)) c.with-bound.ensures c.in-Err.ensures.answers)) (subst (λ (s : SceneModel). SpendsAt s c.args.body.place c.take_one.new.budget c.side_at.new.budget (Some c.in-Err.stop)) c.with-bound.ensures c.in-Err.ensures.spent)
+lambda_walk::members_at-returns-in-Err-clause-spent g t c =
+    body_stops c.args.scene.now c.args.body.place c.args.body.quantifier c.args.variable.now c.args.members.now c.loop-at.at (g.B.Counting.left c.args.budget.now) (g.B.Counting.left c.loop-at.budget) c.loop-at.invariant.paid c.loop-at-test.true c.index-members-at.result (sym c.index-members-at.is) (g.B.Counting.left c.take_one.new.self) (subst (λ (b : Bool). IsTaken b (g.B.Counting.left c.loop-at.budget) (g.B.Counting.left c.take_one.new.self) 1) c.if-not-take_one.false c.take_one.ensures) (g.B.Counting.left c.side_at.new.budget) (subst (λ (s : SceneModel). EndsOnceHere s) c.with-bound.ensures c.ends_once.ensures) c.in-Err.stop
+    (truth_faults (with_frame c.args.scene.now (frame_of c.args.variable.now c.index-members-at.result)) c.args.body.place c.in-Err.stop (subst (λ (s : SceneModel). CountedTruth s c.args.body.place (Err c.in-Err.stop)) c.with-bound.ensures c.in-Err.ensures.answers)) (subst (λ (s : SceneModel). SpendsAt s c.args.body.place (g.B.Counting.left c.take_one.new.self) (g.B.Counting.left c.side_at.new.budget) (Some c.in-Err.stop)) c.with-bound.ensures c.in-Err.ensures.spent)
 
 pub lambda_walk::members_at-returns-then-not-is_undecided-clause-spent : goal.lambda_walk::members_at-returns-then-not-is_undecided-clause-spent
-lambda_walk::members_at-returns-then-not-is_undecided-clause-spent t c =
-    body_decides c.args.scene.now c.args.body.place c.args.body.quantifier c.args.variable.now c.args.members.now c.loop-at.at c.args.budget.now c.loop-at.budget c.loop-at.invariant.paid c.loop-at-test.true c.index-members-at.result (sym c.index-members-at.is) c.take_one.new.budget (subst (λ (b : Bool). IsTaken b c.loop-at.budget c.take_one.new.budget 1) c.if-not-take_one.false c.take_one.ensures) c.side_at.new.budget (subst (λ (s : SceneModel). EndsOnceHere s) c.with-bound.ensures c.ends_once.ensures) c.in-Ok.truth
-    (subst (λ (s : SceneModel). AnswersTruth s c.args.body.place (Ok c.in-Ok.truth)) c.with-bound.ensures c.in-Ok.ensures.answers) (subst (λ (s : SceneModel). SpendsAt s c.args.body.place c.take_one.new.budget c.side_at.new.budget None) c.with-bound.ensures c.in-Ok.ensures.spent) (λ passes. let e = c.is_undecided.ensures.1 passes in cc)
+lambda_walk::members_at-returns-then-not-is_undecided-clause-spent g t c =
+    body_decides c.args.scene.now c.args.body.place c.args.body.quantifier c.args.variable.now c.args.members.now c.loop-at.at (g.B.Counting.left c.args.budget.now) (g.B.Counting.left c.loop-at.budget) c.loop-at.invariant.paid c.loop-at-test.true c.index-members-at.result (sym c.index-members-at.is) (g.B.Counting.left c.take_one.new.self) (subst (λ (b : Bool). IsTaken b (g.B.Counting.left c.loop-at.budget) (g.B.Counting.left c.take_one.new.self) 1) c.if-not-take_one.false c.take_one.ensures) (g.B.Counting.left c.side_at.new.budget) (subst (λ (s : SceneModel). EndsOnceHere s) c.with-bound.ensures c.ends_once.ensures) c.in-Ok.truth
+    (subst (λ (s : SceneModel). AnswersTruth s c.args.body.place (Ok c.in-Ok.truth)) c.with-bound.ensures c.in-Ok.ensures.answers) (subst (λ (s : SceneModel). SpendsAt s c.args.body.place (g.B.Counting.left c.take_one.new.self) (g.B.Counting.left c.side_at.new.budget) None) c.with-bound.ensures c.in-Ok.ensures.spent) (λ passes. let e = c.is_undecided.ensures.1 passes in cc)
 
 pub paired_walk::numbered_item_at-returns-in-Enum-clause-spent : goal.paired_walk::numbered_item_at-returns-in-Enum-clause-spent
-paired_walk::numbered_item_at-returns-in-Enum-clause-spent t c =
-    number_spends c.args.scene.now c.args.place c.args.number c.literal.result.now c.literal.ensures c.in-Enum.n c.in-Enum.is c.args.budget.now
+paired_walk::numbered_item_at-returns-in-Enum-clause-spent g t c =
+    number_spends c.args.scene.now c.args.place c.args.number c.literal.result.now c.literal.ensures c.in-Enum.n c.in-Enum.is (g.B.Counting.left c.args.budget.now)
 
 pub paired_walk::numbered_item_at-returns-in_default-clause-spent : goal.paired_walk::numbered_item_at-returns-in_default-clause-spent
-paired_walk::numbered_item_at-returns-in_default-clause-spent t c =
-    item_spends c.args.scene.now c.args.place c.args.budget.now c.counted_at.new.budget (datum_stop c.counted_at.result) (Some c.args.number) c.counted_at.ensures.spent
+paired_walk::numbered_item_at-returns-in_default-clause-spent g t c =
+    item_spends c.args.scene.now c.args.place (g.B.Counting.left c.args.budget.now) (g.B.Counting.left c.counted_at.new.budget) (datum_stop c.counted_at.result) (Some c.args.number) c.counted_at.ensures.spent
 
 pub collection_walk::listed_at-returns-clause-spent : goal.collection_walk::listed_at-returns-clause-spent
-collection_walk::listed_at-returns-clause-spent t c =
-    list_ends c.args.scene.now c.args.place c.stop_of-own_stop.result c.loop-at.at None c.args.left.now c.args.budget.now c.loop-at.budget c.loop-at.invariant c.loop-at-test.false
+collection_walk::listed_at-returns-clause-spent g t c =
+    list_ends c.args.scene.now c.args.place c.stop_of-own_stop.result c.loop-at.at None c.args.left.now (g.B.Counting.left c.args.budget.now) (g.B.Counting.left c.loop-at.budget) c.loop-at.invariant c.loop-at-test.false
 
 pub collection_walk::listed_at-returns-then-not-take_item-clause-spent : goal.collection_walk::listed_at-returns-then-not-take_item-clause-spent
-collection_walk::listed_at-returns-then-not-take_item-clause-spent t c =
-    list_is_costly c.args.scene.now c.args.place c.stop_of-own_stop.result c.loop-at.at None c.args.left.now c.args.budget.now c.loop-at.budget c.loop-at.invariant c.loop-at-test.true (subst (λ (b : Bool). IsTaken b c.loop-at.budget c.take_item.new.budget (item_cost (environment_of c.args.scene.now))) c.if-not-take_item.true c.take_item.ensures) c.take_item.new.budget
+collection_walk::listed_at-returns-then-not-take_item-clause-spent g t c =
+    list_is_costly c.args.scene.now c.args.place c.stop_of-own_stop.result c.loop-at.at None c.args.left.now (g.B.Counting.left c.args.budget.now) (g.B.Counting.left c.loop-at.budget) c.loop-at.invariant c.loop-at-test.true (subst (λ (b : Bool). IsTaken b (g.B.Counting.left c.loop-at.budget) (g.B.Counting.left c.take_item.new.budget) (item_cost (environment_of c.args.scene.now))) c.if-not-take_item.true c.take_item.ensures) (g.B.Counting.left c.take_item.new.budget)
 
 pub collection_walk::listed_at-returns-in-Err-clause-spent : goal.collection_walk::listed_at-returns-in-Err-clause-spent
-collection_walk::listed_at-returns-in-Err-clause-spent t c =
-    item_stops c.args.scene.now c.args.place c.stop_of-own_stop.result c.loop-at.at None c.args.left.now c.args.budget.now c.loop-at.budget c.loop-at.invariant c.take_item.new.budget c.counted_at.new.budget (subst (λ (b : Bool). IsTaken b c.loop-at.budget c.take_item.new.budget (item_cost (environment_of c.args.scene.now))) c.if-not-take_item.false c.take_item.ensures) c.ends_once.ensures c.loop-at-test.true c.in-Err.stop (datum_item_faults c.args.scene.now c.loop-at.at c.in-Err.stop c.in-Err.ensures.answers) (item_spends c.args.scene.now c.loop-at.at c.take_item.new.budget c.counted_at.new.budget (Some c.in-Err.stop) None c.in-Err.ensures.spent)
+collection_walk::listed_at-returns-in-Err-clause-spent g t c =
+    item_stops c.args.scene.now c.args.place c.stop_of-own_stop.result c.loop-at.at None c.args.left.now (g.B.Counting.left c.args.budget.now) (g.B.Counting.left c.loop-at.budget) c.loop-at.invariant (g.B.Counting.left c.take_item.new.budget) (g.B.Counting.left c.counted_at.new.budget) (subst (λ (b : Bool). IsTaken b (g.B.Counting.left c.loop-at.budget) (g.B.Counting.left c.take_item.new.budget) (item_cost (environment_of c.args.scene.now))) c.if-not-take_item.false c.take_item.ensures) c.ends_once.ensures c.loop-at-test.true c.in-Err.stop (datum_item_faults c.args.scene.now c.loop-at.at c.in-Err.stop c.in-Err.ensures.answers) (item_spends c.args.scene.now c.loop-at.at (g.B.Counting.left c.take_item.new.budget) (g.B.Counting.left c.counted_at.new.budget) (Some c.in-Err.stop) None c.in-Err.ensures.spent)
 
 pub collection_walk::listed_at-returns-then-compare-clause-spent : goal.collection_walk::listed_at-returns-then-compare-clause-spent
-collection_walk::listed_at-returns-then-compare-clause-spent t c =
-    item_ends c.args.scene.now c.args.place c.stop_of-own_stop.result c.loop-at.at None c.args.left.now c.args.budget.now c.loop-at.budget c.loop-at.invariant c.take_item.new.budget c.counted_at.new.budget (subst (λ (b : Bool). IsTaken b c.loop-at.budget c.take_item.new.budget (item_cost (environment_of c.args.scene.now))) c.if-not-take_item.false c.take_item.ensures)
-    (equal_due c.args.scene.now c.args.place c.stop_of-own_stop.result c.loop-at.at (Takes c.args.budget.now c.loop-at.budget) None c.args.left.now c.loop-at.invariant c.trees_have_one_type.ensures c.in-Ok.item (alone_answers c.args.scene.now c.loop-at.at (λ type. Some (gives (datum_val (reading_at (slots_of c.args.scene.now.row.schema) type) c.in-Ok.item))) c.in-Ok.ensures.answers) c.loop-at-test.true c.ends_once.ensures c.compare.result c.compare.ensures c.if-compare.true)
-    (item_spends c.args.scene.now c.loop-at.at c.take_item.new.budget c.counted_at.new.budget None None c.in-Ok.ensures.spent)
+collection_walk::listed_at-returns-then-compare-clause-spent g t c =
+    item_ends c.args.scene.now c.args.place c.stop_of-own_stop.result c.loop-at.at None c.args.left.now (g.B.Counting.left c.args.budget.now) (g.B.Counting.left c.loop-at.budget) c.loop-at.invariant (g.B.Counting.left c.take_item.new.budget) (g.B.Counting.left c.counted_at.new.budget) (subst (λ (b : Bool). IsTaken b (g.B.Counting.left c.loop-at.budget) (g.B.Counting.left c.take_item.new.budget) (item_cost (environment_of c.args.scene.now))) c.if-not-take_item.false c.take_item.ensures)
+    (equal_due c.args.scene.now c.args.place c.stop_of-own_stop.result c.loop-at.at (Takes (g.B.Counting.left c.args.budget.now) (g.B.Counting.left c.loop-at.budget)) None c.args.left.now c.loop-at.invariant c.trees_have_one_type.ensures c.in-Ok.item (alone_answers c.args.scene.now c.loop-at.at (λ type. Some (gives (datum_val (reading_at (slots_of c.args.scene.now.row.schema) type) c.in-Ok.item))) c.in-Ok.ensures.answers) c.loop-at-test.true c.ends_once.ensures c.compare.result c.compare.ensures c.if-compare.true)
+    (item_spends c.args.scene.now c.loop-at.at (g.B.Counting.left c.take_item.new.budget) (g.B.Counting.left c.counted_at.new.budget) None None c.in-Ok.ensures.spent)
 
 pub paired_walk::numbered_at-returns-clause-spent : goal.paired_walk::numbered_at-returns-clause-spent
-paired_walk::numbered_at-returns-clause-spent t c =
-    list_ends c.args.scene.now c.args.place c.stop_of-own_stop.result c.loop-at.at (Some c.loop-at.number) c.args.left.now c.args.budget.now c.loop-at.budget c.loop-at.invariant c.loop-at-test.false
+paired_walk::numbered_at-returns-clause-spent g t c =
+    list_ends c.args.scene.now c.args.place c.stop_of-own_stop.result c.loop-at.at (Some c.loop-at.number) c.args.left.now (g.B.Counting.left c.args.budget.now) (g.B.Counting.left c.loop-at.budget) c.loop-at.invariant c.loop-at-test.false
 
 pub paired_walk::numbered_at-returns-then-not-take_item-clause-spent : goal.paired_walk::numbered_at-returns-then-not-take_item-clause-spent
-paired_walk::numbered_at-returns-then-not-take_item-clause-spent t c =
-    list_is_costly c.args.scene.now c.args.place c.stop_of-own_stop.result c.loop-at.at (Some c.loop-at.number) c.args.left.now c.args.budget.now c.loop-at.budget c.loop-at.invariant c.loop-at-test.true (subst (λ (b : Bool). IsTaken b c.loop-at.budget c.take_item.new.budget (item_cost (environment_of c.args.scene.now))) c.if-not-take_item.true c.take_item.ensures) c.take_item.new.budget
+paired_walk::numbered_at-returns-then-not-take_item-clause-spent g t c =
+    list_is_costly c.args.scene.now c.args.place c.stop_of-own_stop.result c.loop-at.at (Some c.loop-at.number) c.args.left.now (g.B.Counting.left c.args.budget.now) (g.B.Counting.left c.loop-at.budget) c.loop-at.invariant c.loop-at-test.true (subst (λ (b : Bool). IsTaken b (g.B.Counting.left c.loop-at.budget) (g.B.Counting.left c.take_item.new.budget) (item_cost (environment_of c.args.scene.now))) c.if-not-take_item.true c.take_item.ensures) (g.B.Counting.left c.take_item.new.budget)
 
 pub paired_walk::numbered_at-returns-in-Err-clause-spent : goal.paired_walk::numbered_at-returns-in-Err-clause-spent
-paired_walk::numbered_at-returns-in-Err-clause-spent t c =
-    item_stops c.args.scene.now c.args.place c.stop_of-own_stop.result c.loop-at.at (Some c.loop-at.number) c.args.left.now c.args.budget.now c.loop-at.budget c.loop-at.invariant c.take_item.new.budget c.numbered_item_at.new.budget (subst (λ (b : Bool). IsTaken b c.loop-at.budget c.take_item.new.budget (item_cost (environment_of c.args.scene.now))) c.if-not-take_item.false c.take_item.ensures) c.ends_once.ensures c.loop-at-test.true c.in-Err.stop (item_faults_of c.args.scene.now c.loop-at.at (Some c.loop-at.number) c.in-Err.stop c.in-Err.ensures.answers) c.in-Err.ensures.spent
+paired_walk::numbered_at-returns-in-Err-clause-spent g t c =
+    item_stops c.args.scene.now c.args.place c.stop_of-own_stop.result c.loop-at.at (Some c.loop-at.number) c.args.left.now (g.B.Counting.left c.args.budget.now) (g.B.Counting.left c.loop-at.budget) c.loop-at.invariant (g.B.Counting.left c.take_item.new.budget) (g.B.Counting.left c.numbered_item_at.new.budget) (subst (λ (b : Bool). IsTaken b (g.B.Counting.left c.loop-at.budget) (g.B.Counting.left c.take_item.new.budget) (item_cost (environment_of c.args.scene.now))) c.if-not-take_item.false c.take_item.ensures) c.ends_once.ensures c.loop-at-test.true c.in-Err.stop (item_faults_of c.args.scene.now c.loop-at.at (Some c.loop-at.number) c.in-Err.stop c.in-Err.ensures.answers) c.in-Err.ensures.spent
 
 pub paired_walk::numbered_at-returns-then-compare-clause-spent : goal.paired_walk::numbered_at-returns-then-compare-clause-spent
-paired_walk::numbered_at-returns-then-compare-clause-spent t c =
-    item_ends c.args.scene.now c.args.place c.stop_of-own_stop.result c.loop-at.at (Some c.loop-at.number) c.args.left.now c.args.budget.now c.loop-at.budget c.loop-at.invariant c.take_item.new.budget c.numbered_item_at.new.budget (subst (λ (b : Bool). IsTaken b c.loop-at.budget c.take_item.new.budget (item_cost (environment_of c.args.scene.now))) c.if-not-take_item.false c.take_item.ensures)
-    (equal_due c.args.scene.now c.args.place c.stop_of-own_stop.result c.loop-at.at (Takes c.args.budget.now c.loop-at.budget) (Some c.loop-at.number) c.args.left.now c.loop-at.invariant c.trees_have_one_type.ensures c.in-Ok.item c.in-Ok.ensures.answers c.loop-at-test.true c.ends_once.ensures c.compare.result c.compare.ensures c.if-compare.true)
+paired_walk::numbered_at-returns-then-compare-clause-spent g t c =
+    item_ends c.args.scene.now c.args.place c.stop_of-own_stop.result c.loop-at.at (Some c.loop-at.number) c.args.left.now (g.B.Counting.left c.args.budget.now) (g.B.Counting.left c.loop-at.budget) c.loop-at.invariant (g.B.Counting.left c.take_item.new.budget) (g.B.Counting.left c.numbered_item_at.new.budget) (subst (λ (b : Bool). IsTaken b (g.B.Counting.left c.loop-at.budget) (g.B.Counting.left c.take_item.new.budget) (item_cost (environment_of c.args.scene.now))) c.if-not-take_item.false c.take_item.ensures)
+    (equal_due c.args.scene.now c.args.place c.stop_of-own_stop.result c.loop-at.at (Takes (g.B.Counting.left c.args.budget.now) (g.B.Counting.left c.loop-at.budget)) (Some c.loop-at.number) c.args.left.now c.loop-at.invariant c.trees_have_one_type.ensures c.in-Ok.item c.in-Ok.ensures.answers c.loop-at-test.true c.ends_once.ensures c.compare.result c.compare.ensures c.if-compare.true)
     c.in-Ok.ensures.spent

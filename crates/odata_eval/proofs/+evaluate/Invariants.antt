@@ -8,152 +8,155 @@ use Rattle.odata_eval.proofs.+evaluate.Given as goal
 
 -- what is left of the list counts first, and at one index the order of the calls
 abbrev pub decreases-number_walk::number_operand_at : goal.decreases-number_walk::number_operand_at
-decreases-number_walk::number_operand_at l = 16 * (length l.scene.now.list.nodes - l.place) + 15
+decreases-number_walk::number_operand_at g l = 16 * (length l.scene.now.list.nodes - l.place) + 15
 
 abbrev pub decreases-number_walk::made_number_at : goal.decreases-number_walk::made_number_at
-decreases-number_walk::made_number_at l = 16 * (length l.scene.now.list.nodes - l.place) + 14
+decreases-number_walk::made_number_at g l = 16 * (length l.scene.now.list.nodes - l.place) + 14
 
 abbrev pub decreases-walk::operand_at : goal.decreases-walk::operand_at
-decreases-walk::operand_at l = 16 * (length l.scene.now.list.nodes - l.place) + 13
+decreases-walk::operand_at g l = 16 * (length l.scene.now.list.nodes - l.place) + 13
+
+abbrev pub decreases-walk::bottom_at : goal.decreases-walk::bottom_at
+decreases-walk::bottom_at g l = 16 * (length l.scene.now.list.nodes - l.place) + 13
 
 abbrev pub decreases-walk::counted_at : goal.decreases-walk::counted_at
-decreases-walk::counted_at l = 16 * (length l.scene.now.list.nodes - l.place) + 12
+decreases-walk::counted_at g l = 16 * (length l.scene.now.list.nodes - l.place) + 12
 
 abbrev pub decreases-walk::side_at : goal.decreases-walk::side_at
-decreases-walk::side_at l = 16 * (length l.scene.now.list.nodes - l.place) + 12
+decreases-walk::side_at g l = 16 * (length l.scene.now.list.nodes - l.place) + 12
 
 abbrev pub decreases-walk::truth_at : goal.decreases-walk::truth_at
-decreases-walk::truth_at l = 16 * (length l.scene.now.list.nodes - l.place) + 11
+decreases-walk::truth_at g l = 16 * (length l.scene.now.list.nodes - l.place) + 11
 
 abbrev pub decreases-walk::plain_truth_at : goal.decreases-walk::plain_truth_at
-decreases-walk::plain_truth_at l = 16 * (length l.scene.now.list.nodes - l.place) + 10
+decreases-walk::plain_truth_at g l = 16 * (length l.scene.now.list.nodes - l.place) + 10
 
 abbrev pub decreases-walk::numbers_truth_at : goal.decreases-walk::numbers_truth_at
-decreases-walk::numbers_truth_at l = 16 * (length l.scene.now.list.nodes - l.place) + 8
+decreases-walk::numbers_truth_at g l = 16 * (length l.scene.now.list.nodes - l.place) + 8
 
 abbrev pub decreases-walk::compared_truth_at : goal.decreases-walk::compared_truth_at
-decreases-walk::compared_truth_at l = 16 * (length l.scene.now.list.nodes - l.place) + 9
+decreases-walk::compared_truth_at g l = 16 * (length l.scene.now.list.nodes - l.place) + 9
 
 abbrev pub decreases-walk::called_truth_at : goal.decreases-walk::called_truth_at
-decreases-walk::called_truth_at l = 16 * (length l.scene.now.list.nodes - l.place) + 9
+decreases-walk::called_truth_at g l = 16 * (length l.scene.now.list.nodes - l.place) + 9
 
 abbrev pub decreases-walk::numeric_truth_at : goal.decreases-walk::numeric_truth_at
-decreases-walk::numeric_truth_at l = 16 * (length l.scene.now.list.nodes - l.place) + 9
+decreases-walk::numeric_truth_at g l = 16 * (length l.scene.now.list.nodes - l.place) + 9
 
 abbrev pub decreases-walk::made_truth_at : goal.decreases-walk::made_truth_at
-decreases-walk::made_truth_at l = 16 * (length l.scene.now.list.nodes - l.place) + 7
+decreases-walk::made_truth_at g l = 16 * (length l.scene.now.list.nodes - l.place) + 7
 
 abbrev pub decreases-number_walk::number_at : goal.decreases-number_walk::number_at
-decreases-number_walk::number_at l = 16 * (length l.scene.now.list.nodes - l.place) + 8
+decreases-number_walk::number_at g l = 16 * (length l.scene.now.list.nodes - l.place) + 8
 
 abbrev pub decreases-number_walk::number_chain_at : goal.decreases-number_walk::number_chain_at
-decreases-number_walk::number_chain_at l = 16 * (length l.scene.now.list.nodes - l.place) + 10
+decreases-number_walk::number_chain_at g l = 16 * (length l.scene.now.list.nodes - l.place) + 10
 
 abbrev pub decreases-number_walk::number_on_leaf_at : goal.decreases-number_walk::number_on_leaf_at
-decreases-number_walk::number_on_leaf_at l = 16 * (length l.scene.now.list.nodes - l.place) + 9
+decreases-number_walk::number_on_leaf_at g l = 16 * (length l.scene.now.list.nodes - l.place) + 9
 
 abbrev pub decreases-walk::eager_at : goal.decreases-walk::eager_at
-decreases-walk::eager_at l = 16 * (length l.scene.now.list.nodes - l.place) + 5
+decreases-walk::eager_at g l = 16 * (length l.scene.now.list.nodes - l.place) + 5
 
 abbrev pub decreases-walk::logical_at : goal.decreases-walk::logical_at
-decreases-walk::logical_at l = 16 * (length l.scene.now.list.nodes - l.place) + 4
+decreases-walk::logical_at g l = 16 * (length l.scene.now.list.nodes - l.place) + 4
 
 abbrev pub decreases-walk::made_at : goal.decreases-walk::made_at
-decreases-walk::made_at l = 16 * (length l.scene.now.list.nodes - l.place) + 4
+decreases-walk::made_at g l = 16 * (length l.scene.now.list.nodes - l.place) + 4
 
 abbrev pub decreases-number_walk::numeric_at : goal.decreases-number_walk::numeric_at
-decreases-number_walk::numeric_at l = 16 * (length l.scene.now.list.nodes - l.place) + 4
+decreases-number_walk::numeric_at g l = 16 * (length l.scene.now.list.nodes - l.place) + 4
 
 abbrev pub decreases-number_walk::calculated_at : goal.decreases-number_walk::calculated_at
-decreases-number_walk::calculated_at l = 16 * (length l.scene.now.list.nodes - l.place) + 3
+decreases-number_walk::calculated_at g l = 16 * (length l.scene.now.list.nodes - l.place) + 3
 
 abbrev pub decreases-walk::compared_at : goal.decreases-walk::compared_at
-decreases-walk::compared_at l = 16 * (length l.scene.now.list.nodes - l.place) + 3
+decreases-walk::compared_at g l = 16 * (length l.scene.now.list.nodes - l.place) + 3
 
 abbrev pub decreases-walk::called_at : goal.decreases-walk::called_at
-decreases-walk::called_at l = 16 * (length l.scene.now.list.nodes - l.place) + 3
+decreases-walk::called_at g l = 16 * (length l.scene.now.list.nodes - l.place) + 3
 
 abbrev pub decreases-collection_walk::flags_at : goal.decreases-collection_walk::flags_at
-decreases-collection_walk::flags_at l = 16 * (length l.scene.now.list.nodes - l.place) + 3
+decreases-collection_walk::flags_at g l = 16 * (length l.scene.now.list.nodes - l.place) + 3
 
 abbrev pub decreases-collection_walk::among_at : goal.decreases-collection_walk::among_at
-decreases-collection_walk::among_at l = 16 * (length l.scene.now.list.nodes - l.place) + 3
+decreases-collection_walk::among_at g l = 16 * (length l.scene.now.list.nodes - l.place) + 3
 
 abbrev pub decreases-collection_walk::listed_at : goal.decreases-collection_walk::listed_at
-decreases-collection_walk::listed_at l = 16 * (length l.scene.now.list.nodes - l.place) + 3
+decreases-collection_walk::listed_at g l = 16 * (length l.scene.now.list.nodes - l.place) + 3
 
 abbrev pub decreases-walk::connected_at : goal.decreases-walk::connected_at
-decreases-walk::connected_at l = 16 * (length l.scene.now.list.nodes - l.place) + 3
+decreases-walk::connected_at g l = 16 * (length l.scene.now.list.nodes - l.place) + 3
 
 abbrev pub decreases-lambda_walk::lambda_at : goal.decreases-lambda_walk::lambda_at
-decreases-lambda_walk::lambda_at l = 16 * (length l.scene.now.list.nodes - l.place) + 3
+decreases-lambda_walk::lambda_at g l = 16 * (length l.scene.now.list.nodes - l.place) + 3
 
 abbrev pub decreases-lambda_walk::members_at : goal.decreases-lambda_walk::members_at
-decreases-lambda_walk::members_at l = 16 * (length l.scene.now.list.nodes - l.body.place) + 13
+decreases-lambda_walk::members_at g l = 16 * (length l.scene.now.list.nodes - l.body.place) + 13
 
 abbrev pub invariant-walk::truth_at-loop-at : goal.invariant-walk::truth_at-loop-at
-invariant-walk::truth_at-loop-at l = record {
+invariant-walk::truth_at-loop-at g l = record {
   above : l.place ≤ l.at;
   within : l.at ≤ l.bottom;
   answers : CountedTruth l.scene l.at l.answer;
-  spent : SpendsAt l.scene l.at l.fn.budget l.budget (stopped_by l.answer);
+  spent : SpendsAt l.scene l.at (g.B.Counting.left l.fn.budget) (g.B.Counting.left l.budget) (stopped_by l.answer);
 }
 
 abbrev pub decreases-walk::truth_at-loop-at : goal.decreases-walk::truth_at-loop-at
-decreases-walk::truth_at-loop-at l = l.at
+decreases-walk::truth_at-loop-at g l = l.at
 
 abbrev pub invariant-number_walk::number_at-loop-at : goal.invariant-number_walk::number_at-loop-at
-invariant-number_walk::number_at-loop-at l = record {
+invariant-number_walk::number_at-loop-at g l = record {
   above : l.place ≤ l.at;
   within : l.at ≤ l.bottom;
   answers : AnswersNumber l.scene l.at l.answer;
 }
 
 abbrev pub decreases-number_walk::number_at-loop-at : goal.decreases-number_walk::number_at-loop-at
-decreases-number_walk::number_at-loop-at l = l.at
+decreases-number_walk::number_at-loop-at g l = l.at
 
 abbrev pub invariant-walk::eager_at-loop-at : goal.invariant-walk::eager_at-loop-at
-invariant-walk::eager_at-loop-at l = record {
+invariant-walk::eager_at-loop-at g l = record {
   above : l.place ≤ l.at;
   within : l.at ≤ l.bottom;
   answers : CountedDatum l.scene l.at l.answer;
-  spent : SpendsAt l.scene l.at l.fn.budget l.budget (datum_stop l.answer);
+  spent : SpendsAt l.scene l.at (g.B.Counting.left l.fn.budget) (g.B.Counting.left l.budget) (datum_stop l.answer);
 }
 
 abbrev pub decreases-walk::eager_at-loop-at : goal.decreases-walk::eager_at-loop-at
-decreases-walk::eager_at-loop-at l = l.at
+decreases-walk::eager_at-loop-at g l = l.at
 
 -- the items before the index are none that is equal
 abbrev pub invariant-collection_walk::listed_at-loop-at : goal.invariant-collection_walk::listed_at-loop-at
-invariant-collection_walk::listed_at-loop-at l = ListLeft l.scene l.place l.own_stop l.at (Takes l.fn.budget l.budget) None l.left
+invariant-collection_walk::listed_at-loop-at g l = ListLeft l.scene l.place l.own_stop l.at (Takes (g.B.Counting.left l.fn.budget) (g.B.Counting.left l.budget)) None l.left
 
 abbrev pub decreases-collection_walk::listed_at-loop-at : goal.decreases-collection_walk::listed_at-loop-at
-decreases-collection_walk::listed_at-loop-at l = l.own_stop - l.at
+decreases-collection_walk::listed_at-loop-at g l = l.own_stop - l.at
 
 abbrev pub decreases-paired_walk::compared_left_at : goal.decreases-paired_walk::compared_left_at
-decreases-paired_walk::compared_left_at l = 16 * (length l.scene.now.list.nodes - l.place) + 3
+decreases-paired_walk::compared_left_at g l = 16 * (length l.scene.now.list.nodes - l.place) + 3
 
 abbrev pub decreases-paired_walk::right_read_truth_at : goal.decreases-paired_walk::right_read_truth_at
-decreases-paired_walk::right_read_truth_at l = 16 * (length l.scene.now.list.nodes - l.place) + 9
+decreases-paired_walk::right_read_truth_at g l = 16 * (length l.scene.now.list.nodes - l.place) + 9
 
 abbrev pub decreases-paired_walk::left_read_truth_at : goal.decreases-paired_walk::left_read_truth_at
-decreases-paired_walk::left_read_truth_at l = 16 * (length l.scene.now.list.nodes - l.place) + 9
+decreases-paired_walk::left_read_truth_at g l = 16 * (length l.scene.now.list.nodes - l.place) + 9
 
 abbrev pub decreases-paired_walk::numbered_at : goal.decreases-paired_walk::numbered_at
-decreases-paired_walk::numbered_at l = 16 * (length l.scene.now.list.nodes - l.place) + 3
+decreases-paired_walk::numbered_at g l = 16 * (length l.scene.now.list.nodes - l.place) + 3
 
 abbrev pub decreases-paired_walk::numbered_item_at : goal.decreases-paired_walk::numbered_item_at
-decreases-paired_walk::numbered_item_at l = 16 * (length l.scene.now.list.nodes - l.place) + 13
+decreases-paired_walk::numbered_item_at g l = 16 * (length l.scene.now.list.nodes - l.place) + 13
 
 abbrev pub invariant-paired_walk::numbered_at-loop-at : goal.invariant-paired_walk::numbered_at-loop-at
-invariant-paired_walk::numbered_at-loop-at l = ListLeft l.scene l.place l.own_stop l.at (Takes l.fn.budget l.budget) (Some l.number) l.left
+invariant-paired_walk::numbered_at-loop-at g l = ListLeft l.scene l.place l.own_stop l.at (Takes (g.B.Counting.left l.fn.budget) (g.B.Counting.left l.budget)) (Some l.number) l.left
 
 abbrev pub decreases-paired_walk::numbered_at-loop-at : goal.decreases-paired_walk::numbered_at-loop-at
-decreases-paired_walk::numbered_at-loop-at l = l.own_stop - l.at
+decreases-paired_walk::numbered_at-loop-at g l = l.own_stop - l.at
 
 -- the members before the index are all undecided
 abbrev pub invariant-lambda_walk::members_at-loop-at : goal.invariant-lambda_walk::members_at-loop-at
-invariant-lambda_walk::members_at-loop-at l = record {
+invariant-lambda_walk::members_at-loop-at g l = record {
   left : MembersLeft l.scene l.body.place l.body.quantifier l.variable l.members l.at;
-  paid : MembersPaid l.scene l.body.place l.body.quantifier l.variable l.members l.at l.fn.budget l.budget;
+  paid : MembersPaid l.scene l.body.place l.body.quantifier l.variable l.members l.at (g.B.Counting.left l.fn.budget) (g.B.Counting.left l.budget);
 }

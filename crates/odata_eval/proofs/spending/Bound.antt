@@ -1,5 +1,5 @@
 -- What a bound allows of a whole filter, and that nothing is too costly without one.
-use Rattle.std.proofs.Common.{◌≡◌, ◌≤◌, ℕ, [], Option, Some, None, Result, Ok, Err, length, refl, sym, subst, arith}
+use Rattle.std.proofs.Common.{◌≡◌, ◌≤◌, ℕ, [], Option, Some, None, Result, Ok, Err, length, sym, subst, arith}
 use Rattle.edm_values.specs.MomentParts.{MomentParts}
 use Rattle.csdl_schema.specs.SchemaModel.{slots_of, type_name_at}
 use Rattle.edm_entities.specs.Row.{Row, value_of}
@@ -28,17 +28,6 @@ never_costly scene place part once new spends =
     let typed = has_type scene place part.stop part.tree part.stands in
     let cost = once part.tree typed.0 typed.1 in
     spends.of_tree part.stop part.tree cost.cost part.stands cost.related
-
--- and a budget that has no bound stays so
-left_unbounded : (n : ℕ) (new : Budget) → Takes Budget.Unbounded new n → new ≡ Budget.Unbounded
-left_unbounded n Budget.Unbounded takes = refl
-left_unbounded n (Budget.Left left) takes = absurd takes
-
-pub stays_unbounded : (scene : SceneModel) (place : ℕ) → PartStands scene place → CostsOnceHere scene → (old new : Budget) → old ≡ Budget.Unbounded → SpendsAt scene place old new None → new ≡ Budget.Unbounded
-stays_unbounded scene place part once old new is spends =
-    let typed = has_type scene place part.stop part.tree part.stands in
-    let cost = once part.tree typed.0 typed.1 in
-    left_unbounded cost.cost new (subst (λ (b : Budget). Takes b new cost.cost) is (spends.of_tree part.stop part.tree cost.cost part.stands cost.related))
 
 -- what was taken lies within the bound
 taken_within : (most n : ℕ) (new : Budget) → Takes (Budget.Left most) new n → n ≤ most

@@ -15,7 +15,7 @@ use Rattle.odata_syntax.specs.Tree.{Tree, binary, node, literal}
 use Rattle.odata_signatures.specs.declared.function.Function.{Function}
 use Rattle.odata_eval.specs.Costs.{RightCosts}
 use Rattle.odata_eval.specs.declared.part.WalkClass.{WalkClass}
-use Rattle.odata_eval.specs.private.KeptOperands.{IsMadeAt, IsPathAt}
+use Rattle.odata_eval.specs.private.KeptOperands.{IsPathAt}
 use Rattle.odata_eval.specs.private.Place.{HasKind, IsClassAt}
 use Rattle.odata_eval.specs.private.Scene.{MeansHere, StandsHere, TypedHere}
 use Rattle.odata_eval.specs.private.SceneModel.{SceneModel, environment_of}
@@ -133,11 +133,4 @@ module _ (scene : SceneModel) where
   path_free place is = elim is [
     | inl leaf ↦ leaf_free place leaf
     | inr step ↦ step_free place step.0 step.1 step.2
-  ]
-
-  -- what is made of kept values alone
-  pub made_free : (place : ℕ) → IsMadeAt scene.list place → FreeThere place
-  made_free place is = elim is [
-    | inl called ↦ called_free place called.0 called.1
-    | inr numeric ↦ numeric_free place numeric
   ]

@@ -41,6 +41,11 @@ pub some_weaker : {X : Type 0} {P Q : X → Type 0} (held : Option X) → ((x : 
 some_weaker (Some x) goes holds = goes x holds
 some_weaker None goes holds = tt
 
+-- what holds anyway
+pub some_always : {X P : Type 0} (held : Option X) → P → IfSome held (λ x. P)
+some_always (Some x) holds = holds
+some_always None holds = tt
+
 -- what is reported of a part is reported of the whole
 pub tells_there : (told : Option Outcome) (Part Whole : Type 0) (P Q : Outcome → Type 0) → (Part → Whole) → ((o : Outcome) → P o → Q o)
     → Tells Part P told → Tells Whole Q told

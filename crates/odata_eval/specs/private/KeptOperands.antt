@@ -8,7 +8,7 @@ use Rattle.odata_checked_filter.specs.declared.checked_node.NodeKind.{NodeKind}
 use Rattle.odata_filter_operations.specs.FunctionGives.{FunctionGives}
 use Rattle.odata_filter_operations.specs.Outcome.{Outcome, gives}
 use Rattle.odata_eval.specs.declared.part.WalkClass.{WalkClass}
-use Rattle.odata_eval.specs.private.Place.{HasCall, HasKind, IsClassAt}
+use Rattle.odata_eval.specs.private.Place.{HasKind, IsClassAt}
 use Rattle.odata_eval.specs.private.SceneModel.{SceneModel}
 use Rattle.odata_eval.specs.private.WalkAnswer.{AnswersAtPlace}
 
@@ -17,11 +17,6 @@ abbrev pub IsPathAt : FlatTree → ℕ → Type 0
 IsPathAt list place =
     IsClassAt list WalkClass.Leaf place
     ⊎ ((slot : ℕ) × HasKind list place (NodeKind.Member slot) × IsClassAt list WalkClass.Leaf (place + 1))
-
--- a call stands there, or a node of numbers
-abbrev pub IsMadeAt : FlatTree → ℕ → Type 0
-IsMadeAt list place =
-    ((function : Function) × HasCall list place function) ⊎ IsClassAt list WalkClass.Numeric place
 
 -- the text is what stands there evaluates to
 abbrev pub AnswersText : SceneModel → ℕ → List ℕ → Type 0

@@ -7,7 +7,7 @@ pub returns-in-Some-false : goal.returns-in-Some-false
 returns-in-Some-false c =
     let is : c.in-Some-false.field-0 ≡ false = cc in
     let term : AnswersTruth c.args.scene.now c.ands_end-ands.result (Ok (Some false)) =
-    subst (λ (b : Bool). AnswersTruth c.args.scene.now c.ands_end-ands.result (Ok (Some b))) is c.in-Some-false.ensures in
+    subst (λ (b : Bool). AnswersTruth c.args.scene.now c.ands_end-ands.result (Ok (Some b))) is c.in-Some-false.ensures.answers in
     decided_up c.args.scene.now c.ands_end-ands.result c.ands_end-ands.ensures.ands (Some false) tt c.ands_end-ands.result (omega arith) term
 
 pub returns-in-None : goal.returns-in-None
@@ -37,7 +37,7 @@ loop-at-preserved c =
     let above : 0 < l.at = omega arith in
     let is : c.in-Some-true-kept_truth_at.field-0 ≡ true = cc in
     let term : AnswersTruth c.args.scene.now c.right_of-term.result (Ok (Some true)) =
-    subst (λ (b : Bool). AnswersTruth c.args.scene.now c.right_of-term.result (Ok (Some b))) is c.in-Some-true-kept_truth_at.ensures in
+    subst (λ (b : Bool). AnswersTruth c.args.scene.now c.right_of-term.result (Ok (Some b))) is c.in-Some-true-kept_truth_at.ensures.answers in
     let within : l.at ≤ c.ands_end-ands.result = l.invariant.within in
     record {
       within = omega arith;
@@ -50,7 +50,7 @@ returns-in-Some-false-kept_truth_at c =
     let above : 0 < l.at = omega arith in
     let is : c.in-Some-false-kept_truth_at.field-0 ≡ false = cc in
     let term : AnswersTruth c.args.scene.now c.right_of-term.result (Ok (Some false)) =
-    subst (λ (b : Bool). AnswersTruth c.args.scene.now c.right_of-term.result (Ok (Some b))) is c.in-Some-false-kept_truth_at.ensures in
+    subst (λ (b : Bool). AnswersTruth c.args.scene.now c.right_of-term.result (Ok (Some b))) is c.in-Some-false-kept_truth_at.ensures.answers in
     false_answers c.args.scene.now c.ands_end-ands.result c.ands_end-ands.ensures.ands c.requires.stands l.at above l.invariant.within c.right_of-term.result c.right_of-term.ensures (Some true) (λ none. none) l.invariant.answers term
 
 pub returns-in-None-kept_truth_at : goal.returns-in-None-kept_truth_at

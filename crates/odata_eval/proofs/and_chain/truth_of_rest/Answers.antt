@@ -7,7 +7,7 @@ use Rattle.odata_eval.proofs.walking.AndChains.{decided_up, false_answers, fault
 use Rattle.odata_eval.proofs.and_chain.truth_of_rest.Goals as goal
 
 pub returns-in-Err : goal.returns-in-Err
-returns-in-Err c = fault_up c.args.scene.now c.args.rest.ands c.requires.rest.ands c.args.rest.ands (omega arith) c.in-Err.fault (c.requires.rest.goes_up (Err c.in-Err.fault) c.in-Err.ensures.answers)
+returns-in-Err c = fault_up c.args.scene.now c.args.rest.ands c.requires.rest.ands c.args.rest.ands (omega arith) c.in-Err.fault (c.requires.rest.goes_up (Err c.in-Err.fault) c.in-Err.ensures)
 
 pub returns-then-decides : goal.returns-then-decides
 returns-then-decides c =
@@ -34,7 +34,6 @@ term_at-requires-in-None c =
     let above : 0 < l.at = omega arith in
     record {
       stands = term_stands c.args.scene.now c.args.rest.ands c.requires.rest.ands c.requires.stands l.at above l.invariant.within c.right_of-right_place.result c.right_of-right_place.ensures;
-      unbounded = l.invariant.unbounded;
     }
 
 pub loop-at-preserved-in-Some-true : goal.loop-at-preserved-in-Some-true
@@ -43,12 +42,11 @@ loop-at-preserved-in-Some-true c =
     let above : 0 < l.at = omega arith in
     let is : c.in-Some-true.field-0 ≡ true = cc in
     let term : AnswersTruth c.args.scene.now c.right_of-right_place.result (Ok (Some true)) =
-    subst (λ (b : Bool). AnswersTruth c.args.scene.now c.right_of-right_place.result (Ok (Some b))) is c.in-Some-true.ensures in
+    subst (λ (b : Bool). AnswersTruth c.args.scene.now c.right_of-right_place.result (Ok (Some b))) is c.in-Some-true.ensures.answers in
     let within : l.at ≤ c.args.rest.ands = l.invariant.within in
     record {
       within = omega arith;
       answers = true_answers c.args.scene.now c.args.rest.ands c.requires.rest.ands c.requires.stands l.at above l.invariant.within c.right_of-right_place.result c.right_of-right_place.ensures l.left (told_not c.decides.result (IsDecided LogicalOperator.And (truth_val l.left)) c.decides.ensures c.if-decides.false) l.invariant.answers term;
-      unbounded = l.invariant.unbounded;
     }
 
 pub returns-in-Some-false : goal.returns-in-Some-false
@@ -57,7 +55,7 @@ returns-in-Some-false c =
     let above : 0 < l.at = omega arith in
     let is : c.in-Some-false.field-0 ≡ false = cc in
     let term : AnswersTruth c.args.scene.now c.right_of-right_place.result (Ok (Some false)) =
-    subst (λ (b : Bool). AnswersTruth c.args.scene.now c.right_of-right_place.result (Ok (Some b))) is c.in-Some-false.ensures in
+    subst (λ (b : Bool). AnswersTruth c.args.scene.now c.right_of-right_place.result (Ok (Some b))) is c.in-Some-false.ensures.answers in
     false_answers c.args.scene.now c.args.rest.ands c.requires.rest.ands c.requires.stands l.at above l.invariant.within c.right_of-right_place.result c.right_of-right_place.ensures l.left (told_not c.decides.result (IsDecided LogicalOperator.And (truth_val l.left)) c.decides.ensures c.if-decides.false) l.invariant.answers term
 
 pub loop-at-preserved : goal.loop-at-preserved
@@ -68,12 +66,11 @@ loop-at-preserved c =
     record {
       within = omega arith;
       answers = subst (λ (r : Option Bool). AnswersTruth c.args.scene.now (l.at - 1) (Ok r)) (sym c.join-left.ensures)
-          (next_answers c.args.scene.now c.args.rest.ands c.requires.rest.ands c.requires.stands l.at above l.invariant.within c.right_of-right_place.result c.right_of-right_place.ensures l.left (told_not c.decides.result (IsDecided LogicalOperator.And (truth_val l.left)) c.decides.ensures c.if-decides.false) l.invariant.answers c.in-Ok-term_at.right c.in-Ok-term_at.ensures.answers);
-      unbounded = c.in-Ok-term_at.ensures.unbounded;
+          (next_answers c.args.scene.now c.args.rest.ands c.requires.rest.ands c.requires.stands l.at above l.invariant.within c.right_of-right_place.result c.right_of-right_place.ensures l.left (told_not c.decides.result (IsDecided LogicalOperator.And (truth_val l.left)) c.decides.ensures c.if-decides.false) l.invariant.answers c.in-Ok-term_at.right c.in-Ok-term_at.ensures);
     }
 
 pub returns-in-Err-term_at : goal.returns-in-Err-term_at
 returns-in-Err-term_at c =
     let l = c.loop-at in
     let above : 0 < l.at = omega arith in
-    fault_answers c.args.scene.now c.args.rest.ands c.requires.rest.ands c.requires.stands l.at above l.invariant.within c.right_of-right_place.result c.right_of-right_place.ensures l.left (told_not c.decides.result (IsDecided LogicalOperator.And (truth_val l.left)) c.decides.ensures c.if-decides.false) l.invariant.answers c.in-Err-term_at.fault c.in-Err-term_at.ensures.answers
+    fault_answers c.args.scene.now c.args.rest.ands c.requires.rest.ands c.requires.stands l.at above l.invariant.within c.right_of-right_place.result c.right_of-right_place.ensures l.left (told_not c.decides.result (IsDecided LogicalOperator.And (truth_val l.left)) c.decides.ensures c.if-decides.false) l.invariant.answers c.in-Err-term_at.fault c.in-Err-term_at.ensures

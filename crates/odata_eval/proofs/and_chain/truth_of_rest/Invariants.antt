@@ -1,5 +1,4 @@
 use Rattle.std.proofs.Common.{◌≡◌, ◌≤◌, Ok}
-use Rattle.odata_eval.specs.declared.budget.Budget.{Budget}
 use Rattle.odata_eval.specs.private.WalkAnswer.{AnswersTruth}
 use Rattle.odata_eval.proofs.and_chain.truth_of_rest.Given as goal
 
@@ -7,7 +6,6 @@ abbrev pub invariant-loop-at : goal.invariant-loop-at
 invariant-loop-at l = record {
   within : l.at ≤ l.fn.rest.ands;
   answers : AnswersTruth l.scene l.at (Ok l.left);
-  unbounded : l.unbounded ≡ Budget.Unbounded;
 }
 
 abbrev pub decreases-loop-at : goal.decreases-loop-at

@@ -1,84 +1,42 @@
-use Rattle.std.proofs.Common.{◌≡◌, ◌+◌, None, arith, slice_get}
+use Rattle.std.proofs.Common.{◌≡◌, ◌<◌, ◌+◌, length, rules, slice_get}
 use Rattle.odata_checked_filter.specs.declared.checked_node.CheckedNode.{CheckedNode}
 use Rattle.odata_checked_filter.specs.declared.checked_node.NodeKind.{NodeKind}
 use Rattle.odata_syntax.specs.declared.binary_operator.BinaryOperator.{BinaryOperator}
-use Rattle.odata_eval.proofs.spending.Budgets.{takes_nothing}
-use Rattle.odata_eval.proofs.spending.Free.{made_free, path_free, step_free}
-use Rattle.odata_eval.proofs.spending.Rests.{free_spends}
-use Rattle.odata_eval.proofs.spending.Wholes.{both_free}
 use Rattle.odata_eval.proofs.walking.AndChains.{left_side}
-use Rattle.odata_eval.proofs.walking.Compared.{kept_compared, may_compare_kept, numbers_compared}
 use Rattle.odata_eval.proofs.walking.Parts.{part_inside, there_found}
-use Rattle.odata_eval.proofs.walking.Spines.{right_further, right_part, right_there}
 use Rattle.odata_eval.proofs.kept_operands.kept_compared_at.Goals as goal
-
-pub right_of-right_place-requires : goal.right_of-right_place-requires
-right_of-right_place-requires c = right_there c.args.scene.now c.args.place (BinaryOperator.Comparison c.args.comparison) c.requires.here c.requires.stands
 
 pub overflow_add-place : goal.overflow_add-place
 overflow_add-place c =
-    let behind = right_further c.args.scene.now c.args.place (BinaryOperator.Comparison c.args.comparison) c.requires.here c.requires.stands c.right_of-right_place.result c.right_of-right_place.ensures in
-    omega (arith, behind, c.right_of-right_place.type_inv)
-
-pub overflow_add-place-in-Member : goal.overflow_add-place-in-Member
-overflow_add-place-in-Member c =
-    let behind = right_further c.args.scene.now c.args.place (BinaryOperator.Comparison c.args.comparison) c.requires.here c.requires.stands c.right_of-right_place.result c.right_of-right_place.ensures in
-    omega (arith, behind, c.right_of-right_place.type_inv)
-
-pub overflow_add-place-2 : goal.overflow_add-place-2
-overflow_add-place-2 c =
-    let behind = right_further c.args.scene.now c.args.place (BinaryOperator.Comparison c.args.comparison) c.requires.here c.requires.stands c.right_of-right_place.result c.right_of-right_place.ensures in
-    omega (arith, behind, c.right_of-right_place.type_inv)
+    let within : c.args.place < length c.args.scene.now.list.nodes = part_inside c.args.scene.now c.args.place c.requires.stands in
+    let same = c.nodes-nodes.ensures in
+    search rules
 
 pub node-requires : goal.node-requires
 node-requires c = part_inside c.args.scene.now (c.args.place + 1) (left_side c.args.scene.now c.args.place (BinaryOperator.Comparison c.args.comparison) c.requires.here c.requires.stands)
 
-pub step_at-requires : goal.step_at-requires
-step_at-requires c = record {
-  stands = left_side c.args.scene.now c.args.place (BinaryOperator.Comparison c.args.comparison) c.requires.here c.requires.stands;
-  here = there_found (λ (f : CheckedNode). f.kind ≡ NodeKind.Member c.in-Member.slot) (slice_get c.args.scene.now.list.nodes (c.args.place + 1)) c.node.result.now c.node.ensures c.in-Member.is;
+pub step_compared_at-requires : goal.step_compared_at-requires
+step_compared_at-requires c = record {
+  stands = c.requires.stands;
+  here = c.requires.here;
+  step = there_found (λ (f : CheckedNode). f.kind ≡ NodeKind.Member c.in-Member.slot) (slice_get c.args.scene.now.list.nodes (c.args.place + 1)) c.node.result.now c.node.ensures c.in-Member.is;
 }
 
-pub kept_at-requires : goal.kept_at-requires
-kept_at-requires c = right_part c.args.scene.now c.args.place (BinaryOperator.Comparison c.args.comparison) c.requires.here c.requires.stands c.right_of-right_place.result c.right_of-right_place.ensures
-
-pub compare_kept-requires : goal.compare_kept-requires
-compare_kept-requires c =
-    let here = c.requires.here in
-    may_compare_kept c.args.scene.now c.args.place c.args.comparison here c.right_of-right_place.result c.right_of-right_place.ensures c.in-Some.left.now c.in-Some-kept_at.right.now
-    c.in-Some.ensures.answers c.in-Some-kept_at.ensures.answers c.ends_once.ensures c.comparisons_are_decided.ensures.any_contents c.requires.stands
+pub length_compared_at-requires : goal.length_compared_at-requires
+length_compared_at-requires c = record {
+  stands = c.requires.stands;
+  here = c.requires.here;
+  call = there_found (λ (f : CheckedNode). f.kind ≡ NodeKind.Call c.in-Call.function) (slice_get c.args.scene.now.list.nodes (c.args.place + 1)) c.node.result.now c.node.ensures c.in-Call.is;
+}
 
 pub returns-in-Member-clause-answers : goal.returns-in-Member-clause-answers
-returns-in-Member-clause-answers c =
-    let here = c.requires.here in
-    kept_compared c.args.scene.now c.args.place c.args.comparison here c.right_of-right_place.result c.right_of-right_place.ensures c.in-Some.left.now c.in-Some-kept_at.right.now
-    c.in-Some.ensures.answers c.in-Some-kept_at.ensures.answers c.ends_once.ensures c.comparisons_are_decided.ensures.any_contents c.requires.stands c.compare_kept.result c.compare_kept.ensures
+returns-in-Member-clause-answers c = c.step_compared_at.ensures.answers
 
 pub returns-in-Member-clause-spent : goal.returns-in-Member-clause-spent
-returns-in-Member-clause-spent c = λ budget.
-    free_spends c.args.scene.now c.args.place None budget
-    (both_free c.args.scene.now c.args.place (BinaryOperator.Comparison c.args.comparison) c.requires.here c.right_of-right_place.result c.right_of-right_place.ensures
-    (step_free c.args.scene.now (c.args.place + 1) c.in-Member.slot
-    (there_found (λ (f : CheckedNode). f.kind ≡ NodeKind.Member c.in-Member.slot) (slice_get c.args.scene.now.list.nodes (c.args.place + 1)) c.node.result.now c.node.ensures c.in-Member.is) c.in-Some.ensures.base)
-    (path_free c.args.scene.now c.right_of-right_place.result c.in-Some-kept_at.ensures.path))
-    (takes_nothing budget)
+returns-in-Member-clause-spent c = c.step_compared_at.ensures.spent
 
-pub made_number_at-requires : goal.made_number_at-requires
-made_number_at-requires c = left_side c.args.scene.now c.args.place (BinaryOperator.Comparison c.args.comparison) c.requires.here c.requires.stands
+pub returns-in-Length-clause-answers : goal.returns-in-Length-clause-answers
+returns-in-Length-clause-answers c = c.length_compared_at.ensures.answers
 
-pub kept_number_at-requires : goal.kept_number_at-requires
-kept_number_at-requires c = right_part c.args.scene.now c.args.place (BinaryOperator.Comparison c.args.comparison) c.requires.here c.requires.stands c.right_of-right_place.result c.right_of-right_place.ensures
-
-pub returns-clause-answers : goal.returns-clause-answers
-returns-clause-answers c =
-    let here = c.requires.here in
-    numbers_compared c.args.scene.now c.args.place c.args.comparison here c.right_of-right_place.result c.right_of-right_place.ensures c.in-Some-made_number_at.left c.in-Some-kept_number_at.right c.compare_numbers.result
-    c.in-Some-made_number_at.ensures.answers c.in-Some-kept_number_at.ensures.answers c.compare_numbers.ensures
-
-pub returns-clause-spent : goal.returns-clause-spent
-returns-clause-spent c = λ budget.
-    free_spends c.args.scene.now c.args.place None budget
-    (both_free c.args.scene.now c.args.place (BinaryOperator.Comparison c.args.comparison) c.requires.here c.right_of-right_place.result c.right_of-right_place.ensures
-    (made_free c.args.scene.now (c.args.place + 1) c.in-Some-made_number_at.ensures.made)
-    (path_free c.args.scene.now c.right_of-right_place.result c.in-Some-kept_number_at.ensures.path))
-    (takes_nothing budget)
+pub returns-in-Length-clause-spent : goal.returns-in-Length-clause-spent
+returns-in-Length-clause-spent c = c.length_compared_at.ensures.spent

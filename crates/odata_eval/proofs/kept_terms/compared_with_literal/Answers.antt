@@ -1,13 +1,18 @@
-use Rattle.std.proofs.Common.{◌≡◌, ◌+◌, arith, slice_get}
+use Rattle.std.proofs.Common.{◌≡◌, ◌+◌, None, arith, refl, slice_get}
 use Rattle.odata_checked_filter.specs.declared.checked_node.CheckedNode.{CheckedNode}
 use Rattle.odata_checked_filter.specs.declared.checked_node.NodeKind.{NodeKind}
 use Rattle.odata_syntax.specs.declared.binary_operator.BinaryOperator.{BinaryOperator}
+use Rattle.odata_eval.specs.declared.part.WalkClass.{WalkClass}
+use Rattle.odata_eval.proofs.spending.Budgets.{takes_nothing}
+use Rattle.odata_eval.proofs.spending.Free.{leaf_free}
+use Rattle.odata_eval.proofs.spending.Rests.{free_spends}
+use Rattle.odata_eval.proofs.spending.Wholes.{both_free}
 use Rattle.odata_eval.proofs.walking.AndChains.{left_side}
 use Rattle.odata_eval.proofs.walking.Compared.{kept_compared, may_compare_kept}
 use Rattle.odata_eval.proofs.walking.Leaves.{literal_answers, literal_within, property_answers, property_within}
 use Rattle.odata_eval.proofs.walking.Parts.{part_inside, there_found}
-use Rattle.odata_eval.proofs.walking.Spines.{right_further, right_part, right_there}
-use Rattle.odata_eval.proofs.and_chain.compared_with_literal.Goals as goal
+use Rattle.odata_eval.proofs.walking.Spines.{kind_walks, right_further, right_part, right_there}
+use Rattle.odata_eval.proofs.kept_terms.compared_with_literal.Goals as goal
 
 pub right_of-right_place-requires : goal.right_of-right_place-requires
 right_of-right_place-requires c = right_there c.args.scene.now c.args.place (BinaryOperator.Comparison c.args.comparison) c.requires.here c.requires.stands
@@ -19,9 +24,6 @@ overflow_add-place c =
 
 pub node-requires : goal.node-requires
 node-requires c = part_inside c.args.scene.now (c.args.place + 1) (left_side c.args.scene.now c.args.place (BinaryOperator.Comparison c.args.comparison) c.requires.here c.requires.stands)
-
-pub kept_compared_at-requires : goal.kept_compared_at-requires
-kept_compared_at-requires c = record { stands = c.requires.stands; here = c.requires.here }
 
 pub node-requires-2 : goal.node-requires-2
 node-requires-2 c = part_inside c.args.scene.now c.right_of-right_place.result (right_part c.args.scene.now c.args.place (BinaryOperator.Comparison c.args.comparison) c.requires.here c.requires.stands c.right_of-right_place.result c.right_of-right_place.ensures)
@@ -46,13 +48,22 @@ compare_kept-requires c =
     (there_found (λ (f : CheckedNode). f.kind ≡ NodeKind.Literal c.in-Literal.kind c.in-Literal.value) (slice_get c.args.scene.now.list.nodes c.right_of-right_place.result) c.node-2.result.now c.node-2.ensures c.in-Literal.is) c.literal-right.result.now c.literal-right.ensures in
     may_compare_kept c.args.scene.now c.args.place c.args.comparison c.requires.here c.right_of-right_place.result c.right_of-right_place.ensures c.property-left.result.now c.literal-right.result.now left right c.ends_once.ensures c.comparisons_are_decided.ensures.any_contents c.requires.stands
 
-pub returns : goal.returns
-returns c =
+pub returns-clause-answers : goal.returns-clause-answers
+returns-clause-answers c =
     let left = property_answers c.args.scene.now (c.args.place + 1) c.in-Property.slot
     (there_found (λ (f : CheckedNode). f.kind ≡ NodeKind.Property c.in-Property.slot) (slice_get c.args.scene.now.list.nodes (c.args.place + 1)) c.node.result.now c.node.ensures c.in-Property.is) c.property-left.result.now c.property-left.ensures in
     let right = literal_answers c.args.scene.now c.right_of-right_place.result c.in-Literal.kind c.in-Literal.value
     (there_found (λ (f : CheckedNode). f.kind ≡ NodeKind.Literal c.in-Literal.kind c.in-Literal.value) (slice_get c.args.scene.now.list.nodes c.right_of-right_place.result) c.node-2.result.now c.node-2.ensures c.in-Literal.is) c.literal-right.result.now c.literal-right.ensures in
     kept_compared c.args.scene.now c.args.place c.args.comparison c.requires.here c.right_of-right_place.result c.right_of-right_place.ensures c.property-left.result.now c.literal-right.result.now left right c.ends_once.ensures c.comparisons_are_decided.ensures.any_contents c.requires.stands c.compare_kept.result c.compare_kept.ensures
 
-pub returns-in_default : goal.returns-in_default
-returns-in_default c = c.kept_compared_at.ensures.answers
+pub returns-clause-spent : goal.returns-clause-spent
+returns-clause-spent c = λ budget.
+    free_spends c.args.scene.now c.args.place None budget
+    (both_free c.args.scene.now c.args.place (BinaryOperator.Comparison c.args.comparison) c.requires.here c.right_of-right_place.result c.right_of-right_place.ensures
+    (leaf_free c.args.scene.now (c.args.place + 1)
+    (kind_walks c.args.scene.now.list (c.args.place + 1) (NodeKind.Property c.in-Property.slot) WalkClass.Leaf refl
+    (there_found (λ (f : CheckedNode). f.kind ≡ NodeKind.Property c.in-Property.slot) (slice_get c.args.scene.now.list.nodes (c.args.place + 1)) c.node.result.now c.node.ensures c.in-Property.is)))
+    (leaf_free c.args.scene.now c.right_of-right_place.result
+    (kind_walks c.args.scene.now.list c.right_of-right_place.result (NodeKind.Literal c.in-Literal.kind c.in-Literal.value) WalkClass.Leaf refl
+    (there_found (λ (f : CheckedNode). f.kind ≡ NodeKind.Literal c.in-Literal.kind c.in-Literal.value) (slice_get c.args.scene.now.list.nodes c.right_of-right_place.result) c.node-2.result.now c.node-2.ensures c.in-Literal.is))))
+    (takes_nothing budget)

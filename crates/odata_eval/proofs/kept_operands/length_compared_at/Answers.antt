@@ -1,0 +1,41 @@
+use Rattle.std.proofs.Common.{◌+◌, None, arith}
+use Rattle.odata_syntax.specs.declared.binary_operator.BinaryOperator.{BinaryOperator}
+use Rattle.odata_eval.proofs.spending.Budgets.{takes_nothing}
+use Rattle.odata_eval.proofs.spending.Free.{called_free, path_free}
+use Rattle.odata_eval.proofs.spending.Rests.{free_spends}
+use Rattle.odata_eval.proofs.spending.Wholes.{both_free}
+use Rattle.odata_eval.proofs.walking.AndChains.{left_side}
+use Rattle.odata_eval.proofs.walking.Compared.{numbers_compared}
+use Rattle.odata_eval.proofs.walking.Spines.{right_further, right_part, right_there}
+use Rattle.odata_eval.proofs.kept_operands.length_compared_at.Goals as goal
+
+pub right_of-right_place-requires : goal.right_of-right_place-requires
+right_of-right_place-requires c = right_there c.args.scene.now c.args.place (BinaryOperator.Comparison c.args.comparison) c.requires.here c.requires.stands
+
+pub overflow_add-place : goal.overflow_add-place
+overflow_add-place c =
+    let behind = right_further c.args.scene.now c.args.place (BinaryOperator.Comparison c.args.comparison) c.requires.here c.requires.stands c.right_of-right_place.result c.right_of-right_place.ensures in
+    omega (arith, behind, c.right_of-right_place.type_inv)
+
+pub length_at-requires : goal.length_at-requires
+length_at-requires c = record {
+  stands = left_side c.args.scene.now c.args.place (BinaryOperator.Comparison c.args.comparison) c.requires.here c.requires.stands;
+  here = c.requires.call;
+}
+
+pub kept_number_at-requires : goal.kept_number_at-requires
+kept_number_at-requires c = right_part c.args.scene.now c.args.place (BinaryOperator.Comparison c.args.comparison) c.requires.here c.requires.stands c.right_of-right_place.result c.right_of-right_place.ensures
+
+pub returns-clause-answers : goal.returns-clause-answers
+returns-clause-answers c =
+    let here = c.requires.here in
+    numbers_compared c.args.scene.now c.args.place c.args.comparison here c.right_of-right_place.result c.right_of-right_place.ensures c.in-Some.left c.in-Some-kept_number_at.right c.compare_numbers.result
+    c.in-Some.ensures c.in-Some-kept_number_at.ensures.answers c.compare_numbers.ensures
+
+pub returns-clause-spent : goal.returns-clause-spent
+returns-clause-spent c = λ budget.
+    free_spends c.args.scene.now c.args.place None budget
+    (both_free c.args.scene.now c.args.place (BinaryOperator.Comparison c.args.comparison) c.requires.here c.right_of-right_place.result c.right_of-right_place.ensures
+    (called_free c.args.scene.now (c.args.place + 1) c.args.function c.requires.call)
+    (path_free c.args.scene.now c.right_of-right_place.result c.in-Some-kept_number_at.ensures.path))
+    (takes_nothing budget)
