@@ -9,5 +9,6 @@ pub mod Plans
 pub mod Properties
 pub mod RowSlots
 pub mod SlotNames
+pub mod SlotTexts
 pub mod SlotsRead
 pub mod Tokens

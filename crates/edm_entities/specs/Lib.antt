@@ -26,4 +26,5 @@ pub mod Row
 pub mod RowFaults
 pub mod RowReading
 pub mod SlotValue
+pub mod ValuesRead
 pub mod private

@@ -73,6 +73,10 @@ pub record Row : Type 0 where
   pub expansion : List StepModel
   pub value : Value
 
+-- the row of a type with that value, where that is expanded
+abbrev pub row_with : SchemaModel → ℕ → List StepModel → Value → Row
+row_with schema id steps value = record { schema = schema; type_id = id; expansion = steps; value = value }
+
 -- the row of a type with these values by slot
 abbrev pub row_of : SchemaModel → ℕ → List StepModel → Vec Value Global → Row
 row_of schema id expansion values =

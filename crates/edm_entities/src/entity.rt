@@ -41,7 +41,7 @@ impl<'s> Entity<'s> {
     ghost use Rattle.csdl_schema.specs.SchemaModel.{HoldsType, slots_of, type_name_at};
     ghost use Rattle.edm_values.specs.Val.{Val};
     ghost use Rattle.edm_entities.specs.Fits.{Fits};
-    ghost use Rattle.edm_entities.specs.Row.{expanded_by, value_of, IsEntity};
+    ghost use Rattle.edm_entities.specs.Row.{expanded_by, row_with, value_of, IsEntity};
     ghost use Rattle.edm_entities.specs.RowFaults.{IsRowFault, IsMemory};
     ghost use Rattle.edm_entities.specs.private.KeptRows.{row_kept};
 
@@ -101,6 +101,20 @@ impl<'s> Entity<'s> {
             },
             Err(fault) => Err(row_fault(fault)),
         }
+    }
+
+    /// The entity of that type with this value, which is not its own, where that is expanded.
+    #[inline(always)]
+    pub fn borrowed(
+        schema: &'s Schema,
+        type_id: TypeId,
+        expansion: &'s Expansion,
+        value: &'s Value,
+    ) -> Entity<'s>
+        requires { IsEntity (row_with schema.now type_id expansion.now value.now) }
+        ensures { result ≡ row_with schema.now type_id expansion.now value.now }
+    {
+        Entity::of_row(schema, type_id, KeptRow::Lent(expansion, value))
     }
 
     /// The entity of that type with this value, where that is expanded.

@@ -1,10 +1,9 @@
 -- Types that were looked up once, slot by slot.
 use Rattle.std.proofs.Common.{◌≡◌, ℕ, zero, suc, ◌+◌, ◌<◌, ◌==◌, Bool, true, false, lt_of_not-le, List, [], ◌∷◌, ◌++◌, length, map, Option, Some, None, IfSome, slice_get, refl, sym, ap, ap₂, ◌∙◌, subst, arith}
 use Rattle.std.proofs.lemmas.Bool.{eqb-true, eqb-false}
-use Rattle.std.proofs.lemmas.Bool.{eqb-true, eqb-false}
 use Rattle.csdl_schema.specs.ExpansionView.{StepModel}
 use Rattle.csdl_schema.specs.PropertyView.{IsReadAs}
-use Rattle.csdl_schema.specs.SchemaModel.{SchemaModel, properties_at}
+use Rattle.csdl_schema.specs.SchemaModel.{PropertyModel, SchemaModel, properties_at}
 use Rattle.csdl_schema.specs.declared.property.Property.{Property}
 use Rattle.edm_row_plans.specs.ExpandedNodes.{node_behind}
 use Rattle.edm_row_plans.specs.Plans.{ArePlans, IsPlan, IsSlotPlan, target_at}
@@ -58,3 +57,9 @@ below_next P n below here k less = by (k == n) refl
     by : (b : Bool) → (k == n) ≡ b → P k
     by true e = subst P (sym (eqb-true k n e)) here
     by false e = let other = eqb-false k n e in below k (lt_of_not-le (λ past. other (omega (arith, less, past))))
+
+-- a name stands at a property's place
+pub named_within : (ps : List PropertyModel) (k : ℕ) (name : List ℕ) → slice_get (map (λ p. p.name) ps) k ≡ Some name → k < length ps
+named_within [] k name at = absurd (cc)
+named_within (p ∷ ps) zero name at = omega arith
+named_within (p ∷ ps) (suc k) name at = omega (arith, named_within ps k name at)

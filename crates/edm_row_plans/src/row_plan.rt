@@ -1,4 +1,4 @@
-ghost use Rattle.std.specs.Prelude.{◌≡◌, ◌≢◌, ◌<◌, ◌⊎◌, ℕ, List, get_or, length, map, slice_get, true, false, IsTrue, Some};
+ghost use Rattle.std.specs.Prelude.{◌≡◌, ◌≢◌, ◌<◌, ◌⊎◌, ℕ, List, [], get_or, length, map, slice_get, true, false, IfErr, IfOk, IsTrue, Some};
 ghost use Rattle.csdl_schema.specs.ExpansionView.{paths_in};
 ghost use Rattle.csdl_schema.specs.PathSet.{PropertyPath};
 ghost use Rattle.csdl_schema.specs.SchemaModel.{HoldsType, SchemaModel, properties_at};
@@ -7,7 +7,7 @@ ghost use Rattle.edm_row_plans.specs.PassedNames.{names_passed, passed_names};
 
 use super::type_plan::{TypePlan, type_plans};
 use csdl_schema::{Expansion, Schema, TypeId};
-use std::alloc::Global;
+use std::alloc::{AllocError, Global};
 
 /// The plan by which rows of a type are read, looked up once in its schema. It borrows nothing of the schema. It has
 /// the types that rows may hold, by what is expanded in them. A whole plan has that expanded which it was made for.
@@ -65,15 +65,21 @@ impl RowPlan {
         }
     }
 
-    /// Passes collections of the rows' own type from here on, but for those that are stored.
-    pub fn pass_collections(&mut self)
+    /// Passes all collections of the rows' own type from here on, until they are kept. If an allocation fails it passes
+    /// nothing.
+    pub fn pass_collections(&mut self, schema: &Schema) -> Result<(), AllocError>
         ensures schema { (model : SchemaModel) → IsPlanOf model self.old → IsPlanOf model self.new }
         ensures type_id { self.new.type_id ≡ self.old.type_id }
         ensures expansion { self.new.expansion ≡ self.old.expansion }
         ensures whole { self.new.is_whole ≡ self.old.is_whole }
+        ensures passed { IfOk result (λ done. (slot : ℕ) (name : List ℕ)
+            → slice_get (map (λ p. p.name) (properties_at schema.now self.old.type_id)) slot ≡ Some name
+            → names_passed schema.now self.new name) }
+        ensures none { IfErr result (λ refused.
+            (model : SchemaModel) (name : List ℕ) → ¬ names_passed model self.new name) }
     {
-        let count = root_slots(self.plans.as_slice());
-        put_marks(&mut self.passed, count);
+        let count = schema.slots(self.type_id);
+        put_marks(&mut self.passed, count)
     }
 
     /// Has the properties of that name stored.
@@ -85,31 +91,33 @@ impl RowPlan {
         ensures less { (other : List ℕ) → names_passed schema.now self.new other
             → names_passed schema.now self.old other }
         ensures kept { ¬ names_passed schema.now self.new name.now }
+        ensures others { (other : List ℕ) → other ≢ name.now → names_passed schema.now self.old other
+            → names_passed schema.now self.new other }
     {
         keep_named(&mut self.passed, schema, self.type_id, name);
     }
 }
 
-/// How many slots the first plan has, which is that of the rows' own type.
-fn root_slots(plans: &[TypePlan]) -> usize {
-    match plans.first() {
-        Some(plan) => plan.slots.len(),
-        None => 0,
-    }
-}
-
-/// Puts so many marks after the others; fewer where an allocation failed.
-fn put_marks(marks: &mut Vec<bool>, count: usize) {
+/// Puts so many marks instead of the others; none where an allocation fails.
+fn put_marks(marks: &mut Vec<bool>, count: usize) -> Result<(), AllocError>
+    ensures put { IfOk result (λ done. (k : ℕ) → k < count → get_or marks.new.items k false ≡ true) }
+    ensures none { IfErr result (λ refused. marks.new.items ≡ []) }
+{
+    marks.clear();
     for _slot in 0..count {
         if marks.push(true).is_err() {
-            return;
+            marks.clear();
+            return Err(AllocError);
         }
     }
+    Ok(())
 }
 
 /// Whether the property at that slot has that name.
 fn is_named(schema: &Schema, type_id: TypeId, slot: usize, name: &str) -> bool
-    ensures { result ≡ false
+    ensures named { IsTrue result
+        → slice_get (map (λ p. p.name) (properties_at schema.now type_id)) slot ≡ Some name.now }
+    ensures other { result ≡ false
         → slice_get (map (λ p. p.name) (properties_at schema.now type_id)) slot ≢ Some name.now }
 {
     if slot >= schema.slots(type_id) {
@@ -125,6 +133,9 @@ fn keep_slot(passed: &mut Vec<bool>, schema: &Schema, type_id: TypeId, slot: usi
     ensures less { (k : ℕ) → get_or passed.new.items k false ≡ true → get_or passed.old.items k false ≡ true }
     ensures kept { get_or passed.new.items slot false ≡ true
         → slice_get (map (λ p. p.name) (properties_at schema.now type_id)) slot ≢ Some name.now }
+    ensures others { (k : ℕ)
+        → slice_get (map (λ p. p.name) (properties_at schema.now type_id)) k ≢ Some name.now
+        → get_or passed.old.items k false ≡ true → get_or passed.new.items k false ≡ true }
 {
     if !is_named(schema, type_id, slot, name) {
         return;
@@ -136,6 +147,9 @@ fn keep_slot(passed: &mut Vec<bool>, schema: &Schema, type_id: TypeId, slot: usi
 fn keep_named(passed: &mut Vec<bool>, schema: &Schema, type_id: TypeId, name: &str)
     ensures less { (k : ℕ) → get_or passed.new.items k false ≡ true → get_or passed.old.items k false ≡ true }
     ensures kept { ¬ passed_names (properties_at schema.now type_id) passed.new.items name.now }
+    ensures others { (k : ℕ)
+        → slice_get (map (λ p. p.name) (properties_at schema.now type_id)) k ≢ Some name.now
+        → get_or passed.old.items k false ≡ true → get_or passed.new.items k false ≡ true }
 {
     for slot in 0..passed.len() {
         keep_slot(passed, schema, type_id, slot, name);

@@ -1,6 +1,6 @@
 //! The types that a row may hold, looked up once for all rows: a plan has of each slot its name, as it stands in a row,
 //! its property, and what is expanded after it.
-ghost use Rattle.std.specs.Prelude.{◌≡◌, ◌<◌, List, length, Some, IfSome, IsTrue};
+ghost use Rattle.std.specs.Prelude.{◌≡◌, ◌<◌, List, length, slice_get, Some, IfSome, IsTrue};
 ghost use Rattle.csdl_schema.specs.ExpansionView.{StepModel};
 ghost use Rattle.csdl_schema.specs.SchemaModel.{SchemaModel, properties_at};
 ghost use Rattle.edm_row_plans.specs.Plans.{ArePlanned, ArePlans, IsPlan, IsSlotPlan, target_at};
@@ -248,6 +248,7 @@ pub fn plan_at(
     type_id: TypeId,
     node: Option<usize>,
 ) -> Option<&TypePlan>
+    ensures at { IfSome result (λ plan. slice_get plans.now place ≡ Some plan.now) }
     ensures of_type { IfSome result (λ plan. plan.now.type_id ≡ type_id) }
     ensures of_node { IfSome result (λ plan. plan.now.node ≡ node) }
     ensures plan { (schema : SchemaModel) (steps : List StepModel)

@@ -7,6 +7,7 @@ pub mod MomentLiteral
 pub mod MomentParts
 pub mod NumberTypes
 pub mod PlainVal
+pub mod SieveMeaning
 pub mod StringLiteral
 pub mod Val
 pub mod WorkedLiterals

@@ -11,6 +11,7 @@ mod moment;
 mod moment_literal;
 mod moment_order;
 mod primitive;
+mod sieve;
 mod string_literal;
 mod value;
 
@@ -25,5 +26,6 @@ pub use laws::{
 pub use moment::Moment;
 pub use moment_literal::{read_moment, write_moment};
 pub use primitive::PrimitiveType as Prim;
+pub use sieve::Sieve;
 pub use string_literal::{LitFault, read_string, write_string};
 pub use value::Value;

@@ -4,7 +4,7 @@ pub mod KeyLemmas
 pub mod LexemeLemmas
 mod MarkLemmas
 mod NumberLemmas
-mod ShortNumberLemmas
-mod StopLemmas
+pub mod ShortNumberLemmas
+pub mod StopLemmas
 mod ToldLemmas
-mod WholeLemmas
+pub mod WholeLemmas

@@ -105,7 +105,7 @@ written_value whole fraction point w some f none short =
     sym (number_without_minus (written whole point fraction) (number_from false p) (no_minus whole _ w some) (sym (ap (number_from false) (scan_numeral-text_of p formed)))) in
     ap is_some read ∙ from_finite p (parts_finite whole fraction point w f short)
 
-all_digits : (s : List ℕ) → EachDigit s → AllDigits 10 s
+pub all_digits : (s : List ℕ) → EachDigit s → AllDigits 10 s
 all_digits [] each = tt
 all_digits (x ∷ xs) each =
     let first : is_ascii_digit x ≡ true = each 0 (omega arith) in

@@ -42,7 +42,7 @@ pub first_digit : (d : List ℕ) (m : ℕ) → 0 < length d → is_ascii_digit (
 first_digit d m some is same = one_digit_more d 0 0 m (no_digits d) some is (omega arith) (omega (arith, same))
 
 -- digits and their number, as `serde_json` reads them
-digits_whole : (s : List ℕ) (n : ℕ) → IsNumeral 10 s → n ≡ digits_value 10 s → n < 1000000000000000000 → IsWhole s n
+pub digits_whole : (s : List ℕ) (n : ℕ) → IsNumeral 10 s → n ≡ digits_value 10 s → n < 1000000000000000000 → IsWhole s n
 digits_whole s n written value bound =
     record { written = written; value = value; bound = bound; read = sym (number_of_numeral s n written value bound) }
 

@@ -7,6 +7,7 @@ pub use Rattle.serde_json.specs.Find as JsonFind
 pub use Rattle.serde_json.specs.Read as JsonRead
 pub use Rattle.serde_json.specs.View as JsonView
 pub mod Keys
+pub mod LexemesAt
 pub mod Marks
 pub mod TokenReading
 pub mod WholeNumbers

@@ -5,7 +5,8 @@ ghost use Rattle.std.specs.Str.{IsCharBoundary};
 ghost use Rattle.json.specs.Lex.{in_string, lex};
 ghost use Rattle.json.specs.Text.{content, plain};
 ghost use Rattle.json_tokens.specs.private.Escapes.{TellsTo};
-ghost use Rattle.json_tokens.specs.private.Lexemes.{ClosesText, IsTextAt};
+ghost use Rattle.json_tokens.specs.LexemesAt.{IsTextAt};
+ghost use Rattle.json_tokens.specs.private.Lexemes.{ClosesText};
 
 use super::escape::escape_at;
 use super::lexeme::{byte_at, plain_end};
@@ -185,7 +186,7 @@ fn unescaped<'t>(quoted: &'t str, scratch: &'t mut Scratch) -> Option<&'t str>
 
 /// The text that begins with the quote at an offset, and the offset after its closing quote.
 #[inline(never)]
-pub(crate) fn escaped_at<'t>(
+pub fn escaped_at<'t>(
     text: &'t str,
     place: usize,
     scratch: &'t mut Scratch,

@@ -57,7 +57,7 @@ impl Key {
 
     /// The name with its quotes.
     #[inline(always)]
-    pub(crate) fn quoted(&self) -> &[u8]
+    pub fn quoted(&self) -> &[u8]
         ensures quoted { result.now ≡ quoted_name self.now }
         ensures plain { PlainBetween self.now 0 (length self.now) }
     {
@@ -66,7 +66,7 @@ impl Key {
 
     /// The name with its quotes and the colon after it.
     #[inline(always)]
-    pub(crate) fn with_colon(&self) -> &[u8]
+    pub fn with_colon(&self) -> &[u8]
         ensures named { result.now ≡ name_with_colon self.now }
         ensures plain { PlainBetween self.now 0 (length self.now) }
     {

@@ -6,7 +6,8 @@ ghost use Rattle.json.specs.Reads.{token_of};
 ghost use Rattle.json.specs.Run.{is_stop};
 ghost use Rattle.json.specs.Token.{boolean, null, number, string};
 ghost use Rattle.json.specs.Written.{PlainBetween};
-ghost use Rattle.json_tokens.specs.private.Lexemes.{BeginsKey, BeginsToken, DigitsBetween, EndsValue, IsTextAt, PassesSpaces};
+ghost use Rattle.json_tokens.specs.LexemesAt.{BeginsKey, BeginsToken, IsTextAt, PassesSpaces};
+ghost use Rattle.json_tokens.specs.private.Lexemes.{DigitsBetween, EndsValue};
 ghost use Rattle.json_tokens.specs.private.Lexemes.{may_begin_at, may_close_at};
 
 use super::escaped_text::escaped_at;

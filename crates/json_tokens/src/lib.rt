@@ -16,6 +16,7 @@ mod short_number;
 mod token_reader;
 mod whole;
 
+pub use escaped_text::escaped_at;
 pub use key::Key;
 pub use key_marks::{KeyMarks, MARKS};
 pub use key_order::KeyOrder;

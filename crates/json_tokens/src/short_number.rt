@@ -3,7 +3,7 @@
 ghost use Rattle.std.specs.Prelude.{ℕ, ◌≤◌, List, length, IfSome, IsSome};
 ghost use Rattle.json.specs.Token.{number};
 ghost use Rattle.serde_json.specs.Read.{number_of};
-ghost use Rattle.json_tokens.specs.private.Lexemes.{BeginsToken};
+ghost use Rattle.json_tokens.specs.LexemesAt.{BeginsToken};
 ghost use Rattle.json_tokens.specs.private.ShortNumbers.{EndsFraction, IsNumberAt};
 
 use super::lexeme::{Turn, byte_at, digits_end, value_end};

@@ -2,7 +2,8 @@
 ghost use Rattle.std.specs.Prelude.{ℕ, ◌<◌, List, length, IfSome};
 ghost use Rattle.json.specs.Token.{number};
 ghost use Rattle.json_tokens.specs.WholeNumbers.{IsWhole};
-ghost use Rattle.json_tokens.specs.private.Lexemes.{BeginsToken, WritesWhole};
+ghost use Rattle.json_tokens.specs.LexemesAt.{BeginsToken};
+ghost use Rattle.json_tokens.specs.private.Lexemes.{WritesWhole};
 
 use super::lexeme::{Turn, value_end};
 

@@ -1,5 +1,6 @@
 mod BufferLaws
 mod DeviceLaws
+mod FeedLemmas
 pub mod ItemLaws
 mod LineLaws
 mod PlaceLaws

@@ -1,4 +1,5 @@
 pub mod Answers
+pub mod AtOnce
 pub mod Called
 pub mod Lacking
 pub mod Streams

@@ -1,3 +1,4 @@
+pub mod Ascii
 pub mod Giving
 pub mod HeldBack
 pub mod Reading

@@ -1,5 +1,6 @@
-ghost use Rattle.std.specs.Prelude.{◌≡◌, ◌+◌, ◌<◌, ◌≤◌, [], length, take, drop, IfOk, OnOk, OnErr};
+ghost use Rattle.std.specs.Prelude.{◌≡◌, ◌+◌, ◌<◌, ◌≤◌, [], length, take, drop, IfOk, IsTrue, OnOk, OnErr};
 ghost use Rattle.std.specs.Io.KnownBytes.{Consumes, IsAtEnd, Keeps};
+ghost use Rattle.std.specs.Str.{IsAscii};
 ghost use Rattle.memchr.specs.Find.{IsFirstByte, is_byte};
 ghost use Rattle.line_filter.specs.DeviceCalls.{after_work, after_failure};
 ghost use Rattle.line_filter.specs.Lines.{longest_line, most_held};
@@ -7,7 +8,7 @@ ghost use Rattle.line_filter.specs.private.Waits.{Comes};
 
 use super::device::{NotRead, Reads};
 use super::finding::LONGEST_LINE;
-use memchr::memchr;
+use super::line_feeds::first_line_feed;
 use std::alloc::{AllocError, Global};
 use std::io::Read;
 use std::marker::Model;
@@ -30,6 +31,10 @@ pub struct Buffer {
     start: usize,
     searched: usize,
     filled: usize,
+    /// Whether the bytes from `start` to `searched` are seen to be of ASCII.
+    is_ascii: bool,
+    /// Whether those of the line that was given last are.
+    is_line_ascii: bool,
 }
 
 impl Model for Buffer {
@@ -58,6 +63,8 @@ impl Buffer {
             start: 0,
             searched: 0,
             filled: 0,
+            is_ascii: false,
+            is_line_ascii: false,
         }
     }
 
@@ -76,6 +83,22 @@ impl Buffer {
         &self.bytes.as_slice()[self.line..self.line_end]
     }
 
+    /// The line that was given last, and all that follows it in the vector.
+    #[inline(always)]
+    pub fn front(&self) -> &[u8]
+        ensures { take (length self.now.line) result.now ≡ self.now.line }
+    {
+        &self.bytes.as_slice()[self.line..]
+    }
+
+    /// Whether the line that was given last is seen to be of ASCII.
+    #[inline(always)]
+    pub fn is_line_ascii(&self) -> bool
+        ensures { IsTrue result → IsAscii self.now.line }
+    {
+        self.is_line_ascii
+    }
+
     /// How many bytes wait.
     pub fn waiting(&self) -> usize
         ensures length { result ≡ length self.now.waiting }
@@ -89,12 +112,15 @@ impl Buffer {
         ensures same { self.new ≡ self.old }
         ensures found { IsFirstByte (is_byte 10) self.old.waiting result }
     {
-        match memchr(b'\n', &self.bytes.as_slice()[self.searched..self.filled]) {
-            Some(place) => {
-                self.searched += place;
-                Some(self.searched - self.start)
+        let is_whole = self.searched == self.start;
+        match first_line_feed(self.bytes.as_slice(), self.searched, self.filled) {
+            Some((feed, is_ascii)) => {
+                self.is_ascii = is_ascii & is_whole;
+                self.searched = feed;
+                Some(feed - self.start)
             }
             None => {
+                self.is_ascii = false;
                 self.searched = self.filled;
                 None
             }
@@ -108,6 +134,7 @@ impl Buffer {
         ensures waiting { self.new.waiting ≡ drop (count + 1) self.old.waiting }
         ensures held { self.new.held ≡ self.old.held }
     {
+        self.is_line_ascii = self.is_ascii & (self.start + count <= self.searched);
         self.line = self.start;
         self.line_end = self.start + count;
         self.start = self.line_end + 1;
@@ -120,6 +147,7 @@ impl Buffer {
         ensures waiting { self.new.waiting ≡ [] }
         ensures held { self.new.held ≡ self.old.held }
     {
+        self.is_line_ascii = false;
         self.line = self.start;
         self.line_end = self.filled;
         self.start = self.filled;
@@ -134,6 +162,8 @@ impl Buffer {
     {
         self.line = 0;
         self.line_end = 0;
+        self.is_ascii = false;
+        self.is_line_ascii = false;
         if self.start > 0 {
             self.bytes.copy_within(self.start..self.filled, 0);
             self.filled -= self.start;

@@ -1,4 +1,4 @@
-ghost use Rattle.std.specs.Prelude.{IfOk, IsTrue, ◌↔◌, ◌≡◌};
+ghost use Rattle.std.specs.Prelude.{IfOk, IsTrue, length, take, ◌↔◌, ◌≡◌};
 ghost use Rattle.line_filter.specs.LineItems.{IsFoundOf, SaysTheSame};
 ghost use Rattle.line_filter.specs.Lines.{IsBlank, is_space};
 
@@ -30,6 +30,7 @@ pub(crate) fn is_blank(line: &[u8]) -> bool
 }
 
 /// What is found of a line, whatever it holds.
+#[inline(never)]
 pub(crate) fn find<J: Judge>(judge: &mut J, line: &[u8]) -> Result<Finding<J::Fault>, AllocError>
     ensures found { IfOk result (IsFoundOf (J.says judge.old) line.now) }
     ensures same { SaysTheSame (J.says judge.old) (J.says judge.new) }
@@ -42,4 +43,24 @@ pub(crate) fn find<J: Judge>(judge: &mut J, line: &[u8]) -> Result<Finding<J::Fa
     }
     let judgment = judge.judge(line)?;
     Ok(Finding::Judged(judgment))
+}
+
+/// What is found of a line that stands at the front of the bytes, whatever it holds.
+pub(crate) fn find_at_front<J: Judge>(
+    judge: &mut J,
+    bytes: &[u8],
+    line: &[u8],
+) -> Result<Finding<J::Fault>, AllocError>
+    requires { take (length line.now) bytes.now ≡ line.now }
+    ensures found { IfOk result (IsFoundOf (J.says judge.old) line.now) }
+    ensures same { SaysTheSame (J.says judge.old) (J.says judge.new) }
+{
+    if line.len() > LONGEST_LINE {
+        return Ok(Finding::TooLong);
+    }
+    match judge.keeps(bytes, line.len(), false) {
+        Some(true) => Ok(Finding::Judged(Judgment::Kept)),
+        Some(false) => Ok(Finding::Judged(Judgment::LeftOut)),
+        None => find(judge, line),
+    }
 }

@@ -1,5 +1,7 @@
-ghost use Rattle.std.specs.Prelude.{IfOk};
-ghost use Rattle.line_filter.specs.LineItems.{LineJudge, SaysTheSame};
+ghost use Rattle.std.specs.Prelude.{◌≤◌, length, take, IfOk, IfSome, IsTrue};
+ghost use Rattle.std.specs.Str.{IsAscii};
+ghost use Rattle.line_filter.specs.LineItems.{LineJudge, SaysTheSame, judgment_where};
+ghost use Rattle.line_filter.specs.Lines.{IsBlank};
 ghost use Rattle.line_filter.specs.Places.{ItemJudge};
 
 use std::alloc::AllocError;
@@ -19,6 +21,15 @@ pub trait Judge {
 
     // What may be said of a line. It depends on the line alone.
     ghost says: { Self → LineJudge Self.Fault };
+
+    /// Whether it keeps the line of that length at the front of the bytes, where it decides at once; otherwise `None`,
+    /// and `judge` says. The bytes after the line decide nothing. A blank line is left to `judge`'s caller.
+    fn keeps(&mut self, bytes: &[u8], count: usize, is_ascii: bool) -> Option<bool>
+        requires ascii { IsTrue is_ascii → IsAscii (take count bytes.now) }
+        requires within { count ≤ length bytes.now }
+        ensures said { IfSome result (λ kept. says self.old (take count bytes.now) (judgment_where kept)) }
+        ensures not_blank { IfSome result (λ _. ¬ IsBlank (take count bytes.now)) }
+        ensures same { SaysTheSame (says self.old) (says self.new) };
 
     /// Judges one line, without its LF. `Err` says that an allocation failed, and ends the run.
     fn judge(&mut self, line: &[u8]) -> Result<Judgment<Self::Fault>, AllocError>

@@ -10,6 +10,7 @@ mod filter;
 mod finding;
 mod judge;
 mod laws;
+mod line_feeds;
 mod line_reader;
 mod output;
 mod places;

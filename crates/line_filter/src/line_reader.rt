@@ -1,7 +1,8 @@
-ghost use Rattle.std.specs.Prelude.{◌≡◌, ◌≢◌, ◌↔◌, ◌-◌, ◌<◌, ◌≤◌, ◌^◌, [], length, Ok, Err, None, MatchOption, MatchResult, IfOk, IfErr, IfSome, IfNone};
+ghost use Rattle.std.specs.Prelude.{◌≡◌, ◌≢◌, ◌↔◌, ◌-◌, ◌<◌, ◌≤◌, ◌^◌, [], length, take, IsTrue, Ok, Err, None, MatchOption, MatchResult, IfOk, IfErr, IfSome, IfNone};
 ghost use Rattle.std.specs.Borrow.{sem};
 ghost use Rattle.std.specs.Io.BufRead.{Rests};
 ghost use Rattle.std.specs.Io.KnownBytes.{Keeps, IsAtEnd};
+ghost use Rattle.std.specs.Str.{IsAscii};
 ghost use Rattle.line_filter.specs.Lines.{longest_line, most_held};
 ghost use Rattle.line_filter.specs.LineSource.{left_of, BeginsTooLong, GivesLine, IsNoWholeLine, IsOver};
 ghost use Rattle.line_filter.specs.contracts.line_reader.LineReader.{the_row};
@@ -119,6 +120,22 @@ impl<R: Read> LineReader<R> {
         ensures { result.now ≡ self.now.line }
     {
         self.buffer.line()
+    }
+
+    /// The line that was given last, and what follows it in the buffer.
+    #[inline(always)]
+    pub(crate) fn front(&self) -> &[u8]
+        ensures { take (length self.now.line) result.now ≡ self.now.line }
+    {
+        self.buffer.front()
+    }
+
+    /// Whether the line that was given last is seen to be of ASCII.
+    #[inline(always)]
+    pub(crate) fn is_line_ascii(&self) -> bool
+        ensures { IsTrue result → IsAscii self.now.line }
+    {
+        self.buffer.is_line_ascii()
     }
 
     /// Gives the line that is held whole, if there is one, or reports that the line is too long.

@@ -1,4 +1,4 @@
-ghost use Rattle.std.specs.Prelude.{◌≡◌, ◌<◌, ◌∷◌, ◌++◌, length};
+ghost use Rattle.std.specs.Prelude.{◌≡◌, ◌<◌, ◌∷◌, ◌++◌, length, take};
 ghost use Rattle.line_filter.specs.Lines.{lines_of};
 
 use memchr::memchr;
@@ -7,6 +7,7 @@ use memchr::memchr;
 pub fn first_line(bytes: &[u8]) -> (&[u8], &[u8])
     requires { 0 < length bytes.now }
     ensures lines { lines_of bytes.now ≡ result.0.now ∷ lines_of result.1.now }
+    ensures front { take (length result.0.now) bytes.now ≡ result.0.now }
     ensures behind { 0 < length result.1.now → bytes.now ≡ result.0.now ++ 10 ∷ result.1.now }
     ensures shorter { length result.1.now < length bytes.now }
 {

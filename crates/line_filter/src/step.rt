@@ -1,11 +1,11 @@
-ghost use Rattle.std.specs.Prelude.{◌≡◌, ◌++◌, Ok, IfOk, OnOk, OnErr};
+ghost use Rattle.std.specs.Prelude.{◌≡◌, ◌≤◌, ◌++◌, Ok, true, IfOk, OnOk, OnErr};
 ghost use Rattle.line_filter.specs.declared.judge.Judgment.{Judgment as JudgmentModel};
 ghost use Rattle.line_filter.specs.declared.finding.Finding.{Finding as FindingModel};
 ghost use Rattle.line_filter.specs.DeviceCalls.{StaysWell, FailsLast};
 ghost use Rattle.line_filter.specs.Lines.{text_of_line};
 ghost use Rattle.line_filter.specs.Growth.{WritesFront};
 ghost use Rattle.line_filter.specs.private.HeldBack.{WritesBut};
-ghost use Rattle.line_filter.specs.private.Walk.{step_of, text_where_kept};
+ghost use Rattle.line_filter.specs.private.Walk.{count_where, step_of, text_where, text_where_kept};
 
 use super::device::{NotWritten, Writes};
 use super::finding::Finding;
@@ -38,6 +38,37 @@ fn keep<W: Write, T: Writes<W>>(
 {
     hold::<W, T>(out, held, text)?;
     hold::<W, T>(out, held, b"\n")
+}
+
+/// Writes the text and then LF, where its item is kept.
+pub fn keep_where<W: Write, T: Writes<W>>(
+    is_kept: bool,
+    text: &[u8],
+    out: &mut W,
+    held: &mut Vec<u8>,
+) -> Result<(), NotWritten>
+    ensures ok { OnOk result (WritesBut (W.contents out.old) (W.contents out.new) held.new.items
+        (held.old.items ++ text_where is_kept (text_of_line text.now))) }
+    ensures kept { OnErr result (is_kept ≡ true) }
+    ensures err { OnErr result
+        (WritesFront (W.contents out.old) (W.contents out.new) (held.old.items ++ text_of_line text.now)) }
+    ensures well { OnOk result (StaysWell (T.calls out.old) (T.calls out.new)) }
+    ensures failed { OnErr result (FailsLast (T.calls out.old) (T.calls out.new)) }
+{
+    if is_kept {
+        keep::<W, T>(out, held, text)
+    } else {
+        Ok(())
+    }
+}
+
+/// One for an item that is kept, and none for one that is left out.
+#[inline(always)]
+pub fn count_where(is_kept: bool) -> u64
+    ensures count { result ≡ count_where is_kept }
+    ensures few { result ≤ 1 }
+{
+    if is_kept { 1 } else { 0 }
 }
 
 /// What becomes of the item of this number, of which that was found. Where it is kept, the text is written and then LF:

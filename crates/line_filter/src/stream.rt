@@ -15,7 +15,7 @@ use super::finding::find;
 use super::judge::Judge;
 use super::line_reader::{LineFault, LineReader, Next};
 use super::output::release;
-use super::step::{Step, settle};
+use super::step::{Step, count_where, keep_where, settle};
 use super::stop::Stop;
 use super::tally::Tally;
 use super::walk::Progress;
@@ -103,6 +103,16 @@ fn judge_stream<R: Read, S: Reads<R>, J: Judge, W: Write, T: Writes<W>>(
             }
         }
         let line = reader.line();
+        match judge.keeps(reader.front(), line.len(), reader.is_line_ascii()) {
+            Some(is_kept) => {
+                keep_where::<W, T>(is_kept, line, out, held)?;
+                lines += 1;
+                tally.rows += 1;
+                tally.kept += count_where(is_kept);
+                continue;
+            }
+            None => {}
+        }
         let found = find(judge, line);
         match settle::<J::Fault, W, T>(found, line, lines + 1, out, held)? {
             Step::Passed(one) => {

@@ -5,7 +5,7 @@ ghost use Rattle.line_filter.specs.LineItems.{SaysTheSame};
 ghost use Rattle.line_filter.specs.Lines.{text_of_line};
 ghost use Rattle.line_filter.specs.private.Walk.{Goes, text_where_kept};
 
-use super::finding::{Finding, find};
+use super::finding::{Finding, find_at_front};
 use super::judge::{Judge, Judgment};
 use super::split::first_line;
 use super::step::{Step, step_at};
@@ -75,7 +75,7 @@ pub fn keep_lines<J: Judge>(judge: &mut J, bytes: &[u8], out: &mut Vec<u8>) -> P
     let mut tally = Tally { rows: 0, kept: 0 };
     while !rest.is_empty() {
         let (line, after) = first_line(rest);
-        let found = put_kept(find(judge, line), line, out);
+        let found = put_kept(find_at_front(judge, rest, line), line, out);
         match step_at(found, lines + 1) {
             Step::Passed(one) => {
                 lines += 1;

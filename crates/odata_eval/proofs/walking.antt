@@ -6,6 +6,7 @@ pub mod Children
 pub mod Compared
 pub mod ItemSteps
 pub mod KeptValues
+pub mod FalseTerms
 pub mod Lambdas
 pub mod Leaves
 pub mod MemberSteps

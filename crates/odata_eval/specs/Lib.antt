@@ -51,6 +51,7 @@ pub mod CostsOn
 pub mod CostsOnce
 pub mod EndsOnce
 pub mod EndsOnceAtPaths
+pub mod FalseWhere
 pub mod Environment
 pub mod LiteralGives
 pub mod Means

@@ -1,4 +1,5 @@
 -- Definitions that private clauses alone cite.
+pub mod ChainTerms
 pub mod Frames
 pub mod ItemMarks
 pub mod KeptOperands

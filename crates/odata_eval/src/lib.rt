@@ -17,6 +17,7 @@ mod paired_walk;
 mod part;
 mod scene;
 mod stop;
+mod value_tests;
 mod verdict;
 mod walk;
 
@@ -30,4 +31,5 @@ pub use laws::{
 };
 pub use odata_filter_operations::EvalFault;
 pub use stop::EvalStop;
+pub use value_tests::{SlotSieve, slot_sieves};
 pub use verdict::Verdict;

@@ -1,3 +1,4 @@
+pub mod BlankLines
 pub mod CanonicalRows
 pub mod Collections
 pub mod CostsAlone
@@ -13,4 +14,6 @@ pub mod Renamed
 pub mod RowBounds
 pub mod RowJudges
 pub mod RowsBut
+pub mod RowsInPlace
+pub mod SlotTests
 pub mod TrueRows

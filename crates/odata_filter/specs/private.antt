@@ -2,6 +2,7 @@
 pub mod DocumentFaults
 pub mod FilterNow
 pub mod PlanSteps
+pub mod RowsInPlace
 pub mod RunFailures
 pub mod ValueAnswer
 pub mod ValueCosts

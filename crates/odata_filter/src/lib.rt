@@ -13,6 +13,7 @@ mod no_verdict;
 mod row_judge;
 mod row_line_judge;
 mod row_verdict;
+mod rows_in_place;
 mod run_fault;
 
 pub use bad_row::BadRow;

@@ -1,4 +1,4 @@
-ghost use Rattle.std.specs.Prelude.{◌≡◌, ◌≢◌, Ok, Err, Some, None, IfSome, MatchResult};
+ghost use Rattle.std.specs.Prelude.{◌≡◌, ◌≢◌, ℕ, List, Ok, Err, Some, None, true, IfSome, MatchResult};
 ghost use Rattle.serde_json.specs.Data.{Data};
 ghost use Rattle.serde_json.specs.View.{view};
 ghost use Rattle.csdl_schema.specs.ExpansionView.{paths_in};
@@ -6,6 +6,7 @@ ghost use Rattle.csdl_schema.specs.PathSet.{PropertyPath};
 ghost use Rattle.csdl_schema.specs.SchemaModel.{type_name_at};
 ghost use Rattle.edm_entities.specs.Fits.{Fits};
 ghost use Rattle.edm_entities.specs.Row.{slots_for, value_of};
+ghost use Rattle.line_filter.specs.LineItems.{judgment_where};
 ghost use Rattle.odata_checked_filter.specs.Calls.{TakesMemory};
 ghost use Rattle.odata_checked_filter.specs.Filter.{tree_of_filter};
 ghost use Rattle.odata_eval.specs.MeansOn.{IsTheOutcome};
@@ -52,7 +53,7 @@ impl RowJudge<'_, '_> {
 
     /// Judges an entity of the filter's type, with what the filter needs.
     #[inline(always)]
-    fn judge_entity(&self, entity: &Entity<'_>) -> Result<Verdict, EvalFault>
+    pub(crate) fn judge_entity(&self, entity: &Entity<'_>) -> Result<Verdict, EvalFault>
         requires schema { entity.now.schema ≡ self.now.checked.now.schema }
         requires type_id { entity.now.type_id ≡ self.now.checked.now.filtered }
         requires expansion { (path : PropertyPath)
@@ -152,6 +153,17 @@ pub(crate) fn judged_by(verdict: Verdict) -> Judgment<BadRow>
     match verdict {
         Verdict::True => Judgment::Kept,
         Verdict::False | Verdict::Null => Judgment::LeftOut,
+    }
+}
+
+/// Whether a row with that verdict is kept.
+#[inline(always)]
+pub(crate) fn is_kept(verdict: Verdict) -> bool
+    ensures { judgment_told (Ok verdict) ≡ Some (judgment_where result) }
+{
+    match verdict {
+        Verdict::True => true,
+        Verdict::False | Verdict::Null => false,
     }
 }
 

@@ -1,11 +1,15 @@
-ghost use Rattle.std.specs.Prelude.{◌≡◌};
+ghost use Rattle.std.specs.Prelude.{◌≡◌, ◌≤◌, length, take, IfSome, IsTrue};
+ghost use Rattle.line_filter.specs.LineItems.{judgment_where};
 ghost use Rattle.odata_filter.specs.RowJudgment.{JudgesRow};
 
 use crate::bad_row::BadRow;
 use crate::row_judge::{RowJudge, judged_by, judgment_of, told_fault};
 use crate::row_verdict::row_plan_of;
+use crate::rows_in_place::{begin_after, type_rows_of};
 use edm_entities::{RowPlan, RowReader};
+use edm_rows::TypeRows;
 use edm_values::Moment;
+use json_room::{ROOM, has_room};
 use line_filter::{Judge, Judgment};
 use odata_typing::Checked;
 use std::alloc::{AllocError, Global};
@@ -17,6 +21,9 @@ pub struct RowLineJudge<'c, 's> {
     rows: RowJudge<'c, 's>,
     plan: RowPlan,
     reader: RowReader,
+    type_rows: TypeRows<'s>,
+    /// The last line that had no room after it, in a copy that has.
+    room: Vec<u8>,
 }
 
 impl<'c, 's> Model for RowLineJudge<'c, 's> {
@@ -32,8 +39,9 @@ impl<'c, 's> Model for RowLineJudge<'c, 's> {
     ghost view = { λ j. record { filter = j.rows.checked.now; moment = j.rows.moment.now } };
 
     ghost use Rattle.odata_filter.specs.RowAnswer.{IsPlanOfFilter};
+    ghost use Rattle.odata_filter.specs.private.RowsInPlace.{AreRowsOf};
 
-    ghost invariant = { λ j. IsPlanOfFilter j.rows.checked.now j.plan };
+    ghost invariant = { λ j. IsPlanOfFilter j.rows.checked.now j.plan × AreRowsOf j.rows.checked.now j.type_rows };
 }
 
 impl<'c, 's> RowLineJudge<'c, 's> {
@@ -50,10 +58,38 @@ impl<'c, 's> RowLineJudge<'c, 's> {
                 checked,
                 moment,
             },
+            type_rows: type_rows_of(alloc, checked),
             plan: row_plan_of(alloc, checked),
             reader: RowReader::new(alloc),
+            room: Vec::new(alloc),
         }
     }
+}
+
+impl RowLineJudge<'_, '_> {
+    /// Whether the line at the front of the bytes is kept, read in a copy where it has no room after it.
+    #[inline(never)]
+    fn keeps_copy(&mut self, bytes: &[u8], count: usize) -> Option<bool>
+        requires within { count ≤ length bytes.now }
+        ensures said { IfSome result (λ kept. JudgesRow self.old.filter self.old.moment (take count bytes.now)
+            (judgment_where kept)) }
+        ensures same { self.new ≡ self.old }
+    {
+        if has_room(bytes, count) || !copy_with_room(&bytes[..count], &mut self.room) {
+            return None;
+        }
+        self.rows
+            .keeps_in_place(&mut self.type_rows, self.room.as_slice(), count, false)
+    }
+}
+
+/// Copies a line to where it has room after it, unless out of memory.
+fn copy_with_room(line: &[u8], room: &mut Vec<u8>) -> bool
+    ensures within { IsTrue result → length line.now ≤ length room.new.items }
+    ensures copied { IsTrue result → take (length line.now) room.new.items ≡ line.now }
+{
+    room.clear();
+    room.extend_from_slice(line).is_ok() && room.extend_from_slice(&[b'\n'; ROOM]).is_ok()
 }
 
 impl Judge for RowLineJudge<'_, '_> {
@@ -61,11 +97,25 @@ impl Judge for RowLineJudge<'_, '_> {
 
     ghost says = { λ judge. JudgesRow judge.filter judge.moment };
 
+    #[inline(always)]
+    fn keeps(&mut self, bytes: &[u8], count: usize, is_ascii: bool) -> Option<bool> {
+        match self
+            .rows
+            .keeps_in_place(&mut self.type_rows, bytes, count, is_ascii)
+        {
+            Some(is_kept) => Some(is_kept),
+            None => self.keeps_copy(bytes, count),
+        }
+    }
+
+    #[inline(never)]
     fn judge(&mut self, line: &[u8]) -> Result<Judgment<BadRow>, AllocError> {
-        match self.rows.judge_read(&self.plan, &mut self.reader, line) {
+        let judged = match self.rows.judge_read(&self.plan, &mut self.reader, line) {
             Some(Ok(verdict)) => Ok(judged_by(verdict)),
             Some(Err(fault)) => judgment_of(Err(told_fault(fault))),
             None => judgment_of(self.rows.judge_by_tree(line)),
-        }
+        };
+        begin_after(&judged, &mut self.type_rows, &mut self.reader, line);
+        judged
     }
 }

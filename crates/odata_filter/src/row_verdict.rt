@@ -27,14 +27,16 @@ pub fn row_plan_of(alloc: Global, checked: &Checked<'_>) -> RowPlan
     if names_whole_row(checked) {
         return plan;
     }
-    plan.pass_collections();
+    if plan.pass_collections(checked.schema()).is_err() {
+        return plan;
+    }
     plan.keep(checked.schema(), "");
     keep_named(&mut plan, checked);
     plan
 }
 
 /// The plan of the filter's schema and type, with what the filter needs of navigation.
-fn plan_of(alloc: Global, checked: &Checked<'_>) -> RowPlan
+pub(crate) fn plan_of(alloc: Global, checked: &Checked<'_>) -> RowPlan
     ensures schema { IsPlanOf checked.now.schema result }
     ensures type_id { result.type_id ≡ checked.now.filtered }
     ensures expansion { (result.expansion ≡ checked.now.expansion)
@@ -61,7 +63,7 @@ fn is_row(kind: NodeKind) -> bool
 }
 
 /// Whether the filter names the row itself.
-fn names_whole_row(checked: &Checked<'_>) -> bool
+pub(crate) fn names_whole_row(checked: &Checked<'_>) -> bool
     ensures { result ≡ false → (place : ℕ)
         → IfSome (slice_get checked.now.list.nodes place) (λ node. node.kind ≢ NodeKindModel.It) }
 {

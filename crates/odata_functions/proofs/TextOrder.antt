@@ -1,15 +1,16 @@
 -- The order of texts by their characters is that of their bytes.
-use Rattle.std.proofs.Common.{◌≡◌, ◌↔◌, ℕ, Bool, true, false, IsTrue, nat_eq, ⊎_elim, List, [], ◌∷◌, ◌++◌, refl, sym, ap, subst, ◌∙◌}
+use Rattle.std.proofs.Common.{◌≡◌, ◌↔◌, ℕ, Bool, true, IsTrue, ⊎_elim, List, [], ◌∷◌, ◌++◌, refl, sym, ap, subst, ◌∙◌}
 use Rattle.std.proofs.Math.Utf8.{encode, encodes}
 use Rattle.std.proofs.lemmas.Bool.{cases_order}
 use Rattle.std.proofs.lemmas.Cmp.{nat_list_cmp_total}
 use Rattle.std.proofs.lemmas.Str.{encodes-chars}
-use Rattle.std.specs.Cmp.Lexicographic.{slice_cmp, pointwise, same_text, other_text}
+use Rattle.std.specs.Cmp.Lexicographic.{slice_cmp}
 use Rattle.std.specs.Ordering.{nat_cmp, ordering_reverse, is_gt}
 use Rattle.std.specs.Str.{IsUtf8, chars}
 use Rattle.std.specs.declared.cmp.Ordering.{Ordering}
 use Rattle.std.specs.declared.cmp.Ordering.TheVariants.{Less, Equal, Greater}
 use Rattle.odata_functions.specs.Comparison.{text_cmp}
+pub use Rattle.edm_values.proofs.SameTexts.{same_characters, same_test}
 use Rattle.odata_functions.proofs.Encodings.{less_head, same_head, less_encoded, nothing_less}
 
 greater_from_less : (xs ys : List ℕ) → slice_cmp nat_cmp ys xs ≡ Less → slice_cmp nat_cmp xs ys ≡ Greater
@@ -37,14 +38,6 @@ pub text_cmp-bytes : (s t : List ℕ) → IsUtf8 s → IsUtf8 t → text_cmp s t
 text_cmp-bytes s t of_s of_t =
     sym (order_encoded (chars s) (chars t)) ∙ ap (λ (x : List ℕ). slice_cmp nat_cmp x (encodes (chars t))) (encodes-chars s of_s)
     ∙ ap (slice_cmp nat_cmp s) (encodes-chars t of_t)
-
-pub same_characters : (s t : List ℕ) → IsUtf8 s → IsUtf8 t → chars s ≡ chars t → s ≡ t
-same_characters s t of_s of_t e = sym (encodes-chars s of_s) ∙ ap encodes e ∙ encodes-chars t of_t
-
--- what a test of the bytes says of the characters
-pub same_test : (s t : List ℕ) (b : Bool) → IsUtf8 s → IsUtf8 t → b ≡ pointwise nat_eq s t → IsTrue b ↔ (chars s ≡ chars t)
-same_test s t true of_s of_t told = (λ is. ap chars (same_text s t told), λ same. refl)
-same_test s t false of_s of_t told = (λ is. cc, λ same. absurd (other_text s t told (same_characters s t of_s of_t same)))
 
 pub only_greater : (o : Ordering) → is_gt o ≡ true → o ≡ Greater
 only_greater Less is = cc

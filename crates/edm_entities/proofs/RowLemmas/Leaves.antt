@@ -84,7 +84,7 @@ pub leaf_read : (depth : ℕ) (tokens rest : List Token) (P : Data → Type 0) �
 leaf_read depth tokens rest P leaf = record { json = leaf.json; is_read = leaf.is_read depth; holds = leaf.holds }
 
 -- what fits where null may not be fits as other JSON does
-not_null_fits : (json : Data) (v : Val) (P : Data → Type 0) → FitsFound (Some json) false v P → P json
+pub not_null_fits : (json : Data) (v : Val) (P : Data → Type 0) → FitsFound (Some json) false v P → P json
 not_null_fits null v P fits = let may = fits.0 in absurd (cc)
 not_null_fits (boolean b) v P fits = fits
 not_null_fits (number n) v P fits = fits

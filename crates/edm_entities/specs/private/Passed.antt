@@ -1,21 +1,25 @@
 -- For private clauses: values that are held to their types, of which not all are stored.
-use Rattle.std.specs.Prelude.{◌≡◌, ◌⊎◌, ◌<◌, ℕ, List, length, Bool, true, false, Option, Some, None}
+use Rattle.std.specs.Prelude.{◌≡◌, ◌⊎◌, ◌<◌, ℕ, List, length, Bool, true, false, Option, Some, None, Vec}
+use Rattle.std.specs.declared.alloc.Global.{Global}
 use Rattle.json.specs.Json.{read_key}
+use Rattle.json.specs.Lex.{tokens}
 use Rattle.json.specs.Token.{Token}
 use Rattle.serde_json.specs.Data.{Data, Items, Members, object, put}
 use Rattle.serde_json.specs.Find.{get, get_member}
 use Rattle.edm_values.specs.Val.{Val, Vals}
-use Rattle.edm_values.specs.declared.value.Value.{Value, Null}
+use Rattle.edm_values.specs.declared.value.Value.{Value, Null, Record}
 use Rattle.csdl_schema.specs.ExprType.{ExprType, SingleType}
 use Rattle.csdl_schema.specs.SchemaModel.{PropertyModel, PropertyType, Slots, slots_behind}
 use Rattle.edm_entities.specs.Fits.{FitItems, FitsFound, FitsProperty, FitsType}
 use Rattle.edm_entities.specs.Row.{ValAtType, field_of, val_of}
 use Rattle.edm_row_plans.specs.PassedNames.{Names}
 use Rattle.edm_entities.specs.private.NextMember.{ReadsMember}
+use Rattle.edm_entities.specs.private.RowTokens.{Reads}
 use Rattle.edm_entities.specs.private.SlotsSoFar.{HoldEachSoFar, SlotsSoFar, marks_behind}
-use Rattle.edm_entities.specs.private.Walk.{FitSlots, HoldEach}
+use Rattle.edm_entities.specs.private.Walk.{FitSlots, HoldEach, HoldsInSlot}
 use Rattle.edm_entities.specs.declared.row_member.Member.{Member}
 use Rattle.edm_entities.specs.declared.row_member.Member.TheVariants.{OfSlot, Other, End}
+pub use Rattle.edm_entities.specs.ValuesRead.{IsRowValue}
 
 -- some value fits what is found for one, which may be null
 abbrev pub FitsSome : Slots → Bool → Bool → ExprType → Data → Type 0

@@ -1,13 +1,12 @@
--- For private clauses: lexemes of a text, from one offset to the next.
-use Rattle.std.specs.Prelude.{◌≡◌, ◌⊎◌, ℕ, ◌+◌, ◌<◌, ◌≤◌, List, ◌∷◌, ◌++◌, length, take, drop, get_or, Bool, true, false}
+-- For private clauses: lexemes of a text, from one place to the next.
+use Rattle.std.specs.Prelude.{◌≡◌, ℕ, ◌+◌, ◌<◌, ◌≤◌, List, ◌++◌, length, take, drop, get_or, Bool, true, false}
 use Rattle.std.specs.Char.{is_ascii_digit}
 use Rattle.std.specs.Str.Parse.{AllDigits, digits_value}
-use Rattle.json.specs.Token.{Token, key, string}
-use Rattle.json.specs.Word.{is_space, ends_word}
-use Rattle.json.specs.Lex.{token, Place, after_value, may_begin, may_close, begins_colon, between, in_string, lex, punctuate}
+use Rattle.json.specs.Word.{ends_word}
+use Rattle.json.specs.Lex.{after_value, may_begin, may_close, begins_colon, between, in_string, lex, punctuate}
 use Rattle.json_tokens.specs.TokenReading.{place_of, tokens_left}
+pub use Rattle.json_tokens.specs.LexemesAt.{PassesSpaces, IsTextAt, BeginsToken, BeginsKey}
 use Rattle.json_tokens.specs.declared.lexeme.Turn.{Turn}
-use Rattle.json_tokens.specs.declared.lexeme.Turn.TheVariants.{Fresh}
 
 abbrev pub may_begin_at : Turn → Bool
 may_begin_at turn = may_begin (place_of turn)
@@ -15,18 +14,7 @@ may_begin_at turn = may_begin (place_of turn)
 abbrev pub may_close_at : Turn → Bool
 may_close_at turn = may_close (place_of turn)
 
--- from one offset to the other there is white space
-pub record PassesSpaces (text : List ℕ) (from to : ℕ) : Type 0 where
-  pub bounds : (from ≤ to) × (to ≤ length text)
-  pub same : lex between (drop to text) ≡ lex between (drop from text)
-  pub some : (to ≡ from) ⊎ (is_space (get_or text from 32) ≡ true)
-
--- a text stands from one offset to the other, with its quotes
-pub record IsTextAt (text : List ℕ) (from : ℕ) (content : List ℕ) (to : ℕ) : Type 0 where
-  pub within : to ≤ length text
-  pub lexed : lex between (drop from text) ≡ token (string content) ∷ lex between (drop to text)
-
--- the text that is read from one offset on is closed by the quote at the other
+-- the text that is read from one place on is closed by the quote at the other
 pub record ClosesText (text : List ℕ) (from quote : ℕ) : Type 0 where
   pub bounds : (from ≤ quote) × (quote < length text)
   pub is_quote : get_or text quote 32 ≡ 34
@@ -39,16 +27,7 @@ pub record EndsValue (text : List ℕ) (from to : ℕ) (turn : Turn) : Type 0 wh
   pub no_colon : begins_colon (lex between (drop from text)) ≡ false
   pub ends : ends_word (drop from text) ≡ true
 
--- where a value may begin, the token stands at one offset, and from the other on the text is read on
-pub record BeginsToken (text : List ℕ) (from : ℕ) (first : Token) (to : ℕ) (turn : Turn) : Type 0 where
-  pub within : to ≤ length text
-  pub begins : (p : Place) → may_begin p ≡ true → punctuate p (lex between (drop from text)) ≡ first ∷ tokens_left turn (drop to text)
-
--- the same of a key with its colon
-abbrev pub BeginsKey : List ℕ → ℕ → List ℕ → ℕ → Type 0
-BeginsKey text from name to = BeginsToken text from (key name) to Fresh
-
--- these bytes stand at an offset
+-- these bytes stand at a place
 pub record StandsAt (text : List ℕ) (from : ℕ) (word : List ℕ) : Type 0 where
   pub within : from + length word ≤ length text
   pub is : drop from text ≡ word ++ drop (from + length word) text

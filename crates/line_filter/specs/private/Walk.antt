@@ -1,5 +1,5 @@
 -- What the walk over the lines keeps from line to line. Private clauses alone cite these.
-use Rattle.std.specs.Prelude.{◌≡◌, ℕ, ◌+◌, List, [], length, Option, MatchOption, MatchResult, Result, Ok, Err}
+use Rattle.std.specs.Prelude.{◌≡◌, ℕ, ◌+◌, List, [], length, Bool, true, false, Option, MatchOption, MatchResult, Result, Ok, Err}
 use Rattle.line_filter.specs.declared.judge.Judgment.{Judgment}
 use Rattle.line_filter.specs.declared.finding.Finding.{Finding}
 use Rattle.line_filter.specs.declared.line_reader.LineFault.{LineFault}
@@ -37,7 +37,17 @@ abbrev pub text_where_kept : {F E : Type 0} → Result (Finding F) E → List �
 text_where_kept (Ok (Finding.Judged Judgment.Kept)) text = text
 text_where_kept _ text = []
 
--- the stop is not that of a writer
+-- the text of an item that is kept, and nothing of one that is left out
+abbrev pub text_where : Bool → List ℕ → List ℕ
+text_where true text = text
+text_where false text = []
+
+-- how many items that is
+abbrev pub count_where : Bool → ℕ
+count_where true = 1
+count_where false = 0
+
+-- the stop is reported of no writer
 abbrev pub IsUnwritten : {F : Type 0} → Stop F → Type 0
 IsUnwritten Stop.Write = ⊥
 IsUnwritten _ = Unit {0}

@@ -1,6 +1,7 @@
-use Rattle.std.proofs.Common.{◌≡◌, ◌≤◌, ◌+◌, ◌++◌, ◌∷◌, ℕ, List, ◌⊎◌, arith, sym, ◌∙◌, subst}
+use Rattle.std.proofs.Common.{◌≡◌, ◌≤◌, ◌+◌, ◌++◌, ◌∷◌, ℕ, List, length, take, ◌⊎◌, arith, sym, ap, ◌∙◌, subst}
 use Rattle.std.specs.Prelude.{IfSome}
-use Rattle.line_filter.specs.LineItems.{lines}
+use Rattle.line_filter.specs.LineItems.{judgment_where, lines}
+use Rattle.line_filter.specs.Lines.{longest_line}
 use Rattle.line_filter.specs.LineSource.{left_of, GivesLine, IsOver, WhereKnown}
 use Rattle.line_filter.specs.Kept.{StopsWith}
 use Rattle.line_filter.specs.LineStreams.{LacksLine, ReadsUntil}
@@ -12,6 +13,7 @@ use Rattle.line_filter.proofs.DeviceLaws.Unread.{going_read, reads_well_refl, re
 use Rattle.line_filter.proofs.ItemLaws.Passing.{step_counts}
 use Rattle.line_filter.proofs.ItemLaws.Stopping.{step_of-of_item}
 use Rattle.line_filter.proofs.LineLaws.Found.{SaysTheSame-refl, SaysTheSame-trans, found-same}
+use Rattle.line_filter.proofs.RunLaws.AtOnce.{found_at_once, HasCome-at_once, HasCome-failed_at_once}
 use Rattle.line_filter.proofs.RunLaws.Called.{reads_of_item, reads_told}
 use Rattle.line_filter.proofs.RunLaws.Streams.{HasCome-none, HasCome-written, HasCome-unwritten, HasCome-end, HasCome-fault, HasCome-more, HasCome-stopped, HasCome-failed}
 use Rattle.line_filter.proofs.WriteLaws.HeldBack.{OnErr-from}
@@ -87,23 +89,82 @@ returns-in_err-one-clause-err g c =
     let first = subst (λ (l : List ℕ). GivesLine r s l) (sym c.line-line.ensures) given.first in
     let not_over = λ (over : IsOver c.loop-stop.reader). let ends = c.in_ok-next_line.ensures.again.over over in absurd {A = ⊥} (cc) in
     let came = HasCome-written says a r (IsOver c.loop-stop.reader → ⊥) u (g.W.Write.contents c.loop-stop.out) v c.loop-stop.held.items c.next_line.new.held.items c.loop-stop.lines c.loop-stop.tally i.4 c.in_ok-next_line.ensures.ok in
-    let finds = found-same _ _ line c.find-found.result i.3 c.find-found.ensures.found in
+    let same = SaysTheSame-trans says (g.J.Judge.says c.loop-stop.judge) (g.J.Judge.says c.keeps.new.self) i.3 c.keeps.ensures.same in
+    let finds = found-same _ _ line c.find-found.result same c.find-found.ensures.found in
     let failed = c.in_err-one.ensures in
     OnErr-from c.from_residual-in_err-one.result _
     (HasCome-failed says line (IsOver c.loop-stop.reader → ⊥) u v (g.W.Write.contents c.settle.new.out) c.next_line.new.held.items c.settle.new.held.items c.loop-stop.lines c.loop-stop.tally c.find-found.result finds not_over
     a r s came first failed.kept failed.err)
 
 pub overflow_add-tally : goal.overflow_add-tally
-overflow_add-tally g c =
-    let i = c.loop-stop.invariant in
-    let counts = step_counts _ _ _ (sym c.in_ok-one.ensures.step ∙ c.in-Passed.is) in
-    omega (arith, i.0, i.1, counts.0, c.requires.few)
+overflow_add-tally g c = let i = c.loop-stop.invariant in omega (arith, i.0, i.1, c.requires.few)
 
 pub overflow_add-tally-in-Passed : goal.overflow_add-tally-in-Passed
 overflow_add-tally-in-Passed g c =
     let i = c.loop-stop.invariant in
     let counts = step_counts _ _ _ (sym c.in_ok-one.ensures.step ∙ c.in-Passed.is) in
-    omega (arith, i.0, i.2, counts.1, c.requires.few)
+    omega (arith, i.0, i.1, i.2, counts.0, counts.1, c.requires.few)
+
+pub returns-in_err-keep_where-in-Some-clause-err : goal.returns-in_err-keep_where-in-Some-clause-err
+returns-in_err-keep_where-in-Some-clause-err g c =
+    let i = c.loop-stop.invariant in
+    let says = g.J.Judge.says c.args.judge.now in
+    let a = left_of g.R.Read.remaining c.args.reader.now in
+    let r = left_of g.R.Read.remaining c.loop-stop.reader in
+    let s = left_of g.R.Read.remaining c.next_line.new.reader in
+    let u = g.W.Write.contents c.args.out.now in
+    let v = g.W.Write.contents c.next_line.new.out in
+    let line = c.line-line.result.now in
+    let front = c.front.result.now in
+    let kept = c.in-Some.is_kept in
+    let given = subst (Gives g.R.Read.remaining c.loop-stop.reader c.next_line.new.reader) c.in-Line.is c.in_ok-next_line.ensures.given in
+    let first = subst (λ (l : List ℕ). GivesLine r s l) (sym c.line-line.ensures) given.first in
+    let not_over = λ (over : IsOver c.loop-stop.reader). let ends = c.in_ok-next_line.ensures.again.over over in absurd {A = ⊥} (cc) in
+    let came = HasCome-written says a r (IsOver c.loop-stop.reader → ⊥) u (g.W.Write.contents c.loop-stop.out) v c.loop-stop.held.items c.next_line.new.held.items c.loop-stop.lines c.loop-stop.tally i.4 c.in_ok-next_line.ensures.ok in
+    let is : take (length line) front ≡ line = ap (λ (l : List ℕ). take (length l) front) c.line-line.ensures ∙ c.front.ensures ∙ sym c.line-line.ensures in
+    let short : length line ≤ longest_line = subst (λ (l : List ℕ). length l ≤ longest_line) (sym c.line-line.ensures) given.short in
+    let finds = found_at_once says front line (length line) kept is short c.in-Some.ensures.not_blank ((i.3 (take (length line) front) (judgment_where kept)).1 c.in-Some.ensures.said) in
+    let failed = c.in_err-keep_where-in-Some.ensures in
+    OnErr-from c.from_residual-in_err-keep_where-in-Some.result _
+    (HasCome-failed_at_once says line (IsOver c.loop-stop.reader → ⊥) u v (g.W.Write.contents c.keep_where.new.out) c.next_line.new.held.items c.keep_where.new.held.items c.loop-stop.lines c.loop-stop.tally not_over a r s came first kept finds failed.kept failed.err)
+
+pub loop-stop-preserved-in-Some : goal.loop-stop-preserved-in-Some
+loop-stop-preserved-in-Some g c =
+    let i = c.loop-stop.invariant in
+    let says = g.J.Judge.says c.args.judge.now in
+    let a = left_of g.R.Read.remaining c.args.reader.now in
+    let r = left_of g.R.Read.remaining c.loop-stop.reader in
+    let s = left_of g.R.Read.remaining c.next_line.new.reader in
+    let u = g.W.Write.contents c.args.out.now in
+    let v = g.W.Write.contents c.next_line.new.out in
+    let line = c.line-line.result.now in
+    let front = c.front.result.now in
+    let kept = c.in-Some.is_kept in
+    let given = subst (Gives g.R.Read.remaining c.loop-stop.reader c.next_line.new.reader) c.in-Line.is c.in_ok-next_line.ensures.given in
+    let first = subst (λ (l : List ℕ). GivesLine r s l) (sym c.line-line.ensures) given.first in
+    let whole = subst (λ (l : List ℕ). IsOver c.next_line.new.reader ⊎ WhereKnown r s (λ rest after. rest ≡ l ++ 10 ∷ after)) (sym c.line-line.ensures) given.whole in
+    let not_over = λ (over : IsOver c.loop-stop.reader). let ends = c.in_ok-next_line.ensures.again.over over in absurd {A = ⊥} (cc) in
+    let came = HasCome-written says a r (IsOver c.loop-stop.reader → ⊥) u (g.W.Write.contents c.loop-stop.out) v c.loop-stop.held.items c.next_line.new.held.items c.loop-stop.lines c.loop-stop.tally i.4 c.in_ok-next_line.ensures.ok in
+    let is : take (length line) front ≡ line = ap (λ (l : List ℕ). take (length l) front) c.line-line.ensures ∙ c.front.ensures ∙ sym c.line-line.ensures in
+    let short : length line ≤ longest_line = subst (λ (l : List ℕ). length l ≤ longest_line) (sym c.line-line.ensures) given.short in
+    let finds = found_at_once says front line (length line) kept is short c.in-Some.ensures.not_blank ((i.3 (take (length line) front) (judgment_where kept)).1 c.in-Some.ensures.said) in
+    let wrote = c.in_ok-keep_where-in-Some.ensures in
+    let n = c.count_where.result in
+    let few : n ≤ 1 = c.count_where.ensures.few in
+    let fewer = given.fewer in
+    let lines_fit : c.loop-stop.lines + 1 + bytes_to_come c.next_line.new.reader ≤ bytes_to_come c.args.reader.now = omega (arith, i.0, fewer) in
+    let rows_fit : c.loop-stop.tally.rows + 1 ≤ c.loop-stop.lines + 1 = omega (arith, i.1) in
+    let kept_fit : c.loop-stop.tally.kept + n ≤ c.loop-stop.lines + 1 = omega (arith, i.2, few) in (
+      lines_fit,
+      rows_fit,
+      kept_fit,
+      SaysTheSame-trans _ _ _ i.3 c.keeps.ensures.same,
+      HasCome-at_once says line (IsOver c.loop-stop.reader → ⊥) u v (g.W.Write.contents c.keep_where.new.out) c.next_line.new.held.items c.keep_where.new.held.items c.loop-stop.lines c.loop-stop.tally not_over a r s came first kept finds
+          (IsOver c.next_line.new.reader) whole wrote.ok n c.count_where.ensures.count,
+      reads_well_more g.S.Reads.calls g.R.Read.remaining c.args.reader.now c.loop-stop.reader c.next_line.new.reader i.5 c.in_ok-next_line.ensures.reads (going_read c.next_line.new.reader given.going),
+      stays_well_trans _ (g.T.Writes.calls c.next_line.new.out) _ (stays_well_trans _ (g.T.Writes.calls c.loop-stop.out) _ i.6 c.in_ok-next_line.ensures.well) wrote.well,
+      λ is_unread. absurd (going_read c.next_line.new.reader given.going is_unread),
+    )
 
 pub loop-stop-preserved : goal.loop-stop-preserved
 loop-stop-preserved g c =
@@ -123,7 +184,8 @@ loop-stop-preserved g c =
     let whole = subst (λ (l : List ℕ). IsOver c.next_line.new.reader ⊎ WhereKnown r s (λ rest after. rest ≡ l ++ 10 ∷ after)) (sym c.line-line.ensures) given.whole in
     let not_over = λ (over : IsOver c.loop-stop.reader). let ends = c.in_ok-next_line.ensures.again.over over in absurd {A = ⊥} (cc) in
     let came = HasCome-written says a r (IsOver c.loop-stop.reader → ⊥) u (g.W.Write.contents c.loop-stop.out) v c.loop-stop.held.items c.next_line.new.held.items c.loop-stop.lines c.loop-stop.tally i.4 c.in_ok-next_line.ensures.ok in
-    let finds = found-same _ _ line c.find-found.result i.3 c.find-found.ensures.found in
+    let same = SaysTheSame-trans says (g.J.Judge.says c.loop-stop.judge) (g.J.Judge.says c.keeps.new.self) i.3 c.keeps.ensures.same in
+    let finds = found-same _ _ line c.find-found.result same c.find-found.ensures.found in
     let fewer = given.fewer in
     let lines_fit : c.loop-stop.lines + 1 + bytes_to_come c.next_line.new.reader ≤ bytes_to_come c.args.reader.now = omega (arith, i.0, fewer) in
     let rows_fit : c.loop-stop.tally.rows + c.in-Passed.one.rows ≤ c.loop-stop.lines + 1 = omega (arith, i.1, counts.0) in
@@ -131,7 +193,7 @@ loop-stop-preserved g c =
       lines_fit,
       rows_fit,
       kept_fit,
-      SaysTheSame-trans _ _ _ i.3 c.find-found.ensures.same,
+      SaysTheSame-trans _ _ _ same c.find-found.ensures.same,
       HasCome-more says line (IsOver c.loop-stop.reader → ⊥) u v (g.W.Write.contents c.settle.new.out) c.next_line.new.held.items c.settle.new.held.items c.loop-stop.lines c.loop-stop.tally c.find-found.result finds not_over
           a r s (IsOver c.next_line.new.reader) c.in-Passed.one came first whole settled.ok step,
       reads_well_more g.S.Reads.calls g.R.Read.remaining c.args.reader.now c.loop-stop.reader c.next_line.new.reader i.5 c.in_ok-next_line.ensures.reads (going_read c.next_line.new.reader given.going),
@@ -154,7 +216,8 @@ returns-in-Stopped-clause-ok g c =
     let first = subst (λ (l : List ℕ). GivesLine r s l) (sym c.line-line.ensures) given.first in
     let not_over = λ (over : IsOver c.loop-stop.reader). let ends = c.in_ok-next_line.ensures.again.over over in absurd {A = ⊥} (cc) in
     let came = HasCome-written says a r (IsOver c.loop-stop.reader → ⊥) u (g.W.Write.contents c.loop-stop.out) v c.loop-stop.held.items c.next_line.new.held.items c.loop-stop.lines c.loop-stop.tally i.4 c.in_ok-next_line.ensures.ok in
-    let finds = found-same _ _ line c.find-found.result i.3 c.find-found.ensures.found in
+    let same = SaysTheSame-trans says (g.J.Judge.says c.loop-stop.judge) (g.J.Judge.says c.keeps.new.self) i.3 c.keeps.ensures.same in
+    let finds = found-same _ _ line c.find-found.result same c.find-found.ensures.found in
     HasCome-stopped says line (IsOver c.loop-stop.reader → ⊥) u v (g.W.Write.contents c.settle.new.out) c.next_line.new.held.items c.settle.new.held.items c.loop-stop.lines c.loop-stop.tally c.find-found.result finds not_over
     c.next_line.new.reader.waiting (g.R.Read.remaining c.next_line.new.reader.reader) a r s c.in-Stopped.stop came first settled.ok (sym settled.step ∙ c.in-Stopped.is)
 

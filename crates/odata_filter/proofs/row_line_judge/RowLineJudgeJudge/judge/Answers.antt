@@ -10,8 +10,12 @@ use Rattle.odata_filter.specs.declared.no_verdict.NoVerdict.{NoVerdict}
 use Rattle.odata_filter.specs.private.FilterNow.{FilterNow}
 use Rattle.odata_filter.specs.private.ValueAnswer.{answer_told}
 use Rattle.odata_filter.proofs.RowLemmas.RowJudges.{line_judged}
+use Rattle.odata_filter.proofs.RowLemmas.RowsInPlace.{rows_again}
 use Rattle.odata_filter.proofs.row_line_judge.RowLineJudgeJudge.judge.Goals.{in-Some-Ok, in-Some-Err, in-None}
 use Rattle.odata_filter.proofs.row_line_judge.RowLineJudgeJudge.judge.Goals as goal
+
+pub invariant_of-self : goal.invariant_of-self
+invariant_of-self c = (c.self.invariant.0, rows_again c.self.inside.rows.checked.now c.self.inside.type_rows c.begin_after.new.rows c.begin_after.ensures c.self.invariant.1)
 
 pub returns-clause-said : goal.returns-clause-said
 returns-clause-said c =
@@ -21,15 +25,15 @@ returns-clause-said c =
     let Right : (Result (Judgment BadRow) AllocError → Type 0) = λ r. IfOk r (JudgesRow filter now line) in
     let Told : (Result Verdict EvalFault → Type 0) = λ answer. TellsRow filter now line (answer_told answer) in
     let Read : (Option (Result Verdict EvalFault) → Type 0) = λ o. IfSome o Told in
-    let right : Right c.match-judge_read.result =
+    let right : Right c.match-judge_read.judged =
     elim c.match-judge_read.branch [
       | in-Some-Ok w ↦
           let said : Result (Judgment BadRow) AllocError = Ok w.judged_by.result in
-          subst Right (sym w.result-is) (line_judged filter now line (Ok w.in-Some-Ok.verdict) said (subst Told w.in-Some-Ok.field-0-is (subst Read w.in-Some-Ok.is c.judge_read.ensures)) w.judged_by.ensures)
+          subst Right (sym w.judged-is) (line_judged filter now line (Ok w.in-Some-Ok.verdict) said (subst Told w.in-Some-Ok.field-0-is (subst Read w.in-Some-Ok.is c.judge_read.ensures)) w.judged_by.ensures)
       | in-Some-Err w ↦
-          subst Right (sym w.result-is)
-          (line_judged filter now line (Err w.told_fault.result) w.judgment_of.result
-          (subst (λ (n : NoVerdict). TellsRow filter now line (Err n)) (sym w.told_fault.ensures) (subst Told w.in-Some-Err.field-0-is (subst Read w.in-Some-Err.is c.judge_read.ensures))) w.judgment_of.ensures)
-      | in-None w ↦ subst Right (sym w.result-is) (line_judged filter now line w.judge_by_tree.result w.judgment_of-in-None.result w.judge_by_tree.ensures w.judgment_of-in-None.ensures)
+          subst Right (sym w.judged-is)
+          (line_judged filter now line (Err w.told_fault.result) w.judgment_of-judged.result
+          (subst (λ (n : NoVerdict). TellsRow filter now line (Err n)) (sym w.told_fault.ensures) (subst Told w.in-Some-Err.field-0-is (subst Read w.in-Some-Err.is c.judge_read.ensures))) w.judgment_of-judged.ensures)
+      | in-None w ↦ subst Right (sym w.judged-is) (line_judged filter now line w.judge_by_tree.result w.judgment_of-judged-in-None.result w.judge_by_tree.ensures w.judgment_of-judged-in-None.ensures)
     ] in
-    subst (λ (f : FilterNow). IfOk c.match-judge_read.result (JudgesRow f.filter f.moment line)) c.self.view_is right
+    subst (λ (f : FilterNow). IfOk c.match-judge_read.judged (JudgesRow f.filter f.moment line)) c.self.view_is right

@@ -1,0 +1,149 @@
+-- The members of an object that fill the slots of a record.
+use Rattle.std.proofs.Common.{◌≡◌, ⊎_elim, ℕ, zero, suc, ◌+◌, ◌^◌, ◌<◌, ◌≤◌, List, [], ◌∷◌, length, map, slice_get, slice_set, get_or, Bool, true, false, Option, None, Some, IfSome, refl, sym, ap, ◌∙◌, subst, arith}
+use Rattle.std.specs.Int.{bit_at}
+use Rattle.std.specs.Prelude.{bit_or, replicate}
+use Rattle.std.proofs.lemmas.Bool.{cases_lt, true≢false}
+use Rattle.std.proofs.lemmas.Nat.Bits.{bit_at-zero}
+use Rattle.serde_json.specs.Data.{Data, Members, object}
+use Rattle.csdl_schema.specs.SchemaModel.{HasDistinctNames, PropertyModel, Slots, properties_at, slots_behind}
+use Rattle.edm_values.specs.declared.value.Value.{Value, Null}
+use Rattle.edm_entities.specs.Row.{val_of}
+use Rattle.edm_entities.specs.private.Passed.{FitsSeen, MayBeAbsent}
+use Rattle.edm_entities.specs.private.RowTokens.{ReadsMembers}
+use Rattle.edm_entities.specs.private.SlotsSoFar.{HoldEachSoFar, HoldsSoFar, SlotsSoFar}
+use Rattle.edm_entities.specs.private.Walk.{FitSlots, FitsSlot, HoldEach, HoldsInSlot}
+use Rattle.edm_entities.proofs.RowLemmas.Plans.{long_set}
+use Rattle.edm_entities.proofs.RowLemmas.SlotsRead.{found_in, others_hold, slot_set, slots_start}
+use Rattle.edm_entities.proofs.SlotLemmas.EachSlot.{null_in_slot}
+use Rattle.json_tokens.specs.private.Lexemes.{PassesSpaces}
+use Rattle.json_tokens.specs.declared.lexeme.Turn.TheVariants.{AfterValue, Fresh}
+use Rattle.json_room.specs.Lexemes.{tokens_at}
+use Rattle.edm_rows.specs.declared.members.After.{After}
+use Rattle.edm_rows.specs.declared.passed_value.Scene.{Scene}
+use Rattle.edm_rows.specs.declared.row_types.RowType.{RowType}
+use Rattle.edm_rows.specs.private.Filled.{FilledRead, FilledUpTo, FillsSlots}
+use Rattle.edm_rows.specs.private.Held.{ReadsTo}
+use Rattle.edm_rows.specs.private.Members.{EndsMember, NamesTo, PassesOther}
+use Rattle.edm_rows.specs.private.Scenes.{slots_behind_node}
+use Rattle.edm_rows.proofs.KeptMembers.{marks_more, no_marks, none_long, none_set, two_bits}
+use Rattle.edm_rows.proofs.Places.{brace_then, comma_then, member_then, members_begin, no_members_read}
+
+-- ---- at the end each slot was filled, or is null and may be
+
+over_slot : (slots : Slots) (found : List ℕ → Option Data) (p : PropertyModel) (b : Bool) (v w : Value) → (b ≡ true → Some w ≡ Some v) → (b ≡ false → MayBeAbsent slots p × (Some w ≡ Some Null)) → HoldsSoFar slots found p b v → FitsSlot slots found p w
+over_slot slots found p true v w same absent fits = let one : Some w ≡ Some v = same refl in let two : w ≡ v = cc in subst (FitsSlot slots found p) (sym two) fits
+over_slot slots found p false v w same absent none =
+    let may = absent refl in
+    let null : w ≡ Null = let one : Some w ≡ Some Null = may.1 in cc in
+    subst (FitsSlot slots found p) (sym null)
+    (subst (λ (o : Option Data). FitsSeen (slots_behind slots p.name) p.nullable p.type_of o (val_of Null)) (sym none) may.0, null_in_slot (slots_behind slots p.name) p.type_of Null refl)
+
+pub filled_over : (slots : Slots) (found : List ℕ → Option Data) (ps : List PropertyModel) (filled : List Bool) (old new : List Value) → length new ≡ length ps
+    → ((k : ℕ) → get_or filled k false ≡ true → slice_get new k ≡ slice_get old k)
+    → ((k : ℕ) → get_or filled k false ≡ false → IfSome (slice_get ps k) (λ p. MayBeAbsent slots p × (slice_get new k ≡ Some Null))) → HoldEachSoFar (HoldsSoFar slots found) ps filled old → HoldEach (FitsSlot slots found) ps new
+filled_over slots found [] filled old [] long same absent hold = tt
+filled_over slots found [] filled old (w ∷ new) long same absent hold = absurd (omega (arith, long))
+filled_over slots found (p ∷ ps) filled old [] long same absent hold = absurd (omega (arith, long))
+filled_over slots found (p ∷ ps) [] old (w ∷ new) long same absent hold = absurd hold
+filled_over slots found (p ∷ ps) (b ∷ filled) [] (w ∷ new) long same absent hold = absurd hold
+filled_over slots found (p ∷ ps) (b ∷ filled) (v ∷ old) (w ∷ new) long same absent hold = (
+  over_slot slots found p b v w (same 0) (absent 0) hold.0,
+  filled_over slots found ps filled old new (omega (arith, long)) (λ k. same (suc k)) (λ k. absent (suc k)) hold.1,
+)
+
+past_end : {X : Type 0} (P : X → Type 0) (xs : List X) (k : ℕ) → length xs ≤ k → IfSome (slice_get xs k) P
+past_end P [] zero past = tt
+past_end P [] (suc k) past = tt
+past_end P (x ∷ xs) zero past = absurd (omega (arith, past))
+past_end P (x ∷ xs) (suc k) past = past_end P xs k (omega (arith, past))
+
+module _ (scene : Scene) (type : RowType) (depth : ℕ) where
+  abbrev slots : Slots
+  slots = slots_behind_node scene type.node
+
+  abbrev ps : List PropertyModel
+  ps = properties_at scene.schema.now type.type_id
+
+  pub filled_none : (from place : ℕ) (values : List Value) → PassesSpaces scene.line from place → length values ≡ length (properties_at scene.schema.now type.type_id) → FilledUpTo scene type depth from place 0 values
+  filled_none from place values passed long =
+      let n = length (properties_at scene.schema.now type.type_id) in
+      record {
+        filled = replicate n false;
+        long = none_long n;
+        marks = no_marks n;
+        members = members_begin depth scene.line from place (λ found. SlotsSoFar slots ps found (replicate n false) values) passed (slots_start slots ps n (replicate n false) values refl (omega arith) long);
+      }
+
+  -- a member of a slot
+  pub filled_slot : (from place value end seen index : ℕ) (name : List ℕ) (values : List Value) (v : Value) (Q : Data → Type 0) → HasDistinctNames (properties_at scene.schema.now type.type_id)
+      → index < length (properties_at scene.schema.now type.type_id) → slice_get (map (λ p. p.name) (properties_at scene.schema.now type.type_id)) index ≡ Some name
+      → ((json : Data) → Q json → IfSome (slice_get (properties_at scene.schema.now type.type_id) index) (λ p. FitsSeen (slots_behind (slots_behind_node scene type.node) p.name) p.nullable p.type_of (Some json) (val_of v))
+      × IfSome (slice_get (properties_at scene.schema.now type.type_id) index) (λ p. HoldsInSlot (slots_behind (slots_behind_node scene type.node) p.name) p.type_of v))
+      → FilledUpTo scene type depth from place seen values → NamesTo scene.line place name value → ReadsTo depth scene.line value end Q → FilledRead scene type depth from end (bit_or seen (2 ^ index)) (slice_set values index v)
+  filled_slot from place value end seen index name values v Q distinct within named fits so_far names reads =
+      let filled = slice_set so_far.filled index true in
+      record {
+        filled = filled;
+        long = long_set so_far.filled index true ∙ so_far.long;
+        marks = marks_more seen index so_far.filled (omega (arith, within, so_far.long)) so_far.marks;
+        members = member_then depth scene.line from place value end name (λ found. SlotsSoFar slots ps found so_far.filled values) (λ found. SlotsSoFar slots ps found filled (slice_set values index v)) Q
+            (λ found json holds is. let both = fits json is in slot_set slots found name json ps so_far.filled values index v distinct named both.0 both.1 holds) so_far.members names reads;
+      }
+
+  -- a member of no slot
+  pub filled_other : (from place end seen : ℕ) (values : List Value) → FilledUpTo scene type depth from place seen values → PassesOther depth scene.line (properties_at scene.schema.now type.type_id) place end → FilledRead scene type depth from end seen values
+  filled_other from place end seen values so_far (name, value, named, others, reads) =
+      record {
+        filled = so_far.filled;
+        long = so_far.long;
+        marks = so_far.marks;
+        members = member_then depth scene.line from place value end name (λ found. SlotsSoFar slots ps found so_far.filled values) (λ found. SlotsSoFar slots ps found so_far.filled values) (λ json. Unit {0})
+            (λ found json holds _. others_hold slots found name json ps so_far.filled values others holds) so_far.members named reads;
+      }
+
+  pub filled_comma : (from end next seen : ℕ) (values : List Value) → FilledRead scene type depth from end seen values → EndsMember scene.line end (After.Comma next) → FilledUpTo scene type depth from next seen values
+  filled_comma from end next seen values read ends =
+      record {
+        filled = read.filled;
+        long = read.long;
+        marks = read.marks;
+        members = comma_then depth scene.line from end next (λ found. SlotsSoFar slots ps found read.filled values) read.members ends;
+      }
+
+  -- ---- at the brace
+
+  module _ (may : (k : ℕ) → bit_at type.optional k ≡ 1 → IfSome (slice_get (properties_at scene.schema.now type.type_id) k) (MayBeAbsent (slots_behind_node scene type.node)))
+      (as_many : length type.slots.items ≡ length (properties_at scene.schema.now type.type_id)) (seen : ℕ) (old new : List Value) (fills : FillsSlots type seen old new) (long : length old ≡ length (properties_at scene.schema.now type.type_id)) where
+    absent_at : (k : ℕ) → bit_at seen k ≡ 0 → IfSome (slice_get (properties_at scene.schema.now type.type_id) k) (λ p. MayBeAbsent (slots_behind_node scene type.node) p × (slice_get new k ≡ Some Null))
+    absent_at k none =
+        ⊎_elim (λ inside.
+        let there : k < length type.slots.items = omega (arith, inside, as_many) in
+        with_null (slice_get ps k) (⊎_elim (λ was. absurd (omega (arith, none, was))) (λ optional. may k optional) (fills.may k there)) (fills.nulls k there none))
+        (λ past. past_end (λ p. MayBeAbsent slots p × (slice_get new k ≡ Some Null)) ps k past) (cases_lt k (length ps))
+      where
+        with_null : (o : Option PropertyModel) → IfSome o (MayBeAbsent slots) → slice_get new k ≡ Some Null → IfSome o (λ p. MayBeAbsent slots p × (slice_get new k ≡ Some Null))
+        with_null None a null = tt
+        with_null (Some p) a null = (a, null)
+
+    pub filled_brace : (from end next : ℕ) → FilledRead scene type depth from end seen old → EndsMember scene.line end (After.Brace next)
+        → ReadsMembers depth (tokens_at Fresh scene.line from) (tokens_at AfterValue scene.line next) (λ found. FitSlots (slots_behind_node scene type.node) (object found) (properties_at scene.schema.now type.type_id) new)
+    filled_brace from end next read ends =
+        brace_then depth scene.line from end next (λ found. SlotsSoFar slots ps found read.filled old) (λ found. FitSlots slots (object found) ps new)
+        (λ found holds. filled_over slots (found_in found) ps read.filled old new (fills.long ∙ long) (λ k is. fills.stay k (set k is))
+        (λ k is. ⊎_elim (λ inside. absent_at k (no_bit k inside is)) (λ past. past_end (λ p. MayBeAbsent slots p × (slice_get new k ≡ Some Null)) ps k past) (cases_lt k (length ps))) holds) read.members ends
+      where
+        set : (k : ℕ) → get_or read.filled k false ≡ true → bit_at seen k ≡ 1
+        set k is = ⊎_elim (λ none. absurd (true≢false (sym is ∙ read.marks.not_set k none))) (λ one. one) (two_bits seen k)
+
+        no_bit : (k : ℕ) → k < length (properties_at scene.schema.now type.type_id) → get_or read.filled k false ≡ false → bit_at seen k ≡ 0
+        no_bit k inside is = ⊎_elim (λ none. none) (λ one. absurd (true≢false (sym (read.marks.set k one (omega (arith, inside, read.long))) ∙ is))) (two_bits seen k)
+
+    -- where no member stands
+    pub filled_empty : (from brace : ℕ) → seen ≡ 0 → PassesSpaces scene.line from brace → brace < length scene.line → get_or scene.line brace 32 ≡ 125
+        → ReadsMembers depth (tokens_at Fresh scene.line from) (tokens_at AfterValue scene.line (brace + 1)) (λ found. FitSlots (slots_behind_node scene type.node) (object found) (properties_at scene.schema.now type.type_id) new)
+    filled_empty from brace none passed within is =
+        let n = length (properties_at scene.schema.now type.type_id) in
+        let filled = replicate n false in
+        no_members_read depth scene.line from brace (λ found. SlotsSoFar slots ps found filled old) (λ found. FitSlots slots (object found) ps new) passed within is
+        (λ found holds. filled_over slots (found_in found) ps filled old new (fills.long ∙ long) (λ k set. absurd (true≢false (sym set ∙ none_set n k))) (λ k _. absent_at k (ap (λ w. bit_at w k) none ∙ bit_at-zero k)) holds)
+        (slots_start slots ps n filled old refl (omega arith) long)

@@ -1,0 +1,226 @@
+-- Values that are filled where they are, by the places where their JSON stands.
+use Rattle.std.proofs.Common.{◌≡◌, ℕ, ◌+◌, ◌-◌, ◌<◌, List, [], ◌∷◌, ◌++◌, length, take, slice_set, get_or, Bool, false, true, Option, None, Some, IfSome, Vec, Global, refl, sym, ap, ◌∙◌, subst, arith}
+use Rattle.serde_json.specs.Data.{Data, Items as Jsons, array, no_items, item, null as json_null, object}
+use Rattle.serde_json.specs.Find.{get}
+use Rattle.serde_json.specs.Read.{converted, of_json}
+use Rattle.json.specs.Json.{value as json_value}
+use Rattle.json.specs.Token.{null as null_token}
+use Rattle.csdl_schema.specs.ExprType.{SingleType, collection, enumeration, primitive, single, structured}
+use Rattle.csdl_schema.specs.SchemaModel.{HasDistinctNames, Slots, properties_at, type_name_at}
+use Rattle.edm_values.specs.declared.primitive.PrimitiveType.{PrimitiveType}
+use Rattle.edm_values.specs.declared.primitive.PrimitiveType.TheVariants as prim
+use Rattle.edm_values.specs.declared.sieve.Sieve.{Sieve}
+use Rattle.edm_values.specs.declared.value.Value.{Value, Null, Record as RecordOf, List as ListOf}
+use Rattle.edm_entities.specs.Fits.{FitsType}
+use Rattle.edm_entities.specs.HoldsEachSlot.{HoldsEachSlot}
+use Rattle.edm_entities.specs.Row.{val_of}
+use Rattle.edm_entities.specs.private.RowTokens.{FitsHoweverNullable, append_items}
+use Rattle.edm_entities.specs.private.Walk.{FitList, FitSlots, HoldInItems}
+use Rattle.edm_entities.proofs.RowLemmas.Leaves.{not_null_fits, null_token as null_read}
+use Rattle.edm_entities.proofs.RowLemmas.Parts.{fit_push, list_held, record_held}
+use Rattle.edm_entities.proofs.RowLemmas.Plans.{take_none, take_set}
+use Rattle.edm_entities.proofs.SlotLemmas.EachSlot.{holds_push, list_held as list_holds, member_holds, null_holds, primitive_holds, slots_held}
+use Rattle.edm_entities.proofs.SlotLemmas.FoundWalk.{val_of-Null}
+use Rattle.json_tokens.proofs.LexemeLemmas.{stay}
+use Rattle.json_tokens.specs.private.Lexemes.{PassesSpaces}
+use Rattle.json_tokens.specs.declared.lexeme.Turn.TheVariants.{AfterValue}
+use Rattle.json_room.specs.Lexemes.{StandsTo, tokens_at}
+use Rattle.edm_rows.specs.declared.kept_leaf.Taken.{Taken}
+use Rattle.edm_rows.specs.declared.kept_leaf.Taken.TheVariants.{Put}
+use Rattle.edm_rows.specs.declared.passed_value.Scene.{Scene}
+use Rattle.edm_rows.specs.declared.row_types.RowSlot.{RowSlot}
+use Rattle.edm_rows.specs.declared.row_types.RowType.{RowType}
+use Rattle.edm_rows.specs.declared.row_types.Task.{Task}
+use Rattle.edm_rows.specs.declared.row_types.Task.TheVariants.{Text, Number, Truth, Date, Moment, Guid, Member, Record, Items, Any}
+use Rattle.edm_rows.specs.private.Filled.{AreFilled, FillsItems, FillsMembers, FillsValue, IsFilledIn}
+use Rattle.edm_rows.specs.private.Held.{FilledAs, IsFilled, IsSingle, Kinds, ReadsTo, type_of}
+use Rattle.edm_rows.specs.private.KeptLeaves.{PutsLeaf, PutsMember, TakesLeaf}
+use Rattle.edm_rows.specs.private.RowSlots.{kinds_of, name_at}
+use Rattle.edm_rows.specs.private.Scenes.{slots_behind_node}
+use Rattle.edm_rows.proofs.Places.{ItemsUpTo, array_to, begins_at, item_and_bracket, item_and_comma, items_begin, no_items_read, object_to, reads_behind, reads_to_as}
+use Rattle.edm_rows.proofs.SceneLemmas.{IsTypeThere}
+
+-- ---- values without parts
+
+-- what was put stands there
+pub put_leaf : (line : List ℕ) (type : SingleType) (sieve : Sieve) (old new : Value) (place : ℕ) (taken : Taken) (o : Option ℕ) → IfSome o (λ to. taken ≡ Put to) → TakesLeaf line type sieve old new place taken → IfSome o (PutsLeaf line type new place)
+put_leaf line type sieve old new place taken None put takes = tt
+put_leaf line type sieve old new place taken (Some to) put takes = subst (TakesLeaf line type sieve old new place) put takes
+
+module _ (slots : Slots) (kinds : Kinds) (nullable : Bool) (inner : Task) where
+  primitive_filled : (type : PrimitiveType) (v : Value) (json : Data) → FitsHoweverNullable slots (single (primitive type)) v json → IsFilled slots nullable nullable (single (primitive type)) v json
+  primitive_filled type v json fits =
+      let t = single (primitive type) in
+      (fits nullable, primitive_holds slots type json v (not_null_fits json (val_of v slots.properties t) (λ found. FitsType slots false t found (val_of v slots.properties t)) (fits false)))
+
+  member_filled : (name : List ℕ) (v : Value) (json : Data) → FitsHoweverNullable slots (single (enumeration name)) v json → IsFilled slots nullable nullable (single (enumeration name)) v json
+  member_filled name v json fits =
+      let t = single (enumeration name) in
+      (fits nullable, member_holds slots name json v (not_null_fits json (val_of v slots.properties t) (λ found. FitsType slots false t found (val_of v slots.properties t)) (fits false)))
+
+  null_filled : (type : SingleType) (v : Value) → nullable ≡ true → v ≡ Null → IsFilled slots nullable nullable (single type) v json_null
+  null_filled type v may same =
+      ((may, ap (λ (w : Value). val_of w slots.properties (single type)) same ∙ val_of-Null slots (single type)), null_holds slots (single type) v same)
+
+  -- a single task's value
+  single_filled : (task : Task) (v : Value) (json : Data) → IsSingle task → IsFilled slots nullable nullable (single (type_of kinds task)) v json → FilledAs slots kinds nullable inner task v json
+  single_filled Text v json some fits = fits
+  single_filled Number v json some fits = fits
+  single_filled Truth v json some fits = fits
+  single_filled Date v json some fits = fits
+  single_filled Moment v json some fits = fits
+  single_filled Guid v json some fits = fits
+  single_filled Member v json some fits = fits
+  single_filled Record v json some fits = fits
+  single_filled Items v json some fits = absurd (some.0 refl)
+  single_filled Any v json some fits = absurd (some.1 refl)
+
+  -- and the other way
+  pub of_filled : (task : Task) (v : Value) (json : Data) → IsSingle task → FilledAs slots kinds nullable inner task v json → IsFilled slots nullable nullable (single (type_of kinds task)) v json
+  of_filled Text v json some fits = fits
+  of_filled Number v json some fits = fits
+  of_filled Truth v json some fits = fits
+  of_filled Date v json some fits = fits
+  of_filled Moment v json some fits = fits
+  of_filled Guid v json some fits = fits
+  of_filled Member v json some fits = fits
+  of_filled Record v json some fits = fits
+  of_filled Items v json some fits = absurd (some.0 refl)
+  of_filled Any v json some fits = absurd (some.1 refl)
+
+  module _ (depth : ℕ) (line : List ℕ) (from : ℕ) (v : Value) where
+    -- what stands there, and that it is of some JSON
+    abbrev Fills : Task → ℕ → Type 0
+    Fills task to = ReadsTo depth line from to (FilledAs slots kinds nullable inner task v) × ((json : Data) × FilledAs slots kinds nullable inner task v json)
+
+    pub leaf_filled : (task known : Task) (type : PrimitiveType) (o : Option ℕ) → task ≡ known → IsSingle known → type_of kinds known ≡ primitive type → IfSome o (PutsLeaf line (primitive type) v from)
+        → IfSome o (λ to. ReadsTo depth line from to (FilledAs slots kinds nullable inner task v) × ((json : Data) × FilledAs slots kinds nullable inner task v json))
+    leaf_filled task known type None is some of puts = tt
+    leaf_filled task known type (Some to) is some of puts =
+        let filled : (json : Data) → FitsHoweverNullable slots (single (primitive type)) v json → FilledAs slots kinds nullable inner known v json = λ json fits.
+        single_filled known v json some (subst (λ t. IsFilled slots nullable nullable (single t) v json) (sym of) (primitive_filled type v json fits)) in
+        subst (λ t. Fills t to) (sym is)
+        (reads_to_as depth line from to (FitsHoweverNullable slots (single (primitive type)) v) (FilledAs slots kinds nullable inner known v) filled (puts.1 slots depth), (puts.0.0, filled puts.0.0 (puts.0.1 slots)))
+
+    pub member_text_filled : (task : Task) (o : Option ℕ) → task ≡ Member → IfSome o (PutsMember line slots kinds.enumeration v from)
+        → IfSome o (λ to. ReadsTo depth line from to (FilledAs slots kinds nullable inner task v) × ((json : Data) × FilledAs slots kinds nullable inner task v json))
+    member_text_filled task None is puts = tt
+    member_text_filled task (Some to) is puts =
+        subst (λ t. Fills t to) (sym is) (
+          reads_to_as depth line from to (FitsHoweverNullable slots (single (enumeration kinds.enumeration)) v) (FilledAs slots kinds nullable inner Member v) (λ json fits. member_filled kinds.enumeration v json fits) (puts.1 depth),
+          (puts.0.0, member_filled kinds.enumeration v puts.0.0 puts.0.1),
+        )
+
+    pub null_filled_to : (task : Task) (o : Option ℕ) → IsSingle task → IfSome o (StandsTo line from null_token) → IfSome o (λ to. (nullable ≡ true) × (v ≡ Null))
+        → IfSome o (λ to. ReadsTo depth line from to (FilledAs slots kinds nullable inner task v) × ((json : Data) × FilledAs slots kinds nullable inner task v json))
+    null_filled_to task None some stands is = tt
+    null_filled_to task (Some to) some stands is =
+        let filled : FilledAs slots kinds nullable inner task v json_null = single_filled task v json_null some (null_filled (type_of kinds task) v is.0 is.1) in (
+          record {
+            bounds = stands.bounds;
+            reads = λ turn may_begin here. record {
+              json = json_null;
+              is_read = ap (λ ts. converted of_json (json_value depth ts)) (begins_at line from to null_token turn may_begin stands here) ∙ null_read depth (tokens_at AfterValue line to);
+              holds = filled;
+            };
+          },
+          (json_null, filled),
+        )
+
+    pub unseen_filled : (task : Task) (o : Option ℕ) → task ≡ Any → v ≡ Null → IfSome o (λ to. ReadsTo depth line from to (λ json. Unit {0}))
+        → IfSome o (λ to. ReadsTo depth line from to (FilledAs slots kinds nullable inner task v) × ((json : Data) × FilledAs slots kinds nullable inner task v json))
+    unseen_filled task None is null reads = tt
+    unseen_filled task (Some to) is null reads = subst (λ t. Fills t to) (sym is) (reads_to_as depth line from to (λ json. Unit {0}) (FilledAs slots kinds nullable inner Any v) (λ json _. null) reads, (json_null, null))
+
+-- ---- records
+
+module _ (scene : Scene) (slot : RowSlot) (type : RowType) (there : IsTypeThere scene.schema.now scene.plan.now.expansion scene.plan.now.plans.items slot type) (values : Vec Value Global) where
+  filled_record : (found : _) → FitSlots (slots_behind_node scene type.node) (object found) (properties_at scene.schema.now type.type_id) values.items → IsFilledIn scene slot Record (RecordOf values) (object found)
+  filled_record found fits =
+      let schema = scene.schema.now in
+      let steps = scene.plan.now.expansion in
+      let name = (kinds_of schema scene.plan.now.plans.items slot).record_type in
+      let named : name ≡ type_name_at schema type.type_id = ap (name_at schema) there.id_is in
+      let distinct : HasDistinctNames (properties_at schema type.type_id) = subst (λ id. HasDistinctNames (properties_at schema id)) (sym there.is.of_type.0) there.is.is_plan.distinct in
+      let here = slots_behind_node scene type.node in
+      subst (λ n. IsFilled (slots_behind_node scene n) slot.is_nullable slot.is_nullable (single (structured name)) (RecordOf values) (object found)) there.behind
+      (subst (λ s. IsFilled here slot.is_nullable slot.is_nullable (single (structured s)) (RecordOf values) (object found)) (sym named)
+      (record_held schema steps type.node type.type_id values found distinct fits slot.is_nullable, slots_held here (type_name_at schema type.type_id) (λ n. get n (object found)) values fits))
+
+  pub record_filled : (depth from to : ℕ) → 0 < depth → from < length scene.line → get_or scene.line from 32 ≡ 123 → FillsMembers scene type (depth - 1) values.items (from + 1) to → FillsValue scene slot Record depth (RecordOf values) from to
+  record_filled depth from to some within is members = (
+    object_to depth scene.line from to (λ found. FitSlots (slots_behind_node scene type.node) (object found) (properties_at scene.schema.now type.type_id) values.items) (IsFilledIn scene slot Record (RecordOf values)) some within is
+        filled_record members.0 members.1,
+    (object members.1.found, filled_record members.1.found members.1.holds),
+  )
+
+-- ---- lists
+
+module _ (scene : Scene) (slot : RowSlot) where
+  abbrev node_slots : Slots
+  node_slots = slots_behind_node scene slot.node
+
+  abbrev item_type : SingleType
+  item_type = type_of (kinds_of scene.schema.now scene.plan.now.plans.items slot) slot.item
+
+  filled_list : (items : Vec Value Global) (jsons : Jsons) → AreFilled (slots_behind_node scene slot.node) slot.is_nullable (type_of (kinds_of scene.schema.now scene.plan.now.plans.items slot) slot.item) items.items jsons
+      → IsFilledIn scene slot Items (ListOf items) (array jsons)
+  filled_list items jsons fits = (list_held node_slots slot.is_nullable item_type items jsons fits.0, list_holds node_slots item_type items fits.1)
+
+  pub list_filled : (items : Vec Value Global) (depth from to : ℕ) → 0 < depth → from < length scene.line → get_or scene.line from 32 ≡ 91 → FillsItems scene slot (depth - 1) items.items (from + 1) to → FillsValue scene slot Items depth (ListOf items) from to
+  list_filled items depth from to some within is read = (
+    array_to depth scene.line from to (AreFilled node_slots slot.is_nullable item_type items.items) (IsFilledIn scene slot Items (ListOf items)) some within is (filled_list items) read.0 read.1,
+    (array read.1.jsons, filled_list items read.1.jsons read.1.holds),
+  )
+
+  -- ---- items one after another
+
+  none_filled : (items : List Value) → items ≡ [] → AreFilled (slots_behind_node scene slot.node) slot.is_nullable (type_of (kinds_of scene.schema.now scene.plan.now.plans.items slot) slot.item) items no_items
+  none_filled items none = (subst (λ vs. FitList node_slots slot.is_nullable item_type no_items vs) (sym none) tt, subst (HoldInItems node_slots item_type) (sym none) refl)
+
+  one_more : (IsSingle slot.item) → (found : Jsons) (json : Data) (items : List Value) (v : Value) → AreFilled (slots_behind_node scene slot.node) slot.is_nullable (type_of (kinds_of scene.schema.now scene.plan.now.plans.items slot) slot.item) items found
+      → IsFilledIn scene slot slot.item v json
+      → AreFilled (slots_behind_node scene slot.node) slot.is_nullable (type_of (kinds_of scene.schema.now scene.plan.now.plans.items slot) slot.item) (items ++ v ∷ []) (append_items found (item json no_items))
+  one_more some found json items v fits here =
+      let is = of_filled node_slots (kinds_of scene.schema.now scene.plan.now.plans.items slot) slot.is_nullable slot.item slot.item v json some here in
+      (fit_push node_slots slot.is_nullable item_type found items json v fits.0 is.0, holds_push node_slots item_type items v fits.1 is.1)
+
+  -- the first items before a place are those that were read
+  abbrev pub ListUpTo : ℕ → ℕ → ℕ → List Value → Type 0
+  ListUpTo depth from place items = ItemsUpTo depth scene.line from place (AreFilled (slots_behind_node scene slot.node) slot.is_nullable (type_of (kinds_of scene.schema.now scene.plan.now.plans.items slot) slot.item) items)
+
+  pub list_start : (depth from place : ℕ) (items : List Value) → PassesSpaces scene.line from place → ListUpTo depth from place (take 0 items)
+  list_start depth from place items passed = items_begin depth scene.line from place (AreFilled node_slots slot.is_nullable item_type (take 0 items)) passed (none_filled (take 0 items) (take_none items))
+
+  module _ (some : IsSingle slot.item) (depth from place end : ℕ) (before held : List Value) (count : ℕ) (v : Value) (kept : take count held ≡ take count before) (within : count < length held) where
+    pushed : take (count + 1) (slice_set held count v) ≡ take count before ++ v ∷ []
+    pushed = take_set held count v within ∙ ap (λ vs. vs ++ v ∷ []) kept
+
+    more : (found : Jsons) (json : Data) → AreFilled (slots_behind_node scene slot.node) slot.is_nullable (type_of (kinds_of scene.schema.now scene.plan.now.plans.items slot) slot.item) (take count before) found → IsFilledIn scene slot slot.item v json
+        → AreFilled (slots_behind_node scene slot.node) slot.is_nullable (type_of (kinds_of scene.schema.now scene.plan.now.plans.items slot) slot.item) (take (count + 1) (slice_set held count v)) (append_items found (item json no_items))
+    more found json fits here = subst (λ vs. AreFilled node_slots slot.is_nullable item_type vs (append_items found (item json no_items))) (sym pushed) (one_more some found json (take count before) v fits here)
+
+    pub list_comma : (comma : ℕ) → ListUpTo depth from place (take count before) → FillsValue scene slot slot.item depth v place end → PassesSpaces scene.line end comma → comma < length scene.line → get_or scene.line comma 32 ≡ 44
+        → ListUpTo depth from (comma + 1) (take (count + 1) (slice_set held count v))
+    list_comma comma so_far value passed inside is =
+        item_and_comma depth scene.line from place end comma (comma + 1) (AreFilled node_slots slot.is_nullable item_type (take count before)) (AreFilled node_slots slot.is_nullable item_type (take (count + 1) (slice_set held count v)))
+        (IsFilledIn scene slot slot.item v) more so_far value.0 passed inside is (stay scene.line (comma + 1) (omega (arith, inside)))
+
+    pub list_bracket : (bracket : ℕ) → ListUpTo depth from place (take count before) → FillsValue scene slot slot.item depth v place end → PassesSpaces scene.line end bracket → bracket < length scene.line → get_or scene.line bracket 32 ≡ 93
+        → FillsItems scene slot depth (take (count + 1) (slice_set held count v)) from (bracket + 1)
+    list_bracket bracket so_far value passed inside is = (
+      (omega (arith, so_far.bounds.0, value.0.bounds.0, passed.bounds.0), omega (arith, inside)),
+      item_and_bracket depth scene.line from place end bracket (AreFilled node_slots slot.is_nullable item_type (take count before)) (AreFilled node_slots slot.is_nullable item_type (take (count + 1) (slice_set held count v)))
+          (IsFilledIn scene slot slot.item v) more so_far value.0 passed inside is,
+    )
+
+  pub no_list : (depth from bracket : ℕ) (items : List Value) → bracket < length scene.line → get_or scene.line bracket 32 ≡ 93 → PassesSpaces scene.line from bracket → FillsItems scene slot depth (take 0 items) from (bracket + 1)
+  no_list depth from bracket items within is passed = (
+    (omega (arith, passed.bounds.0), omega (arith, within)),
+    no_items_read depth scene.line from bracket (AreFilled node_slots slot.is_nullable item_type (take 0 items)) passed within is (none_filled (take 0 items) (take_none items)),
+  )
+
+-- ---- white space
+
+pub filled_behind : (scene : Scene) (slot : RowSlot) (task : Task) (depth : ℕ) (v : Value) (from place to : ℕ) → PassesSpaces scene.line from place → FillsValue scene slot task depth v place to → FillsValue scene slot task depth v from to
+filled_behind scene slot task depth v from place to passed value = (reads_behind depth scene.line from place to (IsFilledIn scene slot task v) passed value.0, value.1)

@@ -1,0 +1,73 @@
+-- Slots of a record that were not seen become null, one after the other.
+use Rattle.std.proofs.Common.{◌≡◌, ◌≢◌, inl, inr, ⊎_elim, ℕ, ◌+◌, ◌-◌, ◌^◌, ◌<◌, List, length, slice_get, slice_set, bit_and, bit_or, Some, IfSome, refl, sym, ap, ◌∙◌, subst, arith}
+use Rattle.std.specs.Int.{bit_at}
+use Rattle.std.proofs.lemmas.Nat.Bits.{bit_at_ones, bit_at_or}
+use Rattle.csdl_schema.specs.ExpansionView.{StepModel}
+use Rattle.csdl_schema.specs.SchemaModel.{SchemaModel}
+use Rattle.edm_values.specs.declared.value.Value.{Value, Null}
+use Rattle.edm_row_plans.specs.declared.type_plan.TypePlan.{TypePlan}
+use Rattle.edm_entities.proofs.RowLemmas.Plans.{long_set, other_kept}
+use Rattle.edm_rows.specs.declared.row_types.RowType.{RowType}
+use Rattle.edm_rows.specs.private.Filled.{FillsSlots}
+use Rattle.edm_rows.specs.private.RowSlots.{IsRowSlot, IsRowType}
+use Rattle.edm_rows.proofs.AbsentCleared.{both_at, set_there}
+use Rattle.edm_rows.proofs.KeptMembers.{bit_none, none_bit, same_number, two_bits}
+
+-- the slots that were seen stay, and those below a place that were not are null
+pub record NullsBelow (seen place : ℕ) (old new : List Value) : Type 0 where
+  pub long : length new ≡ length old
+  pub stay : (k : ℕ) → bit_at seen k ≡ 1 → slice_get new k ≡ slice_get old k
+  pub nulls : (k : ℕ) → k < place → bit_at seen k ≡ 0 → slice_get new k ≡ Some Null
+
+pub nulls_none : (seen : ℕ) (values : List Value) → NullsBelow seen 0 values values
+nulls_none seen values = record { long = refl; stay = λ k is. refl; nulls = λ k less. absurd (omega (arith, less)) }
+
+pub nulls_next : (seen place bit : ℕ) (old values : List Value) (v w : Value) → bit ≡ 2 ^ place → slice_get values place ≡ Some w → place < length values → NullsBelow seen place old values → (bit_and seen bit ≡ 0 → v ≡ Null) → (bit_and seen bit ≢ 0 → v ≡ w)
+    → NullsBelow seen (place + 1) old (slice_set values place v)
+nulls_next seen place bit old values v w is there within so_far null stays =
+    record {
+      long = long_set values place v ∙ so_far.long;
+      stay = λ k set. ⊎_elim (λ here. stays_here k here set) (λ other. other_kept values place k v other ∙ so_far.stay k set) (same_number k place);
+      nulls = λ k less none. ⊎_elim (λ here. null_here k here none) (λ other. other_kept values place k v other ∙ so_far.nulls k (omega (arith, less, other)) none) (same_number k place);
+    }
+  where
+    stays_here : (k : ℕ) → k ≡ place → bit_at seen k ≡ 1 → slice_get (slice_set values place v) k ≡ slice_get old k
+    stays_here k here set =
+        let same : v ≡ w = stays (λ none. omega (arith, bit_none seen place (subst (λ b. bit_and seen b ≡ 0) is none), ap (bit_at seen) here, set)) in
+        ap (slice_get (slice_set values place v)) here ∙ set_there values place v within ∙ ap Some same ∙ sym there ∙ ap (slice_get values) (sym here) ∙ so_far.stay k set
+
+    null_here : (k : ℕ) → k ≡ place → bit_at seen k ≡ 0 → slice_get (slice_set values place v) k ≡ Some Null
+    null_here k here none =
+        ap (slice_get (slice_set values place v)) here ∙ set_there values place v within
+        ∙ ap Some (null (subst (λ b. bit_and seen b ≡ 0) (sym is) (none_bit seen place (subst (λ j. bit_at seen j ≡ 0) here none))))
+
+module _ (type : RowType) (all : type.all ≡ 2 ^ length type.slots.items - 1) (seen : ℕ) where
+  each_bit : (k : ℕ) → k < length type.slots.items → bit_at type.all k ≡ 1
+  each_bit k inside = ap (λ (n : ℕ). bit_at n k) all ∙ bit_at_ones (length type.slots.items) k inside
+
+  -- each slot was seen
+  pub fills_seen : (values : List Value) → seen ≡ type.all → FillsSlots type seen values values
+  fills_seen values same =
+      record {
+        may = λ k inside. inl (ap (λ (n : ℕ). bit_at n k) same ∙ each_bit k inside);
+        long = refl;
+        stay = λ k is. refl;
+        nulls = λ k inside none. absurd (omega (arith, none, ap (λ (n : ℕ). bit_at n k) same, each_bit k inside));
+      }
+
+  -- those that were not may be absent
+  pub fills_unseen : (old new : List Value) → bit_or seen type.optional ≡ type.all → NullsBelow seen (length type.slots.items) old new → FillsSlots type seen old new
+  fills_unseen old new either below =
+      record {
+        may = λ k inside. ⊎_elim (λ none. inr (optional k inside none)) (λ one. inl one) (two_bits seen k);
+        long = below.long;
+        stay = below.stay;
+        nulls = below.nulls;
+      }
+    where
+      optional : (k : ℕ) → k < length type.slots.items → bit_at seen k ≡ 0 → bit_at type.optional k ≡ 1
+      optional k inside none = omega (arith, bit_at_or seen type.optional k, ap (λ (n : ℕ). bit_at n k) either, each_bit k inside, none)
+
+-- each slot's bit is that of its index
+pub type_bits : (schema : SchemaModel) (steps : List StepModel) (plans : List TypePlan) (plan : TypePlan) (type : RowType) → IsRowType schema steps plans plan type → (k : ℕ) → IfSome (slice_get type.slots.items k) (λ slot. slot.bit ≡ 2 ^ k)
+type_bits schema steps plans plan type is k = both_at type.slots.items plan.slots.items (λ slot p. IsRowSlot schema steps plans k p slot) (λ slot. slot.bit ≡ 2 ^ k) k is.count (is.each k) (λ slot p here. here.bit)

@@ -1,0 +1,47 @@
+use Rattle.std.proofs.Common.{true, sym, ◌∙◌, subst, arith}
+use Rattle.edm_rows.specs.declared.members.After.{After}
+use Rattle.edm_rows.specs.private.Members.{EndsMember}
+use Rattle.edm_rows.specs.private.KeptRows.{root_properties}
+use Rattle.edm_rows.proofs.AbsentCleared.{root_bits, rows_long}
+use Rattle.edm_rows.proofs.KeptMembers.{kept_comma}
+use Rattle.edm_rows.proofs.KeptSlots.{held_long}
+use Rattle.edm_rows.proofs.RowSteps.{row_ends}
+use Rattle.edm_rows.proofs.kept_value.pass_rest.Goals as goal
+
+pub members-init : goal.members-init
+members-init c = (c.requires.within, c.requires.order, c.requires.depth, λ from read. read, c.requires.conforms)
+
+pub ends_row-requires-clause-as_many : goal.ends_row-requires-clause-as_many
+ends_row-requires-clause-as_many c = held_long _ (root_properties c.args.scene.now) c.members.values c.members.invariant.4.1 ∙ sym (rows_long c.args.scene.now c.args.plan.now c.requires.plan)
+
+pub ends_row-requires-clause-bits : goal.ends_row-requires-clause-bits
+ends_row-requires-clause-bits c = root_bits c.args.scene.now c.args.plan.now c.requires.plan
+
+pub returns-in-Some-Brace-clause-read : goal.returns-in-Some-Brace-clause-read
+returns-in-Some-Brace-clause-read c from rejected =
+    let scene = c.args.scene.now in
+    let plan = c.args.plan.now in
+    row_ends scene plan true from c.in-Some-Brace.next c.members.read c.members.values c.ends_row.new.values c.requires.plan (c.members.invariant.3 from rejected)
+    (c.ends_row.ensures.fills scene c.requires.plan c.if-not-ends_row.false) (subst (EndsMember scene.line c.members.read.place) c.in-Some-Brace.field-0-is c.in-Some-Brace.ensures)
+
+pub members-preserved : goal.members-preserved
+members-preserved c =
+    let scene = c.args.scene.now in
+    let rows = c.args.plan.now.slots.items in
+    let values = c.members.values in
+    let read = c.members.read in
+    let ends : EndsMember scene.line read.place (After.Comma c.in-Some-Comma.next) = subst (EndsMember scene.line read.place) c.in-Some-Comma.field-0-is c.in-Some-Comma.ensures in
+    let more = c.in-Some-pass_next.ensures in (
+      more.further.1,
+      more.further.2,
+      c.pass_next.ensures.depth,
+      λ from rejected. more.read from values (held_long _ (root_properties scene) values c.members.invariant.4.1) (kept_comma scene rows from read.place c.in-Some-Comma.next read.seen true values (c.members.invariant.3 from rejected) ends),
+      c.members.invariant.4,
+    )
+
+pub members-smaller : goal.members-smaller
+members-smaller c =
+    let read = c.members.read in
+    let ends : EndsMember c.args.scene.now.line read.place (After.Comma c.in-Some-Comma.next) = subst (EndsMember c.args.scene.now.line read.place) c.in-Some-Comma.field-0-is c.in-Some-Comma.ensures in
+    let more = c.in-Some-pass_next.ensures.further in
+    omega (arith, more.0, more.1, ends.0)

@@ -1,0 +1,14 @@
+use Rattle.std.proofs.Common.{true, ℕ, ◌≡◌, ◌-◌, ◌<◌, ◌≤◌, length}
+use Rattle.edm_rows.specs.private.KeptRows.{RowConforms, root_properties, root_slots}
+use Rattle.edm_rows.specs.private.KeptSoFar.{IsReadTo}
+use Rattle.edm_rows.proofs.kept_value.pass_rest.Given as goal
+
+-- one of the members before the place is rejected, and the others were passed
+abbrev pub invariant-members : goal.invariant-members
+invariant-members l =
+    (l.read.place ≤ length l.scene.line) × (l.read.order < 1024) × (l.cache.depth ≡ 126)
+    × ((from : ℕ) → IsReadTo l.scene l.plan true from l.initial.values l.initial.read → IsReadTo l.scene l.plan true from l.values l.read)
+    × RowConforms (root_slots l.scene) (root_properties l.scene) l.values
+
+abbrev pub decreases-members : goal.decreases-members
+decreases-members l = length l.scene.line - l.read.place

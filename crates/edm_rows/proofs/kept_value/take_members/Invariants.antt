@@ -1,0 +1,14 @@
+use Rattle.std.proofs.Common.{false, ◌≡◌, ◌-◌, ◌<◌, ◌≤◌, length}
+use Rattle.edm_rows.specs.private.KeptRows.{RowConforms, root_properties, root_slots}
+use Rattle.edm_rows.specs.private.KeptSoFar.{IsUpTo}
+use Rattle.edm_rows.proofs.kept_value.take_members.Given as goal
+
+-- the members before the place were put into their slots
+abbrev pub invariant-members : goal.invariant-members
+invariant-members l =
+    (l.so_far.place ≤ length l.scene.line) × (l.so_far.order < 1024) × (l.cache.depth ≡ 126)
+    × IsUpTo l.scene l.plan false l.from l.values l.so_far
+    × RowConforms (root_slots l.scene) (root_properties l.scene) l.values
+
+abbrev pub decreases-members : goal.decreases-members
+decreases-members l = length l.scene.line - l.so_far.place

@@ -1,0 +1,32 @@
+use Rattle.std.proofs.Common.{◌≡◌, inl, length, Some, slice_get, refl, arith}
+use Rattle.std.proofs.lemmas.Option.{slice_get_read}
+use Rattle.edm_rows.proofs.NextMembers.{as_many, slot_named}
+use Rattle.edm_rows.proofs.Places.{names_to}
+use Rattle.edm_rows.proofs.members.named_member.Goals as goal
+
+pub slot_at-requires-clause-count : goal.slot_at-requires-clause-count
+slot_at-requires-clause-count c =
+    let scene = c.args.scene.now in
+    as_many scene.schema.now scene.plan.now.expansion scene.plan.now.plans.items c.requires.plan.0 c.args.plan.now c.requires.plan.1
+
+pub returns-in-Some-clause-name : goal.returns-in-Some-clause-name
+returns-in-Some-clause-name c =
+    let scene = c.args.scene.now in
+    let type = c.args.plan.now in
+    let k = c.loop-slot.slot in
+    let slot = c.index.result.now in
+    let at : slice_get type.slots.items k ≡ Some slot = slice_get_read type.slots.items (length type.slots.items) k slot refl (omega arith) c.index.ensures in
+    let count = as_many scene.schema.now scene.plan.now.expansion scene.plan.now.plans.items c.requires.plan.0 type c.requires.plan.1 in (
+      slot.key,
+      names_to scene.line c.args.place slot.key c.in-Some.end c.in-Some.ensures.further c.in-Some.ensures.name,
+      inl (omega (arith, count), slot_named scene.schema.now scene.plan.now.expansion scene.plan.now.plans.items c.requires.plan.0 type k slot c.requires.plan.1 at),
+    )
+
+pub returns-in-Some-clause-depth : goal.returns-in-Some-clause-depth
+returns-in-Some-clause-depth c = c.loop-slot.invariant
+
+pub returns-in_default-slot_at-clause-depth : goal.returns-in_default-slot_at-clause-depth
+returns-in_default-slot_at-clause-depth c = c.loop-slot.invariant
+
+pub returns-clause-depth : goal.returns-clause-depth
+returns-clause-depth c = c.loop-slot.invariant

@@ -1,0 +1,105 @@
+use Rattle.std.proofs.Common.{◌≡◌, ℕ, ◌-◌, ◌*◌, ◌%◌, ◌^◌, [], ◌∷◌, ◌++◌, length, None, Some, IfSome, slice_get, refl, sym, ap, ◌∙◌, subst, arith}
+use Rattle.std.proofs.lemmas.Grind.{common_steps}
+use Rattle.std.proofs.lemmas.Nat.{one_shl}
+use Rattle.std.proofs.lemmas.Nat.Bits.{bit_at-zero}
+use Rattle.std.proofs.lemmas.Option.{slice_get_read}
+use Rattle.csdl_schema.specs.SchemaModel.{properties_at}
+use Rattle.edm_values.specs.declared.value.Value.{Null}
+use Rattle.edm_row_plans.specs.Expanded.{slots_at}
+use Rattle.edm_row_plans.specs.Plans.{IsPlan}
+use Rattle.edm_entities.specs.Row.{val_of}
+use Rattle.edm_entities.specs.private.Passed.{MayBeAbsent}
+use Rattle.edm_entities.proofs.RowLemmas.Passes.{slot_seen}
+use Rattle.edm_entities.proofs.RowLemmas.Plans.{each_at, slot_planned}
+use Rattle.edm_rows.specs.declared.row_types.RowSlot.{RowSlot}
+use Rattle.edm_rows.specs.declared.row_types.RowType.{RowType}
+use Rattle.edm_rows.specs.private.RowSlots.{IsFresh, IsRowSlot, IsRowType}
+use Rattle.edm_rows.specs.private.SlotKinds.{HasRecord}
+use Rattle.edm_rows.proofs.RowTypes.{each_push, long_push, none_each, optional_more}
+use Rattle.edm_rows.proofs.SlotsFilled.{row_slot_of}
+use Rattle.edm_rows.proofs.row_types.row_type.Goals as goal
+
+pub slot_name-name-requires : goal.slot_name-name-requires
+slot_name-name-requires c =
+    let plans = c.args.plan.now.plans.items in
+    let of = c.index-of.result.now in
+    let at : slice_get plans c.args.place ≡ Some of = slice_get_read plans (length plans) c.args.place of refl c.requires.place c.index-of.ensures in
+    let is : IsPlan c.args.schema.now c.args.plan.now.expansion of = each_at (λ _. IsPlan c.args.schema.now c.args.plan.now.expansion) plans c.args.place of c.requires.plans at in
+    omega (arith, is.planned.count)
+
+pub loop-index-init : goal.loop-index-init
+loop-index-init c =
+    let schema = c.args.schema.now in
+    let steps = c.args.plan.now.expansion in
+    let plans = c.args.plan.now.plans.items in
+    let of = c.index-of.result.now in
+    let Q : (ℕ → RowSlot → Type 0) = λ k slot. IfSome (slice_get of.slots.items k) (λ p. IsRowSlot schema steps plans k p slot) in (
+      ap length c.new-slots.ensures.items,
+      subst (λ items. (k : ℕ) → IfSome (slice_get items k) (Q k)) (sym c.new-slots.ensures.items) (none_each Q),
+      λ k is. absurd (omega (arith, is, bit_at-zero k)),
+      subst (λ items. (k : ℕ) → IfSome (slice_get items k) IsFresh) (sym c.new-slots.ensures.items) (none_each (λ k. IsFresh)),
+    )
+
+pub loop-index-preserved : goal.loop-index-preserved
+loop-index-preserved c =
+    let l = c.loop-index in
+    let schema = c.args.schema.now in
+    let steps = c.args.plan.now.expansion in
+    let plans = c.args.plan.now.plans.items in
+    let of = c.index-of.result.now in
+    let ps = properties_at schema of.type_id in
+    let one = c.index-one.result.now in
+    let slot = c.in-Some.slot in
+    let name = c.slot_name-name.result.now in
+    let Q : (ℕ → RowSlot → Type 0) = λ k s. IfSome (slice_get of.slots.items k) (λ p. IsRowSlot schema steps plans k p s) in
+    let at_of : slice_get plans c.args.place ≡ Some of = slice_get_read plans (length plans) c.args.place of refl c.requires.place c.index-of.ensures in
+    let is : IsPlan schema steps of = each_at (λ _. IsPlan schema steps) plans c.args.place of c.requires.plans at_of in
+    let at : slice_get of.slots.items l.index ≡ Some one = slice_get_read of.slots.items (length of.slots.items) l.index one refl (omega arith) c.index-one.ensures in
+    let planned = slot_planned schema steps of l.index one is at in
+    let both : Some name ≡ Some one.key = sym c.slot_name-name.ensures ∙ planned.named.0 in
+    let same : name ≡ one.key = cc in
+    let row : IsRowSlot schema steps plans l.index one slot =
+    row_slot_of schema steps plans one slot name l.index of.type_id of.node planned same c.in-Some.ensures.made (subst (λ ps. HasRecord ps one) c.as_slice.ensures.value (c.has_record.ensures c.if-not-has_record.false)) in
+    let here : Q (length l.slots.items) slot =
+    subst (λ n. Q n slot) (sym l.invariant.0) (subst (λ o. IfSome o (λ p. IsRowSlot schema steps plans l.index p slot)) (sym at) row) in
+    let pushed : c.push.new.self.items ≡ l.slots.items ++ slot ∷ [] = grind (arith, common_steps) in (
+      ap length pushed ∙ long_push l.slots.items slot ∙ omega (arith, l.invariant.0),
+      subst (λ items. (k : ℕ) → IfSome (slice_get items k) (Q k)) (sym pushed) (each_push Q l.slots.items slot l.invariant.1 here),
+      optional_more (MayBeAbsent (slots_at schema steps of.node)) ps l.optional c.absent_bit-optional.result slot.bit l.index l.invariant.2 row.bit c.absent_bit-optional.ensures.none
+          (λ k set. slot_seen schema steps of l.index one None (val_of Null) planned (c.absent_bit-optional.ensures.absent schema (slots_at schema steps one.node) k planned.leads set)),
+      subst (λ items. (k : ℕ) → IfSome (slice_get items k) IsFresh) (sym pushed) (each_push (λ k. IsFresh) l.slots.items slot l.invariant.3 c.in-Some.ensures.fresh),
+    )
+
+pub returns-clause-planned : goal.returns-clause-planned
+returns-clause-planned c =
+    let l = c.loop-index in
+    let schema = c.args.schema.now in
+    let steps = c.args.plan.now.expansion in
+    let plans = c.args.plan.now.plans.items in
+    let of = c.index-of.result.now in
+    let at_of : slice_get plans c.args.place ≡ Some of = slice_get_read plans (length plans) c.args.place of refl c.requires.place c.index-of.ensures in
+    let is : IsPlan schema steps of = each_at (λ _. IsPlan schema steps) plans c.args.place of c.requires.plans at_of in
+    let all_long : length l.slots.items ≡ length of.slots.items = omega (arith, l.invariant.0) in
+    let many : c.len-2.result ≡ length of.slots.items = omega (arith, c.len-2.ensures, of.slots.ok.0) in
+    let bits : 1 * 2 ^ length of.slots.items % 2 ^ 64 ≡ 2 ^ length of.slots.items = one_shl (length of.slots.items) 64 (omega arith) in
+    let type : RowType = record {
+      type_id = of.type_id;
+      node = of.node;
+      slots = l.slots;
+      all = 1 * 2 ^ c.len-2.result % 2 ^ 64 - 1;
+      optional = l.optional;
+      order = c.args.order;
+    } in
+    subst (λ o. IfSome o (λ p. IsRowType schema steps plans p type)) (sym at_of) (record {
+      is_plan = is;
+      of_type = (refl, refl);
+      count = all_long;
+      few = omega (arith, all_long);
+      order = c.requires.order;
+      each = l.invariant.1;
+      all = ap (λ n. 1 * 2 ^ n % 2 ^ 64 - 1) many ∙ ap (λ m. m - 1) bits ∙ ap (λ n. 2 ^ n - 1) (sym all_long);
+      optional = l.invariant.2;
+    })
+
+pub returns-clause-fresh : goal.returns-clause-fresh
+returns-clause-fresh c = c.loop-index.invariant.3

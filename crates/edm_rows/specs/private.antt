@@ -1,0 +1,13 @@
+-- Definitions that private clauses alone cite.
+pub mod Filled
+pub mod Held
+pub mod HeldRows
+pub mod KeptLeaves
+pub mod KeptRows
+pub mod KeptSoFar
+pub mod KnownTexts
+pub mod Members
+pub mod MembersSoFar
+pub mod RowSlots
+pub mod Scenes
+pub mod SlotKinds

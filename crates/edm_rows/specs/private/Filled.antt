@@ -1,0 +1,85 @@
+-- For private clauses: values with parts that are filled again where they are.
+use Rattle.std.specs.Prelude.{◌≡◌, ◌⊎◌, ◌<◌, ℕ, List, length, slice_get, Bool, Some}
+use Rattle.std.specs.Int.{bit_at}
+use Rattle.serde_json.specs.Data.{Data, Items, object}
+use Rattle.csdl_schema.specs.ExprType.{SingleType}
+use Rattle.csdl_schema.specs.SchemaModel.{Slots, properties_at}
+use Rattle.edm_values.specs.declared.value.Value.{Value, Null}
+use Rattle.edm_entities.specs.private.RowTokens.{ReadsItems, ReadsMembers}
+use Rattle.edm_entities.specs.private.SlotsSoFar.{SlotsSoFar}
+use Rattle.edm_entities.specs.private.Walk.{FitList, FitSlots, HoldInItems}
+use Rattle.json_tokens.specs.declared.lexeme.Turn.TheVariants.{Fresh, AfterValue}
+use Rattle.json_room.specs.Lexemes.{tokens_at}
+use Rattle.edm_rows.specs.declared.kept_value.Progress.{Progress}
+use Rattle.edm_rows.specs.declared.passed_value.Scene.{Scene}
+use Rattle.edm_rows.specs.declared.row_types.RowSlot.{RowSlot}
+use Rattle.edm_rows.specs.declared.row_types.RowType.{RowType}
+use Rattle.edm_rows.specs.declared.row_types.Task.{Task}
+use Rattle.edm_rows.specs.private.Held.{FilledAs, PassesTo, ReadsTo, type_of}
+use Rattle.edm_rows.specs.private.KeptSoFar.{SameMarks}
+use Rattle.edm_rows.specs.private.MembersSoFar.{MembersRead, MembersUpTo}
+use Rattle.edm_rows.specs.private.RowSlots.{kinds_of}
+use Rattle.edm_rows.specs.private.Scenes.{slots_behind_node}
+
+-- what a slot's value, or an item of it, is of JSON
+abbrev pub IsFilledIn : Scene → RowSlot → Task → Value → Data → Type 0
+IsFilledIn scene slot task value json =
+    FilledAs (slots_behind_node scene slot.node) (kinds_of scene.schema.now scene.plan.now.plans.items slot)
+    slot.is_nullable slot.item task value json
+
+-- a slot's value, or an item of it, stands from one place to the other, nested no deeper than that, and is the value; which
+-- is that of some JSON, whether or not it may end there
+abbrev pub FillsValue : Scene → RowSlot → Task → ℕ → Value → ℕ → ℕ → Type 0
+FillsValue scene slot task depth value from to =
+    ReadsTo depth scene.line from to (IsFilledIn scene slot task value) × ((json : Data) × IsFilledIn scene slot task value json)
+
+-- values of that type that are read of the items of an array
+abbrev pub AreFilled : Slots → Bool → SingleType → List Value → Items → Type 0
+AreFilled slots nullable type values jsons =
+    FitList slots nullable type jsons values × HoldInItems slots type values
+
+-- after an opening bracket the items of a slot's array stand from one place to the other, with the closing one, and are the
+-- values
+abbrev pub FillsItems : Scene → RowSlot → ℕ → List Value → ℕ → ℕ → Type 0
+FillsItems scene slot depth values from to =
+    PassesTo scene.line from to × ReadsItems depth (tokens_at Fresh scene.line from) (tokens_at AfterValue scene.line to)
+    (AreFilled (slots_behind_node scene slot.node) slot.is_nullable
+    (type_of (kinds_of scene.schema.now scene.plan.now.plans.items slot) slot.item) values)
+
+-- after an opening brace the members of an object of a type stand from one place to the other, with the closing one, and
+-- the values fit them
+abbrev pub FillsMembers : Scene → RowType → ℕ → List Value → ℕ → ℕ → Type 0
+FillsMembers scene type depth values from to =
+    PassesTo scene.line from to × ReadsMembers depth (tokens_at Fresh scene.line from) (tokens_at AfterValue scene.line to)
+    (λ found. FitSlots (slots_behind_node scene type.node) (object found) (properties_at scene.schema.now type.type_id) values)
+
+-- ---- while the members are read
+
+-- the members before a place, of which these slots were seen; and up to where the value of one ends
+pub record FilledUpTo (scene : Scene) (type : RowType) (depth from place seen : ℕ) (values : List Value) : Type 0 where
+  pub filled : List Bool
+  pub long : length filled ≡ length (properties_at scene.schema.now type.type_id)
+  pub marks : SameMarks seen filled
+  pub members : MembersUpTo depth scene.line from place
+      (λ found. SlotsSoFar (slots_behind_node scene type.node) (properties_at scene.schema.now type.type_id) found filled values)
+
+pub record FilledRead (scene : Scene) (type : RowType) (depth from end seen : ℕ) (values : List Value) : Type 0 where
+  pub filled : List Bool
+  pub long : length filled ≡ length (properties_at scene.schema.now type.type_id)
+  pub marks : SameMarks seen filled
+  pub members : MembersRead depth scene.line from end
+      (λ found. SlotsSoFar (slots_behind_node scene type.node) (properties_at scene.schema.now type.type_id) found filled values)
+
+-- the same of how far it was read
+abbrev pub IsFilledUpTo : Scene → RowType → ℕ → ℕ → List Value → Progress → Type 0
+IsFilledUpTo scene type depth from values so_far = FilledUpTo scene type depth from so_far.place so_far.seen values
+
+abbrev pub IsFilledTo : Scene → RowType → ℕ → ℕ → List Value → Progress → Type 0
+IsFilledTo scene type depth from values read = FilledRead scene type depth from read.place read.seen values
+
+-- at the end each slot was seen or may be absent; those that were seen stay, and the others are null
+pub record FillsSlots (type : RowType) (seen : ℕ) (old new : List Value) : Type 0 where
+  pub may : (k : ℕ) → k < length type.slots.items → (bit_at seen k ≡ 1) ⊎ (bit_at type.optional k ≡ 1)
+  pub long : length new ≡ length old
+  pub stay : (k : ℕ) → bit_at seen k ≡ 1 → slice_get new k ≡ slice_get old k
+  pub nulls : (k : ℕ) → k < length type.slots.items → bit_at seen k ≡ 0 → slice_get new k ≡ Some Null

@@ -1,0 +1,116 @@
+-- For private clauses: the row that is held from line to line.
+use Rattle.std.specs.Prelude.{◌≡◌, ◌⊎◌, ◌≤◌, ℕ, length, List, [], ◌∷◌, true, false, Some, map, slice_get, Bool, Vec}
+use Rattle.std.specs.declared.alloc.Global.{Global}
+use Rattle.serde_json.specs.Data.{Members, object}
+use Rattle.serde_json.specs.Read.{read}
+use Rattle.json_tokens.specs.LexemesAt.{PassesSpaces}
+use Rattle.csdl_schema.specs.ExpansionView.{StepModel}
+use Rattle.csdl_schema.specs.SchemaModel.{SchemaModel, properties_at}
+use Rattle.edm_row_plans.specs.Expanded.{slots_at}
+use Rattle.edm_row_plans.specs.Plans.{IsPlanOf}
+use Rattle.edm_row_plans.specs.declared.row_plan.RowPlan.{RowPlan}
+use Rattle.edm_row_plans.specs.declared.type_plan.TypePlan.{TypePlan}
+use Rattle.edm_entities.specs.private.Passed.{IsRowValue}
+use Rattle.edm_rows.specs.RowsOfType.{RowsOfType}
+use Rattle.edm_values.specs.declared.sieve.Sieve.{Sieve}
+use Rattle.edm_values.specs.declared.value.Value.{Value, Record}
+use Rattle.edm_rows.specs.declared.kept_leaf.Taken.{Taken}
+use Rattle.edm_rows.specs.declared.kept_leaf.Taken.TheVariants.{Broken, Nothing, Put, Rejected}
+use Rattle.edm_rows.specs.declared.passed_value.Scene.{Scene}
+use Rattle.edm_rows.specs.private.KeptRows.{TakesFound}
+use Rattle.edm_rows.specs.declared.row_types.RowSlot.{RowSlot}
+use Rattle.edm_rows.specs.declared.row_types.RowType.{RowType}
+use Rattle.edm_rows.specs.declared.type_rows.TypeRows.TheInside.{Inside}
+use Rattle.edm_rows.specs.private.KnownTexts.{AreKnown}
+use Rattle.edm_rows.specs.private.RowSlots.{AreRowTypes, IsRowType}
+
+-- the slots of the row's own type, which is the first
+abbrev pub first_slots : List RowType → List RowSlot
+first_slots [] = []
+first_slots (type ∷ types) = type.slots.items
+
+-- by slot of a type, whether its values are kept, and its sieve
+abbrev pub keeps_of : RowType → List Bool
+keeps_of type = map (λ s. s.is_kept) type.slots.items
+
+abbrev pub sieves_of : RowType → List Sieve
+sieves_of type = map (λ s. s.sieve) type.slots.items
+
+-- of a type's slots at most what is kept and the sieves are others: it stays the type of its plan
+pub record IsSameType (old new : RowType) : Type 0 where
+  pub type_id : new.type_id ≡ old.type_id
+  pub node : new.node ≡ old.node
+  pub stays : (schema : SchemaModel) (steps : List StepModel) (plans : List TypePlan) (plan : TypePlan)
+      → IsRowType schema steps plans plan old → IsRowType schema steps plans plan new
+
+abbrev pub rows_seen : Inside → RowsOfType
+rows_seen rows = record {
+  schema = rows.schema.now;
+  type_id = rows.plan.type_id;
+  expansion = rows.plan.expansion;
+  is_whole = rows.plan.is_whole;
+  kept = map (λ s. s.is_kept) (first_slots rows.types.items);
+  sieves = map (λ s. s.sieve) (first_slots rows.types.items);
+  is_ready = rows.is_ready;
+  value = rows.row;
+}
+
+-- the first of these types is that of rows by a plan
+pub record HasFirstType (plan : RowPlan) (types : List RowType) : Type 0 where
+  pub type : RowType
+  pub at : slice_get types 0 ≡ Some type
+  pub type_id : type.type_id ≡ plan.type_id
+  pub node : type.node ≡ Some 0
+
+-- the types are those of a plan, which is whole, and the first is that of its rows
+pub record AreTypesOf (schema : SchemaModel) (plan : RowPlan) (types : List RowType) : Type 0 where
+  pub is_whole : plan.is_whole ≡ true
+  pub each : AreRowTypes schema plan.expansion plan.plans.items types
+  pub first : HasFirstType plan types
+
+-- the types, if there are some, are those of the plan; once the reader is ready there are some, and the row is one
+pub record IsRowsOfType (rows : Inside) : Type 0 where
+  pub is_plan : IsPlanOf rows.schema.now rows.plan
+  pub types : (rows.types.items ≡ []) ⊎ AreTypesOf rows.schema.now rows.plan rows.types.items
+  pub known : AreKnown rows.schema.now rows.known
+  pub ready : rows.is_ready ≡ true
+      → AreTypesOf rows.schema.now rows.plan rows.types.items
+      × IsRowValue (slots_at rows.schema.now rows.plan.expansion (Some 0))
+      (properties_at rows.schema.now rows.plan.type_id) rows.row
+
+-- the line is the text of an object, of which a value is rejected, or which the values of these slots fit but for those
+-- that are not kept
+abbrev pub ReadsSlots : Scene → Bool → List Value → Type 0
+ReadsSlots scene is_left_out values =
+    (type : RowType) × (slice_get scene.types.now 0 ≡ Some type)
+    × ((found : Members) × (read scene.line ≡ Some (object found)) × TakesFound scene type is_left_out values found)
+
+-- the same of a row's
+abbrev pub ReadsLine : Scene → Bool → Value → Type 0
+ReadsLine scene is_left_out row =
+    (values : Vec Value Global) × (row ≡ Record values) × ReadsSlots scene is_left_out values.items
+
+-- what became of a line whose values were put into slots, and into a row
+abbrev pub TakesSlots : Scene → List Value → Taken → Type 0
+TakesSlots scene values Nothing = Unit {0}
+TakesSlots scene values Broken = Unit {0}
+TakesSlots scene values (Put to) = ReadsSlots scene false values
+TakesSlots scene values (Rejected to) = ReadsSlots scene true values
+
+abbrev pub TakesLine : Scene → Value → Taken → Type 0
+TakesLine scene row Nothing = Unit {0}
+TakesLine scene row Broken = Unit {0}
+TakesLine scene row (Put to) = ReadsLine scene false row
+TakesLine scene row (Rejected to) = ReadsLine scene true row
+
+-- what was taken of a line ends within it
+abbrev pub IsTakenWithin : List ℕ → Taken → Type 0
+IsTakenWithin line (Put to) = to ≤ length line
+IsTakenWithin line (Rejected to) = to ≤ length line
+IsTakenWithin line _ = Unit {0}
+
+-- and nothing but white space stands after it
+abbrev pub IsTakenWhole : List ℕ → Taken → Type 0
+IsTakenWhole line (Put to) = PassesSpaces line to (length line)
+IsTakenWhole line (Rejected to) = PassesSpaces line to (length line)
+IsTakenWhole line _ = Unit {0}

@@ -1,0 +1,258 @@
+//! Values without parts that are put into a row's slots.
+ghost use Rattle.std.specs.Prelude.{◌≡◌, ◌≤◌, length, IfSome, IsTrue};
+ghost use Rattle.std.specs.Str.{IsUtf8};
+ghost use Rattle.edm_values.specs.SieveMeaning.{Rejects};
+ghost use Rattle.edm_values.specs.Val.{text as val_text};
+ghost use Rattle.csdl_schema.specs.ExprType.{primitive};
+ghost use Rattle.csdl_schema.specs.SchemaModel.{slots_of};
+ghost use Rattle.edm_rows.specs.private.KeptLeaves.{HoldsText, PutsLeaf, PutsMember, TakesLeaf};
+ghost use Rattle.edm_rows.specs.private.RowSlots.{HasPrimitive, name_at};
+
+use super::known_texts::Cache;
+use super::literals::literal_of;
+use super::passed_value::{Scene, text_there, typed_number_at};
+use super::row_types::{RowSlot, Task};
+use edm_values::{Prim, Value};
+use json_room::{RoomyLine, text_at, truth_end, whole_at};
+use spare_values::{put_number, put_truth};
+use std::alloc::Global;
+
+/// A text that is written over has room for so many bytes at most.
+const TEXT_ROOM: usize = 4096;
+
+/// What became of a value of a row.
+#[derive(Clone, Copy, Drop)]
+pub(crate) enum Taken {
+    /// It was not read.
+    Nothing,
+    /// It was not read, and what stands in its slot is half written.
+    Broken,
+    /// It stands up to that place, and was put into its slot.
+    Put(usize),
+    /// It stands up to that place, and its slot's sieve rejects it.
+    Rejected(usize),
+}
+
+/// Takes a number of few digits, unless the slot's sieve rejects it.
+#[inline(always)]
+pub(crate) fn take_digits(
+    line: &RoomyLine<'_>,
+    slot: &RowSlot,
+    place: usize,
+    value: &mut Value,
+) -> Taken
+    requires of_number { HasPrimitive slot.now.prim slot.now.sure Task.Number }
+    requires within { place ≤ length line.now }
+    ensures { TakesLeaf line.now (primitive slot.now.prim) slot.now.sieve value.old value.new place result }
+{
+    let Some((whole, end)) = whole_at(line, place) else {
+        return Taken::Nothing;
+    };
+    if end - place > slot.sure {
+        return Taken::Nothing;
+    }
+    let number = whole as i64;
+    if slot.sieve.rejects_number(number) {
+        return Taken::Rejected(end);
+    }
+    put_number(number, value);
+    Taken::Put(end)
+}
+
+/// Takes a truth value, unless the slot's sieve rejects it.
+#[inline(always)]
+pub(crate) fn take_truth(
+    line: &RoomyLine<'_>,
+    slot: &RowSlot,
+    place: usize,
+    value: &mut Value,
+) -> Taken
+    requires { place ≤ length line.now }
+    ensures { TakesLeaf line.now (primitive Prim.Bool) slot.now.sieve value.old value.new place result }
+{
+    let Some((truth, end)) = truth_end(line, place) else {
+        return Taken::Nothing;
+    };
+    if slot.sieve.rejects_truth(truth) {
+        return Taken::Rejected(end);
+    }
+    put_truth(truth, value);
+    Taken::Put(end)
+}
+
+/// Takes a text without escapes, unless the slot's sieve rejects it.
+#[inline(always)]
+pub(crate) fn take_text(
+    line: &RoomyLine<'_>,
+    slot: &RowSlot,
+    place: usize,
+    value: &mut Value,
+) -> Taken
+    requires { place ≤ length line.now }
+    ensures { TakesLeaf line.now (primitive Prim.String) slot.now.sieve value.old value.new place result }
+{
+    let Some((text, end)) = text_at(line, place) else {
+        return Taken::Nothing;
+    };
+    if is_text_rejected(slot, text) {
+        return Taken::Rejected(end);
+    }
+    if !is_filled_again(value) {
+        return Taken::Nothing;
+    }
+    if put_text(text, value) {
+        Taken::Put(end)
+    } else {
+        Taken::Broken
+    }
+}
+
+/// Whether it is a text that may be written over: one that has more room than most texts want is let go.
+#[inline(always)]
+fn is_filled_again(value: &Value) -> bool {
+    match value {
+        Value::Text(text) => text.capacity() <= TEXT_ROOM,
+        _ => false,
+    }
+}
+
+/// Whether the slot's sieve rejects a text.
+#[inline(always)]
+fn is_text_rejected(slot: &RowSlot, text: &str) -> bool
+    ensures rejected { IsTrue result → Rejects slot.now.sieve (val_text text.now) }
+    ensures utf8 { IsUtf8 text.now }
+{
+    slot.sieve.rejects_text(text)
+}
+
+/// Writes a text over another; none where no text stood there, or an allocation failed.
+#[inline(always)]
+fn put_text(text: &str, value: &mut Value) -> bool
+    ensures { IsTrue result → HoldsText value.new text.now }
+{
+    match value {
+        Value::Text(old) => {
+            old.clear();
+            old.push_str(text).is_ok()
+        }
+        _ => false,
+    }
+}
+
+/// Puts a copy of a text into the place of any value.
+#[inline(never)]
+fn replace_text(alloc: Global, text: &str, value: &mut Value) -> bool
+    ensures { IsTrue result → HoldsText value.new text.now }
+{
+    match String::from_str(alloc, text) {
+        Ok(copy) => {
+            *value = Value::Text(copy);
+            true
+        }
+        Err(_) => false,
+    }
+}
+
+/// Takes any number of the slot's type.
+pub(crate) fn take_number(
+    line: &RoomyLine<'_>,
+    slot: &RowSlot,
+    place: usize,
+    value: &mut Value,
+) -> Option<usize>
+    requires { place ≤ length line.now }
+    ensures { IfSome result (PutsLeaf line.now (primitive slot.now.prim) value.new place) }
+{
+    match typed_number_at(line, slot, place) {
+        Some((number, end)) => {
+            put_number(number, value);
+            Some(end)
+        }
+        None => None,
+    }
+}
+
+/// Puts a text into the place of any value.
+fn write_text(alloc: Global, text: &str, value: &mut Value) -> bool
+    ensures utf8 { IsUtf8 text.now }
+    ensures put { IsTrue result → HoldsText value.new text.now }
+{
+    if is_filled_again(value) {
+        return put_text(text, value);
+    }
+    replace_text(alloc, text, value)
+}
+
+/// Takes any text.
+pub(crate) fn take_any_text(
+    cache: &mut Cache,
+    line: &RoomyLine<'_>,
+    place: usize,
+    value: &mut Value,
+) -> Option<usize>
+    requires { place ≤ length line.now }
+    ensures taken { IfSome result (PutsLeaf line.now (primitive Prim.String) value.new place) }
+    ensures depth { cache.new.depth ≡ cache.old.depth }
+{
+    let alloc = cache.alloc;
+    let Some((text, end)) = text_there(&mut cache.scratch, line, place) else {
+        return None;
+    };
+    if write_text(alloc, text, value) {
+        Some(end)
+    } else {
+        None
+    }
+}
+
+/// Takes any literal of the slot's type.
+pub(crate) fn take_literal(
+    cache: &mut Cache,
+    line: &RoomyLine<'_>,
+    slot: &RowSlot,
+    place: usize,
+    value: &mut Value,
+) -> Option<usize>
+    requires { place ≤ length line.now }
+    ensures taken { IfSome result (PutsLeaf line.now (primitive slot.now.prim) value.new place) }
+    ensures depth { cache.new.depth ≡ cache.old.depth }
+{
+    let Some((text, end)) = text_there(&mut cache.scratch, line, place) else {
+        return None;
+    };
+    match literal_of(slot.prim, text) {
+        Some(read) => {
+            *value = read;
+            Some(end)
+        }
+        None => None,
+    }
+}
+
+/// Takes any text of the slot's enumeration.
+pub(crate) fn take_member(
+    cache: &mut Cache,
+    scene: &Scene<'_>,
+    slot: &RowSlot,
+    place: usize,
+    value: &mut Value,
+) -> Option<usize>
+    requires { place ≤ length scene.now.line }
+    ensures taken { IfSome result (PutsMember scene.now.line (slots_of scene.now.schema.now)
+        (name_at scene.now.schema.now slot.now.member_of) value.new place) }
+    ensures depth { cache.new.depth ≡ cache.old.depth }
+{
+    let Some(id) = slot.member_of else {
+        return None;
+    };
+    let Some((text, end)) = text_there(&mut cache.scratch, &scene.line, place) else {
+        return None;
+    };
+    match scene.schema.enum_value(id, text) {
+        Some(number) => {
+            *value = Value::Enum(number);
+            Some(end)
+        }
+        None => None,
+    }
+}

@@ -1,0 +1,408 @@
+//! The members of a row itself, of which those that are kept become values.
+ghost use Rattle.std.specs.Prelude.{◌≡◌, ◌≢◌, ◌⊎◌, ◌^◌, ◌<◌, ◌≤◌, ℕ, length, slice_get, bit_and, bit_or, true, false, List, IfSome, IsTrue};
+ghost use Rattle.edm_rows.specs.private.KeptRows.{GoesOn, IsRootSlot, IsRootType, RowConforms};
+ghost use Rattle.edm_rows.specs.private.KeptRows.{ClearsAbsent, TakesRow, TakesValue, root_properties, root_slots};
+ghost use Rattle.edm_rows.specs.private.KeptSoFar.{FillsAbsent, IsReadTo, IsUpTo, StepsFrom, StepsTo};
+ghost use Rattle.edm_rows.specs.private.RowSlots.{HasPrimitive};
+ghost use Rattle.edm_rows.specs.private.Scenes.{FindsMember, IsScene, PassesValue};
+
+use super::kept_leaf::{Taken, take_digits, take_text, take_truth};
+use super::kept_tree::fill_value;
+use super::known_texts::Cache;
+use super::members::{After, Found, after_member, next_member};
+use super::passed_value::{Scene, value_end};
+use super::row_types::{RowSlot, RowType, Task};
+use edm_values::Value;
+use json_room::{RoomyLine, past_blanks};
+
+/// Takes the value of a slot that stands there, unless it is rejected.
+#[inline(always)]
+fn take_value(
+    cache: &mut Cache,
+    scene: &Scene<'_>,
+    slot: &RowSlot,
+    place: usize,
+    value: &mut Value,
+) -> Taken
+    requires scene { IsScene scene.now }
+    requires slot { IsRootSlot scene.now slot.now }
+    requires within { place ≤ length scene.now.line }
+    requires depth { cache.old.depth ≡ 126 }
+    ensures taken { TakesValue scene.now slot.now 126 value.old value.new place result }
+    ensures goes_on { result ≢ Taken.Broken → GoesOn scene.now slot.now value.old value.new }
+    ensures depth { cache.new.depth ≡ 126 }
+{
+    let sure = take_sure(&scene.line, slot, place, value);
+    if let Taken::Nothing = sure {
+        return take_other(cache, scene, slot, place, value);
+    }
+    sure
+}
+
+/// The same of what most values are.
+#[inline(always)]
+fn take_sure(line: &RoomyLine<'_>, slot: &RowSlot, place: usize, value: &mut Value) -> Taken
+    requires within { place ≤ length line.now }
+    requires primitive { HasPrimitive slot.now.prim slot.now.sure slot.now.task }
+    ensures taken { (scene : Scene) (depth : ℕ) → scene.line ≡ line.now → IsRootSlot scene slot.now
+        → TakesValue scene slot.now depth value.old value.new place result }
+    ensures goes_on { (scene : Scene) → IsRootSlot scene slot.now → result ≢ Taken.Broken
+        → GoesOn scene slot.now value.old value.new }
+    ensures none { result ≡ Taken.Nothing → value.new ≡ value.old }
+{
+    match slot.task {
+        Task::Number => take_digits(line, slot, place, value),
+        Task::Truth => take_truth(line, slot, place, value),
+        Task::Text => take_text(line, slot, place, value),
+        _ => Taken::Nothing,
+    }
+}
+
+/// The same of a value after white space, and of what is seldom.
+#[inline(never)]
+fn take_other(
+    cache: &mut Cache,
+    scene: &Scene<'_>,
+    slot: &RowSlot,
+    from: usize,
+    value: &mut Value,
+) -> Taken
+    requires scene { IsScene scene.now }
+    requires slot { IsRootSlot scene.now slot.now }
+    requires within { from ≤ length scene.now.line }
+    requires depth { cache.old.depth ≡ 126 }
+    ensures taken { TakesValue scene.now slot.now 126 value.old value.new from result }
+    ensures goes_on { result ≢ Taken.Broken → GoesOn scene.now slot.now value.old value.new }
+    ensures depth { cache.new.depth ≡ 126 }
+{
+    let place = past_blanks(&scene.line, from);
+    if place == from {
+        return take_seldom(cache, scene, slot, place, value);
+    }
+    let sure = take_sure(&scene.line, slot, place, value);
+    if let Taken::Nothing = sure {
+        return take_seldom(cache, scene, slot, place, value);
+    }
+    sure
+}
+
+/// The same of null, of a value with parts, and of one that is written as few are.
+#[inline(never)]
+fn take_seldom(
+    cache: &mut Cache,
+    scene: &Scene<'_>,
+    slot: &RowSlot,
+    place: usize,
+    value: &mut Value,
+) -> Taken
+    requires scene { IsScene scene.now }
+    requires slot { IsRootSlot scene.now slot.now }
+    requires within { place ≤ length scene.now.line }
+    requires depth { cache.old.depth ≡ 126 }
+    ensures taken { TakesValue scene.now slot.now 126 value.old value.new place result }
+    ensures goes_on { result ≢ Taken.Broken → GoesOn scene.now slot.now value.old value.new }
+    ensures depth { cache.new.depth ≡ 126 }
+{
+    match fill_value(cache, scene, slot, slot.task, place, value) {
+        Some(end) => Taken::Put(end),
+        None => Taken::Broken,
+    }
+}
+
+/// How far the members of a row were read.
+#[derive(Clone, Copy, Drop)]
+pub(crate) struct Progress {
+    pub(crate) place: usize,
+    pub(crate) seen: u64,
+    pub(crate) order: usize,
+}
+
+/// What became of a member of a row.
+#[derive(Clone, Copy, Drop)]
+pub(crate) enum Step {
+    /// It was read.
+    Read(Progress),
+    /// It was read, and its slot's sieve rejects its value.
+    Rejected(Progress),
+    /// It was not read.
+    Nothing,
+    /// It was not read, and what stands in its slot is half written.
+    Broken,
+}
+
+/// Takes the members of a row and its brace, unless one of them is rejected.
+#[inline(always)]
+pub(crate) fn take_members(
+    cache: &mut Cache,
+    scene: &Scene<'_>,
+    plan: &RowType,
+    from: usize,
+    values: &mut [Value],
+) -> Taken
+    requires scene { IsScene scene.now }
+    requires plan { IsRootType scene.now plan.now }
+    requires within { from ≤ length scene.now.line }
+    requires depth { cache.old.depth ≡ 126 }
+    requires conforms { RowConforms (root_slots scene.now) (root_properties scene.now) values.old }
+    ensures read { TakesRow scene.now plan.now values.new from result }
+    ensures conforms { result ≢ Taken.Broken → RowConforms (root_slots scene.now) (root_properties scene.now) values.new }
+{
+    let mut so_far = Progress {
+        place: from,
+        seen: 0,
+        order: plan.order,
+    };
+    'members: loop {
+        let Some(found) = next_member(cache, scene, plan, so_far.order, so_far.place) else {
+            return Taken::Nothing;
+        };
+        let read = match take_found(cache, scene, plan, found, so_far, values) {
+            Step::Read(read) => read,
+            Step::Rejected(read) => return pass_rest(cache, scene, plan, read, values),
+            Step::Nothing => return Taken::Nothing,
+            Step::Broken => return Taken::Broken,
+        };
+        match after_member(&scene.line, read.place) {
+            Some(After::Comma(next)) => {
+                so_far = Progress {
+                    place: next,
+                    seen: read.seen,
+                    order: read.order,
+                };
+            }
+            Some(After::Brace(next)) => {
+                if !ends_row(plan, read.seen, values) {
+                    return Taken::Nothing;
+                }
+                return Taken::Put(next);
+            }
+            None => return Taken::Nothing,
+        }
+    }
+}
+
+/// Takes the value of the member that was found.
+#[inline(always)]
+fn take_found(
+    cache: &mut Cache,
+    scene: &Scene<'_>,
+    plan: &RowType,
+    found: Found<'_>,
+    so_far: Progress,
+    values: &mut [Value],
+) -> Step
+    requires scene { IsScene scene.now }
+    requires plan { IsRootType scene.now plan.now }
+    requires found { FindsMember scene.now plan.now 126 so_far.place found }
+    requires order { so_far.order < 1024 }
+    requires depth { cache.old.depth ≡ 126 }
+    requires long { length values.old ≡ length (root_properties scene.now) }
+    ensures read { (from : ℕ) → IsUpTo scene.now plan.now false from values.old so_far
+        → StepsTo scene.now plan.now from values.new result }
+    ensures further { StepsFrom so_far.place result }
+    ensures conforms { RowConforms (root_slots scene.now) (root_properties scene.now) values.old
+        → result ≢ Step.Broken → RowConforms (root_slots scene.now) (root_properties scene.now) values.new }
+    ensures depth { cache.new.depth ≡ 126 }
+{
+    let Some(slot) = found.slot else {
+        return Step::Read(Progress {
+            place: found.place,
+            seen: so_far.seen,
+            order: so_far.order,
+        });
+    };
+    if !slot.is_kept {
+        return match pass_found(cache, scene, slot, found.place, so_far.seen) {
+            Some(read) => Step::Read(read),
+            None => Step::Nothing,
+        };
+    }
+    if so_far.seen & slot.bit != 0 {
+        return Step::Nothing;
+    }
+    match take_value(cache, scene, slot, found.place, &mut values[slot.index]) {
+        Taken::Put(end) => Step::Read(Progress {
+            place: end,
+            seen: so_far.seen | slot.bit,
+            order: slot.order,
+        }),
+        Taken::Rejected(end) => Step::Rejected(Progress {
+            place: end,
+            seen: so_far.seen | slot.bit,
+            order: slot.order,
+        }),
+        Taken::Nothing => Step::Nothing,
+        Taken::Broken => Step::Broken,
+    }
+}
+
+/// Passes the members of a row after one that is rejected, and the row's brace.
+#[inline(always)]
+fn pass_rest(
+    cache: &mut Cache,
+    scene: &Scene<'_>,
+    plan: &RowType,
+    rejected: Progress,
+    values: &mut [Value],
+) -> Taken
+    requires scene { IsScene scene.now }
+    requires plan { IsRootType scene.now plan.now }
+    requires within { rejected.place ≤ length scene.now.line }
+    requires order { rejected.order < 1024 }
+    requires depth { cache.old.depth ≡ 126 }
+    requires conforms { RowConforms (root_slots scene.now) (root_properties scene.now) values.old }
+    ensures read { (from : ℕ) → IsReadTo scene.now plan.now true from values.old rejected
+        → TakesRow scene.now plan.now values.new from result }
+    ensures conforms { RowConforms (root_slots scene.now) (root_properties scene.now) values.new }
+{
+    let mut read = rejected;
+    'members: loop {
+        let place = match after_member(&scene.line, read.place) {
+            Some(After::Comma(next)) => next,
+            Some(After::Brace(next)) => {
+                if !ends_row(plan, read.seen, values) {
+                    return Taken::Nothing;
+                }
+                return Taken::Rejected(next);
+            }
+            None => return Taken::Nothing,
+        };
+        let Some(found) = next_member(cache, scene, plan, read.order, place) else {
+            return Taken::Nothing;
+        };
+        let Some(next) = pass_next(
+            cache,
+            scene,
+            plan,
+            found,
+            Progress {
+                place,
+                seen: read.seen,
+                order: read.order,
+            },
+        ) else {
+            return Taken::Nothing;
+        };
+        read = next;
+    }
+}
+
+/// Passes the value of the member that was found.
+#[inline(always)]
+fn pass_next(
+    cache: &mut Cache,
+    scene: &Scene<'_>,
+    plan: &RowType,
+    found: Found<'_>,
+    so_far: Progress,
+) -> Option<Progress>
+    requires scene { IsScene scene.now }
+    requires plan { IsRootType scene.now plan.now }
+    requires found { FindsMember scene.now plan.now 126 so_far.place found }
+    requires order { so_far.order < 1024 }
+    requires depth { cache.old.depth ≡ 126 }
+    ensures read { (from : ℕ) (values : List Value) → length values ≡ length (root_properties scene.now)
+        → IsUpTo scene.now plan.now true from values so_far
+        → IfSome result (IsReadTo scene.now plan.now true from values) }
+    ensures further { IfSome result (λ read. (so_far.place < read.place) × (read.place ≤ length scene.now.line)
+        × (read.order < 1024)) }
+    ensures depth { cache.new.depth ≡ 126 }
+{
+    let Some(slot) = found.slot else {
+        return Some(Progress {
+            place: found.place,
+            seen: so_far.seen,
+            order: so_far.order,
+        });
+    };
+    if comes_again(slot, so_far.seen) {
+        return None;
+    }
+    pass_found(cache, scene, slot, found.place, so_far.seen)
+}
+
+/// Whether the slot is kept and was seen before.
+#[inline(always)]
+fn comes_again(slot: &RowSlot, seen: u64) -> bool
+    ensures { result ≡ false → slot.now.is_kept ≡ true → bit_and seen slot.now.bit ≡ 0 }
+{
+    if !slot.is_kept {
+        return false;
+    }
+    seen & slot.bit != 0
+}
+
+/// Passes the value of a slot, which is held to its type.
+#[inline(always)]
+fn pass_found(
+    cache: &mut Cache,
+    scene: &Scene<'_>,
+    slot: &RowSlot,
+    place: usize,
+    seen: u64,
+) -> Option<Progress>
+    requires scene { IsScene scene.now }
+    requires slot { IsRootSlot scene.now slot.now }
+    requires within { place ≤ length scene.now.line }
+    requires depth { cache.old.depth ≡ 126 }
+    ensures passed { IfSome result (λ read. PassesValue scene.now slot.now slot.now.task 126 place read.place) }
+    ensures further { IfSome result (λ read. place < read.place) }
+    ensures seen { IfSome result (λ read. read.seen ≡ bit_or seen slot.now.bit) }
+    ensures order { IfSome result (λ read. read.order < 1024) }
+    ensures depth { cache.new.depth ≡ 126 }
+{
+    match value_end(cache, scene, slot, slot.task, place) {
+        Some(end) => Some(Progress {
+            place: end,
+            seen: seen | slot.bit,
+            order: slot.order,
+        }),
+        None => None,
+    }
+}
+
+/// Whether a row may end with these slots; those that are kept and were not seen become null.
+#[inline(always)]
+fn ends_row(plan: &RowType, seen: u64, values: &mut [Value]) -> bool
+    requires as_many { length values.old ≡ length plan.now.slots.items }
+    requires bits { (k : ℕ) → IfSome (slice_get plan.now.slots.items k) (λ slot. slot.bit ≡ 2 ^ k) }
+    ensures fills { (scene : Scene) → IsRootType scene plan.now
+        → IsTrue result → FillsAbsent scene plan.now.slots.items seen values.old values.new }
+    ensures conforms { (scene : Scene) → IsRootType scene plan.now
+        → RowConforms (root_slots scene) (root_properties scene) values.old
+        → RowConforms (root_slots scene) (root_properties scene) values.new }
+{
+    if seen == plan.all {
+        return true;
+    }
+    take_absent(plan, seen, values)
+}
+
+/// Whether the slots that were not seen may be absent; those that are kept become null.
+#[inline(never)]
+fn take_absent(plan: &RowType, seen: u64, values: &mut [Value]) -> bool
+    requires as_many { length values.old ≡ length plan.now.slots.items }
+    requires bits { (k : ℕ) → IfSome (slice_get plan.now.slots.items k) (λ slot. slot.bit ≡ 2 ^ k) }
+    ensures all { IsTrue result → bit_or seen plan.now.optional ≡ plan.now.all }
+    ensures cleared { IsTrue result → ClearsAbsent plan.now.slots.items seen (length plan.now.slots.items) values.old
+        values.new }
+    ensures none { result ≡ false → values.new ≡ values.old }
+{
+    if seen | plan.optional != plan.all {
+        return false;
+    }
+    for slot in 0..plan.slots.len() {
+        clear(&plan.slots[slot], seen, &mut values[slot]);
+    }
+    true
+}
+
+/// The value of a slot that is kept and was not seen becomes null.
+fn clear(slot: &RowSlot, seen: u64, value: &mut Value)
+    ensures cleared { slot.now.is_kept ≡ true → bit_and seen slot.now.bit ≡ 0 → value.new ≡ Value.Null }
+    ensures stays { (value.new ≡ value.old) ⊎ ((bit_and seen slot.now.bit ≡ 0) × (value.new ≡ Value.Null)) }
+{
+    if slot.is_kept && seen & slot.bit == 0 {
+        *value = Value::Null;
+    }
+}

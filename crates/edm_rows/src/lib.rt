@@ -1,0 +1,17 @@
+//! Rows of one type, read straight from lines with room: each value is held to its type where it stands, and only those
+//! that a filter names become values.
+#![tactic(auto)]
+
+mod kept_leaf;
+mod kept_tree;
+mod kept_value;
+mod known_texts;
+mod literals;
+mod members;
+mod passed_any;
+mod passed_value;
+mod row_types;
+mod slot_marks;
+mod type_rows;
+
+pub use type_rows::{Reading, TypeRows};

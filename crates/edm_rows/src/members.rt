@@ -1,0 +1,256 @@
+//! The members of an object, and the slots that their names have.
+ghost use Rattle.std.specs.Prelude.{◌≡◌, ◌<◌, ◌≤◌, length, IfSome};
+ghost use Rattle.csdl_schema.specs.SchemaModel.{properties_at};
+ghost use Rattle.edm_rows.specs.private.Members.{EndsMember, FindsName, IsSlotOfName, NextMember};
+ghost use Rattle.edm_rows.specs.private.RowSlots.{IsTypeOf};
+ghost use Rattle.edm_rows.specs.private.Scenes.{FindsMember, IsScene, PassesMembers};
+
+use super::known_texts::Cache;
+use super::passed_any::any_end;
+use super::passed_value::{Scene, text_there, value_end};
+use super::row_types::{RowSlot, RowType};
+use csdl_schema::Schema;
+use json_room::{RoomyLine, past_blanks};
+use json_tokens::Scratch;
+
+/// A member: its slot and the place of its value; or one without a slot, and the place after its value.
+#[derive(Clone, Copy, Drop)]
+pub(crate) struct Found<'w> {
+    pub(crate) slot: Option<&'w RowSlot>,
+    pub(crate) place: usize,
+}
+
+/// What stands after a member, and the place after that.
+#[derive(Clone, Copy, Drop)]
+pub(crate) enum After {
+    Comma(usize),
+    Brace(usize),
+}
+
+/// The comma or the brace after a member that ends there.
+#[inline(always)]
+pub(crate) fn after_member(line: &RoomyLine<'_>, end: usize) -> Option<After>
+    requires { end ≤ length line.now }
+    ensures { IfSome result (EndsMember line.now end) }
+{
+    match line.byte(end) {
+        b',' => Some(After::Comma(end + 1)),
+        b'}' => Some(After::Brace(end + 1)),
+        _ => after_blanks(line, end),
+    }
+}
+
+/// The same where white space comes before it.
+#[inline(always)]
+fn after_blanks(line: &RoomyLine<'_>, end: usize) -> Option<After>
+    requires { end ≤ length line.now }
+    ensures { IfSome result (EndsMember line.now end) }
+{
+    let place = past_blanks(line, end);
+    match line.byte(place) {
+        b',' => Some(After::Comma(place + 1)),
+        b'}' => Some(After::Brace(place + 1)),
+        _ => None,
+    }
+}
+
+/// The slot that came next the last time.
+#[inline(always)]
+fn likely_slot(cache: &Cache, order: usize) -> usize
+    requires { order < 1024 }
+{
+    cache.next[order]
+}
+
+/// The next member. Mostly it is the one that came next the last time.
+#[inline(always)]
+pub(crate) fn next_member<'w>(
+    cache: &mut Cache,
+    scene: &Scene<'_>,
+    plan: &'w RowType,
+    order: usize,
+    place: usize,
+) -> Option<Found<'w>>
+    requires scene { IsScene scene.now }
+    requires plan { IsTypeOf scene.now.schema.now scene.now.plan.now.expansion scene.now.plan.now.plans.items plan.now }
+    requires order { order < 1024 }
+    requires within { place ≤ length scene.now.line }
+    ensures found { IfSome result (FindsMember scene.now plan.now cache.old.depth place) }
+    ensures depth { cache.new.depth ≡ cache.old.depth }
+{
+    let likely = likely_slot(cache, order);
+    if likely < plan.slots.len() {
+        let slot = &plan.slots[likely];
+        if let Some(end) = slot.key.end(&scene.line, place) {
+            return Some(Found {
+                slot: Some(slot),
+                place: end,
+            });
+        }
+    }
+    let Some(end) = other_member(cache, scene, plan, order, place) else {
+        return None;
+    };
+    if cache.slot < plan.slots.len() {
+        return Some(Found {
+            slot: Some(&plan.slots[cache.slot]),
+            place: end,
+        });
+    }
+    Some(Found {
+        slot: None,
+        place: end,
+    })
+}
+
+/// The same of a member that was not expected, whose slot the cache reports; one that has no slot is passed.
+#[inline(never)]
+fn other_member(
+    cache: &mut Cache,
+    scene: &Scene<'_>,
+    plan: &RowType,
+    order: usize,
+    from: usize,
+) -> Option<usize>
+    requires scene { IsScene scene.now }
+    requires plan { IsTypeOf scene.now.schema.now scene.now.plan.now.expansion scene.now.plan.now.plans.items plan.now }
+    requires order { order < 1024 }
+    requires within { from ≤ length scene.now.line }
+    ensures found { IfSome result (NextMember cache.old.depth scene.now.line
+        (properties_at scene.now.schema.now plan.now.type_id) cache.new.slot from) }
+    ensures depth { cache.new.depth ≡ cache.old.depth }
+{
+    let line = &scene.line;
+    let place = past_blanks(line, from);
+    let likely = likely_slot(cache, order);
+    if likely < plan.slots.len() {
+        if let Some(value) = plan.slots[likely].key.end_before_blanks(line, place) {
+            cache.slot = likely;
+            return Some(value);
+        }
+    }
+    let Some(value) = named_member(cache, scene, plan, place) else {
+        return None;
+    };
+    if cache.slot < plan.slots.len() {
+        cache.next[order] = cache.slot;
+        return Some(value);
+    }
+    any_end(
+        line,
+        past_blanks(line, value),
+        cache.depth,
+        &mut cache.scratch,
+    )
+}
+
+/// The member whose name stands there; without a slot where its name is no slot's.
+fn named_member(cache: &mut Cache, scene: &Scene<'_>, plan: &RowType, place: usize) -> Option<usize>
+    requires plan { IsTypeOf scene.now.schema.now scene.now.plan.now.expansion scene.now.plan.now.plans.items plan.now }
+    requires within { place ≤ length scene.now.line }
+    ensures name { IfSome result (FindsName scene.now.line (properties_at scene.now.schema.now plan.now.type_id)
+        cache.new.slot place) }
+    ensures depth { cache.new.depth ≡ cache.old.depth }
+{
+    let line = &scene.line;
+    for slot in 0..plan.slots.len() {
+        if let Some(end) = plan.slots[slot].key.end(line, place) {
+            cache.slot = slot;
+            return Some(end);
+        }
+    }
+    let Some((slot, end)) = slot_at(&mut cache.scratch, scene.schema, plan, line, place) else {
+        return None;
+    };
+    cache.slot = slot;
+    Some(end)
+}
+
+/// The slot of the name that stands there, and the place after its colon.
+fn slot_at(
+    scratch: &mut Scratch,
+    schema: &Schema,
+    plan: &RowType,
+    line: &RoomyLine<'_>,
+    place: usize,
+) -> Option<(usize, usize)>
+    requires count { length plan.now.slots.items ≡ length (properties_at schema.now plan.now.type_id) }
+    requires within { place ≤ length line.now }
+    ensures { IfSome result (λ found.
+        FindsName line.now (properties_at schema.now plan.now.type_id) found.0 place found.1) }
+{
+    let Some((name, end)) = text_there(scratch, line, place) else {
+        return None;
+    };
+    let colon = past_blanks(line, end);
+    if line.byte(colon) != b':' {
+        return None;
+    }
+    Some((slot_of(schema, plan, name), colon + 1))
+}
+
+/// The slot of a name; where no slot has it, how many there are.
+fn slot_of(schema: &Schema, plan: &RowType, name: &str) -> usize
+    requires { length plan.now.slots.items ≡ length (properties_at schema.now plan.now.type_id) }
+    ensures { IsSlotOfName (properties_at schema.now plan.now.type_id) name.now result }
+{
+    match schema.slot(plan.type_id, name) {
+        Some(slot) => slot,
+        None => plan.slots.len(),
+    }
+}
+
+/// The place after the members of an object and its brace.
+#[inline(never)]
+#[cycle(pass)]
+pub(crate) fn pass_members(
+    cache: &mut Cache,
+    scene: &Scene<'_>,
+    plan: &RowType,
+    from: usize,
+) -> Option<usize>
+    requires scene { IsScene scene.now }
+    requires plan { IsTypeOf scene.now.schema.now scene.now.plan.now.expansion scene.now.plan.now.plans.items plan.now }
+    requires within { from ≤ length scene.now.line }
+    ensures passed { IfSome result (PassesMembers scene.now plan.now cache.old.depth from) }
+    ensures depth { cache.new.depth ≡ cache.old.depth }
+{
+    let line = &scene.line;
+    let mut place = past_blanks(line, from);
+    if line.byte(place) == b'}' {
+        return if plan.optional == plan.all {
+            Some(place + 1)
+        } else {
+            None
+        };
+    }
+    let mut seen = 0_u64;
+    let mut order = plan.order;
+    'members: loop {
+        let Some(found) = next_member(cache, scene, plan, order, place) else {
+            return None;
+        };
+        match found.slot {
+            Some(slot) => {
+                let Some(end) = value_end(cache, scene, slot, slot.task, found.place) else {
+                    return None;
+                };
+                seen |= slot.bit;
+                order = slot.order;
+                place = end;
+            }
+            None => place = found.place,
+        }
+        match after_member(line, place) {
+            Some(After::Comma(next)) => place = next,
+            Some(After::Brace(next)) => {
+                return if seen | plan.optional == plan.all {
+                    Some(next)
+                } else {
+                    None
+                };
+            }
+            None => return None,
+        }
+    }
+}

@@ -1,0 +1,204 @@
+//! Values that nobody looks at.
+ghost use Rattle.std.specs.Prelude.{◌<◌, ◌≤◌, ℕ, List, length, IfSome, IsSome};
+ghost use Rattle.std.specs.Str.{IsUtf8};
+ghost use Rattle.json.specs.Token.{number};
+ghost use Rattle.serde_json.specs.Read.{number_of};
+ghost use Rattle.json_tokens.specs.private.Lexemes.{IsTextAt};
+ghost use Rattle.json_tokens.specs.declared.lexeme.Turn.TheVariants.{Fresh, AfterValue};
+ghost use Rattle.json_room.specs.Lexemes.{StandsTo, tokens_at};
+ghost use Rattle.edm_entities.specs.private.RowTokens.{ReadsItems, ReadsMembers};
+ghost use Rattle.edm_rows.specs.private.Held.{PassesTo, ReadsTo};
+ghost use Rattle.edm_rows.specs.private.Members.{PassesAnyMember};
+
+use json_room::{
+    RoomyLine, null_end, number_at, past_blanks, short_number_end, text_end, truth_end,
+};
+use json_tokens::{Scratch, escaped_at, number_of_text};
+
+/// The place after the text whose quote stands there.
+#[inline(always)]
+pub(crate) fn any_text_end(
+    line: &RoomyLine<'_>,
+    place: usize,
+    scratch: &mut Scratch,
+) -> Option<usize>
+    requires { place ≤ length line.now }
+    ensures further { IfSome result (λ to. place < to) }
+    ensures text { IfSome result (λ to. (s : List ℕ) × IsTextAt line.now place s to × IsUtf8 s) }
+{
+    match text_end(line, place) {
+        Some(end) => Some(end),
+        None => escaped_text_end(line, place, scratch),
+    }
+}
+
+/// The same of a text that may have escapes.
+#[inline(never)]
+pub(crate) fn escaped_text_end(
+    line: &RoomyLine<'_>,
+    place: usize,
+    scratch: &mut Scratch,
+) -> Option<usize>
+    requires { place ≤ length line.now }
+    ensures further { IfSome result (λ to. place < to) }
+    ensures text { IfSome result (λ to. (s : List ℕ) × IsTextAt line.now place s to × IsUtf8 s) }
+{
+    match escaped_text_at(line, place, scratch) {
+        Some((_, end)) => Some(end),
+        None => None,
+    }
+}
+
+/// The text whose quote stands there, which may have escapes, and the place after it.
+pub(crate) fn escaped_text_at<'t>(
+    line: &'t RoomyLine<'_>,
+    place: usize,
+    scratch: &'t mut Scratch,
+) -> Option<(&'t str, usize)>
+    requires { place ≤ length line.now }
+    ensures further { IfSome result (λ found. place < found.1) }
+    ensures text { IfSome result (λ found. IsTextAt line.now place found.0.now found.1) }
+{
+    if line.byte(place) != b'"' {
+        return None;
+    }
+    match escaped_at(line.text(), place, scratch) {
+        Some((text, end)) => if end > place { Some((text, end)) } else { None },
+        None => None,
+    }
+}
+
+/// The place after a number that has a value.
+#[inline(always)]
+pub(crate) fn any_number_end(line: &RoomyLine<'_>, place: usize) -> Option<usize>
+    requires { place ≤ length line.now }
+    ensures { IfSome result (λ to. (s : List ℕ) × StandsTo line.now place (number s) to × IsSome (number_of s)) }
+{
+    if let Some(end) = short_number_end(line, place) {
+        if line.byte(end) | 0x20 != b'e' {
+            return Some(end);
+        }
+    }
+    let Some((text, end)) = number_at(line, place) else {
+        return None;
+    };
+    match number_of_text(text) {
+        Some(_) => Some(end),
+        None => None,
+    }
+}
+
+/// The place after a value.
+#[inline(never)]
+#[cycle(any)]
+pub(crate) fn any_end(
+    line: &RoomyLine<'_>,
+    place: usize,
+    depth: usize,
+    scratch: &mut Scratch,
+) -> Option<usize>
+    requires { place ≤ length line.now }
+    ensures { IfSome result (λ to. ReadsTo depth line.now place to (λ json. Unit {0})) }
+{
+    match line.byte(place) {
+        b'"' => any_text_end(line, place, scratch),
+        b't' | b'f' => match truth_end(line, place) {
+            Some((_, end)) => Some(end),
+            None => None,
+        },
+        b'n' => null_end(line, place),
+        b'[' => if depth == 0 {
+            None
+        } else {
+            items_end(line, place + 1, depth - 1, scratch)
+        },
+        b'{' => if depth == 0 {
+            None
+        } else {
+            members_end(line, place + 1, depth - 1, scratch)
+        },
+        _ => any_number_end(line, place),
+    }
+}
+
+/// The place after an array's items and its bracket.
+#[inline(never)]
+#[cycle(any)]
+fn items_end(
+    line: &RoomyLine<'_>,
+    from: usize,
+    depth: usize,
+    scratch: &mut Scratch,
+) -> Option<usize>
+    requires { from ≤ length line.now }
+    ensures { IfSome result (λ to. PassesTo line.now from to
+        × ReadsItems depth (tokens_at Fresh line.now from) (tokens_at AfterValue line.now to) (λ jsons. Unit {0})) }
+{
+    let mut place = past_blanks(line, from);
+    if line.byte(place) == b']' {
+        return Some(place + 1);
+    }
+    'items: loop {
+        match any_end(line, place, depth, scratch) {
+            Some(end) => place = past_blanks(line, end),
+            None => return None,
+        }
+        match line.byte(place) {
+            b',' => place = past_blanks(line, place + 1),
+            b']' => return Some(place + 1),
+            _ => return None,
+        }
+    }
+}
+
+/// The place after an object's members and its brace.
+#[inline(never)]
+#[cycle(any)]
+fn members_end(
+    line: &RoomyLine<'_>,
+    from: usize,
+    depth: usize,
+    scratch: &mut Scratch,
+) -> Option<usize>
+    requires { from ≤ length line.now }
+    ensures { IfSome result (λ to. PassesTo line.now from to
+        × ReadsMembers depth (tokens_at Fresh line.now from) (tokens_at AfterValue line.now to) (λ found. Unit {0})) }
+{
+    let mut place = past_blanks(line, from);
+    if line.byte(place) == b'}' {
+        return Some(place + 1);
+    }
+    'members: loop {
+        match member_end(line, place, depth, scratch) {
+            Some(end) => place = past_blanks(line, end),
+            None => return None,
+        }
+        match line.byte(place) {
+            b',' => place = past_blanks(line, place + 1),
+            b'}' => return Some(place + 1),
+            _ => return None,
+        }
+    }
+}
+
+/// The place after a member's name, its colon and its value.
+#[inline(always)]
+#[cycle(any)]
+fn member_end(
+    line: &RoomyLine<'_>,
+    place: usize,
+    depth: usize,
+    scratch: &mut Scratch,
+) -> Option<usize>
+    requires { place ≤ length line.now }
+    ensures { IfSome result (PassesAnyMember depth line.now place) }
+{
+    let Some(end) = any_text_end(line, place, scratch) else {
+        return None;
+    };
+    let colon = past_blanks(line, end);
+    if line.byte(colon) != b':' {
+        return None;
+    }
+    any_end(line, past_blanks(line, colon + 1), depth, scratch)
+}

@@ -1,0 +1,380 @@
+//! Values that are held to their types where they stand, and do not become values.
+ghost use Rattle.std.specs.Prelude.{◌≡◌, ◌<◌, ◌≤◌, ℕ, List, length, IfSome};
+ghost use Rattle.json.specs.Token.{number};
+ghost use Rattle.csdl_schema.specs.ExprType.{ExprType, SingleType, enumeration, primitive, single};
+ghost use Rattle.csdl_schema.specs.SchemaModel.{Slots, slots_of, type_name_at};
+ghost use Rattle.json_tokens.specs.private.Lexemes.{IsTextAt};
+ghost use Rattle.json_room.specs.Lexemes.{StandsTo};
+ghost use Rattle.edm_entities.specs.private.Passed.{FitsSome, FitsSomeHowever};
+ghost use Rattle.edm_rows.specs.private.Held.{IsIntegerText, IsSingle, ReadsTo};
+ghost use Rattle.edm_rows.specs.private.RowSlots.{IsSlotOf, IsTaskOf, name_at};
+ghost use Rattle.edm_rows.specs.private.Scenes.{IsScene, PassesItems, PassesValue};
+
+use super::known_texts::{Cache, KnownTexts, Noted};
+use super::literals::is_literal;
+use super::members::pass_members;
+use super::passed_any::{any_end, escaped_text_at, escaped_text_end};
+use super::row_types::{RowSlot, RowType, Task};
+use csdl_schema::{EnumId, Schema};
+use edm_row_plans::RowPlan;
+use json_room::{
+    RoomyLine, digits_up_to, null_end, number_at, past_blanks, short_number_end, text_at, text_end,
+    truth_end,
+};
+use json_tokens::{Scratch, number_of_text};
+use room_literals::{day_end, guid_end, moment_end};
+
+/// What a walk over a line looks at.
+#[derive(Drop)]
+pub(crate) struct Scene<'w> {
+    pub(crate) schema: &'w Schema,
+    pub(crate) plan: &'w RowPlan,
+    pub(crate) types: &'w [RowType],
+    pub(crate) known: &'w KnownTexts,
+    pub(crate) line: RoomyLine<'w>,
+}
+
+/// The place after the value of a slot, or an item of it, that stands there.
+#[inline(always)]
+#[cycle(pass)]
+pub(crate) fn value_end(
+    cache: &mut Cache,
+    scene: &Scene<'_>,
+    slot: &RowSlot,
+    task: Task,
+    place: usize,
+) -> Option<usize>
+    requires scene { IsScene scene.now }
+    requires slot { IsSlotOf scene.now.plan.now.plans.items slot.now }
+    requires task { IsTaskOf slot.now task }
+    requires within { place ≤ length scene.now.line }
+    ensures passed { IfSome result (PassesValue scene.now slot.now task cache.old.depth place) }
+    ensures depth { cache.new.depth ≡ cache.old.depth }
+{
+    match sure_end(cache, scene, slot, task, place) {
+        Some(end) => Some(end),
+        None => other_end(cache, scene, slot, task, place),
+    }
+}
+
+/// The same of what most values are.
+#[inline(always)]
+#[cycle(pass)]
+fn sure_end(
+    cache: &mut Cache,
+    scene: &Scene<'_>,
+    slot: &RowSlot,
+    task: Task,
+    place: usize,
+) -> Option<usize>
+    requires scene { IsScene scene.now }
+    requires slot { IsSlotOf scene.now.plan.now.plans.items slot.now }
+    requires task { IsTaskOf slot.now task }
+    requires within { place ≤ length scene.now.line }
+    ensures passed { IfSome result (PassesValue scene.now slot.now task cache.old.depth place) }
+    ensures depth { cache.new.depth ≡ cache.old.depth }
+{
+    let line = &scene.line;
+    match task {
+        Task::Text => text_end(line, place),
+        Task::Number => digits_up_to(line, place, slot.sure),
+        Task::Truth => match truth_end(line, place) {
+            Some((_, end)) => Some(end),
+            None => None,
+        },
+        Task::Date => day_end(line, place),
+        Task::Moment => moment_end(line, place),
+        Task::Guid => guid_end(line, place),
+        Task::Member => scene.known.text_end(slot.member_of, line, place),
+        Task::Record => record_end(cache, scene, slot, place),
+        Task::Items => array_end(cache, scene, slot, place),
+        Task::Any => short_number_end(line, place),
+    }
+}
+
+/// The place after the object that begins there.
+#[inline(always)]
+#[cycle(pass)]
+fn record_end(cache: &mut Cache, scene: &Scene<'_>, slot: &RowSlot, place: usize) -> Option<usize>
+    requires scene { IsScene scene.now }
+    requires slot { IsSlotOf scene.now.plan.now.plans.items slot.now }
+    requires item { slot.now.item ≡ Task.Record }
+    requires within { place ≤ length scene.now.line }
+    ensures passed { IfSome result (PassesValue scene.now slot.now Task.Record cache.old.depth place) }
+    ensures depth { cache.new.depth ≡ cache.old.depth }
+{
+    if scene.line.byte(place) != b'{' || cache.depth == 0 {
+        return None;
+    }
+    cache.depth -= 1;
+    let end = pass_members(cache, scene, &scene.types[slot.record], place + 1);
+    cache.depth += 1;
+    end
+}
+
+/// The place after the array that begins there.
+#[inline(always)]
+#[cycle(pass)]
+fn array_end(cache: &mut Cache, scene: &Scene<'_>, slot: &RowSlot, place: usize) -> Option<usize>
+    requires scene { IsScene scene.now }
+    requires slot { IsSlotOf scene.now.plan.now.plans.items slot.now }
+    requires single { IsSingle slot.now.item }
+    requires within { place ≤ length scene.now.line }
+    ensures passed { IfSome result (PassesValue scene.now slot.now Task.Items cache.old.depth place) }
+    ensures depth { cache.new.depth ≡ cache.old.depth }
+{
+    let line = &scene.line;
+    if line.byte(place) != b'[' || cache.depth == 0 {
+        return None;
+    }
+    if line.byte(place + 1) == b']' {
+        return Some(place + 2);
+    }
+    cache.depth -= 1;
+    let end = items_end(cache, scene, slot, place + 1);
+    cache.depth += 1;
+    end
+}
+
+/// The same of a value after white space, and of what is seldom.
+#[inline(never)]
+#[cycle(pass)]
+fn other_end(
+    cache: &mut Cache,
+    scene: &Scene<'_>,
+    slot: &RowSlot,
+    task: Task,
+    from: usize,
+) -> Option<usize>
+    requires scene { IsScene scene.now }
+    requires slot { IsSlotOf scene.now.plan.now.plans.items slot.now }
+    requires task { IsTaskOf slot.now task }
+    requires within { from ≤ length scene.now.line }
+    ensures passed { IfSome result (PassesValue scene.now slot.now task cache.old.depth from) }
+    ensures depth { cache.new.depth ≡ cache.old.depth }
+{
+    let place = past_blanks(&scene.line, from);
+    if place != from {
+        if let Some(end) = sure_end(cache, scene, slot, task, place) {
+            return Some(end);
+        }
+    }
+    seldom_end(cache, scene, slot, task, place)
+}
+
+/// The place after null, and after a value that is written as few are.
+fn seldom_end(
+    cache: &mut Cache,
+    scene: &Scene<'_>,
+    slot: &RowSlot,
+    task: Task,
+    place: usize,
+) -> Option<usize>
+    requires slot { IsSlotOf scene.now.plan.now.plans.items slot.now }
+    requires task { IsTaskOf slot.now task }
+    requires within { place ≤ length scene.now.line }
+    ensures passed { IfSome result (PassesValue scene.now slot.now task cache.old.depth place) }
+    ensures depth { cache.new.depth ≡ cache.old.depth }
+{
+    let line = &scene.line;
+    match task {
+        Task::Any => any_end(line, place, cache.depth, &mut cache.scratch),
+        Task::Items => None,
+        _ => if line.byte(place) == b'n' {
+            nullable_end(line, slot.is_nullable, place)
+        } else {
+            written_end(cache, scene, slot, task, place)
+        },
+    }
+}
+
+/// The place after a null that may be.
+fn nullable_end(line: &RoomyLine<'_>, is_nullable: bool, place: usize) -> Option<usize>
+    requires { place ≤ length line.now }
+    ensures { (slots : Slots) (type : SingleType) (depth : ℕ) → IfSome result (λ to. ReadsTo depth line.now place to
+        (FitsSome slots is_nullable is_nullable (single type))) }
+{
+    if is_nullable {
+        null_end(line, place)
+    } else {
+        None
+    }
+}
+
+/// The place after a text with escapes, a number with a sign or of many digits, or a literal or a member's text that was
+/// not seen at once to be one.
+fn written_end(
+    cache: &mut Cache,
+    scene: &Scene<'_>,
+    slot: &RowSlot,
+    task: Task,
+    place: usize,
+) -> Option<usize>
+    requires slot { IsSlotOf scene.now.plan.now.plans.items slot.now }
+    requires task { IsTaskOf slot.now task }
+    requires within { place ≤ length scene.now.line }
+    ensures passed { IfSome result (PassesValue scene.now slot.now task cache.old.depth place) }
+    ensures depth { cache.new.depth ≡ cache.old.depth }
+{
+    let line = &scene.line;
+    match task {
+        Task::Text => escaped_text_end(line, place, &mut cache.scratch),
+        Task::Number => number_end(line, slot, place),
+        Task::Date => literal_end(&mut cache.scratch, line, slot, place),
+        Task::Moment => literal_end(&mut cache.scratch, line, slot, place),
+        Task::Guid => literal_end(&mut cache.scratch, line, slot, place),
+        Task::Member => member_text_end(cache, scene, slot, place),
+        _ => None,
+    }
+}
+
+/// The number of the slot's type that stands there, and the place after it.
+pub(crate) fn typed_number_at(
+    line: &RoomyLine<'_>,
+    slot: &RowSlot,
+    place: usize,
+) -> Option<(i64, usize)>
+    requires { place ≤ length line.now }
+    ensures { IfSome result (λ found. (s : List ℕ) × StandsTo line.now place (number s) found.1
+        × IsIntegerText slot.now.prim s found.0) }
+{
+    let Some((text, end)) = number_at(line, place) else {
+        return None;
+    };
+    let Some(written) = number_of_text(text) else {
+        return None;
+    };
+    match written.as_i64() {
+        Some(number) => if slot.prim.holds_number(number) {
+            Some((number, end))
+        } else {
+            None
+        },
+        None => None,
+    }
+}
+
+/// The place after a number of the slot's type.
+fn number_end(line: &RoomyLine<'_>, slot: &RowSlot, place: usize) -> Option<usize>
+    requires { place ≤ length line.now }
+    ensures { (slots : Slots) (depth : ℕ) → IfSome result (λ to. ReadsTo depth line.now place to
+        (FitsSomeHowever slots (single (primitive slot.now.prim)))) }
+{
+    match typed_number_at(line, slot, place) {
+        Some((_, end)) => Some(end),
+        None => None,
+    }
+}
+
+/// The text whose quote stands there, and the place after it.
+pub(crate) fn text_there<'t>(
+    scratch: &'t mut Scratch,
+    line: &'t RoomyLine<'_>,
+    place: usize,
+) -> Option<(&'t str, usize)>
+    requires { place ≤ length line.now }
+    ensures further { IfSome result (λ found. place < found.1) }
+    ensures text { IfSome result (λ found. IsTextAt line.now place found.0.now found.1) }
+{
+    if let Some(found) = text_at(line, place) {
+        return Some(found);
+    }
+    escaped_text_at(line, place, scratch)
+}
+
+/// The place after a text that is a literal of the slot's type.
+#[inline(never)]
+fn literal_end(
+    scratch: &mut Scratch,
+    line: &RoomyLine<'_>,
+    slot: &RowSlot,
+    place: usize,
+) -> Option<usize>
+    requires { place ≤ length line.now }
+    ensures { (slots : Slots) (depth : ℕ) → IfSome result (λ to. ReadsTo depth line.now place to
+        (FitsSomeHowever slots (single (primitive slot.now.prim)))) }
+{
+    let Some((text, end)) = text_there(scratch, line, place) else {
+        return None;
+    };
+    if is_literal(slot.prim, text) {
+        Some(end)
+    } else {
+        None
+    }
+}
+
+/// The place after a text of the slot's enumeration, which is noted.
+#[inline(never)]
+fn member_text_end(
+    cache: &mut Cache,
+    scene: &Scene<'_>,
+    slot: &RowSlot,
+    place: usize,
+) -> Option<usize>
+    requires { place ≤ length scene.now.line }
+    ensures read { (depth : ℕ) → IfSome result (λ to. ReadsTo depth scene.now.line place to (FitsSomeHowever
+        (slots_of scene.now.schema.now) (single (enumeration (name_at scene.now.schema.now slot.now.member_of))))) }
+    ensures depth { cache.new.depth ≡ cache.old.depth }
+{
+    let Some(id) = slot.member_of else {
+        return None;
+    };
+    match text_of_end(&mut cache.scratch, scene.schema, &scene.line, id, place) {
+        Some(end) => {
+            cache.noted = Noted::of(id, &scene.line, place);
+            Some(end)
+        }
+        None => None,
+    }
+}
+
+/// The place after a text of an enumeration.
+fn text_of_end(
+    scratch: &mut Scratch,
+    schema: &Schema,
+    line: &RoomyLine<'_>,
+    id: EnumId,
+    place: usize,
+) -> Option<usize>
+    requires { place ≤ length line.now }
+    ensures { (depth : ℕ) → IfSome result (λ to. ReadsTo depth line.now place to (FitsSomeHowever
+        (slots_of schema.now) (single (enumeration (type_name_at schema.now id))))) }
+{
+    let Some((text, end)) = text_there(scratch, line, place) else {
+        return None;
+    };
+    match schema.enum_value(id, text) {
+        Some(_) => Some(end),
+        None => None,
+    }
+}
+
+/// The place after an array's items and its bracket.
+#[inline(never)]
+#[cycle(pass)]
+fn items_end(cache: &mut Cache, scene: &Scene<'_>, slot: &RowSlot, from: usize) -> Option<usize>
+    requires scene { IsScene scene.now }
+    requires slot { IsSlotOf scene.now.plan.now.plans.items slot.now }
+    requires single { IsSingle slot.now.item }
+    requires within { from ≤ length scene.now.line }
+    ensures passed { IfSome result (PassesItems scene.now slot.now cache.old.depth from) }
+    ensures depth { cache.new.depth ≡ cache.old.depth }
+{
+    let line = &scene.line;
+    let mut place = past_blanks(line, from);
+    if line.byte(place) == b']' {
+        return Some(place + 1);
+    }
+    'items: loop {
+        let Some(end) = value_end(cache, scene, slot, slot.item, place) else {
+            return None;
+        };
+        place = past_blanks(line, end);
+        match line.byte(place) {
+            b',' => place += 1,
+            b']' => return Some(place + 1),
+            _ => return None,
+        }
+    }
+}

@@ -1,0 +1,345 @@
+//! The reader of rows of one type.
+ghost use Rattle.std.specs.Prelude.{◌≡◌, ◌≢◌, ◌⊎◌, ◌↔◌, ◌≤◌, ◌+◌, ℕ, List, [], get_or, length, slice_get, take, true, false, All, IfSome, IsTrue};
+ghost use Rattle.std.specs.Str.{IsAscii};
+ghost use Rattle.edm_entities.specs.RowReading.{IsLineBut};
+ghost use Rattle.edm_row_plans.specs.Plans.{IsPlanOf};
+ghost use Rattle.edm_entities.specs.private.Passed.{IsRowValue};
+ghost use Rattle.json_tokens.specs.LexemesAt.{PassesSpaces};
+ghost use Rattle.edm_rows.specs.private.HeldRows.{AreTypesOf, HasFirstType, IsTakenWhole, IsTakenWithin};
+ghost use Rattle.edm_rows.specs.private.HeldRows.{TakesLine, TakesSlots};
+ghost use Rattle.edm_rows.specs.private.KnownTexts.{AreKnown};
+ghost use Rattle.edm_rows.specs.private.KeptRows.{RowConforms, root_properties, root_slots};
+ghost use Rattle.edm_rows.specs.private.RowSlots.{IsFreshType};
+ghost use Rattle.edm_rows.specs.private.Scenes.{IsScene};
+ghost use Rattle.edm_rows.specs.RowsOfType.{IsLeftOut, IsSameButKept, IsSameReader, names_unkept, row_held, sifted};
+
+use super::kept_leaf::Taken;
+use super::kept_value::take_members;
+use super::known_texts::{Cache, KnownTexts};
+use super::passed_value::Scene;
+use super::row_types::{DEPTH, RowType, row_types};
+use super::slot_marks::{keep_name, keep_slots, sift_slot};
+use csdl_schema::Schema;
+use edm_entities::{Entity, RowReader};
+use edm_row_plans::{RowPlan, plan_at};
+use edm_values::{Sieve, Value};
+use json_room::{RoomyLine, front_text, has_room, past_blanks};
+use std::alloc::Global;
+use std::marker::Model;
+
+/// What became of a line.
+#[derive(Clone, Copy, Drop)]
+pub enum Reading {
+    /// It was not read as a row, which it may yet be.
+    Unread,
+    /// It is a row, which is kept.
+    Row,
+    /// It is a row, of which a value is rejected by its slot's sieve.
+    LeftOut,
+}
+
+/// Reads lines as rows of a plan's type. It is kept from line to line.
+#[derive(Drop)]
+pub struct TypeRows<'s> {
+    schema: &'s Schema,
+    plan: RowPlan,
+    /// Those of the plan; none where rows are not read so.
+    types: Vec<RowType>,
+    cache: Cache,
+    known: KnownTexts,
+    /// Whether the row is one of the type.
+    is_ready: bool,
+    row: Value,
+}
+
+impl<'s> Model for TypeRows<'s> {
+    ghost use Rattle.std.specs.Coded.{codes};
+    ghost use Rattle.edm_values.specs.contracts.value.Value as value;
+    ghost use Rattle.edm_rows.specs.RowsOfType.{RowsOfType};
+    ghost use Rattle.edm_rows.specs.private.HeldRows.{IsRowsOfType, rows_seen};
+
+    ghost Value = { RowsOfType };
+
+    ghost coded = { Prim.hlevel (codes, value.the_row.coded) };
+
+    ghost view = { rows_seen };
+
+    ghost invariant = { IsRowsOfType };
+}
+
+impl<'s> TypeRows<'s> {
+    /// The reader of rows by that plan, which keeps no slot; it has no row to fill yet. It is made in place: a copy would
+    /// take as much stack again.
+    #[inline(always)]
+    pub fn new(alloc: Global, schema: &'s Schema, plan: RowPlan) -> TypeRows<'s>
+        requires { IsPlanOf schema.now plan }
+        ensures schema { result.schema ≡ schema.now }
+        ensures type_id { result.type_id ≡ plan.type_id }
+        ensures expansion { result.expansion ≡ plan.expansion }
+        ensures whole { result.is_whole ≡ plan.is_whole }
+        ensures none_kept { All (λ kept. kept ≡ false) result.kept }
+        ensures all_pass { All (λ sieve. sieve ≡ Sieve.All) result.sieves }
+        ensures no_row { result.is_ready ≡ false }
+    {
+        TypeRows {
+            schema,
+            types: types_of(alloc, schema, &plan),
+            plan,
+            cache: Cache::new(alloc),
+            known: KnownTexts::new(),
+            is_ready: false,
+            row: Value::Null,
+        }
+    }
+
+    /// From here on the values of the property of that name are kept, if there is one.
+    pub fn keep_named(&mut self, name: &str)
+        ensures same { IsSameButKept self.old self.new }
+        ensures named { ¬ names_unkept self.new name.now }
+        ensures others { (other : List ℕ) → other ≢ name.now
+            → names_unkept self.new other ↔ names_unkept self.old other }
+    {
+        if self.types.len() > 0 {
+            keep_name(&mut self.types[0], self.schema, name);
+        }
+    }
+
+    /// From here on the values of all properties are kept.
+    pub fn keep_all(&mut self)
+        ensures same { IsSameButKept self.old self.new }
+        ensures kept { (name : List ℕ) → ¬ names_unkept self.new name }
+    {
+        if self.types.len() > 0 {
+            keep_slots(&mut self.types[0]);
+        }
+    }
+
+    /// From here on rows are left out of which that slot's value is rejected, unless the slot has a sieve.
+    pub fn sift(&mut self, slot: usize, sieve: Sieve)
+        ensures { self.new ≡ record self.old { sieves = sifted self.old.sieves slot sieve } }
+    {
+        if self.types.len() > 0 {
+            sift_slot(&mut self.types[0], slot, sieve);
+        }
+    }
+
+    /// Whether it wants a row to fill.
+    #[inline(always)]
+    pub fn wants_row(&self) -> bool
+        ensures { IsTrue result → self.now.is_ready ≡ false }
+    {
+        !self.is_ready && self.types.len() > 0
+    }
+
+    /// Fills the row of that line from here on, if the reader finds it to be one.
+    #[inline(never)]
+    pub fn begin(&mut self, reader: &mut RowReader, line: &[u8])
+        ensures { IsSameReader self.old self.new }
+    {
+        if self.types.len() == 0 {
+            return;
+        }
+        match reader.read_value(self.schema, &self.plan, line) {
+            Some(row) => {
+                self.row = row;
+                self.is_ready = true;
+            }
+            None => {}
+        }
+    }
+
+    /// Reads the line of that length at the front of the bytes into the row.
+    #[inline(never)]
+    pub fn read(&mut self, bytes: &[u8], count: usize, is_ascii: bool) -> Reading
+        requires within { count ≤ length bytes.now }
+        requires ascii { IsTrue is_ascii → IsAscii (take count bytes.now) }
+        ensures same { IsSameReader self.old self.new }
+        ensures whole { result ≢ Reading.Unread → self.new.is_whole ≡ true }
+        ensures ready { result ≡ Reading.Row → self.new.is_ready ≡ true }
+        ensures row { result ≡ Reading.Row
+            → IsLineBut (take count bytes.now) (names_unkept self.new) (row_held self.new) }
+        ensures left_out { result ≡ Reading.LeftOut → IsLeftOut (take count bytes.now) self.new }
+    {
+        if !self.is_ready {
+            return Reading::Unread;
+        }
+        if !has_room(bytes, count) {
+            return Reading::Unread;
+        }
+        match front_text(bytes, count, is_ascii) {
+            Some(text) => self.read_text(text, bytes),
+            None => Reading::Unread,
+        }
+    }
+
+    /// Reads the line that is this text, at the front of the bytes, into the row.
+    #[inline(always)]
+    fn read_text(&mut self, text: &str, bytes: &[u8]) -> Reading
+        requires ready { self.old.is_ready ≡ true }
+        requires front { take (length text.now) bytes.now ≡ text.now }
+        requires line_feed { get_or bytes.now (length text.now) 0 ≡ 10 }
+        requires room { length text.now + 64 ≤ length bytes.now }
+        ensures same { IsSameReader self.old self.new }
+        ensures whole { result ≢ Reading.Unread → self.new.is_whole ≡ true }
+        ensures ready { result ≡ Reading.Row → self.new.is_ready ≡ true }
+        ensures row { result ≡ Reading.Row → IsLineBut text.now (names_unkept self.new) (row_held self.new) }
+        ensures left_out { result ≡ Reading.LeftOut → IsLeftOut text.now self.new }
+    {
+        let scene = Scene {
+            schema: self.schema,
+            plan: &self.plan,
+            types: self.types.as_slice(),
+            known: &self.known,
+            line: RoomyLine::new(text, bytes),
+        };
+        let taken = take_row(&mut self.cache, &scene, &mut self.row);
+        keep_noted(&mut self.cache, &mut self.known, self.schema);
+        self.is_ready = is_whole_row(taken);
+        reading_of(taken)
+    }
+
+    /// The row that was read last.
+    #[inline(always)]
+    pub fn entity(&self) -> Entity<'_>
+        requires { self.now.is_ready ≡ true }
+        ensures { result ≡ row_held self.now }
+    {
+        Entity::borrowed(
+            self.schema,
+            self.plan.type_id,
+            &self.plan.expansion,
+            &self.row,
+        )
+    }
+}
+
+/// The types of a plan, of which the first is that of its rows; none where rows are not read so.
+fn types_of(alloc: Global, schema: &Schema, plan: &RowPlan) -> Vec<RowType>
+    requires { IsPlanOf schema.now plan.now }
+    ensures types { (result.items ≡ []) ⊎ AreTypesOf schema.now plan.now result.items }
+    ensures fresh { (place : ℕ) → IfSome (slice_get result.items place) IsFreshType }
+{
+    if !plan.is_whole {
+        return Vec::new(alloc);
+    }
+    let Some(_root) = plan_at(plan.plans.as_slice(), 0, plan.type_id, Some(0)) else {
+        return Vec::new(alloc);
+    };
+    match row_types(alloc, schema, plan) {
+        Some(types) => types,
+        None => Vec::new(alloc),
+    }
+}
+
+/// Takes the row that is the whole line, unless it is rejected.
+#[inline(always)]
+fn take_row(cache: &mut Cache, scene: &Scene<'_>, row: &mut Value) -> Taken
+    requires scene { IsScene scene.now }
+    requires plan { IsPlanOf scene.now.schema.now scene.now.plan.now }
+    requires first { HasFirstType scene.now.plan.now scene.now.types.now }
+    requires row { IsRowValue (root_slots scene.now) (root_properties scene.now) row.old }
+    ensures row { TakesLine scene.now row.new result }
+    ensures conforms { result ≢ Taken.Broken → IsRowValue (root_slots scene.now) (root_properties scene.now) row.new }
+{
+    match row {
+        Value::Record(values) => take_slots(cache, scene, values),
+        _ => Taken::Nothing,
+    }
+}
+
+/// Takes the values of the row that is the whole line, unless one is rejected.
+#[inline(always)]
+fn take_slots(cache: &mut Cache, scene: &Scene<'_>, values: &mut Vec<Value>) -> Taken
+    requires scene { IsScene scene.now }
+    requires plan { IsPlanOf scene.now.schema.now scene.now.plan.now }
+    requires first { HasFirstType scene.now.plan.now scene.now.types.now }
+    requires conforms { RowConforms (root_slots scene.now) (root_properties scene.now) values.old.items }
+    ensures slots { TakesSlots scene.now values.new.items result }
+    ensures conforms { result ≢ Taken.Broken
+        → RowConforms (root_slots scene.now) (root_properties scene.now) values.new.items }
+{
+    let line = &scene.line;
+    let begin = past_blanks(line, 0);
+    if line.byte(begin) != b'{' {
+        return Taken::Nothing;
+    }
+    cache.depth = DEPTH - 1;
+    let taken = take_members(
+        cache,
+        scene,
+        &scene.types[0],
+        begin + 1,
+        values.as_mut_slice(),
+    );
+    if ends_taken(line, taken) {
+        taken
+    } else {
+        Taken::Nothing
+    }
+}
+
+/// Whether nothing but white space stands after what was taken of a line.
+#[inline(always)]
+fn ends_taken(line: &RoomyLine<'_>, taken: Taken) -> bool
+    requires { IsTakenWithin line.now taken }
+    ensures whole { IsTrue result → IsTakenWhole line.now taken }
+    ensures broken { result ≡ false → taken ≢ Taken.Broken }
+{
+    match taken {
+        Taken::Put(end) => ends_line(line, end),
+        Taken::Rejected(end) => ends_line(line, end),
+        Taken::Nothing => true,
+        Taken::Broken => true,
+    }
+}
+
+/// Whether the row still has a value of its type in each slot.
+#[inline(always)]
+fn is_whole_row(taken: Taken) -> bool
+    ensures whole { IsTrue result → taken ≢ Taken.Broken }
+    ensures broken { result ≡ false → taken ≡ Taken.Broken }
+{
+    match taken {
+        Taken::Put(_) | Taken::Rejected(_) | Taken::Nothing => true,
+        Taken::Broken => false,
+    }
+}
+
+/// What became of a line, by what became of its members.
+#[inline(always)]
+fn reading_of(taken: Taken) -> Reading
+    ensures row { result ≡ Reading.Row → (to : ℕ) × (taken ≡ Taken.Put to) }
+    ensures left_out { result ≡ Reading.LeftOut → (to : ℕ) × (taken ≡ Taken.Rejected to) }
+{
+    match taken {
+        Taken::Put(_) => Reading::Row,
+        Taken::Rejected(_) => Reading::LeftOut,
+        Taken::Nothing => Reading::Unread,
+        Taken::Broken => Reading::Unread,
+    }
+}
+
+/// Whether nothing but white space stands after a place.
+#[inline(always)]
+fn ends_line(line: &RoomyLine<'_>, end: usize) -> bool
+    requires { end ≤ length line.now }
+    ensures { IsTrue result → PassesSpaces line.now end (length line.now) }
+{
+    let count = line.text().len();
+    if end == count {
+        return true;
+    }
+    past_blanks(line, end) == count
+}
+
+/// A text that was noted is kept, if it is one of its enumeration.
+#[inline(always)]
+fn keep_noted(cache: &mut Cache, known: &mut KnownTexts, schema: &Schema)
+    requires { AreKnown schema.now known.old }
+    ensures { AreKnown schema.now known.new }
+{
+    if let Some(noted) = cache.noted {
+        cache.noted = None;
+        known.keep(schema, &noted);
+    }
+}

@@ -1,0 +1,6 @@
+pub mod Lanes
+pub mod KeysStand
+pub mod RoomLemmas
+pub mod Standing
+pub mod Utf8Pieces
+pub mod Whole

@@ -1,0 +1,5 @@
+mod GuidTexts
+mod LanesWithin
+pub mod LiteralTexts
+mod LiteralsStand
+mod MomentTexts

@@ -1,0 +1,2 @@
+pub mod LiteralsAt
+pub mod private

@@ -1,0 +1,8 @@
+//! Values of rows that are filled again: what no row holds any more is kept, and what stands in a place is written over.
+#![tactic(auto)]
+
+mod spares;
+mod written;
+
+pub use spares::{Spare, Spares};
+pub use written::{fit_count, list_in, put_number, put_truth, record_in};

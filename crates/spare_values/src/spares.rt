@@ -1,0 +1,220 @@
+//! Values that no row holds any more, to be filled again.
+ghost use Rattle.std.specs.Prelude.{◌≡◌, ◌<◌, ◌≤◌, ℕ, length, take, IsTrue};
+
+use edm_values::Value;
+use std::alloc::Global;
+use std::mem;
+
+/// How many records of a type are kept, and how many texts.
+const SPARES: usize = 64;
+
+/// For how many values a list that is filled again may have room.
+const LIST_ROOM: usize = 1024;
+
+/// For how many bytes a text within a value that is kept may have room, and for how many values a list.
+const SMALL_TEXT: usize = 4096;
+
+const SMALL_LIST: usize = 64;
+
+/// How deep values within a value that is kept may nest.
+const SMALL_DEPTH: usize = 8;
+
+/// Which values may be filled again for a value or an item: records of the type at a place, texts, or none.
+#[derive(Clone, Copy, Drop)]
+pub enum Spare {
+    Record(usize),
+    Text,
+    Other,
+}
+
+/// Records and texts to be filled again. What they hold is irrelevant.
+#[derive(Drop)]
+pub struct Spares {
+    alloc: Global,
+    /// Records, by the place of their type.
+    records: Vec<Vec<Value>>,
+    texts: Vec<Value>,
+}
+
+impl Spares {
+    /// None is kept yet.
+    pub fn new(alloc: Global) -> Spares {
+        Spares {
+            alloc,
+            records: Vec::new(alloc),
+            texts: Vec::new(alloc),
+        }
+    }
+
+    /// A record of the type at a place, if one is kept; else null.
+    fn record(&mut self, place: usize) -> Value {
+        if place >= self.records.len() {
+            return Value::Null;
+        }
+        match self.records[place].pop() {
+            Some(record) => record,
+            None => Value::Null,
+        }
+    }
+
+    /// A value to be filled.
+    fn take(&mut self, spare: Spare) -> Value {
+        match spare {
+            Spare::Record(place) => self.record(place),
+            Spare::Text => match self.texts.pop() {
+                Some(text) => text,
+                None => Value::Null,
+            },
+            Spare::Other => Value::Null,
+        }
+    }
+
+    /// Whether records of the type at a place may be kept.
+    fn has_place(&mut self, place: usize) -> bool
+        ensures { IsTrue result → place < length self.new.records.items }
+    {
+        'more: while self.records.len() <= place {
+            if self.records.push(Vec::new(self.alloc)).is_err() {
+                return false;
+            }
+        }
+        true
+    }
+
+    /// Keeps a record of the type at a place.
+    fn keep_record(&mut self, place: usize, record: Value) {
+        if !is_small(&record, SMALL_DEPTH) || !self.has_place(place) {
+            return;
+        }
+        if self.records[place].len() < SPARES {
+            drop(self.records[place].push(record));
+        }
+    }
+
+    /// Keeps a value that no row holds any more, if it is of that kind.
+    fn keep(&mut self, spare: Spare, value: Value) {
+        match spare {
+            Spare::Record(place) => if is_record(&value) {
+                self.keep_record(place, value);
+            },
+            Spare::Text => if is_text(&value) && self.texts.len() < SPARES && is_small(&value, 0) {
+                drop(self.texts.push(value));
+            },
+            Spare::Other => {}
+        }
+    }
+
+    /// Puts null into a place; what stood there is kept.
+    #[inline(never)]
+    pub fn put_null(&mut self, spare: Spare, value: &mut Value)
+        ensures { value.new ≡ Value.Null }
+    {
+        let old = mem::replace(value, Value::Null);
+        self.keep(spare, old);
+    }
+
+    /// Makes sure that a record stands in a place.
+    #[inline(always)]
+    pub fn begin_record(&mut self, spare: Spare, value: &mut Value) {
+        if let Value::Record(_) = value {
+            return;
+        }
+        self.put_record(spare, value);
+    }
+
+    #[inline(never)]
+    fn put_record(&mut self, spare: Spare, value: &mut Value) {
+        *value = match self.take(spare) {
+            Value::Record(values) => Value::Record(values),
+            _ => Value::Record(Vec::new(self.alloc)),
+        };
+    }
+
+    /// Makes sure that a list stands in a place, and that it has not much room.
+    #[inline(always)]
+    pub fn begin_list(&mut self, value: &mut Value) {
+        if let Value::List(old) = value {
+            if old.capacity() <= LIST_ROOM {
+                return;
+            }
+        }
+        *value = Value::List(Vec::new(self.alloc));
+    }
+
+    /// Whether a list has an item after so many; one is added where it has none.
+    #[inline(always)]
+    pub fn has_item(&mut self, spare: Spare, items: &mut Vec<Value>, count: usize) -> bool
+        requires { count ≤ length items.old.items }
+        ensures room { IsTrue result → count < length items.new.items }
+        ensures kept { take count items.new.items ≡ take count items.old.items }
+    {
+        count < items.len() || self.add_item(spare, items)
+    }
+
+    #[inline(never)]
+    fn add_item(&mut self, spare: Spare, items: &mut Vec<Value>) -> bool
+        ensures room { IsTrue result → length items.old.items < length items.new.items }
+        ensures kept { (count : ℕ) → count ≤ length items.old.items → take count items.new.items ≡ take count items.old.items }
+    {
+        let value = self.take(spare);
+        items.push(value).is_ok()
+    }
+
+    /// Keeps the first items of a list alone, so many.
+    #[inline(always)]
+    pub fn cut(&mut self, spare: Spare, items: &mut Vec<Value>, count: usize)
+        ensures { items.new.items ≡ take count items.old.items }
+    {
+        if items.len() > count {
+            self.cut_some(spare, items, count);
+        }
+    }
+
+    #[inline(never)]
+    fn cut_some(&mut self, spare: Spare, items: &mut Vec<Value>, count: usize)
+        ensures { items.new.items ≡ take count items.old.items }
+    {
+        'extra: while items.len() > count {
+            if let Some(value) = items.pop() {
+                self.keep(spare, value);
+            }
+        }
+    }
+}
+
+fn is_record(value: &Value) -> bool {
+    match value {
+        Value::Record(_) => true,
+        _ => false,
+    }
+}
+
+fn is_text(value: &Value) -> bool {
+    match value {
+        Value::Text(_) => true,
+        _ => false,
+    }
+}
+
+/// Whether little memory is held by a value, so many levels deep.
+#[cycle(small)]
+fn is_small(value: &Value, depth: usize) -> bool {
+    match value {
+        Value::Text(text) => text.capacity() <= SMALL_TEXT,
+        Value::Record(values) => depth > 0 && are_small(values, depth - 1),
+        Value::List(items) => {
+            depth > 0 && items.capacity() <= SMALL_LIST && are_small(items, depth - 1)
+        }
+        _ => true,
+    }
+}
+
+#[cycle(small)]
+fn are_small(values: &Vec<Value>, depth: usize) -> bool {
+    for place in 0..values.len() {
+        if !is_small(&values[place], depth) {
+            return false;
+        }
+    }
+    true
+}
