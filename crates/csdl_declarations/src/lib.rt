@@ -1,4 +1,12 @@
 //! What a CSDL JSON 4.01 document declares: its types, each by itself, or the first fault among them.
+//!
+//! ```rust
+//! use csdl_declarations::declared_types;
+//! use serde_json::Value;
+//!
+//! let document = Value::from_slice(alloc, br#"{"$Version":"4.01","M":{"A":{"$Kind":"EntityType"}}}"#)?;
+//! assert!(rt; declared_types(alloc, &document)?.len() == 1);
+//! ```
 #![tactic(auto)]
 
 mod declaration;

@@ -88,10 +88,10 @@ fn read_body<'d>(alloc: Global, owner: &str, value: &'d Value) -> Result<TypeBod
     match kind_of(value) {
         Some(TypeKind::Entity) => read_structured(alloc, owner, true, value),
         Some(TypeKind::Complex) => read_structured(alloc, owner, false, value),
-        Some(TypeKind::Enumeration) => match read_enumeration(alloc, owner, value) {
-            Ok(enumeration) => Ok(TypeBody::Enumeration(enumeration)),
-            Err(fault) => Err(fault),
-        },
+        Some(TypeKind::Enumeration) => {
+            let enumeration = read_enumeration(alloc, owner, value)?;
+            Ok(TypeBody::Enumeration(enumeration))
+        }
         Some(TypeKind::Definition) => read_definition(alloc, owner, value),
         None => Err(bad_type(alloc, owner)),
     }

@@ -1,3 +1,4 @@
+pub mod Entries
 pub mod Placing
 pub mod Properties
 pub mod Chains

@@ -34,10 +34,8 @@ fn check_chain(
         return Err(unknown_base(alloc, name));
     }
     let places = bases_of(alloc, types, index, types.len())?;
-    match check_length(alloc, name, &places, types.len()) {
-        Ok(()) => Ok(places),
-        Err(fault) => Err(fault),
-    }
+    check_length(alloc, name, &places, types.len())?;
+    Ok(places)
 }
 
 /// A chain of bases ends before it has as many as there are types, and has no more than it may.

@@ -1,4 +1,12 @@
 //! Types declared in CSDL JSON 4.01: from a document to the schema that it stands for, and its look-ups.
+//!
+//! ```rust
+//! use csdl_schema::Schema;
+//!
+//! let schema = Schema::read(alloc, br#"{"$Version":"4.01","M":{"A":{"$Kind":"EntityType","Name":{}}}}"#)?;
+//! let id = schema.type_named("M.A").ok_or("no such type")?;
+//! assert!(rt; schema.slot(id, "Name") == Some(0));
+//! ```
 #![tactic(auto)]
 
 mod chain;

@@ -1,11 +1,12 @@
-ghost use Rattle.std.specs.Prelude.{◌≡◌, length};
-ghost use Rattle.csdl_schema.specs.private.Placed.{is_placed_entity, is_placed_enumeration, is_placed_structured, owns_by, placed_base, placed_own};
+ghost use Rattle.std.specs.Prelude.{◌≡◌, length, map};
+ghost use Rattle.csdl_schema.specs.private.Placed.{entry_view, is_placed_entity, is_placed_enumeration, is_placed_structured, owns_by, placed_base, placed_own};
 ghost use Rattle.csdl_schema.specs.private.PlacedView.{placed_view};
 
 use super::property::Property;
 use edm_enumerations::Enumeration;
 use edm_values::Prim;
 use indexmap::IndexMap;
+use indexmap::map::Slice;
 
 /// An entity or complex type: the index of its base, and its own properties in the byte order of names.
 #[derive(Drop)]
@@ -70,6 +71,16 @@ impl NamedType {
             NamedBody::Enumeration(_) => None,
             NamedBody::Definition(_) => None,
         }
+    }
+
+    /// The properties that it has itself, each with its name.
+    pub(crate) fn own_entries(&self) -> Slice<'_, String, Property>
+        ensures { map entry_view result ≡ placed_own (placed_view self.now).body }
+    {
+        let NamedBody::Structured(structured) = &self.body else {
+            return Slice::new();
+        };
+        structured.properties.as_slice()
     }
 
     /// How many properties it has itself.

@@ -38,18 +38,14 @@ fn first_owned<'t>(
     ensures { option_map (λ s. s.now) result ≡ first_name
         (names_owned (placed_of types.now) places.now (map (λ e. e.0) (map entry_view properties.now.entries))) }
 {
+    let names = properties.as_slice().keys().as_slice();
     let mut first = None;
-    let mut slot = properties.len();
+    let mut slot = names.len();
     while slot > 0 {
         slot -= 1;
-        match properties.get_index(slot) {
-            Some((name, _)) => {
-                let name = name.as_str();
-                if is_owned(types, places, name) {
-                    first = lesser_name(name, first);
-                }
-            }
-            None => unreachable!(),
+        let name = names[slot].as_str();
+        if is_owned(types, places, name) {
+            first = lesser_name(name, first);
         }
     }
     first

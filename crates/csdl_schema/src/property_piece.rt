@@ -43,9 +43,8 @@ impl<'s> PropertyPiece<'s> {
         requires { index < length self.now }
         ensures { slice_get self.now index ≡ Some (result.0.now, result.1.now) }
     {
-        match self.entries.get_index(index) {
-            Some((name, property)) => (name.as_str(), property),
-            None => unreachable!(),
-        }
+        let names = self.entries.keys().as_slice();
+        let properties = self.entries.values().as_slice();
+        (names[index].as_str(), &properties[index])
     }
 }

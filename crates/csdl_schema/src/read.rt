@@ -65,12 +65,10 @@ fn join(alloc: Global, declared: Vec<DeclaredType<'_>>) -> Result<Schema, Schema
     let kinds = place_kinds(alloc, &declared)?;
     let bases = find_bases(alloc, &declared, &index_by_name)?;
     let types = place_types(alloc, &kinds, &index_by_name, &bases, declared)?;
-    match check_types(alloc, &types, &bases) {
-        Ok(chains) => Ok(Schema {
-            types,
-            chains,
-            index_by_name,
-        }),
-        Err(fault) => Err(fault),
-    }
+    let chains = check_types(alloc, &types, &bases)?;
+    Ok(Schema {
+        types,
+        chains,
+        index_by_name,
+    })
 }

@@ -2,7 +2,7 @@
 ghost use Rattle.std.specs.Prelude.{◌≡◌, ◌<◌, ◌≤◌, drop, length, map, option_map, slice_get, Some, string_bytes};
 ghost use Rattle.csdl_schema.specs.PropertyView.{AreFirstOf};
 ghost use Rattle.csdl_schema.specs.SchemaModel.{name_in, properties_at, slot_named};
-ghost use Rattle.csdl_schema.specs.private.Placed.{entry_view};
+ghost use Rattle.csdl_schema.specs.private.Placed.{entry_view, own_at};
 ghost use Rattle.csdl_schema.specs.private.PlacedView.{placed_of, structured_view};
 ghost use Rattle.csdl_schema.specs.private.SchemaView.{chain_in, model_of, names_of, property_model, AreChained, IsThere};
 ghost use Rattle.csdl_schema.specs.private.SlotWalk.{own_slot_in, structured_in, BeginsWith};
@@ -23,6 +23,16 @@ fn structured_at(types: &[NamedType], index: usize) -> Option<&StructuredType>
         },
         None => None,
     }
+}
+
+/// The properties that the type at an index has itself, each with its name.
+fn own_entries(types: &[NamedType], index: usize) -> Slice<'_, String, Property>
+    ensures { map entry_view result ≡ own_at (placed_of types.now) index }
+{
+    let Some(found) = types.get(index) else {
+        return Slice::new();
+    };
+    found.own_entries()
 }
 
 fn inherited_at(chains: &[Chain], index: usize) -> usize
@@ -92,7 +102,7 @@ fn owner_of(types: &[NamedType], chains: &[Chain], index: usize, slot: usize) ->
     while slot < inherited_at(chains, owner) {
         match base_at(types, owner) {
             Some(base) => owner = base,
-            None => unreachable!(),
+            None => return owner,
         }
     }
     owner
@@ -112,16 +122,11 @@ pub(crate) fn entry_at<'t>(
     ensures there { IsThere (model_of (placed_of types.now)) result.1.now }
 {
     let owner = owner_of(types, chains, index, slot);
-    match structured_at(types, owner) {
-        Some(structured) => match structured
-            .properties
-            .get_index(slot - inherited_at(chains, owner))
-        {
-            Some(entry) => entry,
-            None => unreachable!(),
-        },
-        None => unreachable!(),
-    }
+    let own = slot - inherited_at(chains, owner);
+    let entries = own_entries(types, owner);
+    let names = entries.keys().as_slice();
+    let properties = entries.values().as_slice();
+    (&names[own], &properties[own])
 }
 
 /// The properties at the slots from one on, as far as one type of the chain has them itself.
@@ -141,14 +146,6 @@ pub(crate) fn entries_from<'t>(
         return Slice::new();
     }
     let owner = owner_of(types, chains, index, slot);
-    match structured_at(types, owner) {
-        Some(structured) => {
-            structured
-                .properties
-                .as_slice()
-                .split_at(slot - inherited_at(chains, owner))
-                .1
-        }
-        None => unreachable!(),
-    }
+    let own = slot - inherited_at(chains, owner);
+    own_entries(types, owner).split_at(own).1
 }

@@ -1,4 +1,18 @@
 //! Entities: JSON objects read as values of an entity type (OData JSON Format 4.01, sections 4.5 and 7).
+//!
+//! ```rust
+//! use edm_entities::{RowPlan, RowReader};
+//!
+//! let plan = RowPlan::new(alloc, &schema, id, filter.expansion());
+//! let mut reader = RowReader::new(alloc);
+//! for line in lines {
+//!     match reader.read(&schema, &plan, line) {
+//!         Some(entity) => count(&entity),
+//!         // `Entity::from_json` reports why.
+//!         None => faulty += 1,
+//!     }
+//! }
+//! ```
 #![tactic(auto)]
 
 mod entity;

@@ -142,10 +142,10 @@ fn read_value(
     match *wanted {
         Wanted::Prim(prim) => leaf_read(read_primitive(scene.alloc, prim, scalar_of(json))),
         Wanted::Enum(id) => leaf_read(read_member(scene.schema, id, scalar_of(json))),
-        Wanted::Complex(id) => match read_slots(scene, id, node, json) {
-            Ok(values) => Ok(Value::Record(values)),
-            Err(fault) => Err(fault),
-        },
+        Wanted::Complex(id) => {
+            let values = read_slots(scene, id, node, json)?;
+            Ok(Value::Record(values))
+        }
     }
 }
 
@@ -175,10 +175,8 @@ fn read_items(
     let Some(items) = json.as_array() else {
         return Err(fault_here(ReadFlaw::WrongKind));
     };
-    match read_list(scene, wanted, node, nullable, items.as_slice()) {
-        Ok(values) => Ok(Value::List(values)),
-        Err(fault) => Err(fault),
-    }
+    let values = read_list(scene, wanted, node, nullable, items.as_slice())?;
+    Ok(Value::List(values))
 }
 
 /// The values of an array's items, in order.

@@ -1,4 +1,13 @@
 //! What rows are read by: the types that they may hold, looked up once in a schema, by what is expanded in them.
+//!
+//! ```rust
+//! use csdl_schema::Expansion;
+//! use edm_row_plans::RowPlan;
+//!
+//! let mut plan = RowPlan::new(alloc, &schema, id, &Expansion::none(alloc));
+//! plan.pass_collections();
+//! plan.keep(&schema, "Tags");
+//! ```
 #![tactic(auto)]
 
 mod expansion_node;

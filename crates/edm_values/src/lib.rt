@@ -1,4 +1,13 @@
-//! Values of the Entity Data Model and the literals that spell them (OData ABNF 4.01, section 7).
+//! Values of the Entity Data Model, and the literals that spell them (OData ABNF 4.01, section 7). Each literal is read
+//! into the one value that it spells, and each value is written as a literal that is read back.
+//!
+//! ```rust
+//! use edm_values::{read_date, read_int, write_int};
+//!
+//! assert!(rt; read_int("-5") == Some(-5));
+//! assert!(rt; read_int("9223372036854775808").is_none());
+//! assert!(rt; read_date("2023-02-29").is_none());
+//! ```
 #![tactic(auto)]
 
 mod date_literal;

@@ -87,7 +87,8 @@ pub fn digits_up_to(line: &RoomyLine<'_>, place: usize, most: usize) -> Option<u
     Some(end)
 }
 
-/// What a number of at most 18 digits writes, without a sign, a fraction and an exponent, and the offset after it.
+/// Returns the number that at most 18 digits write, and the offset after it. A sign, a fraction or an exponent is left
+/// to others.
 #[inline(always)]
 pub fn whole_at(line: &RoomyLine<'_>, place: usize) -> Option<(u64, usize)>
     requires { place ≤ length line.now }

@@ -36,7 +36,8 @@ impl Model for SpelledKey {
 }
 
 impl SpelledKey {
-    /// The key of a name; `None` where the name has quotes, backslashes or control characters, or out of memory.
+    /// Creates the key of a name. It is `None` where the name has quotes, backslashes or control characters, or out of
+    /// memory.
     pub fn new(alloc: Global, name: &str) -> Option<SpelledKey>
         ensures { IfSome result (λ key. key ≡ name.now) }
     {

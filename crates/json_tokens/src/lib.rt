@@ -1,5 +1,15 @@
 //! The tokens of a JSON text (RFC 8259), read straight from its bytes; a text with surrogates by `json`'s reader. Also
 //! what number the text of one writes, which keys came, and in which order.
+//!
+//! ```rust
+//! use json_tokens::{Scratch, TokenReader};
+//!
+//! let mut scratch = Scratch::new(alloc);
+//! let mut reader = TokenReader::new("{\"Price\":5}");
+//! assert!(rt; reader.take_begin_object());
+//! assert!(rt; reader.next_key(&mut scratch) == Ok(Some("Price")));
+//! assert!(rt; reader.take_whole() == Some(5));
+//! ```
 #![tactic(auto)]
 
 mod escape;

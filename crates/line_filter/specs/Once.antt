@@ -4,6 +4,7 @@ use Rattle.line_filter.specs.declared.judge.Judgment.{Judgment}
 use Rattle.line_filter.specs.declared.finding.Finding.{Finding}
 use Rattle.line_filter.specs.Kept.{IsFaultless}
 use Rattle.line_filter.specs.LineItems.{LineJudge}
+use Rattle.line_filter.specs.Places.{ItemJudge}
 
 -- the judgment, whatever a fault reports
 abbrev pub kind_of : {F : Type 0} → Judgment F → Judgment (Unit {0})
@@ -20,6 +21,10 @@ kind_found (Finding.Judged judgment) = Finding.Judged (kind_of judgment)
 -- what is found of an item at fault
 abbrev pub IsFaulty : {F : Type 0} → Finding F → Type 0
 IsFaulty finding = ¬ (IsFaultless finding)
+
+-- of each item the judge says judgments of one kind
+abbrev pub JudgesItemsOnce : {X F : Type 0} → ItemJudge X F → Type 0
+JudgesItemsOnce {X} {F} judge = (item : X) (j k : Judgment F) → judge item j → judge item k → kind_of j ≡ kind_of k
 
 -- of each line the judge says judgments of one kind
 abbrev pub JudgesOnce : {F : Type 0} → LineJudge F → Type 0

@@ -6,11 +6,11 @@ use super::judge::{Judge, Judgment};
 use std::alloc::AllocError;
 
 /// The most bytes that a line may have before its LF.
-pub const LONGEST_LINE: usize = 1_048_576;
+pub(crate) const LONGEST_LINE: usize = 1_048_576;
 
 /// The finding about an item. A line that is too long or blank is not judged; items of other kinds may all be.
 #[derive(Debug, Drop)]
-pub enum Finding<F> {
+pub(crate) enum Finding<F> {
     TooLong,
     PassedOver,
     Judged(Judgment<F>),

@@ -22,8 +22,9 @@ pub trait Judge {
     // What may be said of a line. It depends on the line alone.
     ghost says: { Self → LineJudge Self.Fault };
 
-    /// Whether it keeps the line of that length at the front of the bytes, where it decides at once; otherwise `None`,
-    /// and `judge` says. The bytes after the line decide nothing. A blank line is left to `judge`'s caller.
+    /// Says whether the line at the front of the bytes is kept, where it decides at once. Otherwise it is `None`, and
+    /// `judge` says. `count` is the line's length; the bytes after it decide nothing. A blank line is left to
+    /// `judge`'s caller.
     fn keeps(&mut self, bytes: &[u8], count: usize, is_ascii: bool) -> Option<bool>
         requires ascii { IsTrue is_ascii → IsAscii (take count bytes.now) }
         requires within { count ≤ length bytes.now }
@@ -35,6 +36,18 @@ pub trait Judge {
     fn judge(&mut self, line: &[u8]) -> Result<Judgment<Self::Fault>, AllocError>
         ensures said { IfOk result (says self.old line.now) }
         ensures same { SaysTheSame (says self.old) (says self.new) };
+}
+
+/// What may be said of items, whatever they are in memory. A law speaks of items by it; it has no calls.
+pub trait SaysOfItems {
+    /// What can be wrong with an item.
+    type Fault;
+
+    // The items.
+    ghost Item: { Type 0 };
+
+    // What may be said of an item. It depends on the item alone.
+    ghost says: { Self → ItemJudge Self.Item Self.Fault };
 }
 
 /// Looks at the items of a list, one by one.

@@ -4,9 +4,10 @@ ghost use Rattle.line_filter.specs.declared.finding.Finding.{Finding as FindingM
 ghost use Rattle.line_filter.specs.declared.tally.Tally.{Tally as TallyModel};
 ghost use Rattle.line_filter.specs.Kept.{Filters, StopsAt};
 ghost use Rattle.line_filter.specs.LineItems.{IsFoundOf, lines};
-ghost use Rattle.line_filter.specs.Once.{IsFaulty, JudgesOnce, kind_found};
+ghost use Rattle.line_filter.specs.Once.{IsFaulty, JudgesItemsOnce, JudgesOnce, kind_found};
+ghost use Rattle.line_filter.specs.Places.{places};
 
-use super::judge::Judge;
+use super::judge::{Judge, SaysOfItems};
 use std::io::{Read, Write};
 
 /// A slice of bytes reports, as a reader, what remains of it: all its bytes. A vector of bytes reports, as a writer,
@@ -32,4 +33,20 @@ pub fn lines_stop_once<J: Judge>(judge: &J)
         → StopsAt (lines (J.says judge.now) bytes) other n f → ⊥ }
     ensures kept { (bytes text other : List ℕ) (m n : TallyModel) → Filters (lines (J.says judge.now) bytes) text m
         → Filters (lines (J.says judge.now) bytes) other n → (text ≡ other) × (m ≡ n) }
+{}
+
+/// A law: of the items of a list at most one is the first at fault. Judgments of one kind are said of each item, and
+/// none is at fault where all pass. One text is kept, of all items or of those before the first at fault; all items have
+/// one tally.
+pub fn items_stop_once<J: SaysOfItems>(judge: &J)
+    requires { JudgesItemsOnce (J.says judge.now) }
+    ensures stopped { (items : List J.Item) (text other : List ℕ) (m n : ℕ) (f g : FindingModel J.Fault)
+        → IsFaulty f → IsFaulty g → (a : StopsAt (places (J.says judge.now) items) text m f)
+        → (b : StopsAt (places (J.says judge.now) items) other n g) → (m ≡ n) × (text ≡ other) × (a.bad ≡ b.bad) }
+    ensures filtered { (items : List J.Item) (text other : List ℕ) (tally : TallyModel) (n : ℕ) (f : FindingModel J.Fault)
+        → Filters (places (J.says judge.now) items) text tally → IsFaulty f
+        → StopsAt (places (J.says judge.now) items) other n f → ⊥ }
+    ensures kept { (items : List J.Item) (text other : List ℕ) (m n : TallyModel)
+        → Filters (places (J.says judge.now) items) text m
+        → Filters (places (J.says judge.now) items) other n → (text ≡ other) × (m ≡ n) }
 {}

@@ -1,6 +1,13 @@
 //! The lines of a reader are judged one by one, and those that are kept go to a writer.
 //!
 //! What judges a line is a [`Judge`], whose faults are of its own type. The first line at fault ends the run.
+//!
+//! ```rust
+//! use line_filter::filter_bytes;
+//!
+//! let tally = filter_bytes(&mut judge, b"a\nb\n", &mut kept)?;
+//! println!(rt; "{} of {} lines", tally.kept, tally.rows)?;
+//! ```
 #![tactic(auto)]
 
 mod buffer;
@@ -26,9 +33,8 @@ mod walk;
 pub use calls::Calls;
 pub use device::{NotRead, NotWritten, Reads, Writes};
 pub use filter::{filter_bytes, filter_places, filter_reader};
-pub use finding::{Finding, LONGEST_LINE};
-pub use judge::{Judge, JudgeItem, Judgment};
-pub use laws::{lines_stop_once, slices_tell_their_bytes};
+pub use judge::{Judge, JudgeItem, Judgment, SaysOfItems};
+pub use laws::{items_stop_once, lines_stop_once, slices_tell_their_bytes};
 pub use line_reader::{LineFault, LineReader};
 pub use output::write_out;
 pub use recorded::Recorded;

@@ -47,11 +47,10 @@ fn put_kept<F: Drop>(
     ensures put { out.new.items ≡ out.old.items ++ text_where_kept result (text_of_line line.now) }
     ensures same { IfOk result (λ finding. found ≡ Ok finding) }
 {
-    let judgment = match found {
-        Ok(Finding::TooLong) => return Ok(Finding::TooLong),
-        Ok(Finding::PassedOver) => return Ok(Finding::PassedOver),
-        Ok(Finding::Judged(judgment)) => judgment,
-        Err(refused) => return Err(refused),
+    let judgment = match found? {
+        Finding::TooLong => return Ok(Finding::TooLong),
+        Finding::PassedOver => return Ok(Finding::PassedOver),
+        Finding::Judged(judgment) => judgment,
     };
     match judgment {
         Judgment::Kept => {

@@ -1,5 +1,14 @@
 //! A checked filter: a tree as one list of its nodes, each with its type, and what is asked of it (OData URL
 //! Conventions 4.01, section 5.1.1).
+//!
+//! ```rust
+//! use odata_typing::check;
+//!
+//! let filter = check(alloc, &schema, id, "Price add 1 lt 10")?;
+//! assert!(rt; filter.node_count() == 5);
+//! assert!(rt; filter.canonical(alloc)?.as_str() == "Price add 1 lt 10");
+//! assert!(rt; !filter.uses_now());
+//! ```
 #![tactic(auto)]
 
 mod called;

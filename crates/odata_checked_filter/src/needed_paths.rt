@@ -286,10 +286,9 @@ fn expand_base(
     }
 }
 
-/// The target of a step of a path.
+/// The target of a step of a path. Nothing else has one.
 fn step_target(scene: &ListScene<'_>, place: usize) -> Option<TypeId>
-    requires stands { HasTypedTree scene.now place }
-    requires step { IsStepAt scene.now.list.now place }
+    requires { HasTypedTree scene.now place }
     ensures { (slot id : ℕ) → IsStepOn scene.now.list.now place slot id → IsTargetAt scene.now.schema.now id slot result }
 {
     trees_have_one_type();
@@ -298,7 +297,7 @@ fn step_target(scene: &ListScene<'_>, place: usize) -> Option<TypeId>
             let base = scene.list.node(place + 1);
             target_at(scene.schema, &base.edm_type, slot)
         }
-        _ => unreachable!(),
+        _ => None,
     }
 }
 
@@ -345,6 +344,7 @@ fn variable_node(variables: &VariableNodes<'_>, level: usize) -> usize
 {
     match at_level(variables, level) {
         VariableNode::There(node) => node,
+        // More variables are around than the level.
         VariableNode::Fewer(_) => unreachable!(),
     }
 }

@@ -69,10 +69,7 @@ pub(crate) fn truth_of_rest(
     requires rest { IsRest scene.now rest }
     ensures { AnswersTruth scene.now 0 result }
 {
-    let mut left = match term_at(scene, rest.term) {
-        Ok(truth) => truth,
-        Err(fault) => return Err(fault),
-    };
+    let mut left = term_at(scene, rest.term)?;
     let mut at = rest.ands;
     while 0 < at {
         if decides(LogicalOperator::And, left) {
@@ -83,10 +80,10 @@ pub(crate) fn truth_of_rest(
         match kept_truth_at(scene, right_place) {
             Some(true) => {}
             Some(false) => return Ok(Some(false)),
-            None => match term_at(scene, right_place) {
-                Ok(right) => left = join(LogicalOperator::And, left, right),
-                Err(fault) => return Err(fault),
-            },
+            None => {
+                let right = term_at(scene, right_place)?;
+                left = join(LogicalOperator::And, left, right);
+            }
         }
     }
     Ok(left)

@@ -43,8 +43,6 @@ pub fn evaluate_within(
     scene.ends_once();
     scene.costs_once();
     let mut budget = Budget::Left(most);
-    match truth_at(&scene, 0, &mut budget) {
-        Ok(truth) => Ok(verdict_of(truth)),
-        Err(stop) => Err(stop),
-    }
+    let truth = truth_at(&scene, 0, &mut budget)?;
+    Ok(verdict_of(truth))
 }

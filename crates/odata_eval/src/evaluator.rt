@@ -94,8 +94,6 @@ fn evaluate_rest(
     let moment = Value::Moment(*now);
     let scene = Scene::of(alloc, checked, entity, now, &moment);
     scene.ends_once();
-    match truth_of_rest(&scene, rest) {
-        Ok(truth) => Ok(verdict_of(truth)),
-        Err(fault) => Err(fault),
-    }
+    let truth = truth_of_rest(&scene, rest)?;
+    Ok(verdict_of(truth))
 }

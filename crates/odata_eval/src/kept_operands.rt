@@ -14,10 +14,8 @@ use super::scene::Scene;
 use edm_values::{Datum, Value};
 use odata_checked_filter::NodeKind;
 use odata_expression_types::trees_have_one_type;
-use odata_filter_operations::{
-    compare_kept, compare_numbers, datum_of, kept_number, lower_starts_with,
-};
-use odata_functions::{comparisons_are_decided, text_length};
+use odata_filter_operations::{compare_kept, compare_numbers, datum_of, kept_number};
+use odata_functions::{comparisons_are_decided, lower_starts_with, text_length};
 use odata_signatures::{Function, calls_have_one_type};
 use odata_syntax::{BinaryOperator, ComparisonOperator};
 

@@ -1,4 +1,12 @@
 //! What a checked filter evaluates to on an entity (OData URL Conventions 4.01, section 5.1.1).
+//!
+//! ```rust
+//! use odata_eval::{Verdict, evaluate};
+//!
+//! if evaluate(alloc, &filter, &entity, &now)? == Verdict::True {
+//!     kept.push(entity)?;
+//! }
+//! ```
 #![tactic(auto)]
 
 mod and_chain;

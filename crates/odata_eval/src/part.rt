@@ -121,7 +121,7 @@ pub(crate) fn part_at<'e>(scene: &Scene<'e, '_, '_>, place: usize) -> Part<'e>
     }
 }
 
-/// The value of a node without operands.
+/// The value of a node without operands. One that is none of the others is `$it`.
 fn leaf_at<'e>(scene: &Scene<'e, '_, '_>, place: usize) -> &'e Value
     requires stands { PartStands scene.now place }
     requires leaf { IsClassAt scene.now.list WalkClass.Leaf place }
@@ -129,11 +129,10 @@ fn leaf_at<'e>(scene: &Scene<'e, '_, '_>, place: usize) -> &'e Value
 {
     match scene.node(place).kind {
         NodeKind::Literal { value, .. } => scene.literal(value),
-        NodeKind::It => scene.value(),
         NodeKind::Now => scene.now_value(),
         NodeKind::Property { slot } => scene.property(slot),
         NodeKind::Variable { level } => scene.variable(level),
-        _ => unreachable!(),
+        _ => scene.value(),
     }
 }
 

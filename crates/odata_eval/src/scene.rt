@@ -5,6 +5,7 @@ ghost use Rattle.edm_values.specs.declared.value.Value.{Value, Record, Moment as
 ghost use Rattle.csdl_schema.specs.SchemaModel.{properties_at, slots_of};
 ghost use Rattle.edm_entities.specs.Row.{IsEntity};
 ghost use Rattle.odata_checked_filter.specs.Filter.{IsFilter};
+ghost use Rattle.odata_signatures.specs.declared.edm_type.ValueType.{ValueType};
 ghost use Rattle.odata_eval.specs.private.Frames.{StandsAtLevel, frame_of, names_of};
 ghost use Rattle.odata_eval.specs.private.Lambda.{IsOverMembers, IsVariableOf, Suits};
 ghost use Rattle.odata_eval.specs.private.Scene.{EndsOnceHere, HoldsAt};
@@ -52,6 +53,26 @@ impl<'e, 'c, 'r> Model for Scene<'e, 'c, 'r> {
         s.nodes.now s.values.now s.slots.now s.now_value.now };
 }
 
+/// The fields of a record. Any other value has none.
+fn fields_of(value: &Value) -> &[Value]
+    ensures { (held : Vec Value Global) → value.now ≡ Record held → result.now ≡ held.items }
+{
+    match value {
+        Value::Record(fields) => fields.as_slice(),
+        _ => &[],
+    }
+}
+
+/// The type of a collection's members. Any other type has none but itself.
+fn type_of_members(edm_type: EdmType) -> EdmType
+    ensures { (member : ValueType) → edm_type ≡ EdmType.Collection member → result ≡ EdmType.Single member }
+{
+    match edm_type {
+        EdmType::Collection(member) => EdmType::Single(member),
+        other => other,
+    }
+}
+
 impl<'e, 'c, 'r> Scene<'e, 'c, 'r> {
     /// The scene of a filter, an entity and a moment, without variables. `now_value` is the moment as a value, which
     /// the caller keeps.
@@ -68,10 +89,7 @@ impl<'e, 'c, 'r> Scene<'e, 'c, 'r> {
         ensures list { result.list ≡ checked.entry.now.list }
         ensures variables { result.frames ≡ [] }
     {
-        let slots = match entity.value() {
-            Value::Record(slots) => slots.as_slice(),
-            _ => unreachable!(),
-        };
+        let slots = fields_of(entity.value());
         Scene {
             checked,
             entity,
@@ -114,12 +132,9 @@ impl<'e, 'c, 'r> Scene<'e, 'c, 'r> {
         ensures { IsVariableOf self.now.list place result }
     {
         let nodes = self.nodes();
-        match nodes[place + 1].edm_type {
-            EdmType::Collection(member) => RangeVariable {
-                name: self.checked.text(place),
-                edm_type: EdmType::Single(member),
-            },
-            _ => unreachable!(),
+        RangeVariable {
+            name: self.checked.text(place),
+            edm_type: type_of_members(nodes[place + 1].edm_type),
         }
     }
 
@@ -219,6 +234,7 @@ impl<'e, 'c, 'r> Scene<'e, 'c, 'r> {
         let frames = self.frames;
         match at_level(&frames, level) {
             AtLevel::There(value) => value,
+            // More variables are around than the level.
             AtLevel::Fewer(_) => unreachable!(),
         }
     }

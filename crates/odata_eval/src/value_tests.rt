@@ -19,8 +19,9 @@ pub struct SlotSieve {
     pub sieve: Sieve,
 }
 
-/// The tests that the filter's terms make, up to the first one that is neither a property nor its comparison with a
-/// number or a text: those of a chain of `and`, else the filter itself. Fewer where out of memory.
+/// Returns the tests of slots that the filter's first terms make. Terms are those of a chain of `and`, else the filter
+/// itself, up to the first one that is neither a property nor its comparison with a number or a text. There are fewer
+/// where out of memory.
 pub fn slot_sieves(alloc: Global, checked: &Checked<'_>) -> Vec<SlotSieve>
     ensures { All (IsSieveOf checked.now) result.items }
 {

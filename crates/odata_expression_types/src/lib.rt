@@ -1,5 +1,13 @@
 //! Which type a tree has, which of its nodes are judged, and where and why a text is not a filter (OData URL
-//! Conventions 4.01, section 5.1.1).
+//! Conventions 4.01, section 5.1.1). It has definitions, their laws, and the [`Refusal`] of a text.
+//!
+//! A proof that needs a law calls it, as any function; the call does nothing when it runs:
+//!
+//! ```rust
+//! use odata_expression_types::trees_have_one_type;
+//!
+//! trees_have_one_type();
+//! ```
 #![tactic(auto)]
 
 mod laws;

@@ -71,10 +71,7 @@ pub fn filter_collection_by<W: Write, T: Writes<W>>(
     ensures writes { MatchResult result (λ tally. FlushesLast (T.calls out.old) (T.calls out.new))
         (λ fault. WritesUntilFault (T.calls out.old) (T.calls out.new) fault) }
 {
-    let json = match read_document(alloc, document) {
-        Ok(json) => json,
-        Err(fault) => return Err(fault),
-    };
+    let json = read_document(alloc, document)?;
     let items = match array_of(&json) {
         Some(items) => items,
         None => return Err(RunFault::NotACollection),

@@ -12,7 +12,6 @@ ghost use Rattle.line_filter.specs.declared.tally.Tally.{Tally};
 ghost use Rattle.edm_values.specs.MomentParts.{MomentParts};
 ghost use Rattle.odata_checked_filter.specs.Filter.{Filter};
 ghost use Rattle.odata_eval.specs.declared.verdict.Verdict.{Verdict};
-ghost use Rattle.odata_filter.specs.declared.bad_row.BadRow.{BadRow};
 ghost use Rattle.odata_filter.specs.declared.no_verdict.NoVerdict.{NoVerdict};
 ghost use Rattle.odata_filter.specs.declared.run_fault.RunFault.{RunFault};
 ghost use Rattle.odata_filter.specs.Collection.{OfCollection, StopsCollection};
@@ -21,10 +20,11 @@ ghost use Rattle.odata_filter.specs.RowJudgment.{JudgesRow, JudgesValue, rows_of
 ghost use Rattle.odata_filter.specs.RowsOnce.{AreSameFault, AreSameJudgment, IsOfDocument, IsOfRow};
 ghost use Rattle.odata_filter.specs.RunStops.{StopsBy};
 
+use crate::bad_row::BadRow;
 use crate::row_line_judge::RowLineJudge;
 use edm_entities::{one_fault_is_first, one_value_fits, what_has_a_fault_fits_nothing};
 use edm_values::Moment;
-use line_filter::lines_stop_once;
+use line_filter::{SaysOfItems, items_stop_once, lines_stop_once};
 use odata_typing::Checked;
 use std::alloc::Global;
 
@@ -63,6 +63,21 @@ pub fn rows_are_told_once()
     one_fault_is_first();
 }
 
+/// What a filter says of JSON values at a moment, for the law of collections.
+#[derive(Drop)]
+struct SaidOfValues<'c, 's> {
+    checked: &'c Checked<'s>,
+    moment: &'c Moment,
+}
+
+impl SaysOfItems for SaidOfValues<'_, '_> {
+    type Fault = BadRow;
+
+    ghost Item = { Data };
+
+    ghost says = { λ said json. JudgesValue said.checked.now said.moment.now json };
+}
+
 /// A filter has one judgment of a JSON value at most. Of `NotACollection`, `Row` and `Arithmetic` at most one holds of
 /// a document, at one item, and none where it is a collection all of whose items pass. One text is kept, of all items
 /// or of those before the first at fault; all items have one tally.
@@ -82,6 +97,11 @@ pub fn collections_stop_once(checked: &Checked<'_>, now: &Moment)
     one_value_fits();
     what_has_a_fault_fits_nothing();
     one_fault_is_first();
+    let said = SaidOfValues {
+        checked,
+        moment: now,
+    };
+    items_stop_once(&said);
 }
 
 /// `Write` is not said of a writer that reports that it never fails. Of such a reader `Read` is said only where it had

@@ -1,4 +1,14 @@
 //! Rows in, rows out: the lines of JSON that a filter keeps, and the program's command line over them.
+//!
+//! ```rust
+//! use odata_filter::filter_slice;
+//! use odata_typing::check;
+//!
+//! let filter = check(alloc, &schema, item, "Name eq 'b'")?;
+//! let mut kept = Vec::new(alloc);
+//! let tally = filter_slice(alloc, &filter, &now, b"{\"Name\":\"a\"}\n{\"Name\":\"b\"}\n", &mut kept)?;
+//! assert!(rt; tally.rows == 2 && tally.kept == 1);
+//! ```
 #![tactic(auto)]
 
 mod bad_row;
@@ -30,10 +40,7 @@ pub use headline::{canonical_texts_keep_rows, filters_keep_what_is_true};
 pub use laws::{
     collections_stop_once, rows_are_told_once, rows_stop_once, unfailing_devices_never_fail,
 };
-pub use line_filter::{
-    ByRecord, Calls, LineFault, LineReader, NotRead, NotWritten, Reads, Recorded, Tally, Unfailing,
-    Untold, Writes, slices_tell_their_bytes,
-};
+pub use line_filter::{ByRecord, Calls, LineFault, LineReader, Reads, Recorded, Tally, Writes};
 pub use no_verdict::NoVerdict;
 pub use row_verdict::{judge_row, row_plan_of};
 pub use run_fault::RunFault;

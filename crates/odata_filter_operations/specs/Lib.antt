@@ -10,7 +10,6 @@ pub mod FunctionGives
 pub mod HasGives
 pub mod LambdaGives
 pub mod LeftFirst
-pub mod LowerCase
 pub mod Members
 pub mod Operands
 pub mod Outcome

@@ -36,11 +36,10 @@ pub fn called_on_one<'e>(
         (CallGives now function (datum_val r first.entry ∷ [])) (answer_outcome (datum_val s) result) }
 {
     match first {
-        Datum::Null => Ok(Datum::Null),
         Datum::Text(text) => called_on_text(alloc, function, text),
         Datum::Date(date) => called_on_date(function, date),
         Datum::Moment(moment) => called_on_moment(function, &moment),
-        _ => unreachable!(),
+        _ => Ok(Datum::Null),
     }
 }
 
@@ -54,26 +53,24 @@ fn called_on_date<'e>(function: Function, given: Date) -> Result<Datum<'e>, Eval
         Function::Year => int32(year_of(given)),
         Function::Month => int32(month_of(given)),
         Function::Day => int32(day_of(given)),
+        // `Applies`: no other function takes a date.
         _ => unreachable!(),
     }
 }
 
-/// What a function makes of a moment, by its own clock.
+/// What a function makes of a moment, by its own clock. What takes a date takes that of the moment.
 fn called_on_moment<'e>(function: Function, given: &Moment) -> Result<Datum<'e>, EvalFault>
     requires { Applies function (moment given.now ∷ []) }
     ensures { (now : MomentParts) (s : Reading) → IsSomeAnd (answer_outcome (datum_val s) result)
         (FunctionGives now function (moment given.now ∷ [])) }
 {
     match function {
-        Function::Year => int32(year_of(date_of(given))),
-        Function::Month => int32(month_of(date_of(given))),
-        Function::Day => int32(day_of(date_of(given))),
         Function::Hour => int32(hour_of(given)),
         Function::Minute => int32(minute_of(given)),
         Function::Second => int32(second_of(given)),
         Function::TotalOffsetMinutes => int32(offset_of(given)),
         Function::Date => Ok(Datum::Date(date_of(given))),
-        _ => unreachable!(),
+        _ => called_on_date(function, date_of(given)),
     }
 }
 
@@ -92,6 +89,7 @@ fn called_on_text<'e>(
         Function::Trim => Ok(text_datum(trim_text(given))),
         Function::ToLower => made(to_lower(alloc, given.as_str())),
         Function::ToUpper => made(to_upper(alloc, given.as_str())),
+        // `Applies`: no other function takes one text.
         _ => unreachable!(),
     }
 }
@@ -110,14 +108,12 @@ pub fn called_on_two<'e>(
         (answer_outcome (datum_val s) result) }
 {
     match first {
-        Datum::Null => Ok(Datum::Null),
         Datum::Text(text) => match second {
-            Datum::Null => Ok(Datum::Null),
             Datum::Text(part) => called_on_texts(alloc, function, text.as_str(), part.as_str()),
             Datum::Int(start) => Ok(text_datum(rest_of_text(text, start))),
-            _ => unreachable!(),
+            _ => Ok(Datum::Null),
         },
-        _ => unreachable!(),
+        _ => Ok(Datum::Null),
     }
 }
 
@@ -139,6 +135,7 @@ fn called_on_texts<'e>(
         Function::EndsWith => Ok(Datum::Bool(ends_with(given, part))),
         Function::IndexOf => counted(index_of(given, part)),
         Function::Concat => made(concat(alloc, given, part)),
+        // `Applies`: no other function takes two texts.
         _ => unreachable!(),
     }
 }

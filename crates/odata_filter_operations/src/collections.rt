@@ -23,13 +23,12 @@ pub fn count_of<'e>(base: Datum<'_>) -> Result<Datum<'e>, EvalFault>
     ensures { (slots : Slots) (member : SingleType) (s : Reading) → IsSomeAnd (answer_outcome (datum_val s) result)
         (CountGives (datum_val (reading_at slots (collection member)) base.entry)) }
 {
-    match base {
-        Datum::Null => Ok(Datum::Null),
-        Datum::List(members) => match i64::try_from(members.len()) {
-            Ok(count) => Ok(Datum::Int(count)),
-            Err(_) => Err(EvalFault::Overflow),
-        },
-        _ => unreachable!(),
+    let Datum::List(members) = base else {
+        return Ok(Datum::Null);
+    };
+    match i64::try_from(members.len()) {
+        Ok(count) => Ok(Datum::Int(count)),
+        Err(_) => Err(EvalFault::Overflow),
     }
 }
 
@@ -39,11 +38,10 @@ pub fn any_item_of<'e>(base: Datum<'_>) -> Datum<'e>
     ensures { (slots : Slots) (member : SingleType) (s : Reading)
         → AnyItemGives (datum_val (reading_at slots (collection member)) base.entry) (gives (datum_val s result)) }
 {
-    match base {
-        Datum::Null => Datum::Null,
-        Datum::List(members) => Datum::Bool(!members.is_empty()),
-        _ => unreachable!(),
-    }
+    let Datum::List(members) = base else {
+        return Datum::Null;
+    };
+    Datum::Bool(!members.is_empty())
 }
 
 /// Returns whether a value is equal to a member of a collection; null where that is null.
@@ -56,9 +54,8 @@ pub fn among<'e>(left: &Datum<'_>, path: &Datum<'_>) -> Datum<'e>
         (datum_val (reading_at slots (collection member)) path.now) (gives (datum_val s result)) }
 {
     match path {
-        Datum::Null => Datum::Null,
         Datum::List(members) => Datum::Bool(is_among(left, members)),
-        _ => unreachable!(),
+        _ => Datum::Null,
     }
 }
 

@@ -1,5 +1,15 @@
 //! What the operators and functions of a filter make of the evaluator's values, each as an outcome (OData URL
 //! Conventions 4.01, sections 5.1.1.1 to 5.1.1.8 and 5.1.1.13).
+//!
+//! ```rust
+//! use edm_values::Value;
+//! use odata_filter_operations::{compare_kept, datum_of, number_of};
+//! use odata_syntax::ComparisonOperator;
+//!
+//! let price = Value::Int(5);
+//! assert!(rt; compare_kept(ComparisonOperator::Lt, &price, &Value::Int(10)));
+//! assert!(rt; number_of(&datum_of(&price)) == Some(5));
+//! ```
 #![tactic(auto)]
 
 mod calls;
@@ -7,7 +17,6 @@ mod collections;
 mod datum;
 mod fault;
 mod operators;
-mod text_case;
 
 pub use calls::{called_on_one, called_on_three, called_on_two};
 pub use collections::{among, any_item_of, count_of, flags_of};
@@ -16,4 +25,3 @@ pub use datum::{
 };
 pub use fault::EvalFault;
 pub use operators::{calculated, compare_kept, compare_numbers, negated};
-pub use text_case::lower_starts_with;

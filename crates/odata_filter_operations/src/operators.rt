@@ -1,5 +1,5 @@
 //! What an operator makes of values that are there.
-ghost use Rattle.std.specs.Prelude.{◌≡◌, ◌↔◌, Some, IsTrue, IsSomeAnd};
+ghost use Rattle.std.specs.Prelude.{◌≡◌, ◌↔◌, Some, IfNone, IfSome, IsTrue, IsSomeAnd};
 ghost use Rattle.edm_values.specs.declared.primitive.PrimitiveType.{PrimitiveType};
 ghost use Rattle.csdl_schema.specs.SchemaModel.{SchemaModel};
 ghost use Rattle.odata_functions.specs.Comparable.{AreComparableBy};
@@ -82,9 +82,13 @@ pub fn calculated(
     ensures { (schema : SchemaModel) → IsSomeAnd (answer_outcome number_val result)
         (CalculationGives operator (expr_type schema edm_type.now) (number_val left) (number_val right)) }
 {
+    let prim = match prim_of(edm_type) {
+        Some(prim) => prim,
+        None => return Ok(None),
+    };
     match left {
         Some(a) => match right {
-            Some(b) => told_number(arith(operator, prim_of(edm_type), Some(a), Some(b))),
+            Some(b) => told_number(arith(operator, prim, Some(a), Some(b))),
             None => Ok(None),
         },
         None => Ok(None),
@@ -98,20 +102,25 @@ pub fn negated(edm_type: &EdmType, operand: Option<i64>) -> Result<Option<i64>, 
     ensures { (schema : SchemaModel) → IsSomeAnd (answer_outcome number_val result)
         (NegatedGives (expr_type schema edm_type.now) (number_val operand)) }
 {
+    let prim = match prim_of(edm_type) {
+        Some(prim) => prim,
+        None => return Ok(None),
+    };
     match operand {
-        Some(n) => told_number(negate(prim_of(edm_type), Some(n))),
+        Some(n) => told_number(negate(prim, Some(n))),
         None => Ok(None),
     }
 }
 
-/// The primitive type of one value.
-fn prim_of(edm_type: &EdmType) -> Prim
-    requires { (p : PrimitiveType) × (edm_type.now ≡ EdmType.Single (ValueType.Prim p)) }
-    ensures { edm_type.now ≡ EdmType.Single (ValueType.Prim result) }
+/// The primitive type of one value. At any other type no operand is a number.
+#[inline(always)]
+fn prim_of(edm_type: &EdmType) -> Option<Prim>
+    ensures some { IfSome result (λ p. edm_type.now ≡ EdmType.Single (ValueType.Prim p)) }
+    ensures none { IfNone result ((p : PrimitiveType) → ¬ (edm_type.now ≡ EdmType.Single (ValueType.Prim p))) }
 {
     match edm_type {
-        EdmType::Single(ValueType::Prim(prim)) => *prim,
-        _ => unreachable!(),
+        EdmType::Single(ValueType::Prim(prim)) => Some(*prim),
+        _ => None,
     }
 }
 

@@ -13,6 +13,7 @@ pub mod DatumVal
 pub mod Division
 pub mod Gregorian
 pub mod KeptVal
+pub mod LowerCase
 pub mod Promotion
 pub mod Texts
 pub mod private

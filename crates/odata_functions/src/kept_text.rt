@@ -9,7 +9,8 @@ use crate::text_parts::{from_zero, offset_of, trim};
 use std::alloc::Global;
 use std::borrow::CowStr;
 
-/// Returns the same as `rest_from`, of a borrowed or an owned text.
+/// Returns the text from an index on (section 5.1.1.5.7). An index before the text counts as its start, and after its
+/// end there is nothing.
 pub fn rest_of_text(text: CowStr<'_, Global>, start: i64) -> CowStr<'_, Global>
     ensures { chars (cow_str_bytes result) ≡ rest_from start (chars (cow_str_bytes text.entry)) }
 {
@@ -22,7 +23,7 @@ pub fn rest_of_text(text: CowStr<'_, Global>, start: i64) -> CowStr<'_, Global>
     }
 }
 
-/// Returns the same as `part_from`, of a borrowed or an owned text.
+/// Returns at most so many characters of the text from an index on, none for a number below zero.
 pub fn part_of_text(text: CowStr<'_, Global>, start: i64, most: i64) -> CowStr<'_, Global>
     ensures { chars (cow_str_bytes result) ≡ part_from start most (chars (cow_str_bytes text.entry)) }
 {
@@ -70,6 +71,7 @@ fn without_front(text: String, offset: usize) -> String
     bytes.truncate(len);
     match String::from_utf8(bytes) {
         Ok(rest) => rest,
+        // The bytes from the start of a character on are text, and std has no cut that takes no memory.
         Err(_) => unreachable!(),
     }
 }

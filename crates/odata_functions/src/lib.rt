@@ -1,6 +1,16 @@
 //! What the operators and functions of a filter make of values: logic, comparison, bits, arithmetic, texts and dates
 //! (OData URL Conventions 4.01, sections 5.1.1.1, 5.1.1.2, 5.1.1.5, 5.1.1.7 and 5.1.1.8). Only `concat`, `to_lower` and
 //! `to_upper` take memory.
+//!
+//! ```rust
+//! use edm_values::Prim;
+//! use odata_functions::{ArithFault, and3, arith, index_of};
+//! use odata_syntax::ArithmeticOperator;
+//!
+//! assert!(rt; and3(Some(true), None).is_none());
+//! assert!(rt; index_of("Contoso", "os") == Ok(5));
+//! assert!(rt; arith(ArithmeticOperator::Div, Prim::Int32, Some(7), Some(0)) == Err(ArithFault::DivideByZero));
+//! ```
 #![tactic(auto)]
 
 mod arithmetic;
@@ -14,6 +24,7 @@ mod kept_text;
 mod laws;
 mod made_text;
 mod promoting;
+mod text_case;
 mod text_parts;
 mod text_search;
 
@@ -33,5 +44,6 @@ pub use laws::{
 };
 pub use made_text::{concat, to_lower, to_upper};
 pub use promoting::{negation_type, promotion};
-pub use text_parts::{part_from, rest_from, trim};
+pub use text_case::lower_starts_with;
+pub use text_parts::trim;
 pub use text_search::{contains, ends_with, index_of, starts_with, text_length};

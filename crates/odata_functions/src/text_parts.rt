@@ -1,24 +1,8 @@
-//! Parts of a text, borrowed from it.
+//! Parts of a text, borrowed from it, and where they begin.
 ghost use Rattle.std.specs.Prelude.{◌≡◌};
 ghost use Rattle.std.specs.Str.{chars};
-ghost use Rattle.odata_functions.specs.Texts.{IsTrimmed, from_zero, part_from, rest_from};
+ghost use Rattle.odata_functions.specs.Texts.{IsTrimmed, from_zero};
 ghost use Rattle.odata_functions.specs.private.Cuts.{IsOffset, IsRest};
-
-/// Returns the text from an index on (section 5.1.1.5.7). An index before the text counts as its start, and after its
-/// end there is nothing.
-pub fn rest_from(text: &str, start: i64) -> &str
-    ensures { chars result.now ≡ rest_from start (chars text.now) }
-{
-    &text[offset_of(text, from_zero(start))..]
-}
-
-/// Returns at most so many characters of the text from an index on, none for a number below zero.
-pub fn part_from(text: &str, start: i64, most: i64) -> &str
-    ensures { chars result.now ≡ part_from start most (chars text.now) }
-{
-    let rest = rest_from(text, start);
-    &rest[..offset_of(rest, from_zero(most))]
-}
 
 /// Returns the text without the white space at both ends (section 5.1.1.7.4).
 pub fn trim(text: &str) -> &str

@@ -138,7 +138,7 @@ fn row(
 
 /// Returns the function of that name, in any ASCII case.
 #[tactic(auto, using(crate::proofs::functions::Names::named_lower, crate::proofs::functions::Names::lower_named))]
-pub fn function_named(name: &str) -> Option<Function>
+pub(crate) fn function_named(name: &str) -> Option<Function>
     ensures some { IfSome result (λ function. IsNamed function (str_to_ascii_lowercase name.now)) }
     ensures none { IfNone result ((function : Function) → ¬ IsNamed function (str_to_ascii_lowercase name.now)) }
 {

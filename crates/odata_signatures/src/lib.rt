@@ -1,5 +1,14 @@
 //! Types of expressions: which ones an operator or a function takes, and which one it makes of them (OData URL
 //! Conventions 4.01, sections 4.8, 5.1.1.1, 5.1.1.2, 5.1.1.4 to 5.1.1.8 and 5.1.1.13).
+//!
+//! ```rust
+//! use edm_values::Prim;
+//! use odata_signatures::{EdmType, ValueType, judged_call};
+//!
+//! let text = EdmType::Single(ValueType::Prim(Prim::String));
+//! let call = judged_call("length", &[text])?;
+//! assert!(rt; call.edm_type == EdmType::Single(ValueType::Prim(Prim::Int32)));
+//! ```
 #![tactic(auto)]
 
 mod argument_kind;
@@ -19,7 +28,7 @@ pub use call::{CallFault, TypedCall, judged_call};
 pub use collection::{any_item_type, count_type};
 pub use comparison::are_comparable;
 pub use edm_type::{BOOLEAN, EdmType, ValueType};
-pub use function::{Function, Signature, function_named};
+pub use function::{Function, Signature};
 pub use has::has_type;
 pub use laws::{calls_have_one_type, quoted_texts_have_one_number, unread_operands_go_by_types};
 pub use membership::in_path_type;

@@ -1,5 +1,5 @@
-/// An operator between two operands, by what it takes (OData URL Conventions 4.01, sections 5.1.1.1 and 5.1.1.2). `has`
-/// and `in` are none of these: what may stand after them differs.
+/// An operator between two operands, by what it takes. `has` and `in` are none of these: what may stand after them
+/// differs (OData URL Conventions 4.01, sections 5.1.1.1 and 5.1.1.2).
 #[derive(Clone, Copy, Debug, PartialEq, Eq)]
 pub enum BinaryOperator {
     /// Of truth values.

@@ -1,4 +1,13 @@
-//! From the text of a `$filter` to its tree (OData URL Conventions 4.01, section 5.1.1).
+//! From the text of a `$filter` to its tree, and back (OData URL Conventions 4.01, section 5.1.1).
+//!
+//! ```rust
+//! use odata_syntax::{parse, print};
+//! use odata_text::tokens;
+//!
+//! let text = "not (Price lt 10)";
+//! let tree = parse(alloc, tokens(alloc, text)?.as_slice(), text.len())?;
+//! assert!(rt; print(alloc, &tree)?.as_str() == "not (Price lt 10)");
+//! ```
 #![tactic(auto)]
 
 mod binary_operator;

@@ -82,10 +82,7 @@ fn nodes_of_tokens(
     let nodes = Vec::with_capacity(alloc, tokens.len().min(ROOM_LIMIT))?;
     let frames = Vec::with_capacity(alloc, FRAME_ROOM)?;
     let mut state = State::new(nodes, frames);
-    match take_all(&mut state, tokens) {
-        Ok(()) => {}
-        Err(fault) => return Err(fault),
-    }
+    take_all(&mut state, tokens)?;
     match state.finish() {
         Step::Taken => Ok(state.nodes),
         Step::Refused => Err(unended(len)),

@@ -34,14 +34,12 @@ fn no_token(text: &str, start: usize) -> TextFault
             span: Span { start, stop },
         };
     }
-    match text[start..].chars().next() {
-        Some(character) => {
-            let stop = start + character.len_utf8();
-            TextFault::BadCharacter {
-                span: Span { start, stop },
-            }
-        }
-        None => unreachable!(),
+    let mut stop = start;
+    if let Some(character) = text[start..].chars().next() {
+        stop += character.len_utf8();
+    }
+    TextFault::BadCharacter {
+        span: Span { start, stop },
     }
 }
 

@@ -79,21 +79,13 @@ fn filter_of_piece(
         → (filters : ℕ) → IsPieceFault piece.now number start filters fault) }
 {
     let (name, value) = name_and_value(piece);
-    let name_text = match decoded_text(alloc, name, number, start) {
-        Ok(text) => text,
-        Err(fault) => return Err(fault),
-    };
+    let name_text = decoded_text(alloc, name, number, start)?;
     if !is_filter_name(name_text.as_str()) {
         return Ok(None);
     }
-    let text = match decoded_text(alloc, value, number, start + name.len() + 1) {
-        Ok(text) => text,
-        Err(fault) => return Err(fault),
-    };
-    match found_filter(alloc, piece, start, text) {
-        Ok(found) => Ok(Some(found)),
-        Err(fault) => Err(fault),
-    }
+    let text = decoded_text(alloc, value, number, start + name.len() + 1)?;
+    let found = found_filter(alloc, piece, start, text)?;
+    Ok(Some(found))
 }
 
 /// The filter after one more piece, which may be the filter's too.
@@ -150,19 +142,11 @@ fn after_piece(
         → IsFilterAmong (option_map found_model filter) filters
         → IsPieceFault piece.now number start filters fault) }
 {
-    let found = match filter_of_piece(alloc, piece, number, start) {
-        Ok(found) => found,
-        Err(fault) => return Err(fault),
-    };
+    let found = filter_of_piece(alloc, piece, number, start)?;
     let has_filter = found.is_some();
-    let kept = match with_found(filter, found, number) {
-        Ok(kept) => kept,
-        Err(fault) => return Err(fault),
-    };
-    match undisguised(alloc, piece, has_filter, number) {
-        Ok(()) => Ok(kept),
-        Err(fault) => Err(fault),
-    }
+    let kept = with_found(filter, found, number)?;
+    undisguised(alloc, piece, has_filter, number)?;
+    Ok(kept)
 }
 
 /// Finds the filter of a query string among any other options, decoded, and where it stands. Returns `None` if there is
@@ -185,10 +169,7 @@ pub fn find_filter(alloc: Global, query: &[u8]) -> Result<Option<FoundFilter>, F
     let mut number = 0;
     let mut start = 0;
     for piece in query.split(|byte| *byte == b'&') {
-        filter = match after_piece(alloc, filter, piece, number, start) {
-            Ok(kept) => kept,
-            Err(fault) => return Err(fault),
-        };
+        filter = after_piece(alloc, filter, piece, number, start)?;
         number += 1;
         start += piece.len() + 1;
     }

@@ -1,4 +1,12 @@
 //! Query strings, identifiers and tokens of OData texts (OData URL Conventions 4.01, section 5; OData ABNF 4.01).
+//!
+//! ```rust
+//! use odata_text::{filter_of_query, tokens};
+//!
+//! let text = filter_of_query(alloc, b"page=5&$filter=Price%20lt%2010")?.ok_or("no filter")?;
+//! assert!(rt; text.as_str() == "Price lt 10");
+//! assert!(rt; tokens(alloc, text.as_str())?.len() == 3);
+//! ```
 #![tactic(auto)]
 
 mod any_token;

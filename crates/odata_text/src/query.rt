@@ -57,24 +57,16 @@ fn filter_of_option(
         → (filters : ℕ) → IsOptionFault option.now number start filters fault) }
 {
     let (name, value) = name_and_value(option);
-    let name_text = match decoded_part(alloc, name, number, start) {
-        Ok(text) => text,
-        Err(fault) => return Err(fault),
-    };
-    let value_text = match decoded_part(alloc, value, number, start + name.len() + 1) {
-        Ok(text) => text,
-        Err(fault) => return Err(fault),
-    };
+    let name_text = decoded_part(alloc, name, number, start)?;
+    let value_text = decoded_part(alloc, value, number, start + name.len() + 1)?;
     if is_refused_name(name_text.as_str()) {
         return Err(QueryFault::OtherOption { option: number });
     }
     if !is_filter_name(name_text.as_str()) {
         return Ok(None);
     }
-    match owned_text(alloc, value_text) {
-        Ok(text) => Ok(Some(text)),
-        Err(fault) => Err(fault),
-    }
+    let text = owned_text(alloc, value_text)?;
+    Ok(Some(text))
 }
 
 /// The filter after one more option, which may be the filter too.
@@ -114,14 +106,8 @@ pub fn filter_of_query(alloc: Global, query: &[u8]) -> Result<Option<String>, Qu
     let mut number = 0;
     let mut start = 0;
     for option in query.split(|byte| *byte == b'&') {
-        let found = match filter_of_option(alloc, option, number, start) {
-            Ok(found) => found,
-            Err(fault) => return Err(fault),
-        };
-        filter = match with_found(filter, found, number) {
-            Ok(kept) => kept,
-            Err(fault) => return Err(fault),
-        };
+        let found = filter_of_option(alloc, option, number, start)?;
+        filter = with_found(filter, found, number)?;
         number += 1;
         start += option.len() + 1;
     }

@@ -44,8 +44,6 @@ pub fn tokens<'t>(alloc: Global, text: &'t str) -> Result<Vec<Token<'t>>, TextFa
     ensures none { IfErr result (λ fault. fault ≢ TextFault.Memory → (other : List TokenModel)
         → IsTokenList text.now other → ⊥) }
 {
-    match Scanner::new(text) {
-        Ok(scanner) => all_tokens(alloc, scanner),
-        Err(fault) => Err(fault),
-    }
+    let scanner = Scanner::new(text)?;
+    all_tokens(alloc, scanner)
 }

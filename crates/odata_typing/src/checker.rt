@@ -48,10 +48,7 @@ pub fn check<'s>(
         (HasNoTyping (slots_of schema.entry.now) (type_name_at schema.entry.now filtered_type) text.now)) }
 {
     let mut walk = Walk::new(alloc);
-    match walk_text(alloc, schema, filtered_type, text, &mut walk) {
-        Ok(()) => {}
-        Err(refusal) => return Err(refusal),
-    }
+    walk_text(alloc, schema, filtered_type, text, &mut walk)?;
     match expansion_for(alloc, schema, filtered_type, &walk) {
         Ok(expansion) => Ok(Checked::new(schema, filtered_type, walk.list, expansion)),
         Err(_) => Err(Refusal::Memory),
@@ -76,10 +73,7 @@ pub fn check_to_store(
         (HasNoTyping (slots_of schema.now) (type_name_at schema.now filtered_type) text.now)) }
 {
     let mut walk = Walk::new(alloc);
-    match walk_text(alloc, schema, filtered_type, text, &mut walk) {
-        Ok(()) => {}
-        Err(refusal) => return Err(refusal),
-    }
+    walk_text(alloc, schema, filtered_type, text, &mut walk)?;
     match expansion_for(alloc, schema, filtered_type, &walk) {
         Ok(expansion) => Ok(StoredFilter::new(filtered_type, walk.list, expansion)),
         Err(_) => Err(Refusal::Memory),

@@ -58,11 +58,10 @@ pub(crate) fn checked_lambda(
     checked_nodes(&within, from, index, walk) && close_lambda(setting, &lambda, walk)
 }
 
-/// The node of an expression whose body has been judged.
+/// The node of an expression whose body has been judged. No other node is put.
 fn close_lambda(setting: &Setting<'_>, judged: &Judged<'_>, walk: &mut Walk) -> bool
     requires ready { IsNodeReady setting.now walk.old judged.now }
     requires text { IsTextRange setting.now.text.now judged.now.node.now.text }
-    requires lambda { (quantifier : Quantifier) × (judged.now.node.now.kind ≡ SyntaxKind.Lambda quantifier) }
     requires children { (base : Tree) × (body : Tree) × IsOverBody setting.now walk.old judged.now base body }
     ensures { (quantifier : Quantifier) (base body : Tree)
         → judged.now.node.now.kind ≡ SyntaxKind.Lambda quantifier
@@ -71,22 +70,13 @@ fn close_lambda(setting: &Setting<'_>, judged: &Judged<'_>, walk: &mut Walk) -> 
         walk.old walk.new result }
 {
     laws_below();
-    let quantifier = quantifier_of(judged.node.kind);
+    let SyntaxKind::Lambda(quantifier) = judged.node.kind else {
+        return false;
+    };
     let body = walk.stop_at(judged.number + 1);
     if walk.type_at(body).is_truth() {
         walk.put(judged, NodeKind::Lambda { quantifier }, &BOOLEAN)
     } else {
         walk.refuse(judged.node.span, TypeFaultCode::BodyNotBoolean)
-    }
-}
-
-/// The quantifier of a lambda expression's kind.
-fn quantifier_of(kind: SyntaxKind) -> Quantifier
-    requires { (quantifier : Quantifier) × (kind ≡ SyntaxKind.Lambda quantifier) }
-    ensures { (quantifier : Quantifier) → kind ≡ SyntaxKind.Lambda quantifier → result ≡ quantifier }
-{
-    match kind {
-        SyntaxKind::Lambda(quantifier) => quantifier,
-        _ => unreachable!(),
     }
 }

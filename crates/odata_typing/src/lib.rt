@@ -1,5 +1,15 @@
 //! The checker: which texts are filters, each as a list of typed nodes, and what is wrong with the others (OData URL
 //! Conventions 4.01, section 5.1.1).
+//!
+//! ```rust
+//! use odata_typing::{Refusal, check};
+//!
+//! match check(alloc, &schema, id, "Price lt 'a'") {
+//!     Ok(filter) => println!(rt; "{} nodes", filter.node_count())?,
+//!     Err(Refusal::Typing(fault)) => println!(rt; "bytes {} to {}", fault.span.start, fault.span.stop)?,
+//!     Err(other) => println!(rt; "{other}")?,
+//! }
+//! ```
 #![tactic(auto)]
 
 mod binary_node;

@@ -80,6 +80,7 @@ fn checked_node(setting: &Setting<'_>, judged: &Judged<'_>, walk: &mut Walk) -> 
         SyntaxKind::InPath => checked_infix(setting, judged, NodeKind::InPath, walk),
         SyntaxKind::InList => checked_in_list(setting, judged, walk),
         SyntaxKind::Call => checked_call(setting, judged, walk),
+        // `checked_nodes` takes lambda operators with a body by `checked_lambda`.
         SyntaxKind::Lambda(_) => unreachable!(),
     }
 }

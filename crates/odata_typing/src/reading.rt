@@ -49,6 +49,7 @@ pub(crate) fn read_plain(schema: &Schema, kind: LiteralKind, spelling: &str) -> 
             None => None,
         },
         LiteralKind::EnumLit => read_member(schema, spelling),
+        // Texts and whole numbers are read before, without this match.
         LiteralKind::Str | LiteralKind::Int => unreachable!(),
     }
 }

@@ -43,10 +43,7 @@ fn held_filter(alloc: Global, held: &TypeHandle, filter: StoredFilter) -> Result
     ensures { MatchResult result (λ made. made ≡ Handle.Filter (filter_in held.now.schema filter))
         (λ fault. fault ≡ Fault.Memory) }
 {
-    let plan = match plan_for(alloc, &held.plan, &filter.with_schema(&held.schema)) {
-        Ok(plan) => plan,
-        Err(fault) => return Err(fault),
-    };
+    let plan = plan_for(alloc, &held.plan, &filter.with_schema(&held.schema))?;
     match Arc::try_clone(&held.schema) {
         Ok(schema) => Ok(Handle::Filter(FilterHandle {
             schema,

@@ -2,7 +2,6 @@
 ghost use Rattle.std.specs.Prelude.{◌≡◌, IfOk, IfErr, MatchResult, None};
 ghost use Rattle.odata_checked_filter.specs.Calls.{UsesNow};
 ghost use Rattle.odata_checked_filter.specs.Filter.{tree_of_filter};
-ghost use Rattle.odata_filter.specs.Run.{IsFirstMoment};
 ghost use Rattle.odfilter_c.specs.Answers.{empty_answer};
 ghost use Rattle.odfilter_c.specs.Outcomes.{IsTold};
 ghost use Rattle.odfilter_c.specs.RowCalls.{IsMomentFor, IsMomentOf, IsNewJudge, IsNoMemory, IsOutcomeAt, IsOutcomeOn};
@@ -100,17 +99,7 @@ pub(crate) fn put_bound(handle: &mut Handle, most: u64) -> u32
     }
 }
 
-/// The moment that is handed in where none is asked for, the first one of year 1.
-fn first_moment() -> Moment
-    ensures { IsFirstMoment result }
-{
-    match Moment::new(civil::date(1, 1, 1).at(0, 0, 0, 0), 0) {
-        Some(moment) => moment,
-        None => unreachable!(),
-    }
-}
-
-/// The moment for a filter: the judge's, or any where the filter does not ask for it.
+/// The moment for a filter: the judge's, or the first one of year 1 where the filter does not ask for it.
 pub(crate) fn moment_for(checked: &Checked<'_>, given: Option<Moment>) -> Result<Moment, Fault>
     ensures moment { IfOk result (IsMomentFor checked.now given) }
     ensures needed { IfErr result (λ fault. fault ≡ Fault.MomentNeeded) }
@@ -122,7 +111,7 @@ pub(crate) fn moment_for(checked: &Checked<'_>, given: Option<Moment>) -> Result
         None => if checked.uses_now() {
             Err(Fault::MomentNeeded)
         } else {
-            Ok(first_moment())
+            Moment::new(civil::date(1, 1, 1).at(0, 0, 0, 0), 0).ok_or(Fault::MomentNeeded)
         },
     }
 }
@@ -178,10 +167,7 @@ fn verdict_on(held: &FilterHandle, judge: &mut JudgeHandle, row: &[u8]) -> Resul
     ensures same { judge.new ≡ judge.old }
 {
     let checked = held.filter.with_schema(&held.schema);
-    let now = match moment_for(&checked, judge.moment) {
-        Ok(now) => now,
-        Err(fault) => return Err(fault),
-    };
+    let now = moment_for(&checked, judge.moment)?;
     match judge.bound {
         Some(most) => {
             let by = BoundedJudge {

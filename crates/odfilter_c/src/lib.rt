@@ -1,5 +1,12 @@
 //! A library for C over the crates below: schemas, filters and judges by handles. `include/odfilter.h` says what each
 //! call does.
+//!
+//! ```c
+//! odfilter_handle *schema = NULL, *type = NULL, *filter = NULL;
+//! odfilter_read_schema(document, names, &schema, &answer);
+//! odfilter_find_type(schema, name, &type);
+//! if (odfilter_check(type, text, &filter, &answer) == ODFILTER_OK) { /* judge rows by it */ }
+//! ```
 #![tactic(auto)]
 
 mod c_types;

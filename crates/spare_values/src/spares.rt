@@ -19,7 +19,7 @@ const SMALL_LIST: usize = 64;
 /// How deep values within a value that is kept may nest.
 const SMALL_DEPTH: usize = 8;
 
-/// Which values may be filled again for a value or an item: records of the type at a place, texts, or none.
+/// Values that may be filled again: records of a type, by its index, texts, or none.
 #[derive(Clone, Copy, Drop)]
 pub enum Spare {
     Record(usize),

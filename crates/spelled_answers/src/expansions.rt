@@ -14,8 +14,8 @@ fn count_needed(set: &Expansion, paths: &[&[&str]]) -> usize {
     count
 }
 
-/// `2 of 3`: of so many paths, put into a set one after another, so many are in it; where a copy of the set has the
-/// same. A path that is refused leaves the set as it was.
+/// Returns how many of the paths are in a set into which they were put, as `2 of 3`. They are put one after another; a
+/// path that is refused leaves the set as it was, and a copy of the set has the same.
 pub fn paths_answer(alloc: Global, paths: &[&[&str]]) -> Result<String, Trouble> {
     let mut set = Expansion::none(alloc);
     for path in paths {

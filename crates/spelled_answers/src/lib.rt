@@ -1,5 +1,12 @@
 //! What the public calls answer over texts, each answer as a text in one line: of filters, rows, documents, literals,
 //! tokens and trees. Texts are given as cases give them.
+//!
+//! ```rust
+//! use spelled_answers::literals;
+//!
+//! let answer = literals::value_of(alloc, "Int", "-5")?;
+//! println!(rt; "{answer}")?;
+//! ```
 #![tactic(auto)]
 
 pub mod entities;

@@ -51,7 +51,7 @@ fn said(alloc: Global, plan: &Plan<'_>, document: &[u8], rows: &[u8]) -> Result<
     told(alloc, out.as_slice(), err.as_slice(), status)
 }
 
-/// Returns what a run by words says, over a document and rows: standard output, standard error and its status.
+/// Returns standard output, standard error and status of a run by words, over a document and rows.
 pub fn run_answer(
     alloc: Global,
     words: &[&str],

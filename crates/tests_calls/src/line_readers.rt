@@ -94,10 +94,9 @@ fn first_length(
 ) -> Result<Option<usize>, LineFault> {
     let blank = io::repeat(b' ').take(blanks as u64);
     let mut lines = LineReader::new(alloc, cut(blank.chain(behind.as_bytes()), piece));
-    match lines.next_line() {
-        Ok(Some(line)) => Ok(Some(line.len())),
-        Ok(None) => Ok(None),
-        Err(fault) => Err(fault),
+    match lines.next_line()? {
+        Some(line) => Ok(Some(line.len())),
+        None => Ok(None),
     }
 }
 

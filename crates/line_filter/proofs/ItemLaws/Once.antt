@@ -5,7 +5,8 @@ use Rattle.std.proofs.lemmas.Bool.{cases_Bool}
 use Rattle.std.proofs.lemmas.List.Sums.{sum_by-cons}
 use Rattle.line_filter.specs.Kept.{IsFaultless, is_kept, is_row, Sieve, Items, SiftedItem, kept_text, Passes, StopsAt}
 use Rattle.line_filter.specs.LineItems.{LineJudge, IsFoundOf}
-use Rattle.line_filter.specs.Once.{kind_found, IsFaulty, JudgesOnce}
+use Rattle.line_filter.specs.Once.{kind_found, IsFaulty, JudgesItemsOnce, JudgesOnce}
+use Rattle.line_filter.specs.Places.{IsJudged, ItemJudge}
 use Rattle.line_filter.specs.declared.judge.Judgment.{Judgment}
 use Rattle.line_filter.specs.declared.finding.Finding.{Finding}
 use Rattle.line_filter.specs.declared.tally.Tally.{Tally}
@@ -64,6 +65,14 @@ IsFoundOf-once judge once line Finding.PassedOver (Finding.Judged k) p q = absur
 IsFoundOf-once judge once line (Finding.Judged j) Finding.TooLong p q = absurd (omega (arith, q, p.0))
 IsFoundOf-once judge once line (Finding.Judged j) Finding.PassedOver p q = absurd (p.1 q.1)
 IsFoundOf-once judge once line (Finding.Judged j) (Finding.Judged k) p q = ap Finding.Judged (once line j k p.2 q.2)
+
+-- and so of an item
+pub IsJudged-once : {X F : Type 0} (judge : ItemJudge X F) → JudgesItemsOnce judge → (item : X) (f g : Finding F) → IsJudged judge item f → IsJudged judge item g → kind_found f ≡ kind_found g
+IsJudged-once judge once item (Finding.Judged j) (Finding.Judged k) p q = ap Finding.Judged (once item j k p q)
+IsJudged-once judge once item (Finding.Judged j) Finding.TooLong p q = absurd q
+IsJudged-once judge once item (Finding.Judged j) Finding.PassedOver p q = absurd q
+IsJudged-once judge once item Finding.TooLong g p q = absurd p
+IsJudged-once judge once item Finding.PassedOver g p q = absurd p
 
 -- ---- items of which one kind is found
 

@@ -6,6 +6,7 @@ use Rattle.edm_values.specs.Val.{Val}
 use Rattle.odata_syntax.specs.Spans.{children_of, in_child, list_of_trees}
 use Rattle.odata_syntax.specs.Tree.{Tree, Trees, any_item, binary, call, count, has, in_list, in_path, it, lambda, literal, logical_not, member, more_trees, name, negation, no_trees, node, shape_of}
 use Rattle.odata_syntax.specs.declared.binary_operator.BinaryOperator.{BinaryOperator}
+use Rattle.odata_syntax.specs.declared.node.LiteralKind.{LiteralKind}
 use Rattle.odata_syntax.specs.declared.binary_operator.LogicalOperator.{LogicalOperator}
 use Rattle.odata_syntax.specs.declared.binary_operator.ArithmeticOperator.{ArithmeticOperator}
 use Rattle.csdl_schema.specs.ExprType.{ExprType, collection, single}
@@ -57,6 +58,19 @@ pub kind_walks : (list : FlatTree) (place : ℕ) (kind : NodeKind) (class : Walk
 kind_walks list place kind class is here =
     goes_there (slice_get list.nodes place) (λ (f : CheckedNode). f.kind ≡ kind) (λ (f : CheckedNode). walk_of_kind f.kind ≡ class)
     (λ found kind_is. ap walk_of_kind kind_is ∙ is) here
+
+-- a node without operands that is none of the others is `$it`
+pub only_it : (kind : NodeKind) → walk_of_kind kind ≡ WalkClass.Leaf → ((form : LiteralKind) (value : ℕ) → kind ≡ NodeKind.Literal form value → ⊥)
+    → (kind ≡ NodeKind.Now → ⊥) → ((slot : ℕ) → kind ≡ NodeKind.Property slot → ⊥) → ((level : ℕ) → kind ≡ NodeKind.Variable level → ⊥) → kind ≡ NodeKind.It
+only_it NodeKind.It leaf not_literal not_now not_property not_variable = refl
+only_it (NodeKind.Literal form value) leaf not_literal not_now not_property not_variable = absurd (not_literal form value refl)
+only_it NodeKind.Now leaf not_literal not_now not_property not_variable = absurd (not_now refl)
+only_it (NodeKind.Property slot) leaf not_literal not_now not_property not_variable = absurd (not_property slot refl)
+only_it (NodeKind.Variable level) leaf not_literal not_now not_property not_variable = absurd (not_variable level refl)
+only_it (NodeKind.Binary (BinaryOperator.Logical operator)) leaf not_literal not_now not_property not_variable = absurd (cc)
+only_it (NodeKind.Binary (BinaryOperator.Comparison operator)) leaf not_literal not_now not_property not_variable = absurd (cc)
+only_it (NodeKind.Binary (BinaryOperator.Arithmetic operator)) leaf not_literal not_now not_property not_variable = absurd (cc)
+only_it _ leaf not_literal not_now not_property not_variable = absurd (cc)
 
 -- a node of truth values that is no operator is `not`, and one of numbers `-`
 pub only_not : (kind : NodeKind) → walk_of_kind kind ≡ WalkClass.Logical → ((operator : LogicalOperator) → kind ≡ NodeKind.Binary (BinaryOperator.Logical operator) → ⊥) → kind ≡ NodeKind.Not

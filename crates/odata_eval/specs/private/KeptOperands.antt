@@ -1,7 +1,7 @@
 -- For private clauses: operands that are taken where they are kept.
 use Rattle.std.specs.Prelude.{◌⊎◌, ◌+◌, ℕ, List, [], ◌∷◌, Some}
 use Rattle.edm_values.specs.Val.{text}
-use Rattle.odata_filter_operations.specs.LowerCase.{in_lower_case}
+use Rattle.odata_functions.specs.LowerCase.{in_lower_case}
 use Rattle.odata_signatures.specs.declared.function.Function.{Function}
 use Rattle.odata_checked_filter.specs.FlatTree.{FlatTree}
 use Rattle.odata_checked_filter.specs.declared.checked_node.NodeKind.{NodeKind}

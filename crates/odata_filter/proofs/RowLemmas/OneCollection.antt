@@ -5,19 +5,17 @@ use Rattle.serde_json.specs.View.{items_of}
 use Rattle.edm_values.specs.MomentParts.{MomentParts}
 use Rattle.csdl_schema.specs.JsonText.{IsJsonOf}
 use Rattle.line_filter.specs.Kept.{Filters, StopsAt}
-use Rattle.line_filter.specs.Once.{kind_found}
-use Rattle.line_filter.specs.Places.{IsJudged, Placed, place_sieve, placed_from}
+use Rattle.line_filter.specs.Once.{IsFaulty}
+use Rattle.line_filter.specs.Places.{Placed}
 use Rattle.line_filter.specs.declared.finding.Finding.{Finding}
 use Rattle.line_filter.specs.declared.judge.Judgment.{Judgment}
 use Rattle.line_filter.specs.declared.tally.Tally.{Tally}
-use Rattle.line_filter.proofs.ItemLaws.Once.{Passes-once, Passes-one_tally, StopsAt-never, StopsAt-once}
 use Rattle.odata_checked_filter.specs.Filter.{Filter}
 use Rattle.odata_filter.specs.Collection.{IsCollectionOf, IsNoCollection, OfCollection, StopsCollection, array_of, entities_of}
 use Rattle.odata_filter.specs.RowJudgment.{JudgesValue}
 use Rattle.odata_filter.specs.RowsOnce.{AreSameFault, AreSameJudgment, IsOfDocument}
 use Rattle.odata_filter.specs.declared.bad_row.BadRow.{BadRow}
 use Rattle.odata_filter.specs.declared.run_fault.RunFault.{RunFault}
-use Rattle.odata_filter.proofs.RowLemmas.OneFault.{same_kind}
 
 -- ---- a document is a collection of one list of items, or it is none
 
@@ -55,22 +53,20 @@ no_collection document items (inl none) a =
 no_collection document items (inr (json, is_json, none)) a =
     none_some (array_of a.json) (items_of items) (ap array_of (one_json document a.json json a.is_json is_json) ∙ none) a.value
 
-module _ (filter : Filter) (now : MomentParts) (once : (json : Data) (j k : Judgment BadRow) → JudgesValue filter now json j → JudgesValue filter now json k → AreSameJudgment j k) where
+module _ (filter : Filter) (now : MomentParts) (once : (json : Data) (j k : Judgment BadRow) → JudgesValue filter now json j → JudgesValue filter now json k → AreSameJudgment j k)
+    (stopped : (items : List Data) (text other : List ℕ) (m n : ℕ) (f g : Finding BadRow) → IsFaulty f → IsFaulty g
+    → (a : StopsAt (entities_of filter now items) text m f) → (b : StopsAt (entities_of filter now items) other n g) → (m ≡ n) × (text ≡ other) × (a.bad ≡ b.bad))
+    (filtered : (items : List Data) (text other : List ℕ) (tally : Tally) (n : ℕ) (f : Finding BadRow)
+    → Filters (entities_of filter now items) text tally → IsFaulty f → StopsAt (entities_of filter now items) other n f → ⊥)
+    (kept : (items : List Data) (text other : List ℕ) (m n : Tally) → Filters (entities_of filter now items) text m → Filters (entities_of filter now items) other n → (text ≡ other) × (m ≡ n)) where
   abbrev says : Data → Judgment BadRow → Type 0
   says = JudgesValue filter now
-
-  found_once : (placed : Placed Data) (f g : Finding BadRow) → IsJudged says placed.item f → IsJudged says placed.item g → kind_found f ≡ kind_found g
-  found_once placed (Finding.Judged j) (Finding.Judged k) p q = ap Finding.Judged (same_kind j k (once placed.item j k p q))
-  found_once placed (Finding.Judged j) Finding.TooLong p q = absurd q
-  found_once placed (Finding.Judged j) Finding.PassedOver p q = absurd q
-  found_once placed Finding.TooLong g p q = absurd p
-  found_once placed Finding.PassedOver g p q = absurd p
 
   -- two faults that are found of the first item at fault
   items_meet : (items : List Data) (text other : List ℕ) (m n : ℕ) (d e : BadRow) → StopsAt (entities_of filter now items) text m (Finding.Judged (Judgment.Fault d))
       → StopsAt (entities_of filter now items) other n (Finding.Judged (Judgment.Fault e)) → ((m ≡ n) × AreSameJudgment (Judgment.Fault d) (Judgment.Fault e)) × (text ≡ other)
   items_meet items text other m n d e a b =
-      let (number, texts, bad) = StopsAt-once (place_sieve says) found_once (placed_from 0 items) (λ before. Unit {0}) text other m n (Finding.Judged (Judgment.Fault d)) (Finding.Judged (Judgment.Fault e)) (λ fine. fine) (λ fine. fine) a b in
+      let (number, texts, bad) = stopped items text other m n (Finding.Judged (Judgment.Fault d)) (Finding.Judged (Judgment.Fault e)) (λ fine. fine) (λ fine. fine) a b in
       let there : says b.bad.item (Judgment.Fault d) = subst (λ (p : Placed Data). says p.item (Judgment.Fault d)) bad a.found in
       ((number, once b.bad.item (Judgment.Fault d) (Judgment.Fault e) there b.found), texts)
 
@@ -122,7 +118,7 @@ module _ (filter : Filter) (now : MomentParts) (once : (json : Data) (j k : Judg
     item_never : (tally : Tally) (line : ℕ) (fault : BadRow) → OfCollection filter now document (λ items. Filters items text tally) → StopsOnItem other line fault → ⊥
     item_never tally line fault (items, is, passes) (others, of, b) =
         let same : others ≡ items = one_collection document others items of is in
-        StopsAt-never (place_sieve says) found_once (placed_from 0 items) (λ before. Unit {0}) text other tally line (Finding.Judged (Judgment.Fault fault)) passes (λ fine. fine)
+        filtered items text other tally line (Finding.Judged (Judgment.Fault fault)) passes (λ fine. fine)
         (subst (λ (l : List Data). StopsAt (entities_of filter now l) other line (Finding.Judged (Judgment.Fault fault))) same b)
 
     -- no fault where all items pass
@@ -142,7 +138,4 @@ module _ (filter : Filter) (now : MomentParts) (once : (json : Data) (j k : Judg
         → (text ≡ other) × (m ≡ n)
     collection_kept_once m n (items, is, a) (others, of, b) =
         let same : others ≡ items = one_collection document others items of is in
-        let there = subst (λ (l : List Data). Filters (entities_of filter now l) other n) same b in (
-          Passes-once (place_sieve says) found_once (placed_from 0 items) text other m n a there,
-          Passes-one_tally (place_sieve says) found_once (placed_from 0 items) text other m n a there,
-        )
+        kept items text other m n a (subst (λ (l : List Data). Filters (entities_of filter now l) other n) same b)

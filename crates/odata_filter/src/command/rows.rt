@@ -4,7 +4,7 @@ ghost use Rattle.line_filter.specs.Kept.{Filters};
 ghost use Rattle.odata_filter.specs.RowJudgment.{rows_of};
 ghost use Rattle.odata_checked_filter.specs.Calls.{UsesNow};
 ghost use Rattle.odata_checked_filter.specs.Filter.{tree_of_filter};
-ghost use Rattle.odata_filter.specs.Run.{BeginsAs, IsFirstMoment, IsPlanFilter, IsReady, OverRows, streams};
+ghost use Rattle.odata_filter.specs.Run.{BeginsAs, IsPlanFilter, IsReady, OverRows, streams};
 ghost use Rattle.odata_filter.specs.RunStops.{StopsBy};
 ghost use Rattle.odata_filter.specs.private.RunFailures.{AnswerSays, GivesMoment, IsMomentUnlessAsked, IsUnwritten};
 ghost use Rattle.odata_filter.specs.private.RunFailures.{IsReadWhole, StopsOver, status_of};
@@ -38,17 +38,7 @@ struct Ready<'a, 's, 'p> {
     plan: &'a Plan<'p>,
 }
 
-/// The moment that is handed in where none is given, the first one of year 1.
-fn first_moment() -> Moment
-    ensures { IsFirstMoment result }
-{
-    match Moment::new(civil::date(1, 1, 1).at(0, 0, 0, 0), 0) {
-        Some(moment) => moment,
-        None => unreachable!(),
-    }
-}
-
-/// The moment for a filter: the given one, or the first where the filter does not ask for it.
+/// The moment for a filter: the given one, or the first one of year 1 where the filter does not ask for it.
 fn moment_for<'p>(checked: &Checked<'_>, given: Option<Moment>) -> Result<Moment, Failure<'p>>
     ensures moment { IfOk result (IsMomentUnlessAsked checked.now given) }
     ensures needed { IfErr result (λ failure. failure ≡ Failure.NoMoment) }
@@ -60,7 +50,7 @@ fn moment_for<'p>(checked: &Checked<'_>, given: Option<Moment>) -> Result<Moment
         None => if checked.uses_now() {
             Err(Failure::NoMoment)
         } else {
-            Ok(first_moment())
+            Moment::new(civil::date(1, 1, 1).at(0, 0, 0, 0), 0).ok_or(Failure::NoMoment)
         },
     }
 }
@@ -105,10 +95,8 @@ fn filter_by_line<'p, R: Read + Drop, W: Write>(
         → BeginsAs Verb.Filter ready.entry.now.plan.now document
         (streams (option_map (λ r. R.remaining r) rows) (W.contents out.old) (W.contents out.new)) }
 {
-    match lines_by_filter(alloc, ready, rows, out) {
-        Ok(_) => Ok(()),
-        Err(failure) => Err(failure),
-    }
+    lines_by_filter(alloc, ready, rows, out)?;
+    Ok(())
 }
 
 /// Why the rows were not read whole. A file is reported by its name, and standard input reports line 0.
@@ -158,10 +146,7 @@ fn filter_by_place<'p, R: Read + Drop, W: Write>(
         → BeginsAs Verb.Filter ready.entry.now.plan.now document
         (streams (option_map (λ r. R.remaining r) rows) (W.contents out.old) (W.contents out.new)) }
 {
-    let document = match whole_rows(alloc, ready.plan, rows) {
-        Ok(document) => document,
-        Err(failure) => return Err(failure),
-    };
+    let document = whole_rows(alloc, ready.plan, rows)?;
     match filter_collection(alloc, ready.checked, &ready.now, &document, out) {
         Ok(_) => Ok(()),
         Err(fault) => Err(Failure::Rows(fault)),
@@ -206,10 +191,7 @@ pub(crate) fn filter_rows<'p, R: Read + Drop, W: Write>(
         → BeginsAs Verb.Filter asked.entry.now.plan.now document
         (streams (option_map (λ r. R.remaining r) rows) (W.contents out.old) (W.contents out.new)) }
 {
-    let now = match moment_for(asked.checked, asked.given) {
-        Ok(now) => now,
-        Err(failure) => return Err(failure),
-    };
+    let now = moment_for(asked.checked, asked.given)?;
     let ready = Ready {
         checked: asked.checked,
         now,

@@ -214,31 +214,19 @@ fn carry_out<'p, R: Read + Drop, W: Write>(
     ensures begins { Begins plan.entry.now document.now
         (streams (option_map (λ r. R.remaining r) rows) (W.contents out.old) (W.contents out.new)) }
 {
-    let given = match planned_moment(plan) {
-        Ok(given) => given,
-        Err(failure) => return Err(failure),
-    };
+    let given = planned_moment(plan)?;
     let schema = match Schema::read(alloc, document) {
         Ok(schema) => schema,
         Err(fault) => return Err(Failure::Schema(fault)),
     };
-    let id = match entity_type(&schema, plan.named) {
-        Ok(id) => id,
-        Err(failure) => return Err(failure),
+    let id = entity_type(&schema, plan.named)?;
+    let checked = checked_plan(alloc, &schema, id, plan)?;
+    let asked = Asked {
+        checked: &checked,
+        given,
+        plan,
     };
-    match checked_plan(alloc, &schema, id, plan) {
-        Ok(checked) => by_verb(
-            alloc,
-            &Asked {
-                checked: &checked,
-                given,
-                plan,
-            },
-            rows,
-            out,
-        ),
-        Err(failure) => Err(failure),
-    }
+    by_verb(alloc, &asked, rows, out)
 }
 
 /// The line of a refusal.

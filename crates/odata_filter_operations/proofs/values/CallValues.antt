@@ -8,6 +8,7 @@ use Rattle.edm_values.specs.MomentParts.{MomentParts}
 use Rattle.edm_values.specs.Val.{Val, null, whole, text, date, moment}
 use Rattle.edm_values.specs.declared.datum.Datum.{Datum}
 use Rattle.edm_values.specs.declared.datum.Datum.TheVariants as datum
+use Rattle.odata_functions.specs.DateParts.{date_of}
 use Rattle.odata_functions.specs.DatumVal.{Reading, datum_val}
 use Rattle.odata_functions.specs.Texts.{part_from, rest_from}
 use Rattle.odata_signatures.specs.declared.argument_kind.ArgumentKind.{ArgumentKind}
@@ -92,13 +93,14 @@ wrong_first Function.TotalOffsetMinutes v more wrong applies = moment_wrong v wr
 wrong_first Function.Date v more wrong applies = moment_wrong v wrong applies.are.0
 wrong_first Function.Now v more wrong applies = applies.are
 
-pub no_other_first : (reading : Reading) (function : Function) (first : Datum) (more : List Val) → Applies function (datum_val reading first ∷ more) → (first ≡ datum.Null → ⊥)
-    → ((t : _) → first ≡ datum.Text t → ⊥) → ((d : _) → first ≡ datum.Date d → ⊥) → ((m : _) → first ≡ datum.Moment m → ⊥) → ⊥
-no_other_first reading function datum.Null more applies a b c d = a refl
-no_other_first reading function (datum.Text t) more applies a b c d = b t refl
-no_other_first reading function (datum.Date x) more applies a b c d = c x refl
-no_other_first reading function (datum.Moment m) more applies a b c d = d m refl
-no_other_first reading function other more applies a b c d = wrong_first function (datum_val reading other) more tt applies
+-- so one that is none of what is taken is null
+pub null_first : (reading : Reading) (function : Function) (first : Datum) (more : List Val) → Applies function (datum_val reading first ∷ more)
+    → ((t : _) → first ≡ datum.Text t → ⊥) → ((d : _) → first ≡ datum.Date d → ⊥) → ((m : _) → first ≡ datum.Moment m → ⊥) → datum_val reading first ≡ null
+null_first reading function datum.Null more applies b c d = refl
+null_first reading function (datum.Text t) more applies b c d = absurd (b t refl)
+null_first reading function (datum.Date x) more applies b c d = absurd (c x refl)
+null_first reading function (datum.Moment m) more applies b c d = absurd (d m refl)
+null_first reading function other more applies b c d = absurd (wrong_first function (datum_val reading other) more tt applies)
 
 -- a function that takes two values takes a text first
 pub text_first : (function : Function) (v w : Val) (more : List Val) → Applies function (v ∷ w ∷ more) → IsArgument ArgumentKind.Text v
@@ -144,20 +146,7 @@ text_or_number Function.TotalOffsetMinutes v w more applies = absurd applies.are
 text_or_number Function.Date v w more applies = absurd applies.are.1
 text_or_number Function.Now v w more applies = absurd applies.are
 
--- a value of the code that may be a text, or a number
-pub no_other_text : (reading : Reading) (value : Datum) → IsArgument ArgumentKind.Text (datum_val reading value) → (value ≡ datum.Null → ⊥) → ((t : _) → value ≡ datum.Text t → ⊥) → ⊥
-no_other_text reading datum.Null is a b = a refl
-no_other_text reading (datum.Text t) is a b = b t refl
-no_other_text reading _ is a b = is
-
-pub no_other_text_or_number : (reading : Reading) (value : Datum) → IsArgument ArgumentKind.Text (datum_val reading value) ⊎ IsArgument ArgumentKind.Number (datum_val reading value)
-    → (value ≡ datum.Null → ⊥) → ((t : _) → value ≡ datum.Text t → ⊥) → ((n : ℤ) → value ≡ datum.Int n → ⊥) → ⊥
-no_other_text_or_number reading value (inl is) a b c = no_other_text reading value is a b
-no_other_text_or_number reading datum.Null (inr is) a b c = a refl
-no_other_text_or_number reading (datum.Int n) (inr is) a b c = c n refl
-no_other_text_or_number reading _ (inr is) a b c = is
-
--- that is not a text is null, and likewise a number
+-- a value of the code that may be a text is null where it is none, and likewise a number
 pub null_text : (reading : Reading) (value : Datum) → IsArgument ArgumentKind.Text (datum_val reading value) → ((t : _) → value ≡ datum.Text t → ⊥) → datum_val reading value ≡ null
 null_text reading datum.Null is other = refl
 null_text reading (datum.Text t) is other = absurd (other t refl)
@@ -167,6 +156,39 @@ pub null_number : (reading : Reading) (value : Datum) → IsArgument ArgumentKin
 null_number reading datum.Null is other = refl
 null_number reading (datum.Int n) is other = absurd (other n refl)
 null_number reading _ is other = absurd is
+
+pub null_text_or_number : (reading : Reading) (value : Datum) → IsArgument ArgumentKind.Text (datum_val reading value) ⊎ IsArgument ArgumentKind.Number (datum_val reading value)
+    → ((t : _) → value ≡ datum.Text t → ⊥) → ((n : ℤ) → value ≡ datum.Int n → ⊥) → datum_val reading value ≡ null
+null_text_or_number reading value (inl is) not_text not_number = null_text reading value is not_text
+null_text_or_number reading value (inr is) not_text not_number = null_number reading value is not_number
+
+-- ---- a function that takes a moment, and asks for nothing but its date
+
+pub of_its_date : (function : Function) (m : MomentParts) → Applies function (moment m ∷ []) → (function ≡ Function.Hour → ⊥) → (function ≡ Function.Minute → ⊥) → (function ≡ Function.Second → ⊥) → (function ≡ Function.TotalOffsetMinutes → ⊥) → (function ≡ Function.Date → ⊥)
+    → Applies function (date (date_of m) ∷ [])
+of_its_date Function.Year m applies a b c d e = record { enough = applies.enough; are = (applies.are.0.0, tt) }
+of_its_date Function.Month m applies a b c d e = record { enough = applies.enough; are = (applies.are.0.0, tt) }
+of_its_date Function.Day m applies a b c d e = record { enough = applies.enough; are = (applies.are.0.0, tt) }
+of_its_date Function.Hour m applies a b c d e = absurd (a refl)
+of_its_date Function.Minute m applies a b c d e = absurd (b refl)
+of_its_date Function.Second m applies a b c d e = absurd (c refl)
+of_its_date Function.TotalOffsetMinutes m applies a b c d e = absurd (d refl)
+of_its_date Function.Date m applies a b c d e = absurd (e refl)
+of_its_date Function.Now m applies a b c d e = absurd applies.are
+of_its_date _ m applies a b c d e = absurd applies.are.0
+
+pub by_its_date : (now : MomentParts) (function : Function) (m : MomentParts) → Applies function (moment m ∷ []) → (function ≡ Function.Hour → ⊥) → (function ≡ Function.Minute → ⊥) → (function ≡ Function.Second → ⊥) → (function ≡ Function.TotalOffsetMinutes → ⊥) → (function ≡ Function.Date → ⊥)
+    → (o : Outcome) → FunctionGives now function (date (date_of m) ∷ []) o → FunctionGives now function (moment m ∷ []) o
+by_its_date now Function.Year m applies a b c d e o given = given
+by_its_date now Function.Month m applies a b c d e o given = given
+by_its_date now Function.Day m applies a b c d e o given = given
+by_its_date now Function.Hour m applies a b c d e o given = absurd (a refl)
+by_its_date now Function.Minute m applies a b c d e o given = absurd (b refl)
+by_its_date now Function.Second m applies a b c d e o given = absurd (c refl)
+by_its_date now Function.TotalOffsetMinutes m applies a b c d e o given = absurd (d refl)
+by_its_date now Function.Date m applies a b c d e o given = absurd (e refl)
+by_its_date now Function.Now m applies a b c d e o given = absurd applies.are
+by_its_date now _ m applies a b c d e o given = absurd applies.are.0
 
 -- ---- what is given of the values of arguments
 

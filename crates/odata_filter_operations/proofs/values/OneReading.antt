@@ -1,7 +1,7 @@
 -- What operators are asked of a value of the code, taken under one reading and by one schema.
 use Rattle.std.proofs.Common.{◌≡◌, ℤ, [], Option, Some, None, Bool, refl, subst}
 use Rattle.edm_values.specs.NumberTypes.{IsNumberOf}
-use Rattle.edm_values.specs.Val.{whole, absent, no_items}
+use Rattle.edm_values.specs.Val.{null, whole, absent, no_items}
 use Rattle.edm_values.specs.declared.datum.Datum.{Datum}
 use Rattle.edm_values.specs.declared.datum.Datum.TheVariants as datum
 use Rattle.edm_values.specs.declared.primitive.PrimitiveType.{PrimitiveType}
@@ -11,8 +11,10 @@ use Rattle.odata_functions.specs.Promotion.{IsPromoted}
 use Rattle.odata_signatures.specs.TypeView.{expr_type}
 use Rattle.odata_signatures.specs.declared.edm_type.EdmType.{EdmType}
 use Rattle.odata_signatures.specs.declared.edm_type.ValueType.{ValueType}
-use Rattle.odata_filter_operations.specs.CalculationGives.{number_val}
+use Rattle.odata_filter_operations.specs.CalculationGives.{CalculationGives, NegatedGives, number_val}
+use Rattle.odata_filter_operations.specs.Outcome.{gives}
 use Rattle.odata_filter_operations.specs.TruthGives.{truth_val}
+use Rattle.odata_syntax.specs.declared.binary_operator.ArithmeticOperator.{ArithmeticOperator}
 use Rattle.odata_filter_operations.specs.Operands.{AreNumbers, IsOneNumber}
 
 -- a reading and a schema, for facts of all of them
@@ -22,20 +24,20 @@ one_reading = record { fields_of = λ held asked. absent; items_of = λ held. no
 pub one_schema : SchemaModel
 one_schema = record { types = [] }
 
--- a truth value or null is no other value, and likewise a number
-pub no_other_truth : (reading : Reading) (made : Datum) (truth : Option Bool) → datum_val reading made ≡ truth_val truth
-    → (made ≡ datum.Null → ⊥) → ((b : Bool) → made ≡ datum.Bool b → ⊥) → ⊥
-no_other_truth reading datum.Null truth is not_null not_bool = not_null refl
-no_other_truth reading (datum.Bool b) truth is not_null not_bool = not_bool b refl
-no_other_truth reading _ (Some b) is not_null not_bool = absurd (cc)
-no_other_truth reading _ None is not_null not_bool = absurd (cc)
+-- a truth value or null that is not the one is the other, and likewise a number
+pub null_if_no_truth : (reading : Reading) (made : Datum) (truth : Option Bool) → datum_val reading made ≡ truth_val truth
+    → ((b : Bool) → made ≡ datum.Bool b → ⊥) → datum_val reading made ≡ null
+null_if_no_truth reading datum.Null truth is not_bool = refl
+null_if_no_truth reading (datum.Bool b) truth is not_bool = absurd (not_bool b refl)
+null_if_no_truth reading _ (Some b) is not_bool = absurd (cc)
+null_if_no_truth reading _ None is not_bool = is
 
-pub no_other_number : (reading : Reading) (made : Datum) (number : Option ℤ) → datum_val reading made ≡ number_val number
-    → (made ≡ datum.Null → ⊥) → ((n : ℤ) → made ≡ datum.Int n → ⊥) → ⊥
-no_other_number reading datum.Null number is not_null not_int = not_null refl
-no_other_number reading (datum.Int n) number is not_null not_int = not_int n refl
-no_other_number reading _ (Some n) is not_null not_int = absurd (cc)
-no_other_number reading _ None is not_null not_int = absurd (cc)
+pub null_if_no_number : (reading : Reading) (made : Datum) (number : Option ℤ) → datum_val reading made ≡ number_val number
+    → ((n : ℤ) → made ≡ datum.Int n → ⊥) → datum_val reading made ≡ null
+null_if_no_number reading datum.Null number is not_int = refl
+null_if_no_number reading (datum.Int n) number is not_int = absurd (not_int n refl)
+null_if_no_number reading _ (Some n) is not_int = absurd (cc)
+null_if_no_number reading _ None is not_int = is
 
 -- ---- one number
 
@@ -65,3 +67,21 @@ kind_promoted type n p number is = let same : number.kind ≡ p = cc in subst Is
 
 pub kind_within : (type : EdmType) (n : ℤ) (p : PrimitiveType) → NumberIn type n → type ≡ EdmType.Single (ValueType.Prim p) → IsNumberOf p n
 kind_within type n p number is = let same : number.kind ≡ p = cc in subst (λ (q : PrimitiveType). IsNumberOf q n) same number.within
+
+-- ---- no number: at any other type an operand is null
+
+module _ (schema : SchemaModel) (type : EdmType) (other : (p : PrimitiveType) → type ≡ EdmType.Single (ValueType.Prim p) → ⊥) where
+  pub calculation_null : (operator : ArithmeticOperator) (left right : Option ℤ) → AreNumbers (expr_type schema type) (number_val left) (number_val right)
+      → CalculationGives operator (expr_type schema type) (number_val left) (number_val right) (gives null)
+  calculation_null operator None None are = refl
+  calculation_null operator None (Some b) are = refl
+  calculation_null operator (Some a) None are = refl
+  calculation_null operator (Some a) (Some b) are =
+      let number = left_in_type schema type a b are in
+      absurd (other number.kind number.is_of)
+
+  pub negation_null : (operand : Option ℤ) → IsOneNumber (expr_type schema type) (number_val operand) → NegatedGives (expr_type schema type) (number_val operand) (gives null)
+  negation_null None is = refl
+  negation_null (Some n) is =
+      let number = number_in_type schema type n is in
+      absurd (other number.kind number.is_of)

@@ -1,9 +1,13 @@
 -- Trees of boxes that grow with a list. For private clauses.
-use Rattle.std.specs.Prelude.{ℕ, List, [], ◌∷◌, Option, None, Some, map, reverse, slice_get}
+use Rattle.std.specs.Prelude.{ℕ, List, [], ◌∷◌, Option, None, Some, map, reverse, slice_get, string_bytes}
 use Rattle.std.specs.Str.{str_to_ascii_lowercase}
 use Rattle.odata_text.specs.declared.span.Span.{Span}
 use Rattle.odata_text.specs.declared.token.Token.{Token}
 use Rattle.odata_syntax.specs.declared.parser.expr_of_list.Forest.{Forest}
+use Rattle.odata_syntax.specs.declared.parser.expr_of_list.OverOne.{OverOne}
+use Rattle.odata_syntax.specs.declared.parser.expr_of_list.OverOne.TheVariants as over_one
+use Rattle.odata_syntax.specs.declared.parser.expr_of_list.OverTwo.{OverTwo}
+use Rattle.odata_syntax.specs.declared.parser.expr_of_list.OverTwo.TheVariants as over_two
 use Rattle.odata_syntax.specs.declared.syntax_list.SyntaxKind.{SyntaxKind}
 use Rattle.odata_syntax.specs.PostOrder.{Texts, last_trees, shape_over, trees_left}
 use Rattle.odata_syntax.specs.Tree.{Shape, Tree, call, node, trees_of_list}
@@ -41,18 +45,24 @@ abbrev pub trees_grown : SyntaxKind → Span → ℕ → List ℕ → List Tree 
 trees_grown kind span items text trees =
     node span.start span.stop (shape_kept kind text items trees) ∷ trees_left kind items trees
 
--- a node over one tree, and over two
-abbrev pub IsOverOne : SyntaxKind → Type 0
-IsOverOne SyntaxKind.Member = Unit {0}
-IsOverOne SyntaxKind.Count = Unit {0}
-IsOverOne SyntaxKind.Neg = Unit {0}
-IsOverOne SyntaxKind.Not = Unit {0}
-IsOverOne SyntaxKind.AnyItem = Unit {0}
-IsOverOne _ = ⊥
+-- the kind of a node over one tree or two, and the text that it keeps
+abbrev pub kind_over_one : OverOne → SyntaxKind
+kind_over_one (over_one.Member name) = SyntaxKind.Member
+kind_over_one over_one.Count = SyntaxKind.Count
+kind_over_one over_one.Neg = SyntaxKind.Neg
+kind_over_one over_one.Not = SyntaxKind.Not
+kind_over_one over_one.AnyItem = SyntaxKind.AnyItem
 
-abbrev pub IsOverTwo : SyntaxKind → Type 0
-IsOverTwo (SyntaxKind.Binary operator) = Unit {0}
-IsOverTwo SyntaxKind.Has = Unit {0}
-IsOverTwo SyntaxKind.InPath = Unit {0}
-IsOverTwo (SyntaxKind.Lambda quantifier) = Unit {0}
-IsOverTwo _ = ⊥
+abbrev pub text_over_one : OverOne → List ℕ
+text_over_one (over_one.Member name) = string_bytes name
+text_over_one _ = []
+
+abbrev pub kind_over_two : OverTwo → SyntaxKind
+kind_over_two (over_two.Binary operator) = SyntaxKind.Binary operator
+kind_over_two over_two.Has = SyntaxKind.Has
+kind_over_two over_two.InPath = SyntaxKind.InPath
+kind_over_two (over_two.Lambda quantifier variable) = SyntaxKind.Lambda quantifier
+
+abbrev pub text_over_two : OverTwo → List ℕ
+text_over_two (over_two.Lambda quantifier variable) = string_bytes variable
+text_over_two _ = []

@@ -83,12 +83,9 @@ impl State {
         requires { count < length self.now.nodes.items }
         ensures { result ≡ count + 1 }
     {
-        let limit = self.nodes.len();
-        if count < limit {
-            count + 1
-        } else {
-            unreachable!()
-        }
+        // That the sum is a length is known once the nodes have been counted.
+        let _limit = self.nodes.len();
+        count + 1
     }
 
     /// The operand that has been read stands from its parenthesis to this one.
@@ -104,16 +101,14 @@ impl State {
         ensures taken { IsNotRefused result }
     {
         self.stage = Stage::Closed;
-        match self.nodes.pop() {
-            Some(node) => self.put(SyntaxNode {
-                kind: node.kind,
-                span,
-                text: node.text,
-                count: node.count,
-                place: NO_PLACE,
-            }),
-            None => unreachable!(),
-        }
+        let node = self.nodes.take_last();
+        self.put(SyntaxNode {
+            kind: node.kind,
+            span,
+            text: node.text,
+            count: node.count,
+            place: NO_PLACE,
+        })
     }
 
     /// Puts the node of what ends here, after its children.

@@ -2,11 +2,11 @@
 ghost use Rattle.std.specs.Prelude.{◌≡◌, ◌∷◌, ◌≤◌, IfOk, drop, length, map, string_bytes};
 ghost use Rattle.odata_syntax.specs.TreeView.{tree_of};
 ghost use Rattle.odata_syntax.specs.PostOrder.{IsWholeTree, child_count, last_tree, last_trees, trees_in};
-ghost use Rattle.odata_syntax.specs.private.Forests.{IsOverOne, IsOverTwo, forest_trees, kept_text, token_texts};
-ghost use Rattle.odata_syntax.specs.private.Forests.{trees_grown};
+ghost use Rattle.odata_syntax.specs.private.Forests.{forest_trees, kept_text, token_texts};
+ghost use Rattle.odata_syntax.specs.private.Forests.{kind_over_one, kind_over_two, text_over_one, text_over_two, trees_grown};
 
 use crate::syntax_list::{SyntaxKind, SyntaxNode};
-use crate::{Node, Quantifier};
+use crate::{BinaryOperator, Node, Quantifier};
 use odata_text::{Span, Token};
 use std::alloc::{AllocError, Global};
 
@@ -15,6 +15,25 @@ use std::alloc::{AllocError, Global};
 pub(crate) struct Forest {
     pub(crate) alloc: Global,
     pub(crate) trees: Vec<Node>,
+}
+
+/// A node over one tree. A member has its name.
+#[derive(Drop)]
+enum OverOne {
+    Member(String),
+    Count,
+    Neg,
+    Not,
+    AnyItem,
+}
+
+/// A node over two trees. A lambda operator has the name of its variable.
+#[derive(Drop)]
+enum OverTwo {
+    Binary(BinaryOperator),
+    Has,
+    InPath,
+    Lambda(Quantifier, String),
 }
 
 /// The root of the tree of a list, whose texts are those of the tokens.
@@ -70,10 +89,8 @@ impl Forest {
         requires { 1 ≤ length self.old.trees.items }
         ensures { IfOk result (λ child. forest_trees self.old ≡ tree_of child.value ∷ forest_trees self.new) }
     {
-        match self.trees.pop() {
-            Some(tree) => Ok(Box::new(self.alloc, tree)?),
-            None => unreachable!(),
-        }
+        let tree = self.trees.take_last();
+        Ok(Box::new(self.alloc, tree)?)
     }
 
     /// The last so many trees, as items.
@@ -84,10 +101,7 @@ impl Forest {
     {
         let mut items = Vec::with_capacity(self.alloc, count)?;
         for _ in 0..count {
-            match self.trees.pop() {
-                Some(tree) => items.push(tree)?,
-                None => unreachable!(),
-            }
+            items.push(self.trees.take_last())?;
         }
         items.reverse();
         Ok(items)
@@ -131,85 +145,75 @@ impl Forest {
                 let left = self.child()?;
                 self.put(Node::InList { span, left, items })
             }
-            SyntaxKind::Member | SyntaxKind::Count => self.grow_over_one(kind, span, text),
-            SyntaxKind::Neg | SyntaxKind::Not => self.grow_over_one(kind, span, text),
-            SyntaxKind::AnyItem => self.grow_over_one(kind, span, text),
-            SyntaxKind::Binary(_) | SyntaxKind::Has => self.grow_over_two(kind, span, text),
-            SyntaxKind::InPath | SyntaxKind::Lambda(_) => self.grow_over_two(kind, span, text),
+            SyntaxKind::Member => self.grow_over_one(span, OverOne::Member(text)),
+            SyntaxKind::Count => self.grow_over_one(span, OverOne::Count),
+            SyntaxKind::Neg => self.grow_over_one(span, OverOne::Neg),
+            SyntaxKind::Not => self.grow_over_one(span, OverOne::Not),
+            SyntaxKind::AnyItem => self.grow_over_one(span, OverOne::AnyItem),
+            SyntaxKind::Binary(operator) => self.grow_over_two(span, OverTwo::Binary(operator)),
+            SyntaxKind::Has => self.grow_over_two(span, OverTwo::Has),
+            SyntaxKind::InPath => self.grow_over_two(span, OverTwo::InPath),
+            SyntaxKind::Lambda(of) => self.grow_over_two(span, OverTwo::Lambda(of, text)),
         }
     }
 
     /// The same of a node over one tree.
-    fn grow_over_one(
-        &mut self,
-        kind: SyntaxKind,
-        span: Span,
-        text: String,
-    ) -> Result<(), AllocError>
-        requires one { 1 ≤ length self.old.trees.items }
-        requires kind { IsOverOne kind }
+    fn grow_over_one(&mut self, span: Span, form: OverOne) -> Result<(), AllocError>
+        requires { 1 ≤ length self.old.trees.items }
         ensures { IfOk result (λ _. forest_trees self.new
-            ≡ trees_grown kind span 0 (string_bytes text) (forest_trees self.old)) }
+            ≡ trees_grown (kind_over_one form) span 0 (text_over_one form) (forest_trees self.old)) }
     {
         let child = self.child()?;
-        match kind {
-            SyntaxKind::Member => {
-                let (base, name) = (child, text);
+        match form {
+            OverOne::Member(name) => {
+                let base = child;
                 self.put(Node::Member { span, base, name })
             }
-            SyntaxKind::Count => self.put(Node::Count { span, base: child }),
-            SyntaxKind::Neg => {
+            OverOne::Count => self.put(Node::Count { span, base: child }),
+            OverOne::Neg => {
                 let operand = child;
                 self.put(Node::Neg { span, operand })
             }
-            SyntaxKind::Not => {
+            OverOne::Not => {
                 let operand = child;
                 self.put(Node::Not { span, operand })
             }
-            SyntaxKind::AnyItem => {
+            OverOne::AnyItem => {
                 let base = child;
                 let lambda = None;
                 self.put(Node::Any { span, base, lambda })
             }
-            _ => unreachable!(),
         }
     }
 
     /// The same of a node over two trees.
-    fn grow_over_two(
-        &mut self,
-        kind: SyntaxKind,
-        span: Span,
-        text: String,
-    ) -> Result<(), AllocError>
-        requires two { 2 ≤ length self.old.trees.items }
-        requires kind { IsOverTwo kind }
+    fn grow_over_two(&mut self, span: Span, form: OverTwo) -> Result<(), AllocError>
+        requires { 2 ≤ length self.old.trees.items }
         ensures { IfOk result (λ _. forest_trees self.new
-            ≡ trees_grown kind span 0 (string_bytes text) (forest_trees self.old)) }
+            ≡ trees_grown (kind_over_two form) span 0 (text_over_two form) (forest_trees self.old)) }
     {
         let right = self.child()?;
         let left = self.child()?;
-        match kind {
-            SyntaxKind::Binary(operator) => self.put(Node::Binary {
+        match form {
+            OverTwo::Binary(operator) => self.put(Node::Binary {
                 span,
                 operator,
                 left,
                 right,
             }),
-            SyntaxKind::Has => self.put(Node::Has { span, left, right }),
-            SyntaxKind::InPath => {
+            OverTwo::Has => self.put(Node::Has { span, left, right }),
+            OverTwo::InPath => {
                 let path = right;
                 self.put(Node::InPath { span, left, path })
             }
-            SyntaxKind::Lambda(Quantifier::Any) => {
+            OverTwo::Lambda(Quantifier::Any, variable) => {
                 let base = left;
-                let lambda = Some((text, right));
+                let lambda = Some((variable, right));
                 self.put(Node::Any { span, base, lambda })
             }
-            SyntaxKind::Lambda(Quantifier::All) => {
+            OverTwo::Lambda(Quantifier::All, variable) => {
                 let base = left;
                 let body = right;
-                let variable = text;
                 self.put(Node::All {
                     span,
                     base,
@@ -217,7 +221,6 @@ impl Forest {
                     body,
                 })
             }
-            _ => unreachable!(),
         }
     }
 }

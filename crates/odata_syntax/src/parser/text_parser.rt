@@ -57,10 +57,7 @@ pub fn parse_text(alloc: Global, text: &str) -> Result<SyntaxList, TextOrSyntaxF
         return Err(OUT_OF_MEMORY);
     };
     let mut state = State::new(nodes, frames);
-    match take_text(&mut state, scanner) {
-        Ok(()) => {}
-        Err(fault) => return Err(fault),
-    }
+    take_text(&mut state, scanner)?;
     match state.finish() {
         Step::Taken => {}
         Step::Refused => return Err(TextOrSyntaxFault::Syntax(unended(text.len()))),

@@ -1,4 +1,5 @@
-use Rattle.std.proofs.Common.{◌≡◌, ◌∙◌, ◌++◌, ◌||◌, not, is_some, length, sym, ap, subst}
+use Rattle.std.proofs.Common.{Err, ◌≡◌, ◌∙◌, ◌++◌, ◌||◌, not, is_some, length, sym, ap, subst}
+use Rattle.std.proofs.lemmas.Result.{err_from_is_err_and}
 use Rattle.csdl_declarations.specs.Fault.{unless, unknown_base}
 use Rattle.csdl_declarations.specs.FaultView.{IsFirstOf, fault_of}
 use Rattle.csdl_schema.specs.private.Placed.{all_places, length_faults, places_within}
@@ -12,8 +13,8 @@ returns-then-not-is_known c =
     first_of_more (fault_of c.unknown_base.result) (unless (not c.args.base.is_named || is_some c.args.base.index) (unknown_base c.args.name.now)) _
     (unless_first (not c.args.base.is_named || is_some c.args.base.index) (unknown_base c.args.name.now) (fault_of c.unknown_base.result) (sym c.is_known.ensures ∙ c.if-not-is_known.true) c.unknown_base.ensures)
 
-pub returns-in-Err : goal.returns-in-Err
-returns-in-Err c =
+pub returns-in_err-check_length : goal.returns-in_err-check_length
+returns-in_err-check_length c =
     let ps = placed_of c.args.types.now in
     let n = c.args.index in
     let name = c.args.name.now in
@@ -21,11 +22,12 @@ returns-in-Err c =
     let many : length ps ≡ length c.args.types.now = length-map placed_view c.args.types.now in
     let lent : length c.deref.result.now ≡ length (all_places ps n) = ap length (c.deref.ensures.value ∙ c.in_ok-places.ensures.places ∙ ap (λ k. places_within k ps n) (sym many)) in
     let same : length_faults name (length c.deref.result.now) (length c.args.types.now) ≡ length_faults name (length (all_places ps n)) (length ps) = λ j. length_faults name (lent j) (sym many j) in
-    behind_none (fault_of c.in-Err.fault) (unless known (unknown_base name)) (length_faults name (length (all_places ps n)) (length ps)) (unless_none known (unknown_base name) (sym c.is_known.ensures ∙ c.if-not-is_known.false))
-    (subst (λ fs. IsFirstOf fs (fault_of c.in-Err.fault)) same c.in-Err.ensures.told)
+    let exit = err_from_is_err_and c.from_residual-in_err-check_length.result c.from_residual-in_err-check_length.ensures.1 in
+    rw (exit.1 ∙ ap Err exit.2) (behind_none (fault_of c.in_err-check_length.field-0.0) (unless known (unknown_base name)) (length_faults name (length (all_places ps n)) (length ps)) (unless_none known (unknown_base name) (sym c.is_known.ensures ∙ c.if-not-is_known.false))
+    (subst (λ fs. IsFirstOf fs (fault_of c.in_err-check_length.field-0.0)) same c.in_err-check_length.ensures.told))
 
-pub returns-in-Ok : goal.returns-in-Ok
-returns-in-Ok c =
+pub returns : goal.returns
+returns c =
     let ps = placed_of c.args.types.now in
     let n = c.args.index in
     let name = c.args.name.now in
@@ -34,5 +36,5 @@ returns-in-Ok c =
     let lent : length c.deref.result.now ≡ length (all_places ps n) = ap length (c.deref.ensures.value ∙ c.in_ok-places.ensures.places ∙ ap (λ k. places_within k ps n) (sym many)) in
     let same : length_faults name (length c.deref.result.now) (length c.args.types.now) ≡ length_faults name (length (all_places ps n)) (length ps) = λ j. length_faults name (lent j) (sym many j) in
     let is_known = unless_none known (unknown_base name) (sym c.is_known.ensures ∙ c.if-not-is_known.false) in
-    let short = sym same ∙ c.in-Ok.ensures.told.0 in
+    let short = sym same ∙ c.in_ok-check_length.ensures.told.0 in
     ((λ j. is_known j ++ short j), c.in_ok-places.ensures.places ∙ ap (λ k. places_within k ps n) (sym many))

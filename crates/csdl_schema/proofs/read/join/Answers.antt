@@ -1,4 +1,5 @@
-use Rattle.std.proofs.Common.{◌≡◌, ◌∙◌, length, map, sym, ap, subst, arith}
+use Rattle.std.proofs.Common.{Err, ◌≡◌, ◌∙◌, length, map, sym, ap, subst, arith}
+use Rattle.std.proofs.lemmas.Result.{err_from_is_err_and}
 use Rattle.indexmap.specs.IndexMap.{get_by_text}
 use Rattle.csdl_declarations.specs.DeclaredTypeView.{types_view}
 use Rattle.csdl_declarations.specs.FaultView.{fault_of}
@@ -26,8 +27,8 @@ check_types-requires c =
     let each : length c.deref-7.result.now ≡ length c.in_ok-bases.bases.items = ap length c.deref-7.ensures.value in
     omega (arith, many, placed, all, each)
 
-pub returns-in-Err : goal.returns-in-Err
-returns-in-Err c =
+pub returns-in_err-chains : goal.returns-in_err-chains
+returns-in_err-chains c =
     let ds = types_view c.args.declared.items in
     let find = get_by_text c.in_ok-index_by_name.index_by_name in
     let indexed : IsIndexOf ds find = subst (λ ts. IsIndexOf (types_view ts) find) c.deref.ensures.value c.in_ok-index_by_name.ensures.indexed in
@@ -38,8 +39,9 @@ returns-in-Err c =
     c.in_ok-types.ensures.placed ∙ (λ j. types_with (c.deref-4.ensures.value j) find (c.deref-5.ensures.value j) ds) in
     let lent : faults_from (placed_of c.deref-6.result.now) 0 c.deref-7.result.now (placed_of c.deref-6.result.now) ≡ faults_from (placed_of c.in_ok-types.types.items) 0 c.in_ok-bases.bases.items (placed_of c.in_ok-types.types.items) =
     λ j. faults_from (placed_of (c.deref-6.ensures.value j)) 0 (c.deref-7.ensures.value j) (placed_of (c.deref-6.ensures.value j)) in
-    first_kept (fault_of c.in-Err.fault) (faults_from (placed_of c.deref-6.result.now) 0 c.deref-7.result.now (placed_of c.deref-6.result.now)) (all_base_faults ds)
-    (ap first_fault lent ∙ faults_are ds find indexed _ _ _ kinds bases types) c.in-Err.ensures
+    let exit = err_from_is_err_and c.from_residual-in_err-chains.result c.from_residual-in_err-chains.ensures.1 in
+    rw (exit.1 ∙ ap Err exit.2) (first_kept (fault_of c.in_err-chains.field-0.0) (faults_from (placed_of c.deref-6.result.now) 0 c.deref-7.result.now (placed_of c.deref-6.result.now)) (all_base_faults ds)
+    (ap first_fault lent ∙ faults_are ds find indexed _ _ _ kinds bases types) c.in_err-chains.ensures)
 
 pub invariant_of-result : goal.invariant_of-result
 invariant_of-result c =
@@ -53,15 +55,15 @@ invariant_of-result c =
     c.in_ok-types.ensures.placed ∙ (λ j. types_with (c.deref-4.ensures.value j) find (c.deref-5.ensures.value j) ds) in
     let lent : faults_from (placed_of c.deref-6.result.now) 0 c.deref-7.result.now (placed_of c.deref-6.result.now) ≡ faults_from (placed_of c.in_ok-types.types.items) 0 c.in_ok-bases.bases.items (placed_of c.in_ok-types.types.items) =
     λ j. faults_from (placed_of (c.deref-6.ensures.value j)) 0 (c.deref-7.ensures.value j) (placed_of (c.deref-6.ensures.value j)) in
-    let chains : c.in-Ok.chains.items ≡ chains_from (placed_of c.in_ok-types.types.items) 0 (placed_of c.in_ok-types.types.items) =
-    c.in-Ok.ensures.1 ∙ ap (λ ts. chains_from (placed_of ts) 0 (placed_of ts)) c.deref-6.ensures.value in
+    let chains : c.in_ok-chains.chains.items ≡ chains_from (placed_of c.in_ok-types.types.items) 0 (placed_of c.in_ok-types.types.items) =
+    c.in_ok-chains.ensures.1 ∙ ap (λ ts. chains_from (placed_of ts) 0 (placed_of ts)) c.deref-6.ensures.value in
     record {
       indexed = found_by_name ds find indexed _ _ _ kinds bases types;
-      chains = chained ds find indexed _ _ _ kinds bases types c.in-Ok.chains.items chains c.requires (sym lent ∙ c.in-Ok.ensures.0);
+      chains = chained ds find indexed _ _ _ kinds bases types c.in_ok-chains.chains.items chains c.requires (sym lent ∙ c.in_ok-chains.ensures.0);
     }
 
-pub returns-in-Ok : goal.returns-in-Ok
-returns-in-Ok c =
+pub returns : goal.returns
+returns c =
     let ds = types_view c.args.declared.items in
     let find = get_by_text c.in_ok-index_by_name.index_by_name in
     let indexed : IsIndexOf ds find = subst (λ ts. IsIndexOf (types_view ts) find) c.deref.ensures.value c.in_ok-index_by_name.ensures.indexed in
@@ -73,6 +75,6 @@ returns-in-Ok c =
     let lent : faults_from (placed_of c.deref-6.result.now) 0 c.deref-7.result.now (placed_of c.deref-6.result.now) ≡ faults_from (placed_of c.in_ok-types.types.items) 0 c.in_ok-bases.bases.items (placed_of c.in_ok-types.types.items) =
     λ j. faults_from (placed_of (c.deref-6.ensures.value j)) 0 (c.deref-7.ensures.value j) (placed_of (c.deref-6.ensures.value j)) in (
       none_first (faults_from (placed_of c.deref-6.result.now) 0 c.deref-7.result.now (placed_of c.deref-6.result.now)) (all_base_faults ds)
-          (ap first_fault lent ∙ faults_are ds find indexed _ _ _ kinds bases types) c.in-Ok.ensures.0,
+          (ap first_fault lent ∙ faults_are ds find indexed _ _ _ kinds bases types) c.in_ok-chains.ensures.0,
       model_is ds find indexed _ _ _ kinds bases types,
     )

@@ -1,4 +1,5 @@
-use Rattle.std.proofs.Common.{◌≡◌, ◌⊎◌, ◌<◌, ◌≤◌, ◌+◌, ◌*◌, ◌++◌, [], ◌∷◌, true, false, is_some, Option, Some, None, option_map, IfOk, IfErr, refl, sym, ap, ◌∙◌, subst, rules, arith, add-one}
+use Rattle.std.proofs.Common.{Err, ◌≡◌, ◌⊎◌, ◌<◌, ◌≤◌, ◌+◌, ◌*◌, ◌++◌, [], ◌∷◌, true, false, is_some, Option, Some, None, option_map, IfOk, IfErr, refl, sym, ap, ◌∙◌, subst, rules, arith, add-one}
+use Rattle.std.proofs.lemmas.Result.{err_from_is_err_and}
 use Rattle.std.proofs.lemmas.Grind.{common_steps}
 use Rattle.serde_json.specs.Data.{Data, depth, items_depth}
 use Rattle.serde_json.specs.Find.{get, as_object}
@@ -241,34 +242,36 @@ read_value-returns-in-Enum-clause-fault t c nullable =
     (λ path flaw. IsValueFault (slots_in c.args.scene.now c.args.node) nullable path type (view c.args.json.now) flaw)
     c.leaf_read-in-Enum.ensures.fault (c.read_member.ensures.flaw (view c.args.json.now) c.scalar_of-in-Enum.ensures))
 
-pub read_value-returns-in-Ok-clause-fits : goal.read_value-returns-in-Ok-clause-fits
-read_value-returns-in-Ok-clause-fits t c nullable =
+pub read_value-returns-in-Complex-clause-fits : goal.read_value-returns-in-Complex-clause-fits
+read_value-returns-in-Complex-clause-fits t c nullable =
     value_as (slots_in c.args.scene.now c.args.node) nullable (view c.args.json.now) (wanted_single c.args.scene.now.schema.now c.args.wanted.now) (structured (type_name_at c.args.scene.now.schema.now c.in-Complex.id))
-    (Record c.in-Ok.values) (ap (wanted_single c.args.scene.now.schema.now) c.in-Complex.is)
-    (slots_fit (slots_in c.args.scene.now c.args.node) (type_name_at c.args.scene.now.schema.now c.in-Complex.id) nullable (view c.args.json.now) c.in-Ok.values c.in-Ok.ensures.distinct c.in-Ok.ensures.object c.in-Ok.ensures.fits)
+    (Record c.in_ok-values.values) (ap (wanted_single c.args.scene.now.schema.now) c.in-Complex.is)
+    (slots_fit (slots_in c.args.scene.now c.args.node) (type_name_at c.args.scene.now.schema.now c.in-Complex.id) nullable (view c.args.json.now) c.in_ok-values.values c.in_ok-values.ensures.distinct c.in_ok-values.ensures.object c.in_ok-values.ensures.fits)
 
-pub read_value-returns-in-Ok-clause-holds : goal.read_value-returns-in-Ok-clause-holds
-read_value-returns-in-Ok-clause-holds t c =
-    holds_as (slots_in c.args.scene.now c.args.node) (wanted_single c.args.scene.now.schema.now c.args.wanted.now) (structured (type_name_at c.args.scene.now.schema.now c.in-Complex.id)) (Record c.in-Ok.values)
-    (ap (wanted_single c.args.scene.now.schema.now) c.in-Complex.is) (slots_held (slots_in c.args.scene.now c.args.node) (type_name_at c.args.scene.now.schema.now c.in-Complex.id) (λ name. get name (view c.args.json.now)) c.in-Ok.values c.in-Ok.ensures.fits)
+pub read_value-returns-in-Complex-clause-holds : goal.read_value-returns-in-Complex-clause-holds
+read_value-returns-in-Complex-clause-holds t c =
+    holds_as (slots_in c.args.scene.now c.args.node) (wanted_single c.args.scene.now.schema.now c.args.wanted.now) (structured (type_name_at c.args.scene.now.schema.now c.in-Complex.id)) (Record c.in_ok-values.values)
+    (ap (wanted_single c.args.scene.now.schema.now) c.in-Complex.is) (slots_held (slots_in c.args.scene.now c.args.node) (type_name_at c.args.scene.now.schema.now c.in-Complex.id) (λ name. get name (view c.args.json.now)) c.in_ok-values.values c.in_ok-values.ensures.fits)
 
-pub read_value-returns-in-Err-clause-fault : goal.read_value-returns-in-Err-clause-fault
-read_value-returns-in-Err-clause-fault t c nullable =
-    rw c.in-Complex.is (record_fault (slots_in c.args.scene.now c.args.node) false nullable (type_name_at c.args.scene.now.schema.now c.in-Complex.id) (view c.args.json.now) c.in-Err.fault c.in-Err.ensures.fault)
+pub read_value-returns-in_err-values-clause-fault : goal.read_value-returns-in_err-values-clause-fault
+read_value-returns-in_err-values-clause-fault t c nullable =
+    let exit = err_from_is_err_and c.from_residual.result c.from_residual.ensures.1 in
+    rw (exit.1 ∙ ap Err exit.2) (rw c.in-Complex.is (record_fault (slots_in c.args.scene.now c.args.node) false nullable (type_name_at c.args.scene.now.schema.now c.in-Complex.id) (view c.args.json.now) c.in_err-values.field-0.0 c.in_err-values.ensures.fault))
 
-pub read_items-returns-in-Ok-clause-fits : goal.read_items-returns-in-Ok-clause-fits
-read_items-returns-in-Ok-clause-fits t c =
-    array_fits (slots_in c.args.scene.now c.args.node) c.args.nullable (wanted_single c.args.scene.now.schema.now c.args.wanted.now) (view c.args.json.now) (items_view c.in-Some.items.now.items) c.in-Ok.values
-    (sym c.as_array.ensures ∙ ap (option_map (λ v. items_view v.now.items)) c.in-Some.is) (rw c.as_slice.ensures.value at c.in-Ok.ensures.fits)
+pub read_items-returns-clause-fits : goal.read_items-returns-clause-fits
+read_items-returns-clause-fits t c =
+    array_fits (slots_in c.args.scene.now c.args.node) c.args.nullable (wanted_single c.args.scene.now.schema.now c.args.wanted.now) (view c.args.json.now) (items_view c.in-Some.items.now.items) c.in_ok-values.values
+    (sym c.as_array.ensures ∙ ap (option_map (λ v. items_view v.now.items)) c.in-Some.is) (rw c.as_slice.ensures.value at c.in_ok-values.ensures.fits)
 
-pub read_items-returns-in-Ok-clause-holds : goal.read_items-returns-in-Ok-clause-holds
-read_items-returns-in-Ok-clause-holds t c =
-    list_held (slots_in c.args.scene.now c.args.node) (wanted_single c.args.scene.now.schema.now c.args.wanted.now) c.in-Ok.values c.in-Ok.ensures.holds
+pub read_items-returns-clause-holds : goal.read_items-returns-clause-holds
+read_items-returns-clause-holds t c =
+    list_held (slots_in c.args.scene.now c.args.node) (wanted_single c.args.scene.now.schema.now c.args.wanted.now) c.in_ok-values.values c.in_ok-values.ensures.holds
 
-pub read_items-returns-in-Err-clause-fault : goal.read_items-returns-in-Err-clause-fault
-read_items-returns-in-Err-clause-fault t c =
-    array_fault (slots_in c.args.scene.now c.args.node) c.args.nullable (wanted_single c.args.scene.now.schema.now c.args.wanted.now) (view c.args.json.now) (items_view c.in-Some.items.now.items) c.in-Err.fault
-    (sym c.as_array.ensures ∙ ap (option_map (λ v. items_view v.now.items)) c.in-Some.is) (rw c.as_slice.ensures.value at c.in-Err.ensures.fault)
+pub read_items-returns-in_err-values-clause-fault : goal.read_items-returns-in_err-values-clause-fault
+read_items-returns-in_err-values-clause-fault t c =
+    let exit = err_from_is_err_and c.from_residual.result c.from_residual.ensures.1 in
+    rw (exit.1 ∙ ap Err exit.2) (array_fault (slots_in c.args.scene.now c.args.node) c.args.nullable (wanted_single c.args.scene.now.schema.now c.args.wanted.now) (view c.args.json.now) (items_view c.in-Some.items.now.items) c.in_err-values.field-0.0
+    (sym c.as_array.ensures ∙ ap (option_map (λ v. items_view v.now.items)) c.in-Some.is) (rw c.as_slice.ensures.value at c.in_err-values.ensures.fault))
 
 pub read_list-read_single-requires : goal.read_list-read_single-requires
 read_list-read_single-requires t c =

@@ -31,18 +31,13 @@ loop-at-init c = record { above = c.path_base-bottom.ensures.below; within = ome
 before_is : (at place bottom : ℕ) → place < at → at ≤ bottom → (at - 1 + 1 ≡ at) × ((at - 1 < bottom) × (place ≤ at - 1))
 before_is at place bottom above within = (omega (arith, above), (omega (arith, above, within), omega (arith, above)))
 
-pub step_target-target-requires-clause-stands : goal.step_target-target-requires-clause-stands
-step_target-target-requires-clause-stands c =
+pub step_target-target-requires : goal.step_target-target-requires
+step_target-target-requires c =
     let r = c.requires in
     let b = before_is c.loop-at.at c.args.place c.path_base-bottom.result c.loop-at-test.true c.loop-at.invariant.within in
     let below = stands_below c.args.scene.now.schema.now c.args.scene.now.filtered_type r.scope c.args.scene.now.list.now c.args.place c.path_base-bottom.result r.stop (c.loop-at.at - 1) r.tree r.stands
     c.path_base-bottom.ensures.steps b.1.1 (let within = b.1.0 in omega (arith, within)) in
     record { scope = r.scope; stop = r.stop; tree = below.0; stands = below.1 }
-
-pub step_target-target-requires-clause-step : goal.step_target-target-requires-clause-step
-step_target-target-requires-clause-step c =
-    let b = before_is c.loop-at.at c.args.place c.path_base-bottom.result c.loop-at-test.true c.loop-at.invariant.within in
-    c.path_base-bottom.ensures.steps (c.loop-at.at - 1) b.1.0 b.1.1
 
 pub text-requires : goal.text-requires
 text-requires c =

@@ -11,7 +11,7 @@ use Rattle.odata_checked_filter.proofs.flat.Standing.{stands_nonempty}
 use Rattle.odata_checked_filter.proofs.needed.Heads.{last_there}
 use Rattle.odata_checked_filter.proofs.needed.Kinds.{step_there, typed_there}
 use Rattle.odata_checked_filter.proofs.needed.Paths.{owner_there}
-use Rattle.odata_checked_filter.proofs.needed.StepRows.{some_there, step_found}
+use Rattle.odata_checked_filter.proofs.needed.StepRows.{some_there}
 use Rattle.odata_checked_filter.proofs.needed_paths.step_target.Goals as goal
 
 -- what stands after a node begins before that stops
@@ -20,14 +20,14 @@ place_fits place stop found before last fits = omega (arith, before, last, fits)
 
 pub node-requires : goal.node-requires
 node-requires c =
-    let r = c.requires.stands in
+    let r = c.requires in
     let list = c.args.scene.now.list.now in
     let at = typed_there c.args.scene.now.schema.now c.args.scene.now.filtered_type r.scope list c.args.place r.stop r.tree r.stands in
     found_before list.nodes c.args.place at.0 at.1.0
 
 pub overflow_add-place : goal.overflow_add-place
 overflow_add-place c =
-    let r = c.requires.stands in
+    let r = c.requires in
     let schema = c.args.scene.now.schema.now in
     let n = c.args.scene.now.filtered_type in
     let list = c.args.scene.now.list.now in
@@ -38,7 +38,7 @@ overflow_add-place c =
 
 pub node-base-requires : goal.node-base-requires
 node-base-requires c =
-    let r = c.requires.stands in
+    let r = c.requires in
     let schema = c.args.scene.now.schema.now in
     let n = c.args.scene.now.filtered_type in
     let list = c.args.scene.now.list.now in
@@ -48,7 +48,7 @@ node-base-requires c =
 
 pub target_at-requires : goal.target_at-requires
 target_at-requires c =
-    let r = c.requires.stands in
+    let r = c.requires in
     let schema = c.args.scene.now.schema.now in
     let n = c.args.scene.now.filtered_type in
     let list = c.args.scene.now.list.now in
@@ -59,8 +59,8 @@ target_at-requires c =
 same_slot : (a b : ℕ) → NodeKind.Member a ≡ NodeKind.Member b → a ≡ b
 same_slot a b is = cc
 
-pub returns : goal.returns
-returns c slot id on =
+pub returns-in-Member : goal.returns-in-Member
+returns-in-Member c slot id on =
     let schema = c.args.scene.now.schema.now in
     let list = c.args.scene.now.list.now in
     let here = some_there (λ found. found.kind ≡ NodeKind.Member slot) (slice_get list.nodes c.args.place) on.0 in
@@ -71,9 +71,9 @@ returns c slot id on =
     let typed : c.node-base.result.edm_type ≡ EdmType.Single (ValueType.Structured id) = ap (λ (f : CheckedNode). f.edm_type) (sym base) ∙ below.1.1 in
     subst (λ (k : ℕ). IsTargetAt schema id k c.target_at.result) (sym slots) (c.target_at.ensures id typed)
 
-pub unreachable-unreachable : goal.unreachable-unreachable
-unreachable-unreachable c =
+pub returns-in_default : goal.returns-in_default
+returns-in_default c slot id on =
     let list = c.args.scene.now.list.now in
-    let step = step_found list c.args.place c.requires.step in
-    let same : step.found ≡ c.node.result = same_found (slice_get list.nodes c.args.place) step.found c.node.result step.stands_at c.node.ensures in
-    c.in_default.not-Member step.slot (ap (λ (f : CheckedNode). f.kind) (sym same) ∙ step.kind_is)
+    let here = some_there (λ found. found.kind ≡ NodeKind.Member slot) (slice_get list.nodes c.args.place) on.0 in
+    let same : here.0 ≡ c.node.result = same_found (slice_get list.nodes c.args.place) here.0 c.node.result here.1.0 c.node.ensures in
+    absurd (c.in_default.not-Member slot (sym (ap (λ (f : CheckedNode). f.kind) same) ∙ here.1.1))

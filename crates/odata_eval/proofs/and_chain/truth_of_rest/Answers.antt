@@ -1,4 +1,5 @@
-use Rattle.std.proofs.Common.{◌≡◌, ◌<◌, ◌≤◌, ◌-◌, Bool, false, true, Option, Some, Ok, Err, arith, subst, sym}
+use Rattle.std.proofs.Common.{ap, ◌∙◌, ◌≡◌, ◌<◌, ◌≤◌, ◌-◌, Bool, false, true, Option, Some, Ok, Err, arith, subst, sym}
+use Rattle.std.proofs.lemmas.Result.{err_from_is_err_and}
 use Rattle.odata_syntax.specs.declared.binary_operator.LogicalOperator.{LogicalOperator}
 use Rattle.odata_filter_operations.specs.TruthGives.{truth_val}
 use Rattle.odata_eval.specs.private.WalkAnswer.{AnswersTruth}
@@ -6,8 +7,10 @@ use Rattle.odata_eval.specs.private.WalkClass.{IsDecided}
 use Rattle.odata_eval.proofs.walking.AndChains.{decided_up, false_answers, fault_answers, fault_up, next_answers, term_stands, term_there, told_not, true_answers}
 use Rattle.odata_eval.proofs.and_chain.truth_of_rest.Goals as goal
 
-pub returns-in-Err : goal.returns-in-Err
-returns-in-Err c = fault_up c.args.scene.now c.args.rest.ands c.requires.rest.ands c.args.rest.ands (omega arith) c.in-Err.fault (c.requires.rest.goes_up (Err c.in-Err.fault) c.in-Err.ensures)
+pub returns-in_err-left : goal.returns-in_err-left
+returns-in_err-left c =
+    let exit = err_from_is_err_and c.from_residual.result c.from_residual.ensures.1 in
+    rw (exit.1 ∙ ap Err exit.2) (fault_up c.args.scene.now c.args.rest.ands c.requires.rest.ands c.args.rest.ands (omega arith) c.in_err-left.field-0.0 (c.requires.rest.goes_up (Err c.in_err-left.field-0.0) c.in_err-left.ensures))
 
 pub returns-then-decides : goal.returns-then-decides
 returns-then-decides c =
@@ -66,11 +69,12 @@ loop-at-preserved c =
     record {
       within = omega arith;
       answers = subst (λ (r : Option Bool). AnswersTruth c.args.scene.now (l.at - 1) (Ok r)) (sym c.join-left.ensures)
-          (next_answers c.args.scene.now c.args.rest.ands c.requires.rest.ands c.requires.stands l.at above l.invariant.within c.right_of-right_place.result c.right_of-right_place.ensures l.left (told_not c.decides.result (IsDecided LogicalOperator.And (truth_val l.left)) c.decides.ensures c.if-decides.false) l.invariant.answers c.in-Ok-term_at.right c.in-Ok-term_at.ensures);
+          (next_answers c.args.scene.now c.args.rest.ands c.requires.rest.ands c.requires.stands l.at above l.invariant.within c.right_of-right_place.result c.right_of-right_place.ensures l.left (told_not c.decides.result (IsDecided LogicalOperator.And (truth_val l.left)) c.decides.ensures c.if-decides.false) l.invariant.answers c.in_ok-right.right c.in_ok-right.ensures);
     }
 
-pub returns-in-Err-term_at : goal.returns-in-Err-term_at
-returns-in-Err-term_at c =
+pub returns-in_err-right : goal.returns-in_err-right
+returns-in_err-right c =
     let l = c.loop-at in
     let above : 0 < l.at = omega arith in
-    fault_answers c.args.scene.now c.args.rest.ands c.requires.rest.ands c.requires.stands l.at above l.invariant.within c.right_of-right_place.result c.right_of-right_place.ensures l.left (told_not c.decides.result (IsDecided LogicalOperator.And (truth_val l.left)) c.decides.ensures c.if-decides.false) l.invariant.answers c.in-Err-term_at.fault c.in-Err-term_at.ensures
+    let exit = err_from_is_err_and c.from_residual-in_err-right.result c.from_residual-in_err-right.ensures.1 in
+    rw (exit.1 ∙ ap Err exit.2) (fault_answers c.args.scene.now c.args.rest.ands c.requires.rest.ands c.requires.stands l.at above l.invariant.within c.right_of-right_place.result c.right_of-right_place.ensures l.left (told_not c.decides.result (IsDecided LogicalOperator.And (truth_val l.left)) c.decides.ensures c.if-decides.false) l.invariant.answers c.in_err-right.field-0.0 c.in_err-right.ensures)

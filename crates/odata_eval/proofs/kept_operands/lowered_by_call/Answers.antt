@@ -1,6 +1,6 @@
 use Rattle.std.proofs.Common.{◌∷◌, [], refl, subst, sym}
 use Rattle.edm_values.specs.Val.{text}
-use Rattle.odata_filter_operations.specs.LowerCase.{in_lower_case}
+use Rattle.odata_functions.specs.LowerCase.{in_lower_case}
 use Rattle.odata_signatures.specs.declared.function.Function.{Function}
 use Rattle.odata_filter_operations.specs.FunctionGives.{FunctionGives}
 use Rattle.odata_filter_operations.specs.Outcome.{gives}

@@ -1,8 +1,13 @@
-use Rattle.std.proofs.Common.{◌≡◌}
+use Rattle.std.proofs.Common.{◌≡◌, Option, IsSomeAnd, subst, sym}
+use Rattle.edm_values.specs.declared.value.Value.{Value}
 use Rattle.odata_checked_filter.specs.declared.checked_node.CheckedNode.{CheckedNode}
 use Rattle.odata_checked_filter.specs.declared.checked_node.NodeKind.{NodeKind}
-use Rattle.odata_eval.proofs.walking.Leaves.{literal_answers, literal_within, now_answers, property_answers, property_within, variable_answers, variable_within}
+use Rattle.odata_eval.proofs.walking.Leaves.{it_answers, literal_answers, literal_within, now_answers, property_answers, property_within, variable_answers, variable_within}
 use Rattle.odata_eval.proofs.walking.Parts.{there_found}
+use Rattle.odata_eval.proofs.walking.Spines.{only_it}
+use Rattle.odata_eval.specs.declared.part.WalkClass.{WalkClass}
+use Rattle.odata_eval.specs.private.WalkAnswer.{AnswersKept}
+use Rattle.odata_eval.specs.private.WalkClass.{walk_of_kind}
 use Rattle.odata_eval.proofs.part.leaf_at.Goals as goal
 
 pub returns-in-Literal : goal.returns-in-Literal
@@ -42,3 +47,11 @@ pub property-requires : goal.property-requires
 property-requires c =
     property_within c.args.scene.now c.args.place c.in-Property.slot
     (there_found (λ (f : CheckedNode). f.kind ≡ NodeKind.Property c.in-Property.slot) _ c.node.result.now c.node.ensures c.in-Property.is) c.requires.stands
+
+pub returns-in_default : goal.returns-in_default
+returns-in_default c =
+    let kind = c.node.result.now.kind in
+    let leaf : walk_of_kind kind ≡ WalkClass.Leaf = subst (λ (o : Option CheckedNode). IsSomeAnd o (λ f. walk_of_kind f.kind ≡ WalkClass.Leaf)) c.node.ensures c.requires.leaf in
+    let it : kind ≡ NodeKind.It = only_it kind leaf c.in_default.not-Literal c.in_default.not-Now c.in_default.not-Property c.in_default.not-Variable in
+    subst (λ (v : Value). AnswersKept c.args.scene.now c.args.place v) (sym c.value.ensures)
+    (it_answers c.args.scene.now c.args.place (there_found (λ (f : CheckedNode). f.kind ≡ NodeKind.It) _ c.node.result.now c.node.ensures it))

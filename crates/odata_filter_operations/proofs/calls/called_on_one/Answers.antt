@@ -1,19 +1,14 @@
-use Rattle.std.proofs.Common.{◌∷◌, [], refl, subst, sym}
-use Rattle.edm_values.specs.Val.{null}
+use Rattle.std.proofs.Common.{◌∷◌, [], subst, sym}
 use Rattle.edm_values.specs.declared.datum.Datum.{Datum}
 use Rattle.odata_functions.specs.DatumVal.{datum_val}
 use Rattle.odata_filter_operations.specs.CallGives.{CallGives}
-use Rattle.odata_filter_operations.specs.Outcome.{gives}
 use Rattle.odata_filter_operations.specs.Arguments.{Applies, MakesText}
 use Rattle.odata_filter_operations.specs.DatumView.{answer_outcome}
 use Rattle.odata_filter_operations.specs.Tells.{Tells}
-use Rattle.odata_filter_operations.proofs.values.CallValues.{no_other_first}
+use Rattle.odata_filter_operations.proofs.values.CallValues.{null_first, null_gives, null_here}
 use Rattle.odata_filter_operations.proofs.values.OneReading.{one_reading}
 use Rattle.odata_filter_operations.proofs.values.Holding.{some_tells}
 use Rattle.odata_filter_operations.proofs.calls.called_on_one.Goals as goal
-
-pub returns-in-Null : goal.returns-in-Null
-returns-in-Null c = λ now r s. subst (λ (d : Datum). CallGives now c.args.function (datum_val r d ∷ []) (gives null)) (sym c.in-Null.is) refl
 
 pub called_on_text-requires : goal.called_on_text-requires
 called_on_text-requires c = subst (λ (d : Datum). Applies c.args.function (datum_val one_reading d ∷ [])) c.in-Text.is (c.requires one_reading)
@@ -39,6 +34,7 @@ returns-in-Moment c = λ now r s.
     subst (λ (d : Datum). Tells (MakesText c.args.function) (CallGives now c.args.function (datum_val r d ∷ [])) (answer_outcome (datum_val s) c.called_on_moment.result)) (sym c.in-Moment.is)
     (some_tells (answer_outcome (datum_val s) c.called_on_moment.result) (MakesText c.args.function) _ (c.called_on_moment.ensures now s))
 
-pub unreachable-requires : goal.unreachable-requires
-unreachable-requires c =
-    no_other_first one_reading c.args.function c.args.first [] (c.requires one_reading) c.in_default.not-Null c.in_default.not-Text c.in_default.not-Date c.in_default.not-Moment
+pub returns-in_default : goal.returns-in_default
+returns-in_default c = λ now r s.
+    null_gives now c.args.function (datum_val r c.args.first ∷ [])
+    (null_here (datum_val r c.args.first) [] (null_first r c.args.function c.args.first [] (c.requires r) c.in_default.not-Text c.in_default.not-Date c.in_default.not-Moment))

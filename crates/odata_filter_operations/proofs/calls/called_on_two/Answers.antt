@@ -1,4 +1,4 @@
-use Rattle.std.proofs.Common.{◌≡◌, [], SFits, w64, rules}
+use Rattle.std.proofs.Common.{◌≡◌, ◌∷◌, [], SFits, w64, rules}
 use Rattle.std.proofs.lemmas.Int.{to_z-of_z}
 use Rattle.std.specs.Str.{chars}
 use Rattle.std.specs.Cow.{cow_str_bytes}
@@ -6,7 +6,7 @@ use Rattle.odata_functions.specs.DatumVal.{datum_val}
 use Rattle.odata_functions.specs.Texts.{rest_from}
 use Rattle.odata_filter_operations.specs.Arguments.{MakesText}
 use Rattle.odata_filter_operations.specs.DatumView.{answer_outcome}
-use Rattle.odata_filter_operations.proofs.values.CallValues.{asked_substring, no_other_text, no_other_text_or_number, rest_gives, text_first, text_or_number, texts_apply, texts_tell}
+use Rattle.odata_filter_operations.proofs.values.CallValues.{asked_substring, null_behind, null_gives, null_here, null_text, null_text_or_number, rest_gives, text_first, text_or_number, texts_apply, texts_tell}
 use Rattle.odata_filter_operations.proofs.values.OneReading.{one_reading}
 use Rattle.odata_filter_operations.proofs.calls.called_on_two.Goals as goal
 
@@ -29,13 +29,16 @@ returns-in-Int c = λ now r s.
     (asked_substring r c.args.function c.args.first c.args.second c.in-Text.text c.in-Int.start c.in-Text.is c.in-Int.is (c.requires r)) c.in-Text.is c.in-Int.is
     (c.text_datum.ensures s) rest
 
-pub unreachable-requires : goal.unreachable-requires
-unreachable-requires c =
-    no_other_text_or_number one_reading c.args.second
-    (text_or_number c.args.function (datum_val one_reading c.args.first) (datum_val one_reading c.args.second) [] (c.requires one_reading))
-    c.in_default-second.not-Null c.in_default-second.not-Text c.in_default-second.not-Int
+pub returns-in-Text : goal.returns-in-Text
+returns-in-Text c = λ now r s.
+    null_gives now c.args.function (datum_val r c.args.first ∷ datum_val r c.args.second ∷ [])
+    (null_behind (datum_val r c.args.first) (datum_val r c.args.second ∷ [])
+    (null_here (datum_val r c.args.second) [] (null_text_or_number r c.args.second
+    (text_or_number c.args.function (datum_val r c.args.first) (datum_val r c.args.second) [] (c.requires r))
+    c.in_default-second.not-Text c.in_default-second.not-Int)))
 
-pub unreachable-requires-in_default : goal.unreachable-requires-in_default
-unreachable-requires-in_default c =
-    no_other_text one_reading c.args.first
-    (text_first c.args.function (datum_val one_reading c.args.first) (datum_val one_reading c.args.second) [] (c.requires one_reading)) c.in_default.not-Null c.in_default.not-Text
+pub returns : goal.returns
+returns c = λ now r s.
+    null_gives now c.args.function (datum_val r c.args.first ∷ datum_val r c.args.second ∷ [])
+    (null_here (datum_val r c.args.first) (datum_val r c.args.second ∷ [])
+    (null_text r c.args.first (text_first c.args.function (datum_val r c.args.first) (datum_val r c.args.second) [] (c.requires r)) c.in_default.not-Text))

@@ -9,7 +9,7 @@ use Rattle.odata_filter_operations.specs.DatumView.{reading_at}
 use Rattle.odata_filter_operations.proofs.values.MemberCounts.{some_member}
 use Rattle.odata_filter_operations.proofs.collections.any_item_of.Goals as goal
 
-pub returns-in-List : goal.returns-in-List
-returns-in-List c = λ slots member s.
+pub returns : goal.returns
+returns c = λ slots member s.
     subst (λ (d : Datum). AnyItemGives (datum_val (reading_at slots (collection member)) d) (gives (boolean (not c.is_empty.result)))) (sym c.in-List.is)
     (some_member slots member c.in-List.members.now c.is_empty.result c.is_empty.ensures)

@@ -1,7 +1,7 @@
-use Rattle.odata_filter_operations.proofs.values.OneReading.{no_other_truth, one_reading}
+use Rattle.odata_filter_operations.proofs.values.OneReading.{null_if_no_truth}
 use Rattle.odata_filter_operations.proofs.datum.truth_of.Goals as goal
 
-pub unreachable-requires : goal.unreachable-requires
-unreachable-requires c =
-    let truth = c.requires one_reading in
-    no_other_truth one_reading c.args.value.now truth.0 truth.1 c.in_default.not-Null c.in_default.not-Bool
+pub returns-in_default : goal.returns-in_default
+returns-in_default c = λ reading.
+    let truth = c.requires reading in
+    null_if_no_truth reading c.args.value.now truth.0 truth.1 c.in_default.not-Bool

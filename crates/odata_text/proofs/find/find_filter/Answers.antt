@@ -1,4 +1,5 @@
-use Rattle.std.proofs.Common.{option_map, tests}
+use Rattle.std.proofs.Common.{Err, option_map, tests}
+use Rattle.std.proofs.lemmas.Result.{err_from_is_err_and}
 use Rattle.std.proofs.lemmas.Iterator.Consumers.{YieldsList-end}
 use Rattle.std.proofs.lemmas.Iterator.Splits.{YieldsList-from_slice_split}
 use Rattle.odata_text.proofs.Common.{rules, map_push, ◌≢◌, ◌+◌, ◌==◌, ◌∷◌, [], ℕ, map, length-append, arith, refl, sym, ◌∙◌, ap}
@@ -17,14 +18,15 @@ after_piece-requires c =
     let room = found-room c.args.query.now c.in-Some.piece.now _ c.loop-piece.number c.loop-piece.start _ c.loop-piece.invariant.0 next in
     omega arith
 
-pub returns-in-Err : goal.returns-in-Err
-returns-in-Err c =
+pub returns-in_err-filter : goal.returns-in_err-filter
+returns-in_err-filter c =
     let next : IsNext c.args.query.now (map (λ o. o.now) c.loop-piece.yielded) c.loop-piece.number c.in-Some.piece.now =
     next-given c.args.query.now c.loop-piece.number c.loop-piece.yielded (λ o. o.now) c.loop-piece.piece-iterator c.loop-piece.yielded_by c.loop-piece.invariant.1 _ _ c.in-Some.piece c.in-Some.is c.next.ensures.steps
     (YieldsList-from_slice_split _ (λ b. b == 38) c.args.query.now (cc) (cc) refl (λ x r q k. search (rules, tests))) in
     let so_far = c.loop-piece.invariant.0 in
-    let faulty = λ (known : c.in-Err.fault ≢ Memory). found-fault c.args.query.now c.in-Some.piece.now _ c.loop-piece.number c.loop-piece.start _ c.in-Err.fault so_far next (c.in-Err.ensures.fault known _ (found-among (map (λ o. o.now) c.loop-piece.yielded) (option_map found_model c.loop-piece.filter) so_far.has)) in
-    record { found = tt; only = tt; fault = faulty; none = λ known found asked. no_find_fault c.args.query.now found asked c.in-Err.fault (faulty known) }
+    let faulty = λ (known : c.in_err-filter.field-0.0 ≢ Memory). found-fault c.args.query.now c.in-Some.piece.now _ c.loop-piece.number c.loop-piece.start _ c.in_err-filter.field-0.0 so_far next (c.in_err-filter.ensures.fault known _ (found-among (map (λ o. o.now) c.loop-piece.yielded) (option_map found_model c.loop-piece.filter) so_far.has)) in
+    let exit = err_from_is_err_and c.from_residual.result c.from_residual.ensures.1 in
+    rw (exit.1 ∙ ap Err exit.2) (record { found = tt; only = tt; fault = faulty; none = λ known found asked. no_find_fault c.args.query.now found asked c.in_err-filter.field-0.0 (faulty known) })
 
 pub overflow_add-start-in-loop-piece : goal.overflow_add-start-in-loop-piece
 overflow_add-start-in-loop-piece c =
@@ -36,7 +38,7 @@ overflow_add-start-in-loop-piece c =
 
 pub loop-piece-preserved : goal.loop-piece-preserved
 loop-piece-preserved c = (
-  rw (map_push (λ o. o.now) c.loop-piece.yielded c.in-Some.piece) (found-kept c.in-Some.piece.now _ c.loop-piece.start _ _ c.loop-piece.invariant.0 c.in-Ok.ensures.clear c.in-Ok.ensures.keeps),
+  rw (map_push (λ o. o.now) c.loop-piece.yielded c.in-Some.piece) (found-kept c.in-Some.piece.now _ c.loop-piece.start _ _ c.loop-piece.invariant.0 c.in_ok-filter.ensures.clear c.in_ok-filter.ensures.keeps),
   ap (λ (n : ℕ). n + 1) c.loop-piece.invariant.1 ∙ sym (length-append c.loop-piece.yielded (c.in-Some.piece ∷ [])),
 )
 

@@ -12,8 +12,8 @@ returns-in-Some-clause-outcome c =
     c.with_schema-checked.ensures ∙ ap (λ (schema : SchemaModel). filter_in schema c.held.inside.filter) c.deref.ensures ∙ c.held.view_is in
     outcome_there c.args.held.now given c.args.judge.now.bound row c.bounded_verdict.result
     (at_moment (λ filter now. IsOutcomeAt filter now c.args.judge.now.bound row c.bounded_verdict.result)
-    checked c.args.held.now given c.in-Ok.now same c.in-Ok.ensures.moment
-    (subst (λ (bound : Option ℕ). IsOutcomeAt checked c.in-Ok.now bound row c.bounded_verdict.result) (sym c.in-Some.is) c.bounded_verdict.ensures))
+    checked c.args.held.now given c.in_ok-now.now same c.in_ok-now.ensures.moment
+    (subst (λ (bound : Option ℕ). IsOutcomeAt checked c.in_ok-now.now bound row c.bounded_verdict.result) (sym c.in-Some.is) c.bounded_verdict.ensures))
 
 pub returns-clause-outcome : goal.returns-clause-outcome
 returns-clause-outcome c =
@@ -22,5 +22,5 @@ returns-clause-outcome c =
     c.with_schema-checked.ensures ∙ ap (λ (schema : SchemaModel). filter_in schema c.held.inside.filter) c.deref.ensures ∙ c.held.view_is in
     outcome_there c.args.held.now given c.args.judge.now.bound row c.plain_verdict.result
     (at_moment (λ filter now. IsOutcomeAt filter now c.args.judge.now.bound row c.plain_verdict.result)
-    checked c.args.held.now given c.in-Ok.now same c.in-Ok.ensures.moment
-    (subst (λ (bound : Option ℕ). IsOutcomeAt checked c.in-Ok.now bound row c.plain_verdict.result) (sym c.in-None.is) c.plain_verdict.ensures))
+    checked c.args.held.now given c.in_ok-now.now same c.in_ok-now.ensures.moment
+    (subst (λ (bound : Option ℕ). IsOutcomeAt checked c.in_ok-now.now bound row c.plain_verdict.result) (sym c.in-None.is) c.plain_verdict.ensures))

@@ -10,14 +10,14 @@ loop-preserved c =
     let i = c.loop.invariant in
     let k = c.loop.counter in
     let all = forest_trees c.args.self.now in
-    let tree = c.in-Some.tree in
-    let rest = reverse (map tree_of c.pop.new.self.items) in
+    let tree = c.take_last.result in
+    let rest = reverse (map tree_of c.take_last.new.self.items) in
     let next : suc k ≡ k + 1 = omega arith in
     let at : drop k all ≡ tree_of tree ∷ rest =
-    sym i.left ∙ ap (λ boxes. reverse (map tree_of boxes)) c.in-Some.ensures.items ∙ trees_more c.pop.new.self.items tree in
+    sym i.left ∙ ap (λ boxes. reverse (map tree_of boxes)) c.take_last.ensures.items ∙ trees_more c.take_last.new.self.items tree in
     record {
       taken =
-          ap (λ boxes. map tree_of boxes) c.in_ok-push-in-Some.ensures.items
+          ap (λ boxes. map tree_of boxes) c.in_ok-push.ensures.items
           ∙ map-append tree_of c.loop.items.items (tree ∷ [])
           ∙ ap (λ trees. trees ++ tree_of tree ∷ []) i.taken
           ∙ sym (take_next k all rest (tree_of tree) at)

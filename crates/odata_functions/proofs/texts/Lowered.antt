@@ -11,7 +11,7 @@ use Rattle.odata_functions.specs.Texts.{HasStart}
 use Rattle.odata_functions.proofs.Encodings.{Form, form, one, two, three, four}
 use Rattle.odata_functions.proofs.texts.Characters.{bytes_split}
 use Rattle.odata_functions.proofs.texts.Letters.{lower_text}
-use Rattle.odata_filter_operations.specs.LowerCase.{in_lower_case}
+use Rattle.odata_functions.specs.LowerCase.{in_lower_case}
 
 both_true : (a b : Bool) → (a && b) ≡ true → (a ≡ true) × (b ≡ true)
 both_true true true are = (refl, refl)

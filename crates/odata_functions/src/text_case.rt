@@ -3,9 +3,10 @@ ghost use Rattle.std.specs.Prelude.{◌↔◌, IsTrue, map};
 ghost use Rattle.std.specs.Char.{to_ascii_lowercase};
 ghost use Rattle.std.specs.Str.{chars};
 ghost use Rattle.odata_functions.specs.Texts.{HasStart};
-ghost use Rattle.odata_filter_operations.specs.LowerCase.{in_lower_case};
+ghost use Rattle.odata_functions.specs.LowerCase.{in_lower_case};
 
-/// Whether the text begins with the part once its ASCII letters are in lower case (sections 5.1.1.5.6 and 5.1.1.7.2).
+/// Returns whether the text in lower case begins with the part. Lower case is that of ASCII letters (sections
+/// 5.1.1.5.6 and 5.1.1.7.2).
 pub fn lower_starts_with(text: &str, part: &str) -> bool
     ensures { IsTrue result ↔ HasStart (chars (in_lower_case text.now)) (chars part.now) }
 {

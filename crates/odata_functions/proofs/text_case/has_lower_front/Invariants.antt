@@ -1,6 +1,6 @@
 use Rattle.std.proofs.Common.{◌≡◌, map, take}
 use Rattle.std.specs.Char.{to_ascii_lowercase}
-use Rattle.odata_filter_operations.proofs.text_case.has_lower_front.Given as goal
+use Rattle.odata_functions.proofs.text_case.has_lower_front.Given as goal
 
 -- so far they are the same
 abbrev pub invariant-loop-at : goal.invariant-loop-at

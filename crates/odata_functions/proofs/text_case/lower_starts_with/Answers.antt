@@ -1,8 +1,8 @@
 use Rattle.std.proofs.Common.{◌↔◌, ℕ, IsTrue, List, map, subst}
 use Rattle.std.specs.Char.{to_ascii_lowercase}
 use Rattle.odata_functions.specs.Texts.{HasStart}
-use Rattle.odata_filter_operations.proofs.values.Lowered.{lower_start}
-use Rattle.odata_filter_operations.proofs.text_case.lower_starts_with.Goals as goal
+use Rattle.odata_functions.proofs.texts.Lowered.{lower_start}
+use Rattle.odata_functions.proofs.text_case.lower_starts_with.Goals as goal
 
 pub returns : goal.returns
 returns c =

@@ -1,7 +1,7 @@
 use Rattle.std.proofs.Common.{◌≤◌, arith, length, map, refl}
 use Rattle.std.specs.Char.{to_ascii_lowercase}
-use Rattle.odata_filter_operations.proofs.values.Fronts.{begins}
-use Rattle.odata_filter_operations.proofs.text_case.has_lower_front.Goals as goal
+use Rattle.odata_functions.proofs.texts.Fronts.{begins}
+use Rattle.odata_functions.proofs.text_case.has_lower_front.Goals as goal
 
 pub returns : goal.returns
 returns c =
