@@ -1,5 +1,4 @@
 pub use Rattle.edm_entities.specs.RowReading
 pub use Rattle.edm_row_plans.specs.Plans
-pub mod HeldSchema
 pub mod RowsOfType
 pub mod private

@@ -50,16 +50,12 @@ fn take_sure(line: &RoomyLine<'_>, slot: &RowSlot, place: usize, value: &mut Val
         → GoesOn scene slot.now value.old value.new }
     ensures none { result ≡ Taken.Nothing → value.new ≡ value.old }
 {
-    if let Task::Number = slot.task {
-        return take_digits(line, slot, place, value);
+    match slot.task {
+        Task::Number => take_digits(line, slot, place, value),
+        Task::Truth => take_truth(line, slot, place, value),
+        Task::Text => take_text(line, slot, place, value),
+        _ => Taken::Nothing,
     }
-    if let Task::Text = slot.task {
-        return take_text(line, slot, place, value);
-    }
-    if let Task::Truth = slot.task {
-        return take_truth(line, slot, place, value);
-    }
-    Taken::Nothing
 }
 
 /// The same of a value after white space, and of what is seldom.
@@ -149,8 +145,7 @@ pub(crate) fn take_members(
     requires depth { cache.old.depth ≡ 126 }
     requires conforms { RowConforms (root_slots scene.now) (root_properties scene.now) values.old }
     ensures read { TakesRow scene.now plan.now values.new from result }
-    ensures conforms { result ≢ Taken.Broken
-        → RowConforms (root_slots scene.now) (root_properties scene.now) values.new }
+    ensures conforms { result ≢ Taken.Broken → RowConforms (root_slots scene.now) (root_properties scene.now) values.new }
 {
     let mut so_far = Progress {
         place: from,
@@ -159,7 +154,7 @@ pub(crate) fn take_members(
     };
     'members: loop {
         let Some(found) = next_member(cache, scene, plan, so_far.order, so_far.place) else {
-            return take_empty(scene, plan, from, values);
+            return Taken::Nothing;
         };
         let read = match take_found(cache, scene, plan, found, so_far, values) {
             Step::Read(read) => read,
@@ -184,26 +179,6 @@ pub(crate) fn take_members(
             None => return Taken::Nothing,
         }
     }
-}
-
-/// Takes the brace of a row without members.
-#[inline(never)]
-fn take_empty(scene: &Scene<'_>, plan: &RowType, from: usize, values: &mut [Value]) -> Taken
-    requires plan { IsRootType scene.now plan.now }
-    requires within { from ≤ length scene.now.line }
-    requires conforms { RowConforms (root_slots scene.now) (root_properties scene.now) values.old }
-    ensures read { TakesRow scene.now plan.now values.new from result }
-    ensures conforms { RowConforms (root_slots scene.now) (root_properties scene.now) values.new }
-{
-    let line = &scene.line;
-    let brace = past_blanks(line, from);
-    if line.byte(brace) != b'}' {
-        return Taken::Nothing;
-    }
-    if !ends_row(plan, 0, values) {
-        return Taken::Nothing;
-    }
-    Taken::Put(brace + 1)
 }
 
 /// Takes the value of the member that was found.
@@ -241,6 +216,9 @@ fn take_found(
             Some(read) => Step::Read(read),
             None => Step::Nothing,
         };
+    }
+    if so_far.seen & slot.bit != 0 {
+        return Step::Nothing;
     }
     match take_value(cache, scene, slot, found.place, &mut values[slot.index]) {
         Taken::Put(end) => Step::Read(Progress {
@@ -343,11 +321,14 @@ fn pass_next(
     pass_found(cache, scene, slot, found.place, so_far.seen)
 }
 
-/// Whether the slot was seen before.
+/// Whether the slot is kept and was seen before.
 #[inline(always)]
 fn comes_again(slot: &RowSlot, seen: u64) -> bool
-    ensures { result ≡ false → bit_and seen slot.now.bit ≡ 0 }
+    ensures { result ≡ false → slot.now.is_kept ≡ true → bit_and seen slot.now.bit ≡ 0 }
 {
+    if !slot.is_kept {
+        return false;
+    }
     seen & slot.bit != 0
 }
 

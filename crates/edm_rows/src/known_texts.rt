@@ -10,7 +10,8 @@ ghost use Rattle.edm_rows.specs.private.RowSlots.{name_at};
 
 use super::row_types::PLACES;
 use csdl_schema::{EnumId, Schema};
-use json_room::{DecodeBuffer, RoomyLine, are_front, text_at};
+use json_room::{RoomyLine, text_at};
+use json_tokens::Scratch;
 use spare_values::Spares;
 use std::alloc::Global;
 use std::simd::prelude::*;
@@ -20,14 +21,14 @@ const KNOWN: usize = 32;
 /// A text of so many bytes or more is not kept.
 const TOO_LONG: usize = 16;
 
-/// What is kept from row to row and says nothing of one: in which order members came, and which text of an enumeration
-/// was looked up last.
+/// What is kept from row to row and says nothing of one: in which order members came, and which text of an enumeration was
+/// looked up last.
 #[derive(Drop)]
 pub(crate) struct Cache {
     pub(crate) alloc: Global,
-    pub(crate) decoded: DecodeBuffer,
+    pub(crate) scratch: Scratch,
     /// After each member, the slot that came next the last time.
-    pub(crate) next: [u8; PLACES],
+    pub(crate) next: [usize; PLACES],
     pub(crate) noted: Option<Noted>,
     /// What values with parts are filled again from.
     pub(crate) spares: Spares,
@@ -69,7 +70,7 @@ impl Cache {
     pub(crate) fn new(alloc: Global) -> Cache {
         Cache {
             alloc,
-            decoded: DecodeBuffer::new(alloc),
+            scratch: Scratch::new(alloc),
             next: [0; PLACES],
             noted: None,
             spares: Spares::new(alloc),
@@ -114,6 +115,21 @@ fn before_quote(lanes: u8x16) -> usize
         .simd_eq(u8x16::splat(b'"'))
         .to_bitmask()
         .trailing_zeros() as usize
+}
+
+/// Whether sixteen bytes are these, where the mask has all bits.
+#[inline(always)]
+fn are_front(lanes: u8x16, mask: u8x16, front: u8x16) -> bool
+    ensures { IsTrue result → (k : ℕ) → k < 16 → get_or mask k 0 ≡ 255 → get_or lanes k 0 ≡ get_or front k 0 }
+{
+    are_equal_16(lanes & mask, front)
+}
+
+#[inline(always)]
+fn are_equal_16(lanes: u8x16, others: u8x16) -> bool
+    ensures { IsTrue result → lanes ≡ others }
+{
+    lanes.simd_eq(others).to_bitmask() == 0xffff
 }
 
 impl KnownTexts {

@@ -7,10 +7,11 @@ ghost use Rattle.edm_rows.specs.private.Scenes.{FindsMember, IsScene, PassesMemb
 
 use super::known_texts::Cache;
 use super::passed_any::any_end;
-use super::passed_value::{Scene, value_end};
+use super::passed_value::{Scene, text_there, value_end};
 use super::row_types::{RowSlot, RowType};
 use csdl_schema::Schema;
-use json_room::{DecodeBuffer, RoomyLine, any_text_at, past_blanks};
+use json_room::{RoomyLine, past_blanks};
+use json_tokens::Scratch;
 
 /// A member: its slot and the place of its value; or one without a slot, and the place after its value.
 #[derive(Clone, Copy, Drop)]
@@ -58,18 +59,7 @@ fn after_blanks(line: &RoomyLine<'_>, end: usize) -> Option<After>
 fn likely_slot(cache: &Cache, order: usize) -> usize
     requires { order < 1024 }
 {
-    cache.next[order] as usize
-}
-
-/// Notes that the slot that was found comes next there.
-fn note_next(cache: &mut Cache, order: usize)
-    requires { order < 1024 }
-    ensures depth { cache.new.depth ≡ cache.old.depth }
-    ensures slot { cache.new.slot ≡ cache.old.slot }
-{
-    if let Ok(slot) = u8::try_from(cache.slot) {
-        cache.next[order] = slot;
-    }
+    cache.next[order]
 }
 
 /// The next member. Mostly it is the one that came next the last time.
@@ -143,14 +133,14 @@ fn other_member(
         return None;
     };
     if cache.slot < plan.slots.len() {
-        note_next(cache, order);
+        cache.next[order] = cache.slot;
         return Some(value);
     }
     any_end(
         line,
         past_blanks(line, value),
         cache.depth,
-        &mut cache.decoded,
+        &mut cache.scratch,
     )
 }
 
@@ -169,7 +159,7 @@ fn named_member(cache: &mut Cache, scene: &Scene<'_>, plan: &RowType, place: usi
             return Some(end);
         }
     }
-    let Some((slot, end)) = slot_at(&mut cache.decoded, scene.schema, plan, line, place) else {
+    let Some((slot, end)) = slot_at(&mut cache.scratch, scene.schema, plan, line, place) else {
         return None;
     };
     cache.slot = slot;
@@ -178,7 +168,7 @@ fn named_member(cache: &mut Cache, scene: &Scene<'_>, plan: &RowType, place: usi
 
 /// The slot of the name that stands there, and the place after its colon.
 fn slot_at(
-    buffer: &mut DecodeBuffer,
+    scratch: &mut Scratch,
     schema: &Schema,
     plan: &RowType,
     line: &RoomyLine<'_>,
@@ -189,7 +179,7 @@ fn slot_at(
     ensures { IfSome result (λ found.
         FindsName line.now (properties_at schema.now plan.now.type_id) found.0 place found.1) }
 {
-    let Some((name, end)) = any_text_at(line, place, buffer) else {
+    let Some((name, end)) = text_there(scratch, line, place) else {
         return None;
     };
     let colon = past_blanks(line, end);

@@ -11,10 +11,62 @@ ghost use Rattle.edm_rows.specs.private.Held.{PassesTo, ReadsTo};
 ghost use Rattle.edm_rows.specs.private.Members.{PassesAnyMember};
 
 use json_room::{
-    DecodeBuffer, RoomyLine, any_text_end, null_end, number_at, past_blanks, short_number_end,
-    truth_end,
+    RoomyLine, null_end, number_at, past_blanks, short_number_end, text_end, truth_end,
 };
-use json_tokens::number_of_text;
+use json_tokens::{Scratch, escaped_at, number_of_text};
+
+/// The place after the text whose quote stands there.
+#[inline(always)]
+pub(crate) fn any_text_end(
+    line: &RoomyLine<'_>,
+    place: usize,
+    scratch: &mut Scratch,
+) -> Option<usize>
+    requires { place ≤ length line.now }
+    ensures further { IfSome result (λ to. place < to) }
+    ensures text { IfSome result (λ to. (s : List ℕ) × IsTextAt line.now place s to × IsUtf8 s) }
+{
+    match text_end(line, place) {
+        Some(end) => Some(end),
+        None => escaped_text_end(line, place, scratch),
+    }
+}
+
+/// The same of a text that may have escapes.
+#[inline(never)]
+pub(crate) fn escaped_text_end(
+    line: &RoomyLine<'_>,
+    place: usize,
+    scratch: &mut Scratch,
+) -> Option<usize>
+    requires { place ≤ length line.now }
+    ensures further { IfSome result (λ to. place < to) }
+    ensures text { IfSome result (λ to. (s : List ℕ) × IsTextAt line.now place s to × IsUtf8 s) }
+{
+    match escaped_text_at(line, place, scratch) {
+        Some((_, end)) => Some(end),
+        None => None,
+    }
+}
+
+/// The text whose quote stands there, which may have escapes, and the place after it.
+pub(crate) fn escaped_text_at<'t>(
+    line: &'t RoomyLine<'_>,
+    place: usize,
+    scratch: &'t mut Scratch,
+) -> Option<(&'t str, usize)>
+    requires { place ≤ length line.now }
+    ensures further { IfSome result (λ found. place < found.1) }
+    ensures text { IfSome result (λ found. IsTextAt line.now place found.0.now found.1) }
+{
+    if line.byte(place) != b'"' {
+        return None;
+    }
+    match escaped_at(line.text(), place, scratch) {
+        Some((text, end)) => if end > place { Some((text, end)) } else { None },
+        None => None,
+    }
+}
 
 /// The place after a number that has a value.
 #[inline(always)]
@@ -43,13 +95,13 @@ pub(crate) fn any_end(
     line: &RoomyLine<'_>,
     place: usize,
     depth: usize,
-    buffer: &mut DecodeBuffer,
+    scratch: &mut Scratch,
 ) -> Option<usize>
     requires { place ≤ length line.now }
     ensures { IfSome result (λ to. ReadsTo depth line.now place to (λ json. Unit {0})) }
 {
     match line.byte(place) {
-        b'"' => any_text_end(line, place, buffer),
+        b'"' => any_text_end(line, place, scratch),
         b't' | b'f' => match truth_end(line, place) {
             Some((_, end)) => Some(end),
             None => None,
@@ -58,12 +110,12 @@ pub(crate) fn any_end(
         b'[' => if depth == 0 {
             None
         } else {
-            items_end(line, place + 1, depth - 1, buffer)
+            items_end(line, place + 1, depth - 1, scratch)
         },
         b'{' => if depth == 0 {
             None
         } else {
-            members_end(line, place + 1, depth - 1, buffer)
+            members_end(line, place + 1, depth - 1, scratch)
         },
         _ => any_number_end(line, place),
     }
@@ -76,7 +128,7 @@ fn items_end(
     line: &RoomyLine<'_>,
     from: usize,
     depth: usize,
-    buffer: &mut DecodeBuffer,
+    scratch: &mut Scratch,
 ) -> Option<usize>
     requires { from ≤ length line.now }
     ensures { IfSome result (λ to. PassesTo line.now from to
@@ -87,7 +139,7 @@ fn items_end(
         return Some(place + 1);
     }
     'items: loop {
-        match any_end(line, place, depth, buffer) {
+        match any_end(line, place, depth, scratch) {
             Some(end) => place = past_blanks(line, end),
             None => return None,
         }
@@ -106,7 +158,7 @@ fn members_end(
     line: &RoomyLine<'_>,
     from: usize,
     depth: usize,
-    buffer: &mut DecodeBuffer,
+    scratch: &mut Scratch,
 ) -> Option<usize>
     requires { from ≤ length line.now }
     ensures { IfSome result (λ to. PassesTo line.now from to
@@ -117,7 +169,7 @@ fn members_end(
         return Some(place + 1);
     }
     'members: loop {
-        match member_end(line, place, depth, buffer) {
+        match member_end(line, place, depth, scratch) {
             Some(end) => place = past_blanks(line, end),
             None => return None,
         }
@@ -136,17 +188,17 @@ fn member_end(
     line: &RoomyLine<'_>,
     place: usize,
     depth: usize,
-    buffer: &mut DecodeBuffer,
+    scratch: &mut Scratch,
 ) -> Option<usize>
     requires { place ≤ length line.now }
     ensures { IfSome result (PassesAnyMember depth line.now place) }
 {
-    let Some(end) = any_text_end(line, place, buffer) else {
+    let Some(end) = any_text_end(line, place, scratch) else {
         return None;
     };
     let colon = past_blanks(line, end);
     if line.byte(colon) != b':' {
         return None;
     }
-    any_end(line, past_blanks(line, colon + 1), depth, buffer)
+    any_end(line, past_blanks(line, colon + 1), depth, scratch)
 }
