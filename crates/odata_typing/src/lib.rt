@@ -21,7 +21,7 @@ mod lambda;
 mod laws_below;
 mod literal;
 mod node;
-mod operand_text;
+mod pairing;
 mod property;
 mod reading;
 mod setting;
