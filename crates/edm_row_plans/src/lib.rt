@@ -5,7 +5,7 @@
 //! use edm_row_plans::RowPlan;
 //!
 //! let mut plan = RowPlan::new(alloc, &schema, id, &Expansion::none(alloc));
-//! plan.pass_collections();
+//! plan.pass_collections(&schema)?;
 //! plan.keep(&schema, "Tags");
 //! ```
 #![tactic(auto)]

@@ -2,6 +2,7 @@
 ghost use Rattle.std.specs.Prelude.{◌<◌, length};
 
 use csdl_schema::Expansion;
+use edm_values::Value;
 use odata_syntax::BinaryOperator::{Comparison, Logical};
 use odata_syntax::ComparisonOperator::{Eq, Gt, Lt, Ne};
 use odata_syntax::LiteralKind::{Bool, Int, Null, Str};
@@ -14,7 +15,7 @@ use std::alloc::{AllocError, Global};
 /// is an array, and a range variable goes by its name. Other forms than these are left out: null, truth values, whole
 /// numbers, texts, properties, members, variables, `not`, `and`, `or`, `eq`, `ne`, `gt`, `lt` and `any`; and none that
 /// leads over navigation properties, whose entities are rows of other tables. Texts are in OData's order where columns
-/// have the collation "C".
+/// have the collation "C". A text that stands for a value of an enumeration is left out.
 pub fn condition(alloc: Global, filter: &Checked<'_>) -> Result<Option<String>, AllocError> {
     if !Expansion::none(alloc).covers(filter.expansion()) {
         return Ok(None);
@@ -23,6 +24,9 @@ pub fn condition(alloc: Global, filter: &Checked<'_>) -> Result<Option<String>, 
     let mut parts = Vec::new(alloc);
     for place in (0..filter.nodes().len()).rev() {
         let (kind, text) = (filter.nodes()[place].kind, filter.text(place));
+        if stands_for_member(filter, kind) {
+            return Ok(None);
+        }
         let (first, second) = match kind {
             NodeKind::Member { .. } | NodeKind::Not => (parts.pop(), None),
             NodeKind::Binary { .. } | NodeKind::Lambda { .. } => (parts.pop(), parts.pop()),
@@ -34,6 +38,17 @@ pub fn condition(alloc: Global, filter: &Checked<'_>) -> Result<Option<String>, 
         }
     }
     Ok(parts.pop())
+}
+
+/// Whether a node is a literal that stands for a value of an enumeration.
+fn stands_for_member(filter: &Checked<'_>, kind: NodeKind) -> bool {
+    match kind {
+        NodeKind::Literal { value, .. } => match filter.values().get(value) {
+            Some(Value::Enum(_)) => true,
+            _ => false,
+        },
+        _ => false,
+    }
 }
 
 /// A node's SQL, made of its children's results; `None` where it is left out. `eq` and `ne` take null for a value, `gt`

@@ -10,7 +10,7 @@ pub(crate) const LONGEST_LINE: usize = 1_048_576;
 
 /// The finding about an item. A line that is too long or blank is not judged; items of other kinds may all be.
 #[derive(Debug, Drop)]
-pub(crate) enum Finding<F> {
+pub enum Finding<F> {
     TooLong,
     PassedOver,
     Judged(Judgment<F>),

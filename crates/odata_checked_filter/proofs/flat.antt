@@ -3,6 +3,8 @@ pub mod Alone
 pub mod Changes
 pub mod Children
 pub mod Forests
+pub mod Kept
+pub mod Lying
 pub mod Nodes
 pub mod Numbered
 pub mod Parts

@@ -23,7 +23,7 @@ use Rattle.odata_checked_filter.specs.NameKinds.{IsSlotAt}
 use Rattle.odata_checked_filter.specs.FlatTree.{FlatTree, tree_of_nodes}
 use Rattle.odata_checked_filter.specs.ListChanges.{IsKeptOutside, node_put}
 use Rattle.odata_checked_filter.specs.PropertyPaths.{node_paths, path_text, property_paths}
-use Rattle.odata_checked_filter.specs.Stands.{ChildrenStand, IsKindOf, Stands, text_of_shape}
+use Rattle.odata_checked_filter.specs.Stands.{ChildrenStand, HasOwnValue, IsKindOf, Stands, text_of_shape}
 
 -- a list of nodes stands for one tree at most, which is the tree of the list
 abbrev pub OneTree : Type 0
@@ -83,7 +83,8 @@ PutStands =
     (schema : SchemaModel) (n : ℕ) (scope : Scope) (list : FlatTree) (place : ℕ) (put : CheckedNode) (shape : Shape)
     → place < length list.nodes
     → length list.texts ≡ length list.nodes
-    → IsKindOf list.values (slots_of schema) (type_name_at schema n) scope shape put.kind
+    → IsKindOf (slots_of schema) (type_name_at schema n) scope shape put.kind
+    → HasOwnValue list.values (slots_of schema) shape put.kind
     → Typed (slots_of schema) (type_name_at schema n) scope (node put.span.start put.span.stop shape)
     (expr_type schema put.edm_type)
     → ChildrenStand schema n scope list (place + 1) put.stop shape

@@ -1,6 +1,7 @@
 -- How a list of nodes changes while its nodes are put at their indexes.
-use Rattle.std.specs.Prelude.{◌≡◌, ◌⊎◌, ◌<◌, ◌≤◌, ℕ, List, [], ◌∷◌, ◌++◌, Some, length, replicate, slice_get, slice_set}
+use Rattle.std.specs.Prelude.{◌≡◌, ◌⊎◌, ◌<◌, ◌≤◌, ℕ, ℤ, List, [], ◌∷◌, ◌++◌, Some, length, replicate, slice_get, slice_set}
 use Rattle.edm_values.specs.declared.value.Value.{Value}
+use Rattle.odata_syntax.specs.declared.node.LiteralKind.{LiteralKind}
 use Rattle.odata_signatures.specs.declared.edm_type.EdmType.{EdmType}
 use Rattle.odata_checked_filter.specs.declared.checked_node.CheckedNode.{CheckedNode}
 use Rattle.odata_checked_filter.specs.declared.checked_node.NodeKind.{NodeKind}
@@ -27,6 +28,14 @@ with_value list value = record list { values = list.values ++ value ∷ [] }
 abbrev pub node_put : FlatTree → ℕ → CheckedNode → List ℕ → FlatTree
 node_put list place put text =
     record list { nodes = slice_set list.nodes place put; texts = slice_set list.texts place text }
+
+-- the String literal whose node is found at that index has a number, which is put after the other values, as its value
+abbrev pub number_put : FlatTree → ℕ → CheckedNode → ℤ → FlatTree
+number_put list place found number =
+    record list {
+      nodes = slice_set list.nodes place (record found { kind = NodeKind.Literal LiteralKind.Str (length list.values) });
+      values = list.values ++ Value.Enum number ∷ [];
+    }
 
 -- outside the indexes from the i-th up to the j-th all stands as it stood, and values have only been put after the
 -- others

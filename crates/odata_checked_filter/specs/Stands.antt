@@ -4,7 +4,6 @@ use Rattle.edm_values.specs.PlainVal.{plain_val}
 use Rattle.edm_values.specs.Val.{Val}
 use Rattle.edm_values.specs.declared.value.Value.{Value}
 use Rattle.odata_syntax.specs.Tree.{Tree, Trees, node, Shape, literal, it, name, member, count, negation, logical_not, binary, has, in_list, in_path, call, any_item, lambda, more_trees, no_trees}
-use Rattle.odata_syntax.specs.declared.binary_operator.BinaryOperator.{BinaryOperator}
 use Rattle.odata_syntax.specs.declared.node.LiteralKind.{LiteralKind}
 use Rattle.csdl_schema.specs.ExprType.{ExprType, SingleType, single, structured}
 use Rattle.csdl_schema.specs.SchemaModel.{PropertyModel, SchemaModel, Slots, slots_of, type_name_at, slot_named}
@@ -13,7 +12,7 @@ use Rattle.odata_checked_filter.specs.declared.checked_node.NodeKind.{NodeKind}
 use Rattle.odata_checked_filter.specs.FlatTree.{FlatTree}
 use Rattle.odata_checked_filter.specs.Levels.{level_named}
 use Rattle.odata_expression_types.specs.LiteralValue.{LiteralValue}
-use Rattle.odata_expression_types.specs.Reads.{OfEquality, ReadNone, ReadsNone, ReadsNumber}
+use Rattle.odata_expression_types.specs.Reads.{OfEquality, ReadsNone, ReadsNumber}
 use Rattle.odata_expression_types.specs.Typed.{BindsVariable, Scope, Typed, with_variable}
 use Rattle.odata_signatures.specs.Functions.{IsNamed}
 use Rattle.odata_signatures.specs.TypeView.{expr_type}
@@ -29,11 +28,10 @@ pub record IsValueOf (slots : Slots) (kind : LiteralKind) (spelling : List ℕ) 
   pub plain : plain_val value ≡ Some val
   pub value_of : LiteralValue slots kind spelling val
 
--- the kind of a literal's node: it has the index of the literal's value
-abbrev pub IsLiteralNode : Slots → List Value → LiteralKind → List ℕ → NodeKind → Type 0
-IsLiteralNode slots values kind spelling (NodeKind.Literal k place) =
-    (k ≡ kind) × IsSomeAnd (slice_get values place) (IsValueOf slots kind spelling)
-IsLiteralNode slots values kind spelling _ = ⊥
+-- the kind of a literal's node
+abbrev pub IsLiteralNode : LiteralKind → NodeKind → Type 0
+IsLiteralNode kind (NodeKind.Literal k place) = k ≡ kind
+IsLiteralNode kind _ = ⊥
 
 -- the kind of a name's node: a variable by its level, or else a property by its slot
 abbrev pub IsNameNode : List PropertyModel → List (List ℕ) → List ℕ → NodeKind → Type 0
@@ -54,76 +52,32 @@ IsCallNode asked NodeKind.Now = IsNamed Function.Now asked
 IsCallNode asked (NodeKind.Call function) = IsNamed function asked × (function ≢ Function.Now)
 IsCallNode asked _ = ⊥
 
--- a node of that kind, in which no literal is read
-pub record IsUnreadNode (plain : NodeKind) (Unread : Type 0) (k : NodeKind) : Type 0 where
-  pub kind_is : k ≡ plain
-  pub none : Unread
+-- the kind of a node, where these types are, the filtered type is root and these variables are in scope
+abbrev pub IsKindOf : Slots → List ℕ → Scope → Shape → NodeKind → Type 0
+IsKindOf slots root scope (literal kind spelling) k = IsLiteralNode kind k
+IsKindOf slots root scope it k = k ≡ NodeKind.It
+IsKindOf slots root scope (name asked) k = IsNameNode (slots.properties root) (variable_names scope) asked k
+IsKindOf slots root scope (member base asked) k = IsMemberNode slots (Typed slots root scope base) asked k
+IsKindOf slots root scope (count base) k = k ≡ NodeKind.Count
+IsKindOf slots root scope (negation operand) k = k ≡ NodeKind.Neg
+IsKindOf slots root scope (logical_not operand) k = k ≡ NodeKind.Not
+IsKindOf slots root scope (binary operator left right) k = k ≡ NodeKind.Binary operator
+IsKindOf slots root scope (has left right) k = k ≡ NodeKind.Has
+IsKindOf slots root scope (in_list left items) k = k ≡ NodeKind.InList
+IsKindOf slots root scope (in_path left path) k = k ≡ NodeKind.InPath
+IsKindOf slots root scope (call asked arguments) k = IsCallNode asked k
+IsKindOf slots root scope (any_item base) k = k ≡ NodeKind.AnyItem
+IsKindOf slots root scope (lambda quantifier base variable body) k = k ≡ NodeKind.Lambda quantifier
 
--- a node in which a literal is read as a number, which stands at an index of the values
-pub record IsPairedNode (values : List Value) (paired : ℕ → NodeKind) (Reads : ℤ → Type 0) (k : NodeKind) : Type 0 where
-  pub place : ℕ
-  pub number : ℤ
-  pub kind_is : k ≡ paired place
-  pub number_at : slice_get values place ≡ Some (Value.Enum number)
-  pub reads : Reads number
+-- a literal's node has the index of a value of which this holds
+abbrev pub HasValue : List Value → (Value → Type 0) → NodeKind → Type 0
+HasValue values IsIt (NodeKind.Literal k place) = IsSomeAnd (slice_get values place) IsIt
+HasValue values IsIt _ = ⊥
 
--- the kind of an operator's node: by itself, or with the index of the number of its right side or of its left one
-abbrev pub IsOperatorNode : List Value → BinaryOperator → (ℤ → Type 0) → (ℤ → Type 0) → NodeKind → Type 0
-IsOperatorNode values operator ReadsRight ReadsLeft k =
-    IsUnreadNode (NodeKind.Binary operator) (((n : ℤ) → ¬ ReadsRight n) × ((n : ℤ) → ¬ ReadsLeft n)) k
-    ⊎ (IsPairedNode values (λ place. NodeKind.PairedRight operator place) ReadsRight k
-    ⊎ IsPairedNode values (λ place. NodeKind.PairedLeft operator place)
-    (λ n. ((m : ℤ) → ¬ ReadsRight m) × ReadsLeft n) k)
-
--- the kind of the node of `has`, likewise
-abbrev pub IsFlagsNode : List Value → (ℤ → Type 0) → NodeKind → Type 0
-IsFlagsNode values ReadsRight k =
-    IsUnreadNode NodeKind.Has ((n : ℤ) → ¬ ReadsRight n) k
-    ⊎ IsPairedNode values (λ place. NodeKind.PairedHas place) ReadsRight k
-
--- at an index of the values stands the number of an item that is read; for any other one null
-abbrev pub IsItemNumber : List Value → Slots → (ExprType → Type 0) → Tree → ℕ → Type 0
-IsItemNumber values slots Beside item place =
-    ((n : ℤ) × ReadsNumber slots Beside item n × (slice_get values place ≡ Some (Value.Enum n)))
-    ⊎ (ReadsNone slots Beside item × (slice_get values place ≡ Some Value.Null))
-
--- likewise for each item, one after another
-abbrev pub AreItemNumbers : List Value → Slots → (ExprType → Type 0) → Trees → ℕ → Type 0
-AreItemNumbers values slots Beside no_trees place = Unit {0}
-AreItemNumbers values slots Beside (more_trees item items) place =
-    IsItemNumber values slots Beside item place × AreItemNumbers values slots Beside items (place + 1)
-
--- a node of `in` with the index from which on these stand
-pub record IsNumberedList
-    (values : List Value) (slots : Slots) (Beside : ExprType → Type 0) (items : Trees) (k : NodeKind) : Type 0 where
-  pub place : ℕ
-  pub kind_is : k ≡ NodeKind.PairedList place
-  pub numbers : AreItemNumbers values slots Beside items place
-
--- the kind of the node of `in` before a list
-abbrev pub IsListNode : List Value → Slots → (ExprType → Type 0) → Trees → NodeKind → Type 0
-IsListNode values slots Beside items k =
-    IsUnreadNode NodeKind.InList (ReadNone slots Beside items) k ⊎ IsNumberedList values slots Beside items k
-
--- the kind of a node, where these values and types are, the filtered type is root and these variables are in scope
-abbrev pub IsKindOf : List Value → Slots → List ℕ → Scope → Shape → NodeKind → Type 0
-IsKindOf values slots root scope (literal kind spelling) k = IsLiteralNode slots values kind spelling k
-IsKindOf values slots root scope it k = k ≡ NodeKind.It
-IsKindOf values slots root scope (name asked) k = IsNameNode (slots.properties root) (variable_names scope) asked k
-IsKindOf values slots root scope (member base asked) k = IsMemberNode slots (Typed slots root scope base) asked k
-IsKindOf values slots root scope (count base) k = k ≡ NodeKind.Count
-IsKindOf values slots root scope (negation operand) k = k ≡ NodeKind.Neg
-IsKindOf values slots root scope (logical_not operand) k = k ≡ NodeKind.Not
-IsKindOf values slots root scope (binary operator left right) k =
-    IsOperatorNode values operator (ReadsNumber slots (OfEquality operator (Typed slots root scope left)) right)
-    (ReadsNumber slots (OfEquality operator (Typed slots root scope right)) left) k
-IsKindOf values slots root scope (has left right) k =
-    IsFlagsNode values (ReadsNumber slots (Typed slots root scope left) right) k
-IsKindOf values slots root scope (in_list left items) k = IsListNode values slots (Typed slots root scope left) items k
-IsKindOf values slots root scope (in_path left path) k = k ≡ NodeKind.InPath
-IsKindOf values slots root scope (call asked arguments) k = IsCallNode asked k
-IsKindOf values slots root scope (any_item base) k = k ≡ NodeKind.AnyItem
-IsKindOf values slots root scope (lambda quantifier base variable body) k = k ≡ NodeKind.Lambda quantifier
+-- a literal's node has what the literal stands for by itself; no other node has a value
+abbrev pub HasOwnValue : List Value → Slots → Shape → NodeKind → Type 0
+HasOwnValue values slots (literal kind spelling) k = HasValue values (IsValueOf slots kind spelling) k
+HasOwnValue values slots _ k = Unit {0}
 
 -- the text beside a node
 abbrev pub text_of_shape : Shape → List ℕ
@@ -133,13 +87,15 @@ text_of_shape (member base asked) = asked
 text_of_shape (lambda quantifier base variable body) = variable
 text_of_shape _ = []
 
--- the i-th node is the tree's top node, with its text, and stops at j
+-- the i-th node is the tree's top node, with its text, and stops at j; this holds of its kind beside that
 pub record IsTop
-    (schema : SchemaModel) (n : ℕ) (scope : Scope) (list : FlatTree) (i j start stop : ℕ) (shape : Shape) : Type 0 where
+    (schema : SchemaModel) (n : ℕ) (scope : Scope) (list : FlatTree) (i j start stop : ℕ) (shape : Shape)
+    (Valued : NodeKind → Type 0) : Type 0 where
   pub found : CheckedNode
   pub stands_at : slice_get list.nodes i ≡ Some found
   pub text_at : slice_get list.texts i ≡ Some (text_of_shape shape)
-  pub kind : IsKindOf list.values (slots_of schema) (type_name_at schema n) scope shape found.kind
+  pub kind : IsKindOf (slots_of schema) (type_name_at schema n) scope shape found.kind
+  pub valued : Valued found.kind
   pub starts : found.span.start ≡ start
   pub stops : found.span.stop ≡ stop
   pub last : found.stop ≡ j
@@ -169,12 +125,29 @@ abbrev pub InLine : List (ℕ → ℕ → Type 0) → ℕ → ℕ → Type 0
 InLine [] i j = i ≡ j
 InLine (Part ∷ parts) i j = SideBySide (λ middle. Part i middle) (λ middle. InLine parts middle j)
 
+-- the nodes from the i-th up to the j-th are one, of a String literal that is read as a number of an enumeration and has
+-- this number as its value
+abbrev pub NumberStands : SchemaModel → ℕ → Scope → FlatTree → ℤ → ℕ → ℕ → Tree → Type 0
+NumberStands schema n scope list number i j (node start stop (literal LiteralKind.Str spelling)) =
+    HasTop (IsTop schema n scope list i j start stop (literal LiteralKind.Str spelling)
+    (HasValue list.values (λ value. value ≡ Value.Enum number))) (i + 1 ≡ j)
+NumberStands schema n scope list number i j _ = ⊥
+
+-- beside an operand of one of these types: such a literal, where the tree is read there; else what stands for the tree by
+-- itself (OData URL Conventions 4.01, section 5.1.1.1)
+abbrev pub BesideStands :
+    SchemaModel → ℕ → Scope → FlatTree → (ExprType → Type 0) → Tree → (ℕ → ℕ → Type 0) → ℕ → ℕ → Type 0
+BesideStands schema n scope list Beside tree Alone i j =
+    ((number : ℤ) × ReadsNumber (slots_of schema) Beside tree number
+    × NumberStands schema n scope list number i j tree)
+    ⊎ (ReadsNone (slots_of schema) Beside tree × Alone i j)
+
 abbrev mutual
   -- the nodes from the i-th up to the j-th stand for the tree, where the filtered type is the schema's n-th and these
   -- variables are in scope
   pub Stands : SchemaModel → ℕ → Scope → FlatTree → ℕ → ℕ → Tree → Type 0
   Stands schema n scope list i j (node start stop shape) =
-      HasTop (IsTop schema n scope list i j start stop shape)
+      HasTop (IsTop schema n scope list i j start stop shape (HasOwnValue list.values (slots_of schema) shape))
       (InLine (child_parts schema n scope list shape) (i + 1) j)
 
   -- what stands for each child of the shape
@@ -187,11 +160,20 @@ abbrev mutual
   child_parts schema n scope list (negation operand) = (λ i j. Stands schema n scope list i j operand) ∷ []
   child_parts schema n scope list (logical_not operand) = (λ i j. Stands schema n scope list i j operand) ∷ []
   child_parts schema n scope list (binary operator left right) =
-      (λ i j. Stands schema n scope list i j left) ∷ (λ i j. Stands schema n scope list i j right) ∷ []
+      BesideStands schema n scope list (OfEquality operator (Typed (slots_of schema) (type_name_at schema n) scope right))
+      left (λ i j. Stands schema n scope list i j left)
+      ∷ BesideStands schema n scope list
+      (OfEquality operator (Typed (slots_of schema) (type_name_at schema n) scope left)) right
+      (λ i j. Stands schema n scope list i j right)
+      ∷ []
   child_parts schema n scope list (has left right) =
-      (λ i j. Stands schema n scope list i j left) ∷ (λ i j. Stands schema n scope list i j right) ∷ []
+      (λ i j. Stands schema n scope list i j left)
+      ∷ BesideStands schema n scope list (Typed (slots_of schema) (type_name_at schema n) scope left) right
+      (λ i j. Stands schema n scope list i j right)
+      ∷ []
   child_parts schema n scope list (in_list left items) =
-      (λ i j. Stands schema n scope list i j left) ∷ tree_parts schema n scope list items
+      (λ i j. Stands schema n scope list i j left)
+      ∷ item_parts schema n scope list (Typed (slots_of schema) (type_name_at schema n) scope left) items
   child_parts schema n scope list (in_path left path) =
       (λ i j. Stands schema n scope list i j left) ∷ (λ i j. Stands schema n scope list i j path) ∷ []
   child_parts schema n scope list (call asked arguments) = tree_parts schema n scope list arguments
@@ -208,6 +190,14 @@ abbrev mutual
   tree_parts schema n scope list (more_trees tree trees) =
       (λ i j. Stands schema n scope list i j tree) ∷ tree_parts schema n scope list trees
 
+  -- likewise for each item of a list, beside an operand of one of these types
+  pub item_parts :
+      SchemaModel → ℕ → Scope → FlatTree → (ExprType → Type 0) → Trees → List (ℕ → ℕ → Type 0)
+  item_parts schema n scope list Beside no_trees = []
+  item_parts schema n scope list Beside (more_trees tree trees) =
+      BesideStands schema n scope list Beside tree (λ i j. Stands schema n scope list i j tree)
+      ∷ item_parts schema n scope list Beside trees
+
 -- the nodes from the i-th up to the j-th stand for the children of the shape, one after another
 abbrev pub ChildrenStand : SchemaModel → ℕ → Scope → FlatTree → ℕ → ℕ → Shape → Type 0
 ChildrenStand schema n scope list i j shape = InLine (child_parts schema n scope list shape) i j
@@ -215,3 +205,7 @@ ChildrenStand schema n scope list i j shape = InLine (child_parts schema n scope
 -- likewise for trees
 abbrev pub AllStand : SchemaModel → ℕ → Scope → FlatTree → ℕ → ℕ → Trees → Type 0
 AllStand schema n scope list i j trees = InLine (tree_parts schema n scope list trees) i j
+
+-- likewise for items
+abbrev pub ItemsStand : SchemaModel → ℕ → Scope → FlatTree → (ExprType → Type 0) → ℕ → ℕ → Trees → Type 0
+ItemsStand schema n scope list Beside i j items = InLine (item_parts schema n scope list Beside items) i j

@@ -5,6 +5,7 @@ pub mod ExplanationWalk
 pub mod KeptLists
 pub mod KindTexts
 pub mod LambdaLines
+pub mod Layout
 pub mod NeededWalk
 pub mod NodeRanges
 pub mod PathSteps

@@ -327,17 +327,9 @@ fn put_behind(
 {
     match kind {
         NodeKind::Binary { operator } => put_operand(second, operator_level(operator) + 1, pending),
-        NodeKind::PairedRight { operator, .. } => {
-            put_operand(second, operator_level(operator) + 1, pending)
-        }
-        NodeKind::PairedLeft { operator, .. } => {
-            put_operand(second, operator_level(operator) + 1, pending)
-        }
         NodeKind::Has => put_operand(second, BASE, pending),
-        NodeKind::PairedHas { .. } => put_operand(second, BASE, pending),
         NodeKind::InPath => put_operand(second, PATH, pending),
         NodeKind::InList => put_items(list, second, stop, pending),
-        NodeKind::PairedList { .. } => put_items(list, second, stop, pending),
         NodeKind::Lambda { .. } => put_body(second, pending),
         _ => Ok(()),
     }

@@ -5,34 +5,24 @@ use odata_text::Span;
 /// The kind of a node, with what its evaluation needs besides its children.
 #[derive(Clone, Copy, Debug, PartialEq, Eq)]
 pub enum NodeKind {
-    /// A literal, by the index of its value in the list of values.
-    Literal {
-        kind: LiteralKind,
-        value: usize,
-    },
+    /// A literal, by the index of its value in the list of values. A String literal that is read beside an enumeration
+    /// has a number of that.
+    Literal { kind: LiteralKind, value: usize },
     /// `$it`, the filtered entity.
     It,
     /// A property of the filtered type, by its slot.
-    Property {
-        slot: usize,
-    },
+    Property { slot: usize },
     /// A range variable, by the number of variables in scope where its lambda operator bound it, so the outermost is 0.
-    Variable {
-        level: usize,
-    },
+    Variable { level: usize },
     /// A property of the type of what stands before the slash, by its slot there.
-    Member {
-        slot: usize,
-    },
+    Member { slot: usize },
     /// `$count`, after the slash.
     Count,
     /// `any()`, after the slash.
     AnyItem,
     /// `any(v:..)` or `all(v:..)`, after the slash. What stands before that and its body stand after it, and the name
     /// of its range variable stands beside it.
-    Lambda {
-        quantifier: Quantifier,
-    },
+    Lambda { quantifier: Quantifier },
     /// `now()`, the moment of the evaluation.
     Now,
     /// `-`. Its operand stands after it.
@@ -40,39 +30,15 @@ pub enum NodeKind {
     /// `not`.
     Not,
     /// An operator. Its operands stand after it.
-    Binary {
-        operator: BinaryOperator,
-    },
-    /// `eq` or `ne`, whose right operand is a String literal that is read beside an enumeration, by the index of its
-    /// number in the list of values.
-    PairedRight {
-        operator: BinaryOperator,
-        number: usize,
-    },
-    /// The same, where the literal is the left operand.
-    PairedLeft {
-        operator: BinaryOperator,
-        number: usize,
-    },
+    Binary { operator: BinaryOperator },
     /// `has`. Its operands stand after it.
     Has,
-    /// `has`, whose right operand is such a literal, by the index of its number.
-    PairedHas {
-        number: usize,
-    },
     /// `in` before a list. Its operand and the items stand after it.
     InList,
-    /// The same after an enumeration. In the list of values stand from the index on one value for each item: the number
-    /// of such a literal, and null for any other item.
-    PairedList {
-        numbers: usize,
-    },
     /// `in` before a path. Its operands stand after it.
     InPath,
     /// A call of any function but `now`. Its arguments stand after it.
-    Call {
-        function: Function,
-    },
+    Call { function: Function },
 }
 
 /// A node of a checked filter. Its first child is the next node of the list, and each other child stands where the one

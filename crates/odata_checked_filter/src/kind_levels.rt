@@ -22,12 +22,8 @@ pub(crate) fn kind_level(kind: NodeKind) -> u8
         NodeKind::Neg => UNARY,
         NodeKind::Not => UNARY,
         NodeKind::Binary { operator } => operator_level(operator),
-        NodeKind::PairedRight { operator, .. } => operator_level(operator),
-        NodeKind::PairedLeft { operator, .. } => operator_level(operator),
         NodeKind::Has => PRIMARY,
-        NodeKind::PairedHas { .. } => PRIMARY,
         NodeKind::InList => PRIMARY,
-        NodeKind::PairedList { .. } => PRIMARY,
         NodeKind::InPath => PRIMARY,
         NodeKind::Call { .. } => BASE,
     }
@@ -39,12 +35,8 @@ pub(crate) fn first_level(kind: NodeKind) -> u8
 {
     match kind {
         NodeKind::Binary { .. } => kind_level(kind),
-        NodeKind::PairedRight { .. } => kind_level(kind),
-        NodeKind::PairedLeft { .. } => kind_level(kind),
         NodeKind::Has => kind_level(kind),
-        NodeKind::PairedHas { .. } => kind_level(kind),
         NodeKind::InList => kind_level(kind),
-        NodeKind::PairedList { .. } => kind_level(kind),
         NodeKind::InPath => kind_level(kind),
         _ => 0,
     }

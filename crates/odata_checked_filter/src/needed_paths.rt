@@ -8,6 +8,7 @@ ghost use Rattle.odata_expression_types.specs.NeededPaths.{VariablePaths};
 ghost use Rattle.odata_expression_types.specs.Typed.{Scope};
 ghost use Rattle.odata_checked_filter.specs.Filter.{HasNeededPaths};
 ghost use Rattle.odata_checked_filter.specs.FlatTree.{tree_of_nodes};
+ghost use Rattle.odata_checked_filter.specs.private.Layout.{Lies};
 ghost use Rattle.odata_checked_filter.specs.Stands.{Stands};
 ghost use Rattle.odata_checked_filter.specs.private.NeededWalk.{ArePlacesOf, AreTreesThere, HasTypedTree, IsLambdaOf};
 ghost use Rattle.odata_checked_filter.specs.private.NeededWalk.{IsLambdaThere, IsNodeAtLevel, IsPathEnd, IsPutFrom};
@@ -196,7 +197,7 @@ fn expand_operand(
 ) -> Result<usize, AllocError>
     requires { IsTreeThere scene.now expansion.old (nodes_in variables.now) place }
     ensures { (scope : Scope) (paths : VariablePaths) (stop : ℕ) (tree : Tree)
-        → Stands scene.now.schema.now scene.now.filtered_type scope scene.now.list.now place stop tree
+        → Lies scene.now.schema.now scene.now.filtered_type scope scene.now.list.now place stop tree
         → LeadThere expansion.old scope paths (nodes_in variables.now)
         → IfOk result (IsPutFrom (slots_there scene.now) (root_there scene.now) scope paths expansion.old
         expansion.new place tree) }
@@ -232,7 +233,7 @@ fn expand_path(
 ) -> Result<PathEnd, AllocError>
     requires { IsTreeThere scene.now expansion.old (nodes_in variables.now) place }
     ensures { (scope : Scope) (paths : VariablePaths) (stop : ℕ) (tree : Tree)
-        → Stands scene.now.schema.now scene.now.filtered_type scope scene.now.list.now place stop tree
+        → Lies scene.now.schema.now scene.now.filtered_type scope scene.now.list.now place stop tree
         → LeadThere expansion.old scope paths (nodes_in variables.now)
         → IfOk result (IsPathEnd (slots_there scene.now) (root_there scene.now) scope paths expansion.old
         expansion.new place tree) }
@@ -263,7 +264,7 @@ fn expand_base(
     requires stands { IsTreeThere scene.now expansion.old (nodes_in variables.now) place }
     requires base { ¬ IsStepAt scene.now.list.now place }
     ensures { (scope : Scope) (paths : VariablePaths) (stop : ℕ) (tree : Tree)
-        → Stands scene.now.schema.now scene.now.filtered_type scope scene.now.list.now place stop tree
+        → Lies scene.now.schema.now scene.now.filtered_type scope scene.now.list.now place stop tree
         → LeadThere expansion.old scope paths (nodes_in variables.now)
         → IfOk result (IsPathEnd (slots_there scene.now) (root_there scene.now) scope paths expansion.old
         expansion.new place tree) }

@@ -1,10 +1,11 @@
 ghost use Rattle.std.specs.Prelude.{◌≡◌, ◌<◌, [], Some, length, slice_get, OnOk, OnErr};
 ghost use Rattle.odata_syntax.specs.TextTree.{IsTextRange, text_in};
-ghost use Rattle.odata_checked_filter.specs.ListChanges.{no_nodes, node_put, with_room, with_value};
+ghost use Rattle.odata_checked_filter.specs.ListChanges.{no_nodes, node_put, number_put, with_room, with_value};
 
 use super::checked_node::{CheckedNode, NodeKind};
 use edm_values::Value;
 use odata_signatures::EdmType;
+use odata_syntax::LiteralKind;
 use odata_text::Span;
 use std::alloc::{AllocError, Global};
 use std::marker::Model;
@@ -156,5 +157,27 @@ impl NodeList {
     {
         self.nodes[place] = node;
         self.texts[place] = NOWHERE;
+    }
+
+    /// Gives the String literal at an index a number of an enumeration as its value. After an error the list is unchanged.
+    pub fn put_number(&mut self, place: usize, number: i64) -> Result<(), AllocError>
+        requires { place < length self.old.nodes }
+        ensures ok { (found : CheckedNode) → slice_get self.old.nodes place ≡ Some found
+            → OnOk result (self.new ≡ number_put self.old place found number) }
+        ensures err { OnErr result (self.new ≡ self.old) }
+    {
+        let value = self.values.len();
+        self.push_value(Value::Enum(number))?;
+        let node = self.nodes[place];
+        self.nodes[place] = CheckedNode {
+            kind: NodeKind::Literal {
+                kind: LiteralKind::Str,
+                value,
+            },
+            span: node.span,
+            edm_type: node.edm_type,
+            stop: node.stop,
+        };
+        Ok(())
     }
 }

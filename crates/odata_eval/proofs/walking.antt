@@ -4,6 +4,7 @@ pub mod BaseSteps
 pub mod CallSteps
 pub mod Children
 pub mod Compared
+pub mod Extents
 pub mod ItemSteps
 pub mod KeptValues
 pub mod FalseTerms
@@ -12,17 +13,14 @@ pub mod Leaves
 pub mod MemberSteps
 pub mod MemberValues
 pub mod MembersAsked
+pub mod Operands
 pub mod Parts
-pub mod ReadKinds
-pub mod ReadSides
-pub mod ReadPairs
 pub mod Readings
 pub mod Sides
 pub mod SlotValue
 pub mod Spines
 pub mod TextArguments
 pub mod TopNode
-pub mod Unread
 pub mod Variables
 pub mod WalkSteps
 pub mod WalkValues

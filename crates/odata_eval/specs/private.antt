@@ -1,7 +1,6 @@
 -- Definitions that private clauses alone cite.
 pub mod ChainTerms
 pub mod Frames
-pub mod ItemMarks
 pub mod KeptOperands
 pub mod Lambda
 pub mod Place

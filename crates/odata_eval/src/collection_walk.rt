@@ -9,7 +9,7 @@ use super::budget::{Counting, take_item};
 use super::part::{right_of, stop_of};
 use super::scene::Scene;
 use super::stop::EvalStop;
-use super::walk::{counted_at, operand_at};
+use super::walk::{likely_stored_at, operand_at};
 use edm_values::Datum;
 use odata_expression_types::trees_have_one_type;
 use odata_filter_operations::{EvalFault, among, flags_of};
@@ -77,7 +77,7 @@ pub(crate) fn listed_at<'e, B: Counting>(
         if !take_item(scene, budget) {
             return Err(EvalStop::TooCostly);
         }
-        match counted_at(scene, at, budget) {
+        match likely_stored_at(scene, at, budget) {
             Ok(item) => {
                 if compare(ComparisonOperator::Eq, left, &item) {
                     return Ok(Datum::Bool(true));

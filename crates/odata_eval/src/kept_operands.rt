@@ -3,7 +3,7 @@
 ghost use Rattle.std.specs.Prelude.{◌≡◌, ◌+◌, ℕ, IfSome, List, None, Ok, Some};
 ghost use Rattle.odata_checked_filter.specs.declared.checked_node.NodeKind.{NodeKind as Kind};
 ghost use Rattle.odata_eval.specs.private.KeptOperands.{AnswersCall, AnswersLast, AnswersLowered, AnswersText, IsPathAt};
-ghost use Rattle.odata_eval.specs.private.Place.{HasCall, HasKind, HasOperator, IsClassAt, PartStands};
+ghost use Rattle.odata_eval.specs.private.Place.{HasCall, HasKind, HasOperator, IsClassAt, OperandStands, PartStands};
 ghost use Rattle.odata_eval.specs.private.Spending.{SpendsAt};
 ghost use Rattle.odata_eval.specs.private.WalkAnswer.{AnswersKept, AnswersNumber, AnswersTruth};
 ghost use Rattle.odata_eval.specs.declared.part.WalkClass.{WalkClass as Class};
@@ -22,7 +22,7 @@ use odata_syntax::{BinaryOperator, ComparisonOperator};
 /// The value to which a path of at most one step from a property, a literal or a variable leads.
 #[inline(always)]
 fn kept_at<'e>(scene: &Scene<'e, '_, '_>, place: usize) -> Option<&'e Value>
-    requires { PartStands scene.now place }
+    requires { OperandStands scene.now place }
     ensures answers { IfSome result (λ value. AnswersKept scene.now place value.now) }
     ensures path { IfSome result (λ value. IsPathAt scene.now.list place) }
 {
@@ -35,7 +35,7 @@ fn kept_at<'e>(scene: &Scene<'e, '_, '_>, place: usize) -> Option<&'e Value>
 /// The value of a property, a literal or a variable.
 #[inline(always)]
 fn found_at<'e>(scene: &Scene<'e, '_, '_>, place: usize) -> Option<&'e Value>
-    requires stands { PartStands scene.now place }
+    requires stands { OperandStands scene.now place }
     ensures answers { IfSome result (λ value. AnswersKept scene.now place value.now) }
     ensures leaf { IfSome result (λ value. IsClassAt scene.now.list Class.Leaf place) }
 {
@@ -125,7 +125,7 @@ fn length_at(scene: &Scene<'_, '_, '_>, place: usize, function: Function) -> Opt
 /// The kept text whose lower case is the value there.
 #[inline(always)]
 fn lowered_text_at<'e>(scene: &Scene<'e, '_, '_>, place: usize) -> Option<&'e str>
-    requires { PartStands scene.now place }
+    requires { OperandStands scene.now place }
     ensures { IfSome result (λ given. AnswersLowered scene.now place given.now) }
 {
     match scene.node(place).kind {
@@ -200,7 +200,7 @@ fn last_text_at<'e>(scene: &Scene<'e, '_, '_>, place: usize, function: Function)
 /// The number to which such a path leads.
 #[inline(always)]
 fn kept_number_at(scene: &Scene<'_, '_, '_>, place: usize) -> Option<Option<i64>>
-    requires { PartStands scene.now place }
+    requires { OperandStands scene.now place }
     ensures answers { IfSome result (λ number. AnswersNumber scene.now place (Ok number)) }
     ensures path { IfSome result (λ number. IsPathAt scene.now.list place) }
 {

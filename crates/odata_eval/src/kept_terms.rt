@@ -1,11 +1,11 @@
 //! Plain terms: a Boolean property, and a comparison of a property with a literal.
-ghost use Rattle.std.specs.Prelude.{IfSome, None, Ok, Some};
+ghost use Rattle.std.specs.Prelude.{◌+◌, IfSome, None, Ok, Some};
 ghost use Rattle.odata_eval.specs.declared.budget.Budget.{Budget};
-ghost use Rattle.odata_eval.specs.private.Place.{HasOperator, PartStands, TruthStands};
+ghost use Rattle.odata_checked_filter.specs.declared.checked_node.NodeKind.{NodeKind as Kind};
+ghost use Rattle.odata_eval.specs.private.Place.{HasKind, HasOperator, IsRightOf, OperandStands, PartStands, TruthStands};
 ghost use Rattle.odata_eval.specs.private.Spending.{SpendsAt};
 ghost use Rattle.odata_eval.specs.private.WalkAnswer.{AnswersTruth};
 
-use super::part::right_of;
 use super::scene::Scene;
 use odata_checked_filter::NodeKind;
 use odata_filter_operations::{compare_kept, kept_truth};
@@ -46,14 +46,27 @@ fn compared_with_literal(
 {
     scene.ends_once();
     comparisons_are_decided();
-    let right_place = right_of(scene, place);
-    let left = match scene.node(place + 1).kind {
-        NodeKind::Property { slot } => scene.property(slot),
+    let _nodes = scene.nodes();
+    let slot = match scene.node(place + 1).kind {
+        NodeKind::Property { slot } => slot,
         _ => return None,
     };
+    let left = scene.property(slot);
+    let right_place = right_of_property(scene, place, slot);
     let right = match scene.node(right_place).kind {
         NodeKind::Literal { value, .. } => scene.literal(value),
         _ => return None,
     };
     Some(compare_kept(comparison, left, right))
+}
+
+/// The index of a node's second child, where the first one is a property, which has no children.
+#[inline(always)]
+fn right_of_property(scene: &Scene<'_, '_, '_>, place: usize, slot: usize) -> usize
+    requires stands { OperandStands scene.now (place + 1) }
+    requires here { HasKind scene.now.list (place + 1) (Kind.Property slot) }
+    ensures { IsRightOf scene.now.list place result }
+{
+    let _nodes = scene.nodes();
+    place + 2
 }

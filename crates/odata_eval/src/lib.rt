@@ -21,7 +21,6 @@ mod lambda_walk;
 mod laws;
 mod logical;
 mod number_walk;
-mod paired_walk;
 mod part;
 mod scene;
 mod stop;

@@ -29,7 +29,7 @@ pub(crate) enum Part<'e> {
     Eager,
 }
 
-ghost use Rattle.odata_eval.specs.private.Place.{IsClassAt, IsRightOf, IsStopOf, PartStands};
+ghost use Rattle.odata_eval.specs.private.Place.{IsClassAt, IsRightOf, IsStopOf, OperandStands};
 ghost use Rattle.odata_eval.specs.private.WalkAnswer.{AnswersKept, IsPart};
 ghost use Rattle.odata_eval.specs.private.WalkClass.{walk_of_kind};
 
@@ -46,12 +46,8 @@ fn walk_of_kind(kind: NodeKind) -> WalkClass
         NodeKind::Count => WalkClass::Eager,
         NodeKind::Neg => WalkClass::Numeric,
         NodeKind::Not => WalkClass::Logical,
-        NodeKind::PairedRight { .. } => WalkClass::Eager,
-        NodeKind::PairedLeft { .. } => WalkClass::Eager,
         NodeKind::Has => WalkClass::Eager,
-        NodeKind::PairedHas { .. } => WalkClass::Eager,
         NodeKind::InList => WalkClass::Eager,
-        NodeKind::PairedList { .. } => WalkClass::Eager,
         NodeKind::InPath => WalkClass::Eager,
         NodeKind::Call { .. } => WalkClass::Eager,
         NodeKind::AnyItem => WalkClass::Eager,
@@ -100,7 +96,7 @@ pub(crate) fn arithmetic_operator(kind: NodeKind) -> Option<ArithmeticOperator>
 /// What stands at an index. Most often it is a property, a literal or a variable.
 #[inline(always)]
 pub(crate) fn part_at<'e>(scene: &Scene<'e, '_, '_>, place: usize) -> Part<'e>
-    requires stands { PartStands scene.now place }
+    requires stands { OperandStands scene.now place }
     ensures { IsPart scene.now place result }
 {
     let kind = scene.node(place).kind;
@@ -123,7 +119,7 @@ pub(crate) fn part_at<'e>(scene: &Scene<'e, '_, '_>, place: usize) -> Part<'e>
 
 /// The value of a node without operands. One that is none of the others is `$it`.
 fn leaf_at<'e>(scene: &Scene<'e, '_, '_>, place: usize) -> &'e Value
-    requires stands { PartStands scene.now place }
+    requires stands { OperandStands scene.now place }
     requires leaf { IsClassAt scene.now.list WalkClass.Leaf place }
     ensures { AnswersKept scene.now place result.now }
 {

@@ -3,7 +3,7 @@ ghost use Rattle.std.specs.Prelude.{◌≡◌, ◌<◌, ◌^◌, All, IfSome, Is
 ghost use Rattle.edm_values.specs.PlainVal.{plain_val};
 ghost use Rattle.edm_values.specs.Val.{Val, text as text_val, whole};
 ghost use Rattle.odata_eval.specs.FalseWhere.{IsSieveOf};
-ghost use Rattle.odata_eval.specs.private.ChainTerms.{AndsAbove, IsTermSieve, Refutes};
+ghost use Rattle.odata_eval.specs.private.ChainTerms.{AndsAbove, IsNoNumber, IsTermSieve, Refutes};
 ghost use Rattle.odata_eval.specs.private.Place.{HasKind, HasOperator};
 
 use edm_values::{Sieve, Value};
@@ -154,7 +154,8 @@ fn compared_sieve(
 
 /// The test that a comparison with a value makes, where that is a number or a text.
 fn sieve_of(alloc: Global, comparison: ComparisonOperator, literal: &Value) -> Option<Sieve>
-    ensures { IfSome result (λ sieve. (right : Val) → plain_val literal.now ≡ Some right
+    ensures number { IfSome result (λ _. IsNoNumber literal.now) }
+    ensures refutes { IfSome result (λ sieve. (right : Val) → plain_val literal.now ≡ Some right
         → Refutes comparison right sieve) }
 {
     match literal {

@@ -4,7 +4,7 @@
 //!
 //! What is asked at each node is marked to be inlined, so that an answer is not passed on through memory.
 ghost use Rattle.std.specs.Prelude.{◌≡◌, ◌+◌, IfOk, None, Ok};
-ghost use Rattle.odata_eval.specs.private.Place.{HasCall, HasOperator, IsClassAt, PartStands, TruthStands};
+ghost use Rattle.odata_eval.specs.private.Place.{HasCall, HasOperator, IsClassAt, OperandStands, PartStands, TruthStands};
 ghost use Rattle.odata_eval.specs.private.Spending.{CountedDatum, CountedTruth, SpendsAt, SpendsRest, datum_stop, stopped_by};
 ghost use Rattle.odata_eval.specs.private.WalkAnswer.{AnswersDatum, AnswersTruth};
 
@@ -15,10 +15,6 @@ use super::kept_terms::kept_truth_at;
 use super::lambda_walk::lambda_at;
 use super::logical::{decides, join};
 use super::number_walk::{number_at, number_chain_at};
-use super::paired_walk::{
-    compared_left_at, compared_right, flags_right, left_read_truth_at, numbered_at,
-    right_read_truth_at,
-};
 use super::part::{
     Part, WalkClass, class_at, logical_operator, part_at, right_of, spine_bottom, stop_of,
 };
@@ -78,12 +74,6 @@ fn plain_truth_at<B: Counting>(
     }
     if let NodeKind::Call { function } = scene.node(place).kind {
         return called_truth_at(scene, place, function, budget);
-    }
-    if let NodeKind::PairedRight { operator, number } = scene.node(place).kind {
-        return right_read_truth_at(scene, place, operator, number, budget);
-    }
-    if let NodeKind::PairedLeft { operator, number } = scene.node(place).kind {
-        return left_read_truth_at(scene, place, operator, number, budget);
     }
     match part_at(scene, place) {
         Part::Leaf(value) => Ok(kept_truth(value)),
@@ -332,7 +322,7 @@ pub(crate) fn counted_at<'e, B: Counting>(
     place: usize,
     budget: &mut B,
 ) -> Result<Datum<'e>, EvalStop>
-    requires stands { PartStands scene.now place }
+    requires stands { OperandStands scene.now place }
     ensures answers { CountedDatum scene.now place result }
     ensures spent { SpendsAt scene.now place (B.left budget.old) (B.left budget.new) (datum_stop result) }
 {
@@ -350,14 +340,33 @@ pub(crate) fn counted_at<'e, B: Counting>(
     }
 }
 
+/// The same, where a stored value is likely, which is taken at once.
+#[cycle(evaluate)]
+#[inline(always)]
+pub(crate) fn likely_stored_at<'e, B: Counting>(
+    scene: &Scene<'e, '_, '_>,
+    place: usize,
+    budget: &mut B,
+) -> Result<Datum<'e>, EvalStop>
+    requires stands { OperandStands scene.now place }
+    ensures answers { CountedDatum scene.now place result }
+    ensures spent { SpendsAt scene.now place (B.left budget.old) (B.left budget.new) (datum_stop result) }
+{
+    if let Part::Leaf(value) = part_at(scene, place) {
+        return Ok(datum_of(value));
+    }
+    counted_at(scene, place, budget)
+}
+
 /// The same, where nothing is counted: an operand that holds no lambda operator, since it is none of truth values.
 #[tactic(auto, using(crate::proofs::spending::Stops::unbounded_truth, crate::proofs::spending::Stops::unbounded_datum))]
 #[cycle(evaluate)]
+#[inline(always)]
 pub(crate) fn operand_at<'e, B: Counting>(
     scene: &Scene<'e, '_, '_>,
     place: usize,
 ) -> Result<Datum<'e>, EvalFault>
-    requires stands { PartStands scene.now place }
+    requires stands { OperandStands scene.now place }
     ensures { AnswersDatum scene.now place result }
 {
     if let Part::Leaf(value) = part_at(scene, place) {
@@ -384,31 +393,13 @@ fn eager_at<'e, B: Counting>(
     ensures spent { SpendsAt scene.now place (B.left budget.old) (B.left budget.new) (datum_stop result) }
 {
     let bottom = spine_bottom(scene, place, WalkClass::Eager);
-    let mut answer = bottom_at(scene, bottom, budget);
+    let mut answer = likely_stored_at(scene, bottom, budget);
     let mut at = bottom;
     while place < at {
         at -= 1;
         answer = made_at(scene, at, answer, budget);
     }
     answer
-}
-
-/// What the node below such a chain evaluates to. Most often it is a stored value, which is taken at once.
-#[cycle(evaluate)]
-#[inline(always)]
-fn bottom_at<'e, B: Counting>(
-    scene: &Scene<'e, '_, '_>,
-    place: usize,
-    budget: &mut B,
-) -> Result<Datum<'e>, EvalStop>
-    requires stands { PartStands scene.now place }
-    ensures answers { CountedDatum scene.now place result }
-    ensures spent { SpendsAt scene.now place (B.left budget.old) (B.left budget.new) (datum_stop result) }
-{
-    if let Part::Leaf(value) = part_at(scene, place) {
-        return Ok(datum_of(value));
-    }
-    counted_at(scene, place, budget)
 }
 
 /// What a node evaluates to that takes the values of all its operands, whose first operand has been answered.
@@ -437,17 +428,9 @@ fn made_at<'e, B: Counting>(
         NodeKind::Call { function } => as_stop(called_at::<B>(scene, place, function, first)),
         NodeKind::Count => as_stop(count_of(first)),
         NodeKind::AnyItem => Ok(any_item_of(first)),
-        NodeKind::PairedRight { operator, number } => {
-            Ok(compared_right(scene, place, operator, number, &first))
-        }
-        NodeKind::PairedLeft { operator, number } => {
-            as_stop(compared_left_at::<B>(scene, place, operator, number))
-        }
         NodeKind::Has => as_stop(flags_at::<B>(scene, place, &first)),
-        NodeKind::PairedHas { number } => Ok(flags_right(scene, place, number, &first)),
         NodeKind::InPath => as_stop(among_at::<B>(scene, place, &first)),
         NodeKind::InList => listed_at(scene, place, &first, budget),
-        NodeKind::PairedList { numbers } => numbered_at(scene, place, numbers, &first, budget),
         NodeKind::Lambda { quantifier } => lambda_at(scene, place, quantifier, first, budget),
         NodeKind::Binary { operator } => match operator {
             BinaryOperator::Comparison(comparison) => {

@@ -8,7 +8,7 @@
 //! use odata_syntax::ArithmeticOperator;
 //!
 //! assert!(rt; and3(Some(true), None).is_none());
-//! assert!(rt; index_of("Contoso", "os") == Ok(5));
+//! assert!(rt; index_of("Contoso", "os") == Ok(4));
 //! assert!(rt; arith(ArithmeticOperator::Div, Prim::Int32, Some(7), Some(0)) == Err(ArithFault::DivideByZero));
 //! ```
 #![tactic(auto)]

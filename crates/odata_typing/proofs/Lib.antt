@@ -1,10 +1,10 @@
+pub mod beside
 pub mod bodies
 pub mod calls
 pub mod flat
-pub mod placed
 pub mod forms
+pub mod placed
 pub mod scopes
 pub mod stacks
 pub mod types
 pub mod untypable
-pub mod pairs

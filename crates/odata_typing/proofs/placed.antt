@@ -4,6 +4,7 @@ pub mod Called
 pub mod LastTrees
 pub mod Leaves
 pub mod ItemLoops
+pub mod ItemsGiven
 pub mod Listed
 pub mod Loops
 pub mod Over

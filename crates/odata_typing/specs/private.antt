@@ -5,7 +5,7 @@ pub mod Items
 pub mod Judging
 pub mod Lambda
 pub mod LawsBelow
-pub mod Pairing
+pub mod OperandTexts
 pub mod Rows
 pub mod Settings
 pub mod SpanLaws

@@ -1,5 +1,5 @@
 //! Nodes between two operands: operators, `has`, and `in` before a path.
-ghost use Rattle.std.specs.Prelude.{◌≡◌, ◌∷◌, ℕ, [], IfNone, IfSome, IsTrue, List, Option};
+ghost use Rattle.std.specs.Prelude.{◌≡◌, ◌<◌, ◌∷◌, ℕ, [], IfNone, IfSome, IsTrue, List, Option, length};
 ghost use Rattle.odata_syntax.specs.Tree.{Tree, binary};
 ghost use Rattle.csdl_schema.specs.ExprType.{ExprType};
 ghost use Rattle.csdl_schema.specs.SchemaModel.{SchemaModel};
@@ -13,11 +13,10 @@ ghost use Rattle.odata_typing.specs.private.Judging.{AreChildren, IsNodeJudged};
 ghost use Rattle.odata_typing.specs.private.Settings.{IsNodeReady};
 
 use super::laws_below::laws_below;
-use super::pairing::{Paired, Pairing, pairing_of};
+use super::operand_text::{OperandRead, operand_read};
 use super::setting::{Judged, Setting};
 use super::walk::Walk;
 use csdl_schema::Schema;
-use edm_values::Value;
 use odata_checked_filter::NodeKind;
 use odata_expression_types::TypeFaultCode;
 use odata_signatures::{BOOLEAN, EdmType, ValueType, has_type, in_path_type, made_type};
@@ -33,7 +32,8 @@ pub(crate) struct OperandTypes<'n> {
 }
 
 ghost use Rattle.odata_typing.specs.private.Forms.{InfixByTypes, InfixReason, IsInfix, infix_shape};
-ghost use Rattle.odata_typing.specs.private.Pairing.{OneIsRead, paired_kind};
+ghost use Rattle.odata_typing.specs.private.OperandTexts.{OneIsRead};
+ghost use Rattle.odata_typing.specs.private.Walks.{IsReadPut};
 
 /// An operator between its operands.
 #[inline(always)]
@@ -116,28 +116,30 @@ pub(crate) fn checked_infix(
         left_quoted: walk.quoted_at(left),
         right_quoted: walk.quoted_at(right),
     };
-    let pairing = pairing_of(setting.schema, kind, &types);
+    let read = operand_read(setting.schema, kind, &types);
     let edm_type = infix_type(setting.schema, kind, &types);
     let code = reason_of(kind, &types.right);
-    match pairing {
-        Pairing::Unread => walk.put_typed(judged, kind, edm_type, code),
-        Pairing::Number(paired, number) => {
-            let value = walk.list.values().len();
-            walk.push_value(Value::Enum(number))
-                && walk.put_nameless(judged, paired_kind(paired, value), &BOOLEAN)
-        }
-        Pairing::Unknown => walk.refuse(judged.node.span, TypeFaultCode::UnknownEnum),
+    match read {
+        OperandRead::Neither => walk.put_typed(judged, kind, edm_type, code),
+        OperandRead::Left(number) => put_read(judged, kind, left, number, walk),
+        OperandRead::Right(number) => put_read(judged, kind, right, number, walk),
+        OperandRead::Unknown => walk.refuse(judged.node.span, TypeFaultCode::UnknownEnum),
     }
 }
 
-fn paired_kind(paired: Paired, number: usize) -> NodeKind
-    ensures { result ≡ paired_kind paired number }
+/// Gives the String literal at an index its number, and puts the node of that kind around it.
+fn put_read(
+    judged: &Judged<'_>,
+    kind: NodeKind,
+    literal: usize,
+    number: i64,
+    walk: &mut Walk,
+) -> bool
+    requires place { judged.now.number < length walk.old.list.nodes }
+    requires literal { literal < length walk.old.list.nodes }
+    ensures { IsReadPut walk.old judged.now kind literal number walk.new result }
 {
-    match paired {
-        Paired::Right(operator) => NodeKind::PairedRight { operator, number },
-        Paired::Left(operator) => NodeKind::PairedLeft { operator, number },
-        Paired::Has => NodeKind::PairedHas { number },
-    }
+    walk.put_number(literal, number) && walk.put_nameless(judged, kind, &BOOLEAN)
 }
 
 /// The type between operands of these types, by the types alone. `None` where they may not stand there.

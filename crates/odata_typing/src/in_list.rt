@@ -1,10 +1,11 @@
 //! Nodes of `in` before a list.
-ghost use Rattle.std.specs.Prelude.{◌≡◌, ◌<◌, ◌↔◌, ◌∷◌, IsTrue, List, [], Some, length, slice_get};
+ghost use Rattle.std.specs.Prelude.{◌≡◌, ◌<◌, ◌+◌, ◌↔◌, ◌∷◌, IsTrue, List, [], Some, length, slice_get};
 ghost use Rattle.odata_syntax.specs.Tree.{Tree, in_list, trees_of_list};
 ghost use Rattle.csdl_schema.specs.SchemaModel.{slots_of};
 ghost use Rattle.odata_signatures.specs.Side.{quoting};
 ghost use Rattle.odata_signatures.specs.TypeThere.{IsTypeThere};
 ghost use Rattle.odata_signatures.specs.TypeView.{expr_type};
+ghost use Rattle.odata_checked_filter.specs.ListChanges.{IsKeptOutside};
 ghost use Rattle.odata_typing.specs.private.Judging.{AreChildren, IsNodeJudged};
 ghost use Rattle.odata_typing.specs.private.Rows.{AreInRow, AreTypesThere, quoted_in, row_sides};
 ghost use Rattle.odata_typing.specs.private.Settings.{IsNodeReady};
@@ -14,7 +15,6 @@ use super::laws_below::laws_below;
 use super::setting::{Judged, Setting};
 use super::walk::Walk;
 use csdl_schema::Schema;
-use edm_values::Value;
 use odata_checked_filter::{CheckedNode, NodeKind};
 use odata_expression_types::TypeFaultCode;
 use odata_signatures::{BOOLEAN, Beside, EdmType, are_comparable, number_beside};
@@ -31,7 +31,7 @@ enum ItemsFit {
     OutOfMemory,
 }
 
-ghost use Rattle.odata_typing.specs.private.Items.{AreItemsFit, AreItemsPut, AreListFit, IsUnreadLeft, IsValueIfFit, worse_fit};
+ghost use Rattle.odata_typing.specs.private.Items.{AreItemsFit, AreItemsPut, AreListFit, IsItemPut, IsUnreadLeft, worse_fit};
 ghost use Rattle.odata_typing.specs.private.Walks.{list_put};
 
 /// The node between its operand and its items.
@@ -47,23 +47,22 @@ pub(crate) fn checked_in_list(setting: &Setting<'_>, judged: &Judged<'_>, walk: 
     let items = walk.stop_at(left);
     let left_type = *walk.type_at(left);
     if is_enumeration(&left_type) {
-        let numbers = walk.list.values().len();
         let fit = put_items(setting.schema, &left_type, items, judged.stop, walk);
-        put_list(judged, NodeKind::PairedList { numbers }, fit, walk)
+        put_list(judged, fit, walk)
     } else {
         let fit = fit_of(setting.schema, &left_type, items, judged.stop, walk);
-        put_list(judged, NodeKind::InList, fit, walk)
+        put_list(judged, fit, walk)
     }
 }
 
-/// The node of that kind where its items fit.
-fn put_list(judged: &Judged<'_>, kind: NodeKind, fit: ItemsFit, walk: &mut Walk) -> bool
+/// The node where its items fit.
+fn put_list(judged: &Judged<'_>, fit: ItemsFit, walk: &mut Walk) -> bool
     requires { judged.now.number < length walk.old.list.nodes }
     ensures goes_on { IsTrue result ↔ (fit ≡ ItemsFit.All) }
-    ensures put { walk.new ≡ list_put walk.old judged.now kind fit }
+    ensures put { walk.new ≡ list_put walk.old judged.now fit }
 {
     match fit {
-        ItemsFit::All => walk.put_nameless(judged, kind, &BOOLEAN),
+        ItemsFit::All => walk.put_nameless(judged, NodeKind::InList, &BOOLEAN),
         ItemsFit::Refused => walk.refuse(judged.node.span, TypeFaultCode::OperandTypes),
         ItemsFit::Unknown => walk.refuse(judged.node.span, TypeFaultCode::UnknownEnum),
         ItemsFit::OutOfMemory => false,
@@ -92,7 +91,7 @@ fn fit_of(schema: &Schema, left: &EdmType, items: usize, stop: usize, walk: &Wal
     ItemsFit::All
 }
 
-/// Puts a value for each item after the others: its number where it is read, else null.
+/// Whether they may stand after an operand of an enumeration. Each one that is read has its number then.
 fn put_items(
     schema: &Schema,
     left: &EdmType,
@@ -106,44 +105,49 @@ fn put_items(
     ensures fit { (row : List CheckedNode) → AreInRow walk.old.list.nodes row items stop → AreItemsFit
         (slots_of schema.now) (expr_type schema.now left.now) (row_sides schema.now walk.old.list items row) result }
     ensures put { (row : List CheckedNode) → AreInRow walk.old.list.nodes row items stop → AreItemsPut
-        (slots_of schema.now) (expr_type schema.now left.now) (row_sides schema.now walk.old.list items row)
-        walk.old.list walk.new.list result }
+        (slots_of schema.now) schema.now (expr_type schema.now left.now) walk.old.list items row walk.new.list result }
     ensures walk { walk.new ≡ record walk.old { list = walk.new.list } }
-    ensures nodes { walk.new.list.nodes ≡ walk.old.list.nodes }
+    ensures count { length walk.new.list.nodes ≡ length walk.old.list.nodes }
 {
     let mut fit = ItemsFit::All;
     let mut item = items;
     while item < stop {
-        let (value, own) = item_value(schema, left, item, walk);
-        if !walk.push_value(value) {
-            return ItemsFit::OutOfMemory;
-        }
-        fit = worse(fit, own);
-        item = walk.stop_at(item);
+        let next = walk.stop_at(item);
+        fit = worse(fit, put_item(schema, left, item, walk));
+        item = next;
     }
     fit
 }
 
-/// The value of one item, and whether it may stand there.
-fn item_value(schema: &Schema, left: &EdmType, item: usize, walk: &Walk) -> (Value, ItemsFit)
+/// Whether one item may stand there, which has its number then if it is read.
+fn put_item(schema: &Schema, left: &EdmType, item: usize, walk: &mut Walk) -> ItemsFit
     requires left { IsTypeThere schema.now left.now }
-    requires item { (found : CheckedNode) × (slice_get walk.now.list.nodes item ≡ Some found)
+    requires item { (found : CheckedNode) × (slice_get walk.old.list.nodes item ≡ Some found)
         × IsTypeThere schema.now found.edm_type }
-    ensures value { (found : CheckedNode) → slice_get walk.now.list.nodes item ≡ Some found → IsValueIfFit
+    ensures put { (found : CheckedNode) → slice_get walk.old.list.nodes item ≡ Some found → IsItemPut
         (slots_of schema.now) (expr_type schema.now left.now)
-        (quoting (quoted_in walk.now.list item found) (expr_type schema.now found.edm_type)) result.0 result.1 }
-    ensures fit { (found : CheckedNode) → slice_get walk.now.list.nodes item ≡ Some found → AreItemsFit
+        (quoting (quoted_in walk.old.list item found) (expr_type schema.now found.edm_type)) walk.old.list item found
+        walk.new.list result }
+    ensures fit { (found : CheckedNode) → slice_get walk.old.list.nodes item ≡ Some found → AreItemsFit
         (slots_of schema.now) (expr_type schema.now left.now)
-        (quoting (quoted_in walk.now.list item found) (expr_type schema.now found.edm_type) ∷ []) result.1 }
+        (quoting (quoted_in walk.old.list item found) (expr_type schema.now found.edm_type) ∷ []) result }
+    ensures kept { IsKeptOutside item (item + 1) walk.old.list walk.new.list }
+    ensures walk { walk.new ≡ record walk.old { list = walk.new.list } }
 {
     match number_beside(schema, left, walk.quoted_at(item)) {
-        Beside::Number(number) => (Value::Enum(number), ItemsFit::All),
-        Beside::Unknown => (Value::Null, ItemsFit::Unknown),
+        Beside::Number(number) => {
+            if walk.put_number(item, number) {
+                ItemsFit::All
+            } else {
+                ItemsFit::OutOfMemory
+            }
+        }
+        Beside::Unknown => ItemsFit::Unknown,
         Beside::Unread => {
             if are_comparable(schema, left, walk.type_at(item)) {
-                (Value::Null, ItemsFit::All)
+                ItemsFit::All
             } else {
-                (Value::Null, ItemsFit::Refused)
+                ItemsFit::Refused
             }
         }
     }

@@ -21,7 +21,7 @@ mod lambda;
 mod laws_below;
 mod literal;
 mod node;
-mod pairing;
+mod operand_text;
 mod property;
 mod reading;
 mod setting;

@@ -26,7 +26,7 @@ pub(crate) struct Walk {
     pub(crate) navigates: bool,
 }
 
-ghost use Rattle.odata_typing.specs.private.Walks.{IsPutIn, checked, walk_over, walk_put, walk_refused};
+ghost use Rattle.odata_typing.specs.private.Walks.{IsNumberPut, IsPutIn, checked, walk_over, walk_put, walk_refused};
 
 impl Walk {
     /// The walk before the first node, over a list that is still to be filled.
@@ -110,6 +110,17 @@ impl Walk {
         ensures { IsPutIn self.old value self.new result }
     {
         match self.list.push_value(value) {
+            Ok(()) => true,
+            Err(_) => false,
+        }
+    }
+
+    /// Gives the String literal of a judged node a number of an enumeration as its value.
+    pub(crate) fn put_number(&mut self, place: usize, number: i64) -> bool
+        requires { place < length self.old.list.nodes }
+        ensures { IsNumberPut self.old place number self.new result }
+    {
+        match self.list.put_number(place, number) {
             Ok(()) => true,
             Err(_) => false,
         }

@@ -11,9 +11,9 @@ use Rattle.odata_checked_filter.specs.declared.canonical_text.Part.{Part}
 use Rattle.odata_checked_filter.specs.declared.canonical_text.Part.TheVariants.{Close, Further, Operand}
 use Rattle.odata_checked_filter.specs.declared.checked_node.NodeKind.{NodeKind}
 use Rattle.odata_checked_filter.specs.FlatTree.{FlatTree}
-use Rattle.odata_checked_filter.specs.Stands.{AllStand}
+use Rattle.odata_checked_filter.specs.private.Layout.{AllLie}
 use Rattle.odata_checked_filter.specs.private.CanonicalWalk.{AllThere, AreFurtherPut, ArePieceTexts, ArePiecesOf, GoesOn, HasTreeAt, IsCallAt, IsCallOf, IsPieceOf, IsPieceText, Piece, StandsThere, WritesNode, WritesPart, arguments_of, comma_before, further, operand, part_weight, plain, stop_at, weight}
-use Rattle.odata_checked_filter.proofs.flat.Standing.{stand_onward, stands_nonempty}
+use Rattle.odata_checked_filter.proofs.flat.Standing.{lie_onward, lies_nonempty}
 use Rattle.odata_checked_filter.proofs.canonical.Kinds.{Matches, shape_there}
 use Rattle.odata_checked_filter.proofs.canonical.Leaves.{above, below, place_of, stop_is, ungrouped}
 
@@ -39,14 +39,14 @@ lightly s m i j same first behind = omega arith
 
 some_arguments :
     (schema : SchemaModel) (n : ℕ) (scope : Scope) (list : FlatTree) (i j : ℕ) (tree : Tree) (trees : Trees)
-    → AllStand schema n scope list i j (more_trees tree trees)
+    → AllLie schema n scope list i j (more_trees tree trees)
     → HasArguments list (Further (stop_at list i) j ∷ (Operand i 0 ∷ [])) (44 ∷ []) (more_trees tree trees) (4 * (j - i))
 some_arguments schema n scope list i j tree trees stand =
     let m = stand.middle in
     let stops : stop_at list i ≡ m = stop_is schema n scope list i m tree stand.left in
-    let A : ℕ → Type 0 = λ (k : ℕ). AllStand schema n scope list k j trees in
+    let A : ℕ → Type 0 = λ (k : ℕ). AllLie schema n scope list k j trees in
     let light : 4 * (j - stop_at list i) + 1 + (4 * (stop_at list i - (i + 1)) + 3) ≤ 4 * (j - i) =
-    lightly (stop_at list i) m i j stops (stands_nonempty schema n scope list i m tree stand.left) (stand_onward schema n scope list m j trees stand.right) in
+    lightly (stop_at list i) m i j stops (lies_nonempty schema n scope list i m tree stand.left) (lie_onward schema n scope list m j trees stand.right) in
     record {
       pieces = further trees ∷ (operand 0 tree ∷ []);
       are = (
@@ -74,7 +74,7 @@ some_arguments schema n scope list i j tree trees stand =
 
 pub arguments_there :
     (schema : SchemaModel) (n : ℕ) (scope : Scope) (list : FlatTree) (i j : ℕ) (trees : Trees)
-    → AllStand schema n scope list i j trees
+    → AllLie schema n scope list i j trees
     → HasArguments list (arguments_of list i j) (comma_before i j) trees (4 * (j - i))
 arguments_there schema n scope list i j no_trees stand =
     let e : i ≡ j = stand in
@@ -82,8 +82,8 @@ arguments_there schema n scope list i j no_trees stand =
     rw past (no_arguments list (4 * (j - i)))
 arguments_there schema n scope list i j (more_trees tree trees) stand =
     let m = stand.middle in
-    let first : i < m = stands_nonempty schema n scope list i m tree stand.left in
-    let behind : m ≤ j = stand_onward schema n scope list m j trees stand.right in
+    let first : i < m = lies_nonempty schema n scope list i m tree stand.left in
+    let behind : m ≤ j = lie_onward schema n scope list m j trees stand.right in
     let more : nat_lt i j ≡ true = above i j (omega arith) in
     rw more (some_arguments schema n scope list i j tree trees stand)
 
@@ -107,7 +107,7 @@ further_light list i j (further trees) of =
 further_light list i j (plain text) of = absurd of
 further_light list i j (operand level tree) of = absurd of
 
-pub within_list : (schema : SchemaModel) (n : ℕ) (scope : Scope) (list : FlatTree) (i j : ℕ) (trees : Trees) → AllStand schema n scope list i j trees → i < j → i < length list.nodes
+pub within_list : (schema : SchemaModel) (n : ℕ) (scope : Scope) (list : FlatTree) (i j : ℕ) (trees : Trees) → AllLie schema n scope list i j trees → i < j → i < length list.nodes
 within_list schema n scope list i j no_trees stand some = let e : i ≡ j = stand in absurd (omega arith)
 within_list schema n scope list i j (more_trees tree trees) stand some = place_of schema n scope list i stand.middle tree stand.left
 
@@ -157,7 +157,7 @@ call_there list i called (node start stop shape) is there =
     let P : Shape → Type 0 = λ (s : Shape). StandsThere list i (node start stop s) in
     let here = subst P m.1 there in
     let stops : stop_at list i ≡ here.stop = stop_is here.schema here.filtered here.scope list i here.stop (node start stop (call called m.0)) here.stands in
-    let A : ℕ → Type 0 = λ (j : ℕ). AllStand here.schema here.filtered here.scope list (i + 1) j m.0 in
+    let A : ℕ → Type 0 = λ (j : ℕ). AllLie here.schema here.filtered here.scope list (i + 1) j m.0 in
     record {
       start = start;
       stop = stop;

@@ -31,43 +31,33 @@ Matches (NodeKind.Call function) shape = (arguments : Trees) × (shape ≡ call 
 Matches NodeKind.Neg shape = (operand : Tree) × (shape ≡ negation operand)
 Matches NodeKind.Not shape = (operand : Tree) × (shape ≡ logical_not operand)
 Matches (NodeKind.Binary operator) shape = (left : Tree) × (right : Tree) × (shape ≡ binary operator left right)
-Matches (NodeKind.PairedRight operator number) shape = (left : Tree) × (right : Tree) × (shape ≡ binary operator left right)
-Matches (NodeKind.PairedLeft operator number) shape = (left : Tree) × (right : Tree) × (shape ≡ binary operator left right)
 Matches NodeKind.Has shape = (left : Tree) × (right : Tree) × (shape ≡ has left right)
-Matches (NodeKind.PairedHas number) shape = (left : Tree) × (right : Tree) × (shape ≡ has left right)
 Matches NodeKind.InList shape = (left : Tree) × (items : Trees) × (shape ≡ in_list left items)
-Matches (NodeKind.PairedList numbers) shape = (left : Tree) × (items : Trees) × (shape ≡ in_list left items)
 Matches NodeKind.InPath shape = (left : Tree) × (path : Tree) × (shape ≡ in_path left path)
 
-matched : (values : List Value) (slots : Slots) (root : List ℕ) (scope : Scope) (shape : Shape) (kind : NodeKind)
-    → IsKindOf values slots root scope shape kind → Matches kind shape
-matched values slots root scope (literal k spelling) (NodeKind.Literal kind value) is = (spelling, ap (λ (x : LiteralKind). literal x spelling) (sym is.0))
-matched values slots root scope (literal k spelling) _ is = absurd is
-matched values slots root scope it kind is = subst (λ (k : NodeKind). Matches k it) (sym is) refl
-matched values slots root scope (name asked) (NodeKind.Property slot) is = (asked, refl)
-matched values slots root scope (name asked) (NodeKind.Variable level) is = (asked, refl)
-matched values slots root scope (name asked) _ is = absurd is
-matched values slots root scope (member base asked) (NodeKind.Member slot) is = (base, asked, refl)
-matched values slots root scope (member base asked) _ is = absurd is
-matched values slots root scope (count base) kind is = subst (λ (k : NodeKind). Matches k (count base)) (sym is) (base, refl)
-matched values slots root scope (any_item base) kind is = subst (λ (k : NodeKind). Matches k (any_item base)) (sym is) (base, refl)
-matched values slots root scope (negation operand) kind is = subst (λ (k : NodeKind). Matches k (negation operand)) (sym is) (operand, refl)
-matched values slots root scope (logical_not operand) kind is = subst (λ (k : NodeKind). Matches k (logical_not operand)) (sym is) (operand, refl)
-matched values slots root scope (binary operator left right) kind (inl is) =
-    subst (λ (k : NodeKind). Matches k (binary operator left right)) (sym is.kind_is) (left, right, refl)
-matched values slots root scope (binary operator left right) kind (inr (inl is)) =
-    subst (λ (k : NodeKind). Matches k (binary operator left right)) (sym is.kind_is) (left, right, refl)
-matched values slots root scope (binary operator left right) kind (inr (inr is)) =
-    subst (λ (k : NodeKind). Matches k (binary operator left right)) (sym is.kind_is) (left, right, refl)
-matched values slots root scope (has left right) kind (inl is) = subst (λ (k : NodeKind). Matches k (has left right)) (sym is.kind_is) (left, right, refl)
-matched values slots root scope (has left right) kind (inr is) = subst (λ (k : NodeKind). Matches k (has left right)) (sym is.kind_is) (left, right, refl)
-matched values slots root scope (in_list left items) kind (inl is) = subst (λ (k : NodeKind). Matches k (in_list left items)) (sym is.kind_is) (left, items, refl)
-matched values slots root scope (in_list left items) kind (inr is) = subst (λ (k : NodeKind). Matches k (in_list left items)) (sym is.kind_is) (left, items, refl)
-matched values slots root scope (in_path left path) kind is = subst (λ (k : NodeKind). Matches k (in_path left path)) (sym is) (left, path, refl)
-matched values slots root scope (call asked arguments) NodeKind.Now is = (arguments, ap (λ (called : List ℕ). call called arguments) (sym is))
-matched values slots root scope (call asked arguments) (NodeKind.Call function) is = (arguments, ap (λ (called : List ℕ). call called arguments) (sym is.0))
-matched values slots root scope (call asked arguments) _ is = absurd is
-matched values slots root scope (lambda quantifier base variable body) kind is =
+matched : (slots : Slots) (root : List ℕ) (scope : Scope) (shape : Shape) (kind : NodeKind)
+    → IsKindOf slots root scope shape kind → Matches kind shape
+matched slots root scope (literal k spelling) (NodeKind.Literal kind value) is = (spelling, ap (λ (x : LiteralKind). literal x spelling) (sym is))
+matched slots root scope (literal k spelling) _ is = absurd is
+matched slots root scope it kind is = subst (λ (k : NodeKind). Matches k it) (sym is) refl
+matched slots root scope (name asked) (NodeKind.Property slot) is = (asked, refl)
+matched slots root scope (name asked) (NodeKind.Variable level) is = (asked, refl)
+matched slots root scope (name asked) _ is = absurd is
+matched slots root scope (member base asked) (NodeKind.Member slot) is = (base, asked, refl)
+matched slots root scope (member base asked) _ is = absurd is
+matched slots root scope (count base) kind is = subst (λ (k : NodeKind). Matches k (count base)) (sym is) (base, refl)
+matched slots root scope (any_item base) kind is = subst (λ (k : NodeKind). Matches k (any_item base)) (sym is) (base, refl)
+matched slots root scope (negation operand) kind is = subst (λ (k : NodeKind). Matches k (negation operand)) (sym is) (operand, refl)
+matched slots root scope (logical_not operand) kind is = subst (λ (k : NodeKind). Matches k (logical_not operand)) (sym is) (operand, refl)
+matched slots root scope (binary operator left right) kind is =
+    subst (λ (k : NodeKind). Matches k (binary operator left right)) (sym is) (left, right, refl)
+matched slots root scope (has left right) kind is = subst (λ (k : NodeKind). Matches k (has left right)) (sym is) (left, right, refl)
+matched slots root scope (in_list left items) kind is = subst (λ (k : NodeKind). Matches k (in_list left items)) (sym is) (left, items, refl)
+matched slots root scope (in_path left path) kind is = subst (λ (k : NodeKind). Matches k (in_path left path)) (sym is) (left, path, refl)
+matched slots root scope (call asked arguments) NodeKind.Now is = (arguments, ap (λ (called : List ℕ). call called arguments) (sym is))
+matched slots root scope (call asked arguments) (NodeKind.Call function) is = (arguments, ap (λ (called : List ℕ). call called arguments) (sym is.0))
+matched slots root scope (call asked arguments) _ is = absurd is
+matched slots root scope (lambda quantifier base variable body) kind is =
     subst (λ (k : NodeKind). Matches k (lambda quantifier base variable body)) (sym is) (base, variable, body, refl)
 
 same_node : (nodes : List CheckedNode) (i : ℕ) (a b : CheckedNode) → slice_get nodes i ≡ Some a → slice_get nodes i ≡ Some b → a ≡ b
@@ -80,36 +70,32 @@ shape_there list i found kind start stop shape at is there =
     let top = there.stands.top in
     let same : top.found.kind ≡ kind = ap (λ (f : CheckedNode). f.kind) (same_node list.nodes i top.found found top.stands_at at) ∙ is in
     subst (λ (k : NodeKind). Matches k shape) same
-    (matched list.values (slots_of there.schema) (type_name_at there.schema there.filtered) there.scope shape top.found.kind top.kind)
+    (matched (slots_of there.schema) (type_name_at there.schema there.filtered) there.scope shape top.found.kind top.kind)
 
 -- ---- levels
 
-level_told : (values : List Value) (slots : Slots) (root : List ℕ) (scope : Scope) (shape : Shape) (kind : NodeKind)
-    → IsKindOf values slots root scope shape kind → shape_level shape ≡ kind_level kind
-level_told values slots root scope (literal k spelling) (NodeKind.Literal kind value) is = refl
-level_told values slots root scope (literal k spelling) _ is = absurd is
-level_told values slots root scope (name asked) (NodeKind.Property slot) is = refl
-level_told values slots root scope (name asked) (NodeKind.Variable level) is = refl
-level_told values slots root scope (name asked) _ is = absurd is
-level_told values slots root scope (member base asked) (NodeKind.Member slot) is = refl
-level_told values slots root scope (member base asked) _ is = absurd is
-level_told values slots root scope (call asked arguments) NodeKind.Now is = refl
-level_told values slots root scope (call asked arguments) (NodeKind.Call function) is = refl
-level_told values slots root scope (call asked arguments) _ is = absurd is
-level_told values slots root scope it kind is = rw is refl
-level_told values slots root scope (count base) kind is = rw is refl
-level_told values slots root scope (negation operand) kind is = rw is refl
-level_told values slots root scope (logical_not operand) kind is = rw is refl
-level_told values slots root scope (binary operator left right) kind (inl is) = rw is.kind_is refl
-level_told values slots root scope (binary operator left right) kind (inr (inl is)) = rw is.kind_is refl
-level_told values slots root scope (binary operator left right) kind (inr (inr is)) = rw is.kind_is refl
-level_told values slots root scope (has left right) kind (inl is) = rw is.kind_is refl
-level_told values slots root scope (has left right) kind (inr is) = rw is.kind_is refl
-level_told values slots root scope (in_list left items) kind (inl is) = rw is.kind_is refl
-level_told values slots root scope (in_list left items) kind (inr is) = rw is.kind_is refl
-level_told values slots root scope (in_path left path) kind is = rw is refl
-level_told values slots root scope (any_item base) kind is = rw is refl
-level_told values slots root scope (lambda quantifier base variable body) kind is = rw is refl
+level_told : (slots : Slots) (root : List ℕ) (scope : Scope) (shape : Shape) (kind : NodeKind)
+    → IsKindOf slots root scope shape kind → shape_level shape ≡ kind_level kind
+level_told slots root scope (literal k spelling) (NodeKind.Literal kind value) is = refl
+level_told slots root scope (literal k spelling) _ is = absurd is
+level_told slots root scope (name asked) (NodeKind.Property slot) is = refl
+level_told slots root scope (name asked) (NodeKind.Variable level) is = refl
+level_told slots root scope (name asked) _ is = absurd is
+level_told slots root scope (member base asked) (NodeKind.Member slot) is = refl
+level_told slots root scope (member base asked) _ is = absurd is
+level_told slots root scope (call asked arguments) NodeKind.Now is = refl
+level_told slots root scope (call asked arguments) (NodeKind.Call function) is = refl
+level_told slots root scope (call asked arguments) _ is = absurd is
+level_told slots root scope it kind is = rw is refl
+level_told slots root scope (count base) kind is = rw is refl
+level_told slots root scope (negation operand) kind is = rw is refl
+level_told slots root scope (logical_not operand) kind is = rw is refl
+level_told slots root scope (binary operator left right) kind is = rw is refl
+level_told slots root scope (has left right) kind is = rw is refl
+level_told slots root scope (in_list left items) kind is = rw is refl
+level_told slots root scope (in_path left path) kind is = rw is refl
+level_told slots root scope (any_item base) kind is = rw is refl
+level_told slots root scope (lambda quantifier base variable body) kind is = rw is refl
 
 -- a normal form binds as tightly
 normal_level : (shape other : Shape) → IsNormalShape shape other → shape_level other ≡ shape_level shape
@@ -135,5 +121,5 @@ level_there list i found (node start stop shape) normal at there is =
     let top = there.stands.top in
     let same : top.found ≡ found = same_node list.nodes i top.found found top.stands_at at in
     ap tree_level is.2 ∙ normal_level shape is.0 is.1
-    ∙ level_told list.values (slots_of there.schema) (type_name_at there.schema there.filtered) there.scope shape top.found.kind top.kind
+    ∙ level_told (slots_of there.schema) (type_name_at there.schema there.filtered) there.scope shape top.found.kind top.kind
     ∙ ap (λ (f : CheckedNode). kind_level f.kind) same

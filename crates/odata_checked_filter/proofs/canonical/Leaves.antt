@@ -15,7 +15,7 @@ use Rattle.odata_checked_filter.specs.declared.canonical_text.Part.TheVariants.{
 use Rattle.odata_checked_filter.specs.declared.checked_node.CheckedNode.{CheckedNode}
 use Rattle.odata_checked_filter.specs.declared.checked_node.NodeKind.{NodeKind}
 use Rattle.odata_checked_filter.specs.FlatTree.{FlatTree}
-use Rattle.odata_checked_filter.specs.Stands.{Stands}
+use Rattle.odata_checked_filter.specs.private.Layout.{Lies}
 use Rattle.odata_expression_types.specs.Typed.{Scope}
 use Rattle.odata_checked_filter.specs.private.CanonicalWalk.{HasTreeAt, IsPieceOf, IsTextAdded, Piece, StandsThere, WritesNode, further, operand, plain, stop_at}
 use Rattle.odata_checked_filter.proofs.canonical.Kinds.{Matches, shape_there}
@@ -35,10 +35,10 @@ pushed_ok (Err e) x a b given = tt
 pub stop_found : (list : FlatTree) (i j : ℕ) (found : CheckedNode) → slice_get list.nodes i ≡ Some found → found.stop ≡ j → stop_at list i ≡ j
 stop_found list i j found at last = ap (λ (o : Option CheckedNode). unwrap_or (option_map (λ (f : CheckedNode). f.stop) o) i) at ∙ last
 
-pub stop_is : (schema : SchemaModel) (n : ℕ) (scope : Scope) (list : FlatTree) (i j : ℕ) (tree : Tree) → Stands schema n scope list i j tree → stop_at list i ≡ j
+pub stop_is : (schema : SchemaModel) (n : ℕ) (scope : Scope) (list : FlatTree) (i j : ℕ) (tree : Tree) → Lies schema n scope list i j tree → stop_at list i ≡ j
 stop_is schema n scope list i j (node start stop shape) stands = stop_found list i j stands.top.found stands.top.stands_at stands.top.last
 
-pub place_of : (schema : SchemaModel) (n : ℕ) (scope : Scope) (list : FlatTree) (i j : ℕ) (tree : Tree) → Stands schema n scope list i j tree → i < length list.nodes
+pub place_of : (schema : SchemaModel) (n : ℕ) (scope : Scope) (list : FlatTree) (i j : ℕ) (tree : Tree) → Lies schema n scope list i j tree → i < length list.nodes
 place_of schema n scope list i j (node start stop shape) stands = found_before list.nodes i stands.top.found stands.top.stands_at
 
 pub there_within : (list : FlatTree) (i : ℕ) → HasTreeAt list i → i < length list.nodes

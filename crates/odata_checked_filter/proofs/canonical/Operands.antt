@@ -18,11 +18,12 @@ use Rattle.odata_checked_filter.specs.declared.canonical_text.Part.TheVariants.{
 use Rattle.odata_checked_filter.specs.declared.checked_node.CheckedNode.{CheckedNode}
 use Rattle.odata_checked_filter.specs.declared.checked_node.NodeKind.{NodeKind}
 use Rattle.odata_checked_filter.specs.FlatTree.{FlatTree}
-use Rattle.odata_checked_filter.specs.Stands.{AllStand, Stands, text_of_shape}
+use Rattle.odata_checked_filter.specs.private.Layout.{AllLie, Lies}
+use Rattle.odata_checked_filter.specs.Stands.{text_of_shape}
 use Rattle.odata_checked_filter.specs.private.CanonicalWalk.{HasTreeAt, IsJointAt, StandsThere, WritesNode, arguments_of, behind_kind, node_weight, operand, operand_of, plain, stop_at}
 use Rattle.odata_checked_filter.specs.private.KindTexts.{IsJoining, first_level, joint_text, quantifier_joint}
 use Rattle.odata_checked_filter.proofs.flat.Children.{body_there, one_there, two_there}
-use Rattle.odata_checked_filter.proofs.flat.Standing.{stand_onward, stands_nonempty}
+use Rattle.odata_checked_filter.proofs.flat.Standing.{lie_onward, lies_nonempty}
 use Rattle.odata_checked_filter.proofs.canonical.Arguments.{arguments_there, closing_weight, within_list}
 use Rattle.odata_checked_filter.proofs.canonical.Joints.{Joins, joins_written}
 use Rattle.odata_checked_filter.proofs.canonical.Kinds.{shape_there}
@@ -108,7 +109,7 @@ lighter_both : (a b c i m j : ℕ) → a ≡ j → b ≡ m → c ≡ j → i + 1
 lighter_both a b c i m j ea eb ec first second = omega arith
 
 both_there : (list : FlatTree) (i : ℕ) (tree left right : Tree) (there : StandsThere list i tree) (inner : Scope) (m : ℕ)
-    → Stands there.schema there.filtered there.scope list (i + 1) m left → Stands there.schema there.filtered inner list m there.stop right
+    → Lies there.schema there.filtered there.scope list (i + 1) m left → Lies there.schema there.filtered inner list m there.stop right
     → HasBoth list i left right
 both_there list i tree left right there inner m stands behind =
     let first : stop_at list (i + 1) ≡ m = stop_is there.schema there.filtered there.scope list (i + 1) m left stands in
@@ -120,13 +121,13 @@ both_there list i tree left right there inner m stands behind =
         filtered = there.filtered;
         scope = inner;
         stop = there.stop;
-        stands = subst (λ (k : ℕ). Stands there.schema there.filtered inner list k there.stop right) (sym first) behind;
+        stands = subst (λ (k : ℕ). Lies there.schema there.filtered inner list k there.stop right) (sym first) behind;
       };
       lighter = lighter_both (stop_at list (stop_at list (i + 1))) (stop_at list (i + 1)) (stop_at list i) i m there.stop
           (ap (stop_at list) first ∙ second) first
           (stop_is there.schema there.filtered there.scope list i there.stop tree there.stands)
-          (stands_nonempty there.schema there.filtered there.scope list (i + 1) m left stands)
-          (stands_nonempty there.schema there.filtered inner list m there.stop right behind);
+          (lies_nonempty there.schema there.filtered there.scope list (i + 1) m left stands)
+          (lies_nonempty there.schema there.filtered inner list m there.stop right behind);
     }
 
 -- a form whose text is those of its operands, whose places need these levels, and this between them
@@ -201,7 +202,7 @@ record HasItems (list : FlatTree) (i : ℕ) (left : Tree) (items : Trees) : Type
   filtered : ℕ
   scope : Scope
   first : StandsThere list (i + 1) left
-  all : AllStand schema filtered scope list (stop_at list (i + 1)) (stop_at list i) items
+  all : AllLie schema filtered scope list (stop_at list (i + 1)) (stop_at list i) items
   lighter : 4 * (stop_at list i - stop_at list (i + 1)) + node_weight list (i + 1) + 3 < node_weight list i
 
 lighter_items : (b c i m j : ℕ) → b ≡ m → c ≡ j → i + 1 < m → m ≤ j → 4 * (c - b) + (4 * (b - (i + 1 + 1)) + 3) + 3 < 4 * (c - (i + 1)) + 3
@@ -212,8 +213,8 @@ items_there list i start stop left items there =
     let m = there.stands.children.middle in
     let first : stop_at list (i + 1) ≡ m = stop_is there.schema there.filtered there.scope list (i + 1) m left there.stands.children.left in
     let last : stop_at list i ≡ there.stop = stop_is there.schema there.filtered there.scope list i there.stop (node start stop (in_list left items)) there.stands in
-    let A : ℕ → Type 0 = λ (k : ℕ). AllStand there.schema there.filtered there.scope list k there.stop items in
-    let B : ℕ → Type 0 = λ (k : ℕ). AllStand there.schema there.filtered there.scope list (stop_at list (i + 1)) k items in
+    let A : ℕ → Type 0 = λ (k : ℕ). AllLie there.schema there.filtered there.scope list k there.stop items in
+    let B : ℕ → Type 0 = λ (k : ℕ). AllLie there.schema there.filtered there.scope list (stop_at list (i + 1)) k items in
     record {
       schema = there.schema;
       filtered = there.filtered;
@@ -221,8 +222,8 @@ items_there list i start stop left items there =
       first = record { schema = there.schema; filtered = there.filtered; scope = there.scope; stop = m; stands = there.stands.children.left };
       all = subst B (sym last) (subst A (sym first) there.stands.children.right);
       lighter = lighter_items (stop_at list (i + 1)) (stop_at list i) i m there.stop first last
-          (stands_nonempty there.schema there.filtered there.scope list (i + 1) m left there.stands.children.left)
-          (stand_onward there.schema there.filtered there.scope list m there.stop items there.stands.children.right);
+          (lies_nonempty there.schema there.filtered there.scope list (i + 1) m left there.stands.children.left)
+          (lie_onward there.schema there.filtered there.scope list m there.stop items there.stands.children.right);
     }
 
 list_joins : (list : FlatTree) (i start stop : ℕ) (left : Tree) (items : Trees)
@@ -327,20 +328,6 @@ module _ (list : FlatTree) (i : ℕ) (found : CheckedNode) (at : slice_get list.
       subst P (sym m.2)
       (λ here. pair_joins list i start stop (32 ∷ (operator_word operator ++ 32 ∷ [])) (operator_level operator) (operator_level operator + 1) (binary operator) m.0 m.1
       (operator_pair operator) (joint_here list i found (NodeKind.Binary operator) start stop (binary operator m.0 m.1) at is tt here) here) there
-  joins (NodeKind.PairedRight operator number) (node start stop shape) is joining there =
-      let m = shape_there list i found (NodeKind.PairedRight operator number) start stop shape at is there in
-      let behind = operand_of (stop_at list (i + 1)) (operator_level operator + 1) in
-      let P : Shape → Type 0 = λ (s : Shape). StandsThere list i (node start stop s) → Joins list i (node start stop s) (operator_level operator) behind in
-      subst P (sym m.2)
-      (λ here. pair_joins list i start stop (32 ∷ (operator_word operator ++ 32 ∷ [])) (operator_level operator) (operator_level operator + 1) (binary operator) m.0 m.1
-      (operator_pair operator) (joint_here list i found (NodeKind.PairedRight operator number) start stop (binary operator m.0 m.1) at is tt here) here) there
-  joins (NodeKind.PairedLeft operator number) (node start stop shape) is joining there =
-      let m = shape_there list i found (NodeKind.PairedLeft operator number) start stop shape at is there in
-      let behind = operand_of (stop_at list (i + 1)) (operator_level operator + 1) in
-      let P : Shape → Type 0 = λ (s : Shape). StandsThere list i (node start stop s) → Joins list i (node start stop s) (operator_level operator) behind in
-      subst P (sym m.2)
-      (λ here. pair_joins list i start stop (32 ∷ (operator_word operator ++ 32 ∷ [])) (operator_level operator) (operator_level operator + 1) (binary operator) m.0 m.1
-      (operator_pair operator) (joint_here list i found (NodeKind.PairedLeft operator number) start stop (binary operator m.0 m.1) at is tt here) here) there
   joins NodeKind.Has (node start stop shape) is joining there =
       let m = shape_there list i found NodeKind.Has start stop shape at is there in
       let behind = operand_of (stop_at list (i + 1)) base_level in
@@ -348,13 +335,6 @@ module _ (list : FlatTree) (i : ℕ) (found : CheckedNode) (at : slice_get list.
       subst P (sym m.2)
       (λ here. pair_joins list i start stop (codes " has ") primary_level base_level has m.0 m.1 has_pair
       (joint_here list i found NodeKind.Has start stop (has m.0 m.1) at is tt here) here) there
-  joins (NodeKind.PairedHas number) (node start stop shape) is joining there =
-      let m = shape_there list i found (NodeKind.PairedHas number) start stop shape at is there in
-      let behind = operand_of (stop_at list (i + 1)) base_level in
-      let P : Shape → Type 0 = λ (s : Shape). StandsThere list i (node start stop s) → Joins list i (node start stop s) primary_level behind in
-      subst P (sym m.2)
-      (λ here. pair_joins list i start stop (codes " has ") primary_level base_level has m.0 m.1 has_pair
-      (joint_here list i found (NodeKind.PairedHas number) start stop (has m.0 m.1) at is tt here) here) there
   joins NodeKind.InPath (node start stop shape) is joining there =
       let m = shape_there list i found NodeKind.InPath start stop shape at is there in
       let behind = operand_of (stop_at list (i + 1)) path_level in
@@ -368,12 +348,6 @@ module _ (list : FlatTree) (i : ℕ) (found : CheckedNode) (at : slice_get list.
       let P : Shape → Type 0 = λ (s : Shape). StandsThere list i (node start stop s) → Joins list i (node start stop s) primary_level behind in
       subst P (sym m.2)
       (λ here. list_joins list i start stop m.0 m.1 (joint_here list i found NodeKind.InList start stop (in_list m.0 m.1) at is tt here) here) there
-  joins (NodeKind.PairedList numbers) (node start stop shape) is joining there =
-      let m = shape_there list i found (NodeKind.PairedList numbers) start stop shape at is there in
-      let behind = Close ∷ arguments_of list (stop_at list (i + 1)) (stop_at list i) in
-      let P : Shape → Type 0 = λ (s : Shape). StandsThere list i (node start stop s) → Joins list i (node start stop s) primary_level behind in
-      subst P (sym m.2)
-      (λ here. list_joins list i start stop m.0 m.1 (joint_here list i found (NodeKind.PairedList numbers) start stop (in_list m.0 m.1) at is tt here) here) there
   joins (NodeKind.Lambda quantifier) (node start stop shape) is joining there =
       let m = shape_there list i found (NodeKind.Lambda quantifier) start stop shape at is there in
       let behind = Close ∷ operand_of (stop_at list (i + 1)) 0 in

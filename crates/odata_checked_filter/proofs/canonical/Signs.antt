@@ -9,10 +9,10 @@ use Rattle.odata_checked_filter.specs.declared.canonical_text.Part.{Part}
 use Rattle.odata_checked_filter.specs.declared.checked_node.CheckedNode.{CheckedNode}
 use Rattle.odata_checked_filter.specs.declared.checked_node.NodeKind.{NodeKind}
 use Rattle.odata_checked_filter.specs.FlatTree.{FlatTree}
-use Rattle.odata_checked_filter.specs.Stands.{Stands}
+use Rattle.odata_checked_filter.specs.private.Layout.{Lies}
 use Rattle.odata_checked_filter.specs.private.CanonicalWalk.{GoesOn, HasTreeAt, StandsThere, WritesNode, node_weight, operand, operand_of, stop_at}
 use Rattle.odata_checked_filter.proofs.flat.Children.{one_there}
-use Rattle.odata_checked_filter.proofs.flat.Standing.{stands_nonempty}
+use Rattle.odata_checked_filter.proofs.flat.Standing.{lies_nonempty}
 use Rattle.odata_checked_filter.proofs.canonical.Kinds.{Matches, shape_there}
 use Rattle.odata_checked_filter.proofs.canonical.Leaves.{stop_is}
 
@@ -28,7 +28,7 @@ less : (a b i s : ℕ) → a ≡ s → b ≡ s → i + 1 < s → 4 * (a - (i + 1
 less a b i s ea eb some = omega arith
 
 pub child_there : (list : FlatTree) (i : ℕ) (tree child : Tree) → (there : StandsThere list i tree)
-    → Stands there.schema there.filtered there.scope list (i + 1) there.stop child → HasChild list i child
+    → Lies there.schema there.filtered there.scope list (i + 1) there.stop child → HasChild list i child
 child_there list i tree child there stands = record {
   there = record { schema = there.schema; filtered = there.filtered; scope = there.scope; stop = there.stop; stands = stands };
   ends =
@@ -37,7 +37,7 @@ child_there list i tree child there stands = record {
   lighter = less (stop_at list (i + 1)) (stop_at list i) i there.stop
       (stop_is there.schema there.filtered there.scope list (i + 1) there.stop child stands)
       (stop_is there.schema there.filtered there.scope list i there.stop tree there.stands)
-      (stands_nonempty there.schema there.filtered there.scope list (i + 1) there.stop child stands);
+      (lies_nonempty there.schema there.filtered there.scope list (i + 1) there.stop child stands);
 }
 
 -- ---- the two signs

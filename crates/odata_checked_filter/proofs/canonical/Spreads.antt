@@ -42,13 +42,9 @@ plain_closing list false = refl
 pub plain_behind : (list : FlatTree) (kind : NodeKind) (second stop : ℕ)
     → spread list (behind_kind list kind second stop) ≡ behind_kind list kind second stop
 plain_behind list (NodeKind.Binary operator) second stop = refl
-plain_behind list (NodeKind.PairedRight operator number) second stop = refl
-plain_behind list (NodeKind.PairedLeft operator number) second stop = refl
 plain_behind list NodeKind.Has second stop = refl
-plain_behind list (NodeKind.PairedHas number) second stop = refl
 plain_behind list NodeKind.InPath second stop = refl
 plain_behind list NodeKind.InList second stop = ap (λ (ps : List Part). Close ∷ ps) (plain_arguments list second stop)
-plain_behind list (NodeKind.PairedList numbers) second stop = ap (λ (ps : List Part). Close ∷ ps) (plain_arguments list second stop)
 plain_behind list (NodeKind.Lambda quantifier) second stop = refl
 plain_behind list _ second stop = refl
 

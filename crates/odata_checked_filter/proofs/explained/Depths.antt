@@ -8,13 +8,14 @@ use Rattle.csdl_schema.specs.SchemaModel.{SchemaModel}
 use Rattle.odata_checked_filter.specs.declared.checked_node.CheckedNode.{CheckedNode}
 use Rattle.odata_checked_filter.specs.Depths.{depths, depths_among, depths_below}
 use Rattle.odata_checked_filter.specs.FlatTree.{FlatTree}
-use Rattle.odata_checked_filter.specs.Stands.{AllStand, ChildrenStand, IsTop, Stands}
+use Rattle.odata_checked_filter.specs.private.Layout.{AllLie, ChildrenLie, Lies, OfAnyValue}
+use Rattle.odata_checked_filter.specs.Stands.{IsTop}
 use Rattle.odata_expression_types.specs.Typed.{Scope, with_variable}
 use Rattle.csdl_schema.specs.ExprType.{single}
 use Rattle.odata_checked_filter.specs.private.ExplanationWalk.{still_around}
 use Rattle.odata_checked_filter.proofs.flat.Children.{body_there, one_there, two_there}
 use Rattle.odata_checked_filter.proofs.flat.Places.{drop_at}
-use Rattle.odata_checked_filter.proofs.flat.Standing.{stand_onward, stands_nonempty}
+use Rattle.odata_checked_filter.proofs.flat.Standing.{lie_onward, lies_nonempty}
 
 -- the depths that the walk reports of nodes from an index on, by where those before them stop
 abbrev pub told_depths : ℕ → List CheckedNode → List ℕ → List ℕ
@@ -70,7 +71,7 @@ one_longer stops j = length-append stops (j ∷ [])
 -- a node at its place, and what is reported after it
 top_told :
     (schema : SchemaModel) (n : ℕ) (scope : Scope) (list : FlatTree) (i j start stop : ℕ) (shape : Shape) (stops : List ℕ)
-    → IsTop schema n scope list i j start stop shape
+    → IsTop schema n scope list i j start stop shape OfAnyValue
     → i < j
     → StopBehind j stops
     → told_depths i (drop i list.nodes) stops ≡ length stops ∷ told_depths (i + 1) (drop (i + 1) list.nodes) (stops ++ j ∷ [])
@@ -103,18 +104,18 @@ both_told list i m j stops first second here behind =
 mutual
   pub tree_told :
       (schema : SchemaModel) (n : ℕ) (scope : Scope) (list : FlatTree) (i j : ℕ) (tree : Tree) (stops : List ℕ)
-      → Stands schema n scope list i j tree
+      → Lies schema n scope list i j tree
       → StopBehind j stops
       → told_depths i (drop i list.nodes) stops ≡ depths (length stops) tree ++ told_depths j (drop j list.nodes) stops
   tree_told schema n scope list i j (node start stop shape) stops stands all =
       closed list i j stops (depths_below (length stops + 1) shape)
-      (top_told schema n scope list i j start stop shape stops stands.top (stands_nonempty schema n scope list i j (node start stop shape) stands) all)
+      (top_told schema n scope list i j start stop shape stops stands.top (lies_nonempty schema n scope list i j (node start stop shape) stands) all)
       (below_told schema n scope list (i + 1) j shape (stops ++ j ∷ []) (length stops + 1) (one_longer stops j) stands.children (one_more j stops all))
 
   below_told :
       (schema : SchemaModel) (n : ℕ) (scope : Scope) (list : FlatTree) (i j : ℕ) (shape : Shape) (stops : List ℕ) (around : ℕ)
       → length stops ≡ around
-      → ChildrenStand schema n scope list i j shape
+      → ChildrenLie schema n scope list i j shape
       → StopBehind j stops
       → told_depths i (drop i list.nodes) stops ≡ depths_below around shape ++ told_depths j (drop j list.nodes) stops
   below_told schema n scope list i j (literal kind spelling) stops around deep stand all = ap (λ (k : ℕ). told_depths k (drop k list.nodes) stops) stand
@@ -133,7 +134,7 @@ mutual
   below_told schema n scope list i j (binary operator left right) stops around deep stands all =
       let stand = two_there schema n scope list i j left right stands in
       let m = stand.middle in
-      let last : m < j = stands_nonempty schema n scope list m j right stand.right in
+      let last : m < j = lies_nonempty schema n scope list m j right stand.right in
       rw (← deep)
       (both_told list i m j stops (depths (length stops) left) (depths (length stops) right)
       (tree_told schema n scope list i m left stops stand.left (earlier_too m j stops (omega arith) all))
@@ -141,14 +142,14 @@ mutual
   below_told schema n scope list i j (has left right) stops around deep stands all =
       let stand = two_there schema n scope list i j left right stands in
       let m = stand.middle in
-      let last : m < j = stands_nonempty schema n scope list m j right stand.right in
+      let last : m < j = lies_nonempty schema n scope list m j right stand.right in
       rw (← deep)
       (both_told list i m j stops (depths (length stops) left) (depths (length stops) right)
       (tree_told schema n scope list i m left stops stand.left (earlier_too m j stops (omega arith) all))
       (tree_told schema n scope list m j right stops stand.right all))
   below_told schema n scope list i j (in_list left items) stops around deep stand all =
       let m = stand.middle in
-      let last : m ≤ j = stand_onward schema n scope list m j items stand.right in
+      let last : m ≤ j = lie_onward schema n scope list m j items stand.right in
       rw (← deep)
       (both_told list i m j stops (depths (length stops) left) (depths_among (length stops) items)
       (tree_told schema n scope list i m left stops stand.left (earlier_too m j stops last all))
@@ -156,7 +157,7 @@ mutual
   below_told schema n scope list i j (in_path left path) stops around deep stands all =
       let stand = two_there schema n scope list i j left path stands in
       let m = stand.middle in
-      let last : m < j = stands_nonempty schema n scope list m j path stand.right in
+      let last : m < j = lies_nonempty schema n scope list m j path stand.right in
       rw (← deep)
       (both_told list i m j stops (depths (length stops) left) (depths (length stops) path)
       (tree_told schema n scope list i m left stops stand.left (earlier_too m j stops (omega arith) all))
@@ -167,7 +168,7 @@ mutual
       let stand = body_there schema n scope list i j base variable body stands in
       let m = stand.middle in
       let inner = with_variable scope variable (single stand.right.member_type) in
-      let last : m < j = stands_nonempty schema n inner list m j body stand.right.body in
+      let last : m < j = lies_nonempty schema n inner list m j body stand.right.body in
       rw (← deep)
       (both_told list i m j stops (depths (length stops) base) (depths (length stops) body)
       (tree_told schema n scope list i m base stops stand.left (earlier_too m j stops (omega arith) all))
@@ -175,13 +176,13 @@ mutual
 
   among_told :
       (schema : SchemaModel) (n : ℕ) (scope : Scope) (list : FlatTree) (i j : ℕ) (trees : Trees) (stops : List ℕ)
-      → AllStand schema n scope list i j trees
+      → AllLie schema n scope list i j trees
       → StopBehind j stops
       → told_depths i (drop i list.nodes) stops ≡ depths_among (length stops) trees ++ told_depths j (drop j list.nodes) stops
   among_told schema n scope list i j no_trees stops stand all = ap (λ (k : ℕ). told_depths k (drop k list.nodes) stops) stand
   among_told schema n scope list i j (more_trees tree trees) stops stand all =
       let m = stand.middle in
-      let last : m ≤ j = stand_onward schema n scope list m j trees stand.right in
+      let last : m ≤ j = lie_onward schema n scope list m j trees stand.right in
       both_told list i m j stops (depths (length stops) tree) (depths_among (length stops) trees)
       (tree_told schema n scope list i m tree stops stand.left (earlier_too m j stops last all))
       (among_told schema n scope list m j trees stops stand.right all)

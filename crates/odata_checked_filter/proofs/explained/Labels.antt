@@ -12,7 +12,7 @@ use Rattle.odata_checked_filter.specs.private.ExplanationWalk.{kind_label}
 
 pub label_told :
     (list : FlatTree) (slots : Slots) (root : List ℕ) (scope : Scope) (shape : Shape) (kind : NodeKind)
-    → IsKindOf list.values slots root scope shape kind
+    → IsKindOf slots root scope shape kind
     → kind_label kind (text_of_shape shape) ≡ node_label (variable_names scope) shape
 label_told list slots root scope (literal k spelling) (NodeKind.Literal l place) is = refl
 label_told list slots root scope (literal k spelling) _ is = absurd is
@@ -25,13 +25,9 @@ label_told list slots root scope (member base asked) _ is = absurd is
 label_told list slots root scope (count base) kind is = rw is refl
 label_told list slots root scope (negation operand) kind is = rw is refl
 label_told list slots root scope (logical_not operand) kind is = rw is refl
-label_told list slots root scope (binary operator left right) kind (inl is) = rw is.kind_is refl
-label_told list slots root scope (binary operator left right) kind (inr (inl is)) = rw is.kind_is refl
-label_told list slots root scope (binary operator left right) kind (inr (inr is)) = rw is.kind_is refl
-label_told list slots root scope (has left right) kind (inl is) = rw is.kind_is refl
-label_told list slots root scope (has left right) kind (inr is) = rw is.kind_is refl
-label_told list slots root scope (in_list left items) kind (inl is) = rw is.kind_is refl
-label_told list slots root scope (in_list left items) kind (inr is) = rw is.kind_is refl
+label_told list slots root scope (binary operator left right) kind is = rw is refl
+label_told list slots root scope (has left right) kind is = rw is refl
+label_told list slots root scope (in_list left items) kind is = rw is refl
 label_told list slots root scope (in_path left path) kind is = rw is refl
 label_told list slots root scope (any_item base) kind is = rw is refl
 label_told list slots root scope (call asked arguments) (NodeKind.Call function) is = is.0

@@ -11,9 +11,11 @@ use Rattle.odata_checked_filter.specs.Depths.{depths}
 use Rattle.odata_checked_filter.specs.Explanation.{IsExplanation, IsNodeLine, node_label, node_line}
 use Rattle.odata_checked_filter.specs.Filter.{Filter, IsFilter, tree_of_filter}
 use Rattle.odata_expression_types.specs.PreOrder.{span_of_tree}
-use Rattle.odata_checked_filter.specs.Stands.{Stands, text_of_shape, variable_names}
+use Rattle.odata_checked_filter.specs.private.Layout.{Lies}
+use Rattle.odata_checked_filter.specs.Stands.{text_of_shape, variable_names}
 use Rattle.odata_expression_types.specs.Typed.{Scope}
 use Rattle.odata_checked_filter.specs.private.ExplanationWalk.{IsLinePut, kind_label, listed_line, still_around}
+use Rattle.odata_checked_filter.proofs.flat.Lying.{filter_lies}
 use Rattle.odata_checked_filter.proofs.flat.Numbered.{IsNumbered, count_of, numbered, type_at}
 use Rattle.odata_checked_filter.proofs.flat.Places.{drop_at, get_front, get_last, get_parts, same_found}
 use Rattle.odata_checked_filter.proofs.explained.Depths.{told_depths, tree_told}
@@ -33,7 +35,7 @@ pub begun : (filter : Filter) (text : List ℕ) → IsFilter filter → text ≡
 begun filter text is empty =
     let nodes = filter.list.nodes in
     let tree = tree_of_filter filter in
-    let told = tree_told filter.schema filter.filtered [] filter.list 0 (length nodes) tree [] is.stands tt in
+    let told = tree_told filter.schema filter.filtered [] filter.list 0 (length nodes) tree [] (filter_lies filter is) tt in
     let none : told_depths (length nodes) (drop (length nodes) nodes) [] ≡ [] =
     ap (λ (rest : List CheckedNode). told_depths (length nodes) rest []) (drop_all (length nodes) nodes (omega arith)) in
     record {
@@ -49,7 +51,7 @@ begun filter text is empty =
 -- what a node of the list is called
 called :
     (filter : Filter) (scope : Scope) (k j : ℕ) (tree : Tree) (found : CheckedNode) (beside : List ℕ)
-    → Stands filter.schema filter.filtered scope filter.list k j tree
+    → Lies filter.schema filter.filtered scope filter.list k j tree
     → slice_get filter.list.nodes k ≡ Some found
     → slice_get filter.list.texts k ≡ Some beside
     → kind_label found.kind beside ≡ node_label (variable_names scope) (shape_of tree)

@@ -9,7 +9,7 @@ use Rattle.odata_checked_filter.specs.Laws.{KeptStands, PutChanges, PutStands}
 use Rattle.odata_checked_filter.specs.ListChanges.{IsKeptOutside, node_put}
 use Rattle.odata_checked_filter.specs.Stands.{ChildrenStand, Stands, text_of_shape}
 use Rattle.odata_checked_filter.proofs.flat.Places.{get_put}
-use Rattle.odata_checked_filter.proofs.flat.Standing.{IsKeptIn, children_kept, stands_kept}
+use Rattle.odata_checked_filter.proofs.flat.Kept.{IsKeptIn, children_kept, stands_kept}
 
 -- another place is as it was
 get_elsewhere : {X : Type 0} (xs : List X) (k j : ℕ) (x : X) → j ≢ k → slice_get (slice_set xs k x) j ≡ slice_get xs j
@@ -56,7 +56,7 @@ kept_stands schema n scope old new i j from to tree kept outside stands =
     stands_kept from to old new schema n scope from to tree (kept_in i j from to old new kept outside) (omega arith) (omega arith) stands
 
 pub put_stands : PutStands
-put_stands schema n scope list place put shape within beside of_kind typed children =
+put_stands schema n scope list place put shape within beside of_kind valued typed children =
     let text : List ℕ = text_of_shape shape in
     record {
       top = record {
@@ -64,6 +64,7 @@ put_stands schema n scope list place put shape within beside of_kind typed child
         stands_at = get_put list.nodes place put within;
         text_at = get_put list.texts place text (rw beside within);
         kind = of_kind;
+        valued = valued;
         starts = refl;
         stops = refl;
         last = refl;

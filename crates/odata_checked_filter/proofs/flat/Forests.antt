@@ -8,14 +8,16 @@ use Rattle.edm_values.specs.declared.value.Value.{Value}
 use Rattle.odata_checked_filter.specs.declared.checked_node.CheckedNode.{CheckedNode}
 use Rattle.odata_checked_filter.specs.declared.checked_node.NodeKind.{NodeKind}
 use Rattle.odata_checked_filter.specs.FlatTree.{FlatTree, PlacedTree, forest, shape_of_kind, tree_at, trees_before, trees_from, tree_of_nodes, first_tree}
-use Rattle.odata_checked_filter.specs.Stands.{AllStand, ChildrenStand, IsTop, IsKindOf, Stands, text_of_shape}
+use Rattle.odata_checked_filter.specs.private.Layout.{AllLie, ChildrenLie, Lies, OfAnyValue}
+use Rattle.odata_checked_filter.specs.Stands.{IsTop, IsKindOf, Stands, text_of_shape}
 use Rattle.std.specs.Prelude.{codes}
 use Rattle.odata_signatures.specs.Functions.{row_of}
 use Rattle.odata_expression_types.specs.Typed.{Scope, with_variable}
 use Rattle.csdl_schema.specs.ExprType.{single}
 use Rattle.odata_checked_filter.proofs.flat.Children.{body_there, one_there, two_there}
 use Rattle.odata_checked_filter.proofs.flat.Places.{drop_at}
-use Rattle.odata_checked_filter.proofs.flat.Standing.{stand_onward, stands_nonempty}
+use Rattle.odata_checked_filter.proofs.flat.Lying.{stands_lie}
+use Rattle.odata_checked_filter.proofs.flat.Standing.{lie_onward, lies_nonempty}
 
 lt_true : (a b : ℕ) → a < b → nat_lt a b ≡ true
 lt_true a b below = grind (arith, nat_tests)
@@ -45,35 +47,31 @@ trees_again (more_trees tree trees) = ap (λ (ts : Trees). more_trees tree ts) (
 
 -- the shape of a node of its kind
 kind_shape :
-    (values : List Value) (slots : Slots) (root : List ℕ) (scope : Scope) (shape : Shape) (k : NodeKind)
-    → IsKindOf values slots root scope shape k
+    (slots : Slots) (root : List ℕ) (scope : Scope) (shape : Shape) (k : NodeKind)
+    → IsKindOf slots root scope shape k
     → shape_of_kind k (text_of_shape shape) (children_of shape) ≡ shape
-kind_shape values slots root scope (literal kind spelling) (NodeKind.Literal l place) is = ap (λ x. literal x spelling) is.0
-kind_shape values slots root scope (literal kind spelling) _ is = absurd is
-kind_shape values slots root scope it k is = rw is refl
-kind_shape values slots root scope (name asked) (NodeKind.Property slot) is = refl
-kind_shape values slots root scope (name asked) (NodeKind.Variable level) is = refl
-kind_shape values slots root scope (name asked) _ is = absurd is
-kind_shape values slots root scope (member base asked) (NodeKind.Member slot) is = refl
-kind_shape values slots root scope (member base asked) _ is = absurd is
-kind_shape values slots root scope (count base) k is = rw is refl
-kind_shape values slots root scope (negation operand) k is = rw is refl
-kind_shape values slots root scope (logical_not operand) k is = rw is refl
-kind_shape values slots root scope (binary operator left right) k (inl is) = rw is.kind_is refl
-kind_shape values slots root scope (binary operator left right) k (inr (inl is)) = rw is.kind_is refl
-kind_shape values slots root scope (binary operator left right) k (inr (inr is)) = rw is.kind_is refl
-kind_shape values slots root scope (has left right) k (inl is) = rw is.kind_is refl
-kind_shape values slots root scope (has left right) k (inr is) = rw is.kind_is refl
-kind_shape values slots root scope (in_list left items) k (inl is) = rw is.kind_is (ap (λ (ts : Trees). in_list left ts) (trees_again items))
-kind_shape values slots root scope (in_list left items) k (inr is) = rw is.kind_is (ap (λ (ts : Trees). in_list left ts) (trees_again items))
-kind_shape values slots root scope (in_path left path) k is = rw is refl
-kind_shape values slots root scope (call asked arguments) NodeKind.Now is =
+kind_shape slots root scope (literal kind spelling) (NodeKind.Literal l place) is = ap (λ x. literal x spelling) is
+kind_shape slots root scope (literal kind spelling) _ is = absurd is
+kind_shape slots root scope it k is = rw is refl
+kind_shape slots root scope (name asked) (NodeKind.Property slot) is = refl
+kind_shape slots root scope (name asked) (NodeKind.Variable level) is = refl
+kind_shape slots root scope (name asked) _ is = absurd is
+kind_shape slots root scope (member base asked) (NodeKind.Member slot) is = refl
+kind_shape slots root scope (member base asked) _ is = absurd is
+kind_shape slots root scope (count base) k is = rw is refl
+kind_shape slots root scope (negation operand) k is = rw is refl
+kind_shape slots root scope (logical_not operand) k is = rw is refl
+kind_shape slots root scope (binary operator left right) k is = rw is refl
+kind_shape slots root scope (has left right) k is = rw is refl
+kind_shape slots root scope (in_list left items) k is = rw is (ap (λ (ts : Trees). in_list left ts) (trees_again items))
+kind_shape slots root scope (in_path left path) k is = rw is refl
+kind_shape slots root scope (call asked arguments) NodeKind.Now is =
     ap (λ (ts : Trees). call (codes "now") ts) (trees_again arguments) ∙ ap (λ (called : List ℕ). call called arguments) is
-kind_shape values slots root scope (call asked arguments) (NodeKind.Call function) is =
+kind_shape slots root scope (call asked arguments) (NodeKind.Call function) is =
     ap (λ (ts : Trees). call (row_of function).name ts) (trees_again arguments) ∙ ap (λ (called : List ℕ). call called arguments) is.0
-kind_shape values slots root scope (call asked arguments) _ is = absurd is
-kind_shape values slots root scope (any_item base) k is = rw is refl
-kind_shape values slots root scope (lambda quantifier base variable body) k is = rw is refl
+kind_shape slots root scope (call asked arguments) _ is = absurd is
+kind_shape slots root scope (any_item base) k is = rw is refl
+kind_shape slots root scope (lambda quantifier base variable body) k is = rw is refl
 
 -- a node's tree, and what is left after it
 abbrev planted : List (List ℕ) → ℕ → CheckedNode → List PlacedTree → List PlacedTree
@@ -95,7 +93,7 @@ planted_same texts i j start stop found behind children rest shape text at start
 -- a node at its place, from the forest after it
 top_planted :
     (schema : SchemaModel) (n : ℕ) (scope : Scope) (list : FlatTree) (i j start stop : ℕ) (shape : Shape) (children : List Tree) (behind rest : List PlacedTree)
-    → (top : IsTop schema n scope list i j start stop shape)
+    → (top : IsTop schema n scope list i j start stop shape OfAnyValue)
     → shape_of_kind top.found.kind (text_of_shape shape) children ≡ shape
     → forest list.texts (i + 1) (drop (i + 1) list.nodes) ≡ behind
     → trees_before j behind ≡ children
@@ -154,75 +152,75 @@ both_planted list i m j left right first last here next =
 
 -- from where the tree stands on, the forest is the tree and the forest from where it stops
 mutual
-  pub stands_forest :
+  pub lies_forest :
       (schema : SchemaModel) (n : ℕ) (scope : Scope) (list : FlatTree) (i j : ℕ) (tree : Tree)
-      → Stands schema n scope list i j tree
+      → Lies schema n scope list i j tree
       → forest list.texts i (drop i list.nodes) ≡ record { place = i; tree = tree } ∷ forest list.texts j (drop j list.nodes)
-  stands_forest schema n scope list i j (node start stop shape) stands =
+  lies_forest schema n scope list i j (node start stop shape) stands =
       let planted = children_forest schema n scope list (i + 1) j shape stands.children in
       top_planted schema n scope list i j start stop shape (children_of shape)
       (forest list.texts (i + 1) (drop (i + 1) list.nodes)) (forest list.texts j (drop j list.nodes)) stands.top
-      (kind_shape list.values (slots_of schema) (type_name_at schema n) scope shape stands.top.found.kind stands.top.kind)
+      (kind_shape (slots_of schema) (type_name_at schema n) scope shape stands.top.found.kind stands.top.kind)
       refl planted.before planted.from
 
   children_forest :
       (schema : SchemaModel) (n : ℕ) (scope : Scope) (list : FlatTree) (i j : ℕ) (shape : Shape)
-      → ChildrenStand schema n scope list i j shape
+      → ChildrenLie schema n scope list i j shape
       → ArePlanted list.texts list.nodes i j (children_of shape)
   children_forest schema n scope list i j (literal kind spelling) stand = none_planted list i j stand
   children_forest schema n scope list i j it stand = none_planted list i j stand
   children_forest schema n scope list i j (name asked) stand = none_planted list i j stand
   children_forest schema n scope list i j (member base asked) stand =
-      one_planted list i j base (stands_nonempty schema n scope list i j base (one_there schema n scope list i j base stand)) (stands_forest schema n scope list i j base (one_there schema n scope list i j base stand))
+      one_planted list i j base (lies_nonempty schema n scope list i j base (one_there schema n scope list i j base stand)) (lies_forest schema n scope list i j base (one_there schema n scope list i j base stand))
   children_forest schema n scope list i j (count base) stand =
-      one_planted list i j base (stands_nonempty schema n scope list i j base (one_there schema n scope list i j base stand)) (stands_forest schema n scope list i j base (one_there schema n scope list i j base stand))
+      one_planted list i j base (lies_nonempty schema n scope list i j base (one_there schema n scope list i j base stand)) (lies_forest schema n scope list i j base (one_there schema n scope list i j base stand))
   children_forest schema n scope list i j (negation operand) stand =
-      one_planted list i j operand (stands_nonempty schema n scope list i j operand (one_there schema n scope list i j operand stand)) (stands_forest schema n scope list i j operand (one_there schema n scope list i j operand stand))
+      one_planted list i j operand (lies_nonempty schema n scope list i j operand (one_there schema n scope list i j operand stand)) (lies_forest schema n scope list i j operand (one_there schema n scope list i j operand stand))
   children_forest schema n scope list i j (logical_not operand) stand =
-      one_planted list i j operand (stands_nonempty schema n scope list i j operand (one_there schema n scope list i j operand stand)) (stands_forest schema n scope list i j operand (one_there schema n scope list i j operand stand))
+      one_planted list i j operand (lies_nonempty schema n scope list i j operand (one_there schema n scope list i j operand stand)) (lies_forest schema n scope list i j operand (one_there schema n scope list i j operand stand))
   children_forest schema n scope list i j (binary operator left right) stands =
       let stand = two_there schema n scope list i j left right stands in
-      both_planted list i stand.middle j left right (stands_nonempty schema n scope list i stand.middle left stand.left)
-      (stands_nonempty schema n scope list stand.middle j right stand.right)
-      (stands_forest schema n scope list i stand.middle left stand.left) (stands_forest schema n scope list stand.middle j right stand.right)
+      both_planted list i stand.middle j left right (lies_nonempty schema n scope list i stand.middle left stand.left)
+      (lies_nonempty schema n scope list stand.middle j right stand.right)
+      (lies_forest schema n scope list i stand.middle left stand.left) (lies_forest schema n scope list stand.middle j right stand.right)
   children_forest schema n scope list i j (has left right) stands =
       let stand = two_there schema n scope list i j left right stands in
-      both_planted list i stand.middle j left right (stands_nonempty schema n scope list i stand.middle left stand.left)
-      (stands_nonempty schema n scope list stand.middle j right stand.right)
-      (stands_forest schema n scope list i stand.middle left stand.left) (stands_forest schema n scope list stand.middle j right stand.right)
+      both_planted list i stand.middle j left right (lies_nonempty schema n scope list i stand.middle left stand.left)
+      (lies_nonempty schema n scope list stand.middle j right stand.right)
+      (lies_forest schema n scope list i stand.middle left stand.left) (lies_forest schema n scope list stand.middle j right stand.right)
   children_forest schema n scope list i j (in_list left items) stand =
       let m = stand.middle in
-      first_planted list i m j left (list_of_trees items) (stands_nonempty schema n scope list i m left stand.left)
-      (stand_onward schema n scope list m j items stand.right)
-      (stands_forest schema n scope list i m left stand.left) (stand_forest schema n scope list m j items stand.right)
+      first_planted list i m j left (list_of_trees items) (lies_nonempty schema n scope list i m left stand.left)
+      (lie_onward schema n scope list m j items stand.right)
+      (lies_forest schema n scope list i m left stand.left) (lie_forest schema n scope list m j items stand.right)
   children_forest schema n scope list i j (in_path left path) stands =
       let stand = two_there schema n scope list i j left path stands in
-      both_planted list i stand.middle j left path (stands_nonempty schema n scope list i stand.middle left stand.left)
-      (stands_nonempty schema n scope list stand.middle j path stand.right)
-      (stands_forest schema n scope list i stand.middle left stand.left) (stands_forest schema n scope list stand.middle j path stand.right)
-  children_forest schema n scope list i j (call asked arguments) stand = stand_forest schema n scope list i j arguments stand
+      both_planted list i stand.middle j left path (lies_nonempty schema n scope list i stand.middle left stand.left)
+      (lies_nonempty schema n scope list stand.middle j path stand.right)
+      (lies_forest schema n scope list i stand.middle left stand.left) (lies_forest schema n scope list stand.middle j path stand.right)
+  children_forest schema n scope list i j (call asked arguments) stand = lie_forest schema n scope list i j arguments stand
   children_forest schema n scope list i j (any_item base) stand =
-      one_planted list i j base (stands_nonempty schema n scope list i j base (one_there schema n scope list i j base stand)) (stands_forest schema n scope list i j base (one_there schema n scope list i j base stand))
+      one_planted list i j base (lies_nonempty schema n scope list i j base (one_there schema n scope list i j base stand)) (lies_forest schema n scope list i j base (one_there schema n scope list i j base stand))
   children_forest schema n scope list i j (lambda quantifier base variable body) stands =
       let stand = body_there schema n scope list i j base variable body stands in
       let inner = with_variable scope variable (single stand.right.member_type) in
-      both_planted list i stand.middle j base body (stands_nonempty schema n scope list i stand.middle base stand.left)
-      (stands_nonempty schema n inner list stand.middle j body stand.right.body)
-      (stands_forest schema n scope list i stand.middle base stand.left)
-      (stands_forest schema n inner list stand.middle j body stand.right.body)
+      both_planted list i stand.middle j base body (lies_nonempty schema n scope list i stand.middle base stand.left)
+      (lies_nonempty schema n inner list stand.middle j body stand.right.body)
+      (lies_forest schema n scope list i stand.middle base stand.left)
+      (lies_forest schema n inner list stand.middle j body stand.right.body)
 
-  stand_forest :
+  lie_forest :
       (schema : SchemaModel) (n : ℕ) (scope : Scope) (list : FlatTree) (i j : ℕ) (trees : Trees)
-      → AllStand schema n scope list i j trees
+      → AllLie schema n scope list i j trees
       → ArePlanted list.texts list.nodes i j (list_of_trees trees)
-  stand_forest schema n scope list i j no_trees stand = none_planted list i j stand
-  stand_forest schema n scope list i j (more_trees tree trees) stand =
+  lie_forest schema n scope list i j no_trees stand = none_planted list i j stand
+  lie_forest schema n scope list i j (more_trees tree trees) stand =
       let m = stand.middle in
-      first_planted list i m j tree (list_of_trees trees) (stands_nonempty schema n scope list i m tree stand.left)
-      (stand_onward schema n scope list m j trees stand.right)
-      (stands_forest schema n scope list i m tree stand.left) (stand_forest schema n scope list m j trees stand.right)
+      first_planted list i m j tree (list_of_trees trees) (lies_nonempty schema n scope list i m tree stand.left)
+      (lie_onward schema n scope list m j trees stand.right)
+      (lies_forest schema n scope list i m tree stand.left) (lie_forest schema n scope list m j trees stand.right)
 
 -- the whole list stands for one tree
 pub whole_tree :
     (schema : SchemaModel) (n : ℕ) (scope : Scope) (list : FlatTree) (j : ℕ) (tree : Tree) → Stands schema n scope list 0 j tree → tree_of_nodes list ≡ tree
-whole_tree schema n scope list j tree stands = ap first_tree (stands_forest schema n scope list 0 j tree stands)
+whole_tree schema n scope list j tree stands = ap first_tree (lies_forest schema n scope list 0 j tree (stands_lie schema n scope list 0 j tree stands))

@@ -16,12 +16,14 @@ use Rattle.odata_checked_filter.specs.Levels.{level_named}
 use Rattle.odata_checked_filter.specs.NameKinds.{NamesSlot, IsSlotAt, level_of_node, level_at}
 use Rattle.odata_expression_types.specs.PreOrder.{pre_order, span_of_tree}
 use Rattle.odata_checked_filter.specs.ScopedNodes.{ScopedNode, scoped_nodes}
-use Rattle.odata_checked_filter.specs.Stands.{Stands, IsKindOf, variable_names}
+use Rattle.odata_checked_filter.specs.private.Layout.{Lies}
+use Rattle.odata_checked_filter.specs.Stands.{IsKindOf, variable_names}
 use Rattle.odata_expression_types.specs.Typed.{Scope, Typed}
 use Rattle.odata_signatures.specs.TypeView.{expr_type}
 use Rattle.odata_checked_filter.proofs.flat.Places.{found_within, same_found}
+use Rattle.odata_checked_filter.proofs.flat.Lying.{filter_lies}
 use Rattle.odata_checked_filter.proofs.flat.Parts.{IsPart, part_stands, parts_count, parts_of}
-use Rattle.odata_checked_filter.proofs.flat.Standing.{stands_size}
+use Rattle.odata_checked_filter.proofs.flat.Standing.{lies_size}
 
 -- the level that a kind has
 abbrev pub level_of_kind : NodeKind → Option ℕ
@@ -55,7 +57,7 @@ slot_of_none slot found = cc
 
 names_slot :
     (list : FlatTree) (slots : Slots) (root : List ℕ) (scope : Scope) (start stop : ℕ) (shape : Shape) (kind : NodeKind) (slot : ℕ)
-    → IsKindOf list.values slots root scope shape kind
+    → IsKindOf slots root scope shape kind
     → slot_of_kind kind ≡ Some slot
     → NamesSlot slots root scope (node start stop shape) slot
 names_slot list slots root scope start stop (literal k spelling) (NodeKind.Literal l place) slot is found = absurd (slot_of_none slot found)
@@ -69,13 +71,9 @@ names_slot list slots root scope start stop (member base asked) _ slot is found 
 names_slot list slots root scope start stop (count base) kind slot is found = slotless kind NodeKind.Count slot refl is found
 names_slot list slots root scope start stop (negation operand) kind slot is found = slotless kind NodeKind.Neg slot refl is found
 names_slot list slots root scope start stop (logical_not operand) kind slot is found = slotless kind NodeKind.Not slot refl is found
-names_slot list slots root scope start stop (binary operator left right) kind slot (inl is) found = slotless kind (NodeKind.Binary operator) slot refl is.kind_is found
-names_slot list slots root scope start stop (binary operator left right) kind slot (inr (inl is)) found = slotless kind (NodeKind.PairedRight operator is.place) slot refl is.kind_is found
-names_slot list slots root scope start stop (binary operator left right) kind slot (inr (inr is)) found = slotless kind (NodeKind.PairedLeft operator is.place) slot refl is.kind_is found
-names_slot list slots root scope start stop (has left right) kind slot (inl is) found = slotless kind NodeKind.Has slot refl is.kind_is found
-names_slot list slots root scope start stop (has left right) kind slot (inr is) found = slotless kind (NodeKind.PairedHas is.place) slot refl is.kind_is found
-names_slot list slots root scope start stop (in_list left items) kind slot (inl is) found = slotless kind NodeKind.InList slot refl is.kind_is found
-names_slot list slots root scope start stop (in_list left items) kind slot (inr is) found = slotless kind (NodeKind.PairedList is.place) slot refl is.kind_is found
+names_slot list slots root scope start stop (binary operator left right) kind slot is found = slotless kind (NodeKind.Binary operator) slot refl is found
+names_slot list slots root scope start stop (has left right) kind slot is found = slotless kind NodeKind.Has slot refl is found
+names_slot list slots root scope start stop (in_list left items) kind slot is found = slotless kind NodeKind.InList slot refl is found
 names_slot list slots root scope start stop (in_path left path) kind slot is found = slotless kind NodeKind.InPath slot refl is found
 names_slot list slots root scope start stop (any_item base) kind slot is found = slotless kind NodeKind.AnyItem slot refl is found
 names_slot list slots root scope start stop (call asked arguments) NodeKind.Now slot is found = absurd (slot_of_none slot found)
@@ -92,7 +90,7 @@ no_kind kind slot some none = cc
 -- a node whose kind has no slot names none
 slots_none :
     (list : FlatTree) (slots : Slots) (root : List ℕ) (scope : Scope) (start stop : ℕ) (shape : Shape) (kind : NodeKind) (slot : ℕ)
-    → IsKindOf list.values slots root scope shape kind
+    → IsKindOf slots root scope shape kind
     → slot_of_kind kind ≡ None
     → NamesSlot slots root scope (node start stop shape) slot
     → ⊥
@@ -106,7 +104,7 @@ slots_none list slots root scope start stop _ kind slot is none names = names
 
 level_of_top :
     (list : FlatTree) (slots : Slots) (root : List ℕ) (scope : Scope) (start stop : ℕ) (shape : Shape) (kind : NodeKind)
-    → IsKindOf list.values slots root scope shape kind
+    → IsKindOf slots root scope shape kind
     → level_of_node (variable_names scope) (node start stop shape) ≡ level_of_kind kind
 level_of_top list slots root scope start stop (literal k spelling) (NodeKind.Literal l place) is = refl
 level_of_top list slots root scope start stop (literal k spelling) _ is = absurd is
@@ -119,13 +117,9 @@ level_of_top list slots root scope start stop (member base asked) _ is = absurd 
 level_of_top list slots root scope start stop (count base) kind is = rw is refl
 level_of_top list slots root scope start stop (negation operand) kind is = rw is refl
 level_of_top list slots root scope start stop (logical_not operand) kind is = rw is refl
-level_of_top list slots root scope start stop (binary operator left right) kind (inl is) = rw is.kind_is refl
-level_of_top list slots root scope start stop (binary operator left right) kind (inr (inl is)) = rw is.kind_is refl
-level_of_top list slots root scope start stop (binary operator left right) kind (inr (inr is)) = rw is.kind_is refl
-level_of_top list slots root scope start stop (has left right) kind (inl is) = rw is.kind_is refl
-level_of_top list slots root scope start stop (has left right) kind (inr is) = rw is.kind_is refl
-level_of_top list slots root scope start stop (in_list left items) kind (inl is) = rw is.kind_is refl
-level_of_top list slots root scope start stop (in_list left items) kind (inr is) = rw is.kind_is refl
+level_of_top list slots root scope start stop (binary operator left right) kind is = rw is refl
+level_of_top list slots root scope start stop (has left right) kind is = rw is refl
+level_of_top list slots root scope start stop (in_list left items) kind is = rw is refl
 level_of_top list slots root scope start stop (in_path left path) kind is = rw is refl
 level_of_top list slots root scope start stop (any_item base) kind is = rw is refl
 level_of_top list slots root scope start stop (call asked arguments) NodeKind.Now is = refl
@@ -146,7 +140,7 @@ span_same span start stop a b = rw (sym a, sym b) refl
 
 top_says :
     (filter : Filter) (scope : Scope) (k j : ℕ) (tree : Tree)
-    → (stands : Stands filter.schema filter.filtered scope filter.list k j tree)
+    → (stands : Lies filter.schema filter.filtered scope filter.list k j tree)
     → (found : CheckedNode)
     → slice_get filter.list.nodes k ≡ Some found
     → IsNodeOf filter found scope tree
@@ -168,7 +162,7 @@ top_says filter scope k j (node start stop shape) stands found here =
 pub count_of : (filter : Filter) → IsFilter filter → length filter.list.nodes ≡ length (pre_order (tree_of_filter filter))
 count_of filter is =
     let e : length filter.list.nodes ≡ 0 + length (pre_order (tree_of_filter filter)) =
-    stands_size filter.schema filter.filtered [] filter.list 0 (length filter.list.nodes) (tree_of_filter filter) is.stands in
+    lies_size filter.schema filter.filtered [] filter.list 0 (length filter.list.nodes) (tree_of_filter filter) (filter_lies filter is) in
     omega arith
 
 -- a node of the list, and the part of the tree that it is of
@@ -180,7 +174,7 @@ pub record IsNumbered (filter : Filter) (k : ℕ) (found : CheckedNode) : Type 0
   pub is_node : IsNode (slots_of filter.schema) (type_name_at filter.schema filter.filtered) [] (tree_of_filter filter) k scope part
   pub says : IsNodeOf filter found scope part
   pub stop : ℕ
-  pub stands : Stands filter.schema filter.filtered scope filter.list k stop part
+  pub stands : Lies filter.schema filter.filtered scope filter.list k stop part
 
 pub numbered : (filter : Filter) (k : ℕ) (found : CheckedNode) → IsFilter filter → slice_get filter.list.nodes k ≡ Some found → IsNumbered filter k found
 numbered filter k found is here =
@@ -192,7 +186,7 @@ numbered filter k found is here =
     let s = found_within (scoped_nodes [] tree) k inside in
     let P : ℕ → Type 0 = λ (x : ℕ). IsPart filter.schema filter.filtered filter.list x (IsNode (slots_of filter.schema) (type_name_at filter.schema filter.filtered) [] tree k) s.0 in
     let zero_more : 0 + k ≡ k = omega arith in
-    let part = subst P zero_more (part_stands filter.schema filter.filtered [] filter.list 0 (length filter.list.nodes) tree k s.0 is.stands s.1) in
+    let part = subst P zero_more (part_stands filter.schema filter.filtered [] filter.list 0 (length filter.list.nodes) tree k s.0 (filter_lies filter is) s.1) in
     let at : List (List ℕ) → ScopedNode = λ (variables : List (List ℕ)). record { variables = variables; part = s.0.part } in
     record {
       scope = part.inner;

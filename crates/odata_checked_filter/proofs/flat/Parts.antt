@@ -9,12 +9,13 @@ use Rattle.odata_checked_filter.specs.NodeScopes.{InEither, IsNode, IsNodeAmong,
 use Rattle.odata_checked_filter.specs.FlatTree.{FlatTree}
 use Rattle.odata_expression_types.specs.PreOrder.{nodes_among, nodes_below, pre_order}
 use Rattle.odata_checked_filter.specs.ScopedNodes.{ScopedNode, scoped_among, scoped_below, scoped_nodes}
-use Rattle.odata_checked_filter.specs.Stands.{AllStand, ChildrenStand, InBody, Stands, variable_names}
+use Rattle.odata_checked_filter.specs.private.Layout.{AllLie, ChildrenLie, Lies}
+use Rattle.odata_checked_filter.specs.Stands.{InBody, variable_names}
 use Rattle.odata_expression_types.specs.Typed.{Scope, Typed, with_variable}
 use Rattle.csdl_schema.specs.ExprType.{single}
 use Rattle.odata_checked_filter.proofs.flat.Children.{body_there, one_there, two_there}
 use Rattle.odata_checked_filter.proofs.flat.Places.{get_parts}
-use Rattle.odata_checked_filter.proofs.flat.Standing.{stands_size}
+use Rattle.odata_checked_filter.proofs.flat.Standing.{lies_size}
 
 -- nodes without their variables
 abbrev parts : List ScopedNode → List Tree
@@ -66,13 +67,13 @@ parts_count variables tree = sym (length-map (scoped_nodes variables tree) (λ (
 pub record IsPart (schema : SchemaModel) (n : ℕ) (list : FlatTree) (place : ℕ) (Node : Scope → Tree → Type 0) (at : ScopedNode) : Type 0 where
   pub inner : Scope
   pub j : ℕ
-  pub stands : Stands schema n inner list place j at.part
+  pub stands : Lies schema n inner list place j at.part
   pub variables : at.variables ≡ variable_names inner
   pub is_node : Node inner at.part
 
 itself :
     (schema : SchemaModel) (n : ℕ) (scope : Scope) (list : FlatTree) (i j k : ℕ) (tree : Tree) (at : ScopedNode)
-    → Stands schema n scope list i j tree
+    → Lies schema n scope list i j tree
     → k ≡ i
     → record { variables = variable_names scope; part = tree } ≡ at
     → IsPart schema n list k (IsItself scope tree) at
@@ -122,7 +123,7 @@ in_either schema n list i m k size xs ys at First Second as_many place found fir
 mutual
   pub part_stands :
       (schema : SchemaModel) (n : ℕ) (scope : Scope) (list : FlatTree) (i j : ℕ) (tree : Tree) (k : ℕ) (at : ScopedNode)
-      → Stands schema n scope list i j tree
+      → Lies schema n scope list i j tree
       → slice_get (scoped_nodes (variable_names scope) tree) k ≡ Some at
       → IsPart schema n list (i + k) (IsNode (slots_of schema) (type_name_at schema n) scope tree k) at
   part_stands schema n scope list i j (node start stop shape) zero at stands found =
@@ -135,7 +136,7 @@ mutual
 
   part_below :
       (schema : SchemaModel) (n : ℕ) (scope : Scope) (list : FlatTree) (i j : ℕ) (shape : Shape) (k : ℕ) (at : ScopedNode)
-      → ChildrenStand schema n scope list i j shape
+      → ChildrenLie schema n scope list i j shape
       → slice_get (scoped_below (variable_names scope) shape) k ≡ Some at
       → IsPart schema n list (i + k) (IsNodeBelow (slots_of schema) (type_name_at schema n) scope shape k) at
   part_below schema n scope list i j (literal kind spelling) k at stand found = absurd (none-some at found)
@@ -150,7 +151,7 @@ mutual
       in_either schema n list i stand.middle k (length (pre_order left))
       (scoped_nodes (variable_names scope) left) (scoped_nodes (variable_names scope) right) at
       (λ h. IsNode (slots_of schema) (type_name_at schema n) scope left h) (λ h. IsNode (slots_of schema) (type_name_at schema n) scope right h)
-      (parts_count (variable_names scope) left) (stands_size schema n scope list i stand.middle left stand.left) found
+      (parts_count (variable_names scope) left) (lies_size schema n scope list i stand.middle left stand.left) found
       (λ there. part_stands schema n scope list i stand.middle left k at stand.left there)
       (λ h there. part_stands schema n scope list stand.middle j right h at stand.right there)
   part_below schema n scope list i j (has left right) k at stands found =
@@ -158,14 +159,14 @@ mutual
       in_either schema n list i stand.middle k (length (pre_order left))
       (scoped_nodes (variable_names scope) left) (scoped_nodes (variable_names scope) right) at
       (λ h. IsNode (slots_of schema) (type_name_at schema n) scope left h) (λ h. IsNode (slots_of schema) (type_name_at schema n) scope right h)
-      (parts_count (variable_names scope) left) (stands_size schema n scope list i stand.middle left stand.left) found
+      (parts_count (variable_names scope) left) (lies_size schema n scope list i stand.middle left stand.left) found
       (λ there. part_stands schema n scope list i stand.middle left k at stand.left there)
       (λ h there. part_stands schema n scope list stand.middle j right h at stand.right there)
   part_below schema n scope list i j (in_list left items) k at stand found =
       in_either schema n list i stand.middle k (length (pre_order left))
       (scoped_nodes (variable_names scope) left) (scoped_among (variable_names scope) items) at
       (λ h. IsNode (slots_of schema) (type_name_at schema n) scope left h) (λ h. IsNodeAmong (slots_of schema) (type_name_at schema n) scope items h)
-      (parts_count (variable_names scope) left) (stands_size schema n scope list i stand.middle left stand.left) found
+      (parts_count (variable_names scope) left) (lies_size schema n scope list i stand.middle left stand.left) found
       (λ there. part_stands schema n scope list i stand.middle left k at stand.left there)
       (λ h there. part_among schema n scope list stand.middle j items h at stand.right there)
   part_below schema n scope list i j (in_path left path) k at stands found =
@@ -173,7 +174,7 @@ mutual
       in_either schema n list i stand.middle k (length (pre_order left))
       (scoped_nodes (variable_names scope) left) (scoped_nodes (variable_names scope) path) at
       (λ h. IsNode (slots_of schema) (type_name_at schema n) scope left h) (λ h. IsNode (slots_of schema) (type_name_at schema n) scope path h)
-      (parts_count (variable_names scope) left) (stands_size schema n scope list i stand.middle left stand.left) found
+      (parts_count (variable_names scope) left) (lies_size schema n scope list i stand.middle left stand.left) found
       (λ there. part_stands schema n scope list i stand.middle left k at stand.left there)
       (λ h there. part_stands schema n scope list stand.middle j path h at stand.right there)
   part_below schema n scope list i j (call asked arguments) k at stand found = part_among schema n scope list i j arguments k at stand found
@@ -187,7 +188,7 @@ mutual
       in_either schema n list i stand.middle k (length (pre_order base))
       (scoped_nodes (variable_names scope) base) (scoped_nodes (variable ∷ variable_names scope) body) at
       (λ h. IsNode slots root scope base h) Body
-      (parts_count (variable_names scope) base) (stands_size schema n scope list i stand.middle base stand.left) found
+      (parts_count (variable_names scope) base) (lies_size schema n scope list i stand.middle base stand.left) found
       (λ there. part_stands schema n scope list i stand.middle base k at stand.left there)
       (λ h there. part_also schema n list (stand.middle + h) (stand.middle + h) (IsNode slots root inner body h) (Body h) at refl
       (λ s p is. record { member_type = stand.right.member_type; binds = stand.right.binds; body = is })
@@ -195,7 +196,7 @@ mutual
 
   part_among :
       (schema : SchemaModel) (n : ℕ) (scope : Scope) (list : FlatTree) (i j : ℕ) (trees : Trees) (k : ℕ) (at : ScopedNode)
-      → AllStand schema n scope list i j trees
+      → AllLie schema n scope list i j trees
       → slice_get (scoped_among (variable_names scope) trees) k ≡ Some at
       → IsPart schema n list (i + k) (IsNodeAmong (slots_of schema) (type_name_at schema n) scope trees k) at
   part_among schema n scope list i j no_trees k at stand found = absurd (none-some at found)
@@ -203,6 +204,6 @@ mutual
       in_either schema n list i stand.middle k (length (pre_order tree))
       (scoped_nodes (variable_names scope) tree) (scoped_among (variable_names scope) trees) at
       (λ h. IsNode (slots_of schema) (type_name_at schema n) scope tree h) (λ h. IsNodeAmong (slots_of schema) (type_name_at schema n) scope trees h)
-      (parts_count (variable_names scope) tree) (stands_size schema n scope list i stand.middle tree stand.left) found
+      (parts_count (variable_names scope) tree) (lies_size schema n scope list i stand.middle tree stand.left) found
       (λ there. part_stands schema n scope list i stand.middle tree k at stand.left there)
       (λ h there. part_among schema n scope list stand.middle j trees h at stand.right there)

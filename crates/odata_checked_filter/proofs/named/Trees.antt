@@ -17,7 +17,7 @@ use Rattle.odata_checked_filter.specs.private.LambdaLines.{AreInLine, StandsBetw
 use Rattle.odata_checked_filter.specs.private.PathWalk.{texts_among, with_texts}
 use Rattle.odata_checked_filter.proofs.flat.Children.{body_there}
 use Rattle.odata_checked_filter.proofs.flat.Places.{same_found}
-use Rattle.odata_checked_filter.proofs.flat.Standing.{stands_nonempty}
+use Rattle.odata_checked_filter.proofs.flat.Standing.{lies_nonempty}
 use Rattle.odata_checked_filter.proofs.named.Texts.{put_both}
 use Rattle.odata_checked_filter.proofs.needed.Kinds.{other_there, property_there, step_there, variable_there}
 use Rattle.odata_checked_filter.proofs.nesting.Lines.{children_line, is_lambda, lambda_kind, line_behind, line_onward}
@@ -86,7 +86,7 @@ pub found_there : (list : FlatTree) (place stop : ℕ) (tree : Tree) → StandsB
 found_there list place stop (node start end shape) between = (between.stands.top.found, between.stands.top.stands_at)
 
 pub onward_there : (list : FlatTree) (place stop : ℕ) (tree : Tree) → StandsBetween list place stop tree → place < stop
-onward_there list place stop tree between = stands_nonempty between.schema between.filtered between.scope list place stop tree between.stands
+onward_there list place stop tree between = lies_nonempty between.schema between.filtered between.scope list place stop tree between.stands
 
 pub last_there : (list : FlatTree) (place stop : ℕ) (tree : Tree) (found : CheckedNode) → StandsBetween list place stop tree → slice_get list.nodes place ≡ Some found → found.stop ≡ stop
 last_there list place stop (node start end shape) found between at =
@@ -98,7 +98,7 @@ lambda_there : (list : FlatTree) (place stop start end : ℕ) (shape : Shape) (f
     → is_lambda shape ≡ kind_is_lambda found.kind
 lambda_there list place stop start end shape found between at =
     let top = between.stands.top in
-    sym (lambda_kind list.values (slots_of between.schema) (type_name_at between.schema between.filtered) between.scope shape top.found.kind top.kind)
+    sym (lambda_kind (slots_of between.schema) (type_name_at between.schema between.filtered) between.scope shape top.found.kind top.kind)
     ∙ ap (λ (f : CheckedNode). kind_is_lambda f.kind) (same_found (slice_get list.nodes place) top.found found top.stands_at at)
 
 -- what stands below the first tree's node, and after that tree

@@ -2,14 +2,14 @@
 use Rattle.std.proofs.Common.{◌≡◌, ◌⊎◌, ℕ, ℤ, ◌+◌, ◌<◌, List, [], ◌∷◌, Some, slice_get, refl, sym, ap, subst, inl, inr, arith}
 use Rattle.edm_values.specs.declared.value.Value.{Value}
 use Rattle.odata_syntax.specs.Tree.{Shape, Tree, Trees, any_item, binary, call, count, has, in_list, in_path, it, lambda, literal, logical_not, member, name, negation, node}
-use Rattle.odata_syntax.specs.declared.binary_operator.BinaryOperator.{BinaryOperator}
 use Rattle.odata_syntax.specs.declared.node.LiteralKind.{LiteralKind}
 use Rattle.odata_syntax.specs.declared.node.Quantifier.{Quantifier}
 use Rattle.csdl_schema.specs.ExprType.{ExprType}
 use Rattle.csdl_schema.specs.SchemaModel.{PropertyModel, SchemaModel, Slots, slots_of, type_name_at}
 use Rattle.odata_expression_types.specs.Typed.{Scope, Typed}
 use Rattle.odata_checked_filter.specs.FlatTree.{FlatTree}
-use Rattle.odata_checked_filter.specs.Stands.{InBody, IsCallNode, IsFlagsNode, IsKindOf, IsListNode, IsLiteralNode, IsMemberNode, IsNameNode, IsOperatorNode, Stands}
+use Rattle.odata_checked_filter.specs.private.Layout.{Lies}
+use Rattle.odata_checked_filter.specs.Stands.{InBody, IsCallNode, IsKindOf, IsLiteralNode, IsMemberNode, IsNameNode}
 use Rattle.odata_checked_filter.specs.declared.checked_node.CheckedNode.{CheckedNode}
 use Rattle.odata_checked_filter.specs.declared.checked_node.NodeKind.{NodeKind}
 use Rattle.odata_checked_filter.specs.declared.needed_paths.NeedClass.{NeedClass}
@@ -24,9 +24,9 @@ ClassOf (member base asked) k = need_class k ≡ NeedClass.Path
 ClassOf (lambda quantifier base variable body) k = need_class k ≡ NeedClass.Lambda
 ClassOf shape k = need_class k ≡ NeedClass.Children
 
-literal_class : (slots : Slots) (values : List Value) (kind : LiteralKind) (spelling : List ℕ) (k : NodeKind) → IsLiteralNode slots values kind spelling k → need_class k ≡ NeedClass.Children
-literal_class slots values kind spelling (NodeKind.Literal written place) is = refl
-literal_class slots values kind spelling _ is = absurd is
+literal_class : (kind : LiteralKind) (k : NodeKind) → IsLiteralNode kind k → need_class k ≡ NeedClass.Children
+literal_class kind (NodeKind.Literal written place) is = refl
+literal_class kind _ is = absurd is
 
 name_class : (properties : List PropertyModel) (names : List (List ℕ)) (asked : List ℕ) (k : NodeKind) → IsNameNode properties names asked k
     → (need_class k ≡ NeedClass.Path) ⊎ (need_class k ≡ NeedClass.Children)
@@ -43,34 +43,21 @@ call_class asked NodeKind.Now is = refl
 call_class asked (NodeKind.Call function) is = refl
 call_class asked _ is = absurd is
 
-operator_class : (values : List Value) (operator : BinaryOperator) (Right Left : ℤ → Type 0) (k : NodeKind) → IsOperatorNode values operator Right Left k → need_class k ≡ NeedClass.Children
-operator_class values operator Right Left k (inl unread) = ap need_class unread.kind_is
-operator_class values operator Right Left k (inr (inl paired)) = ap need_class paired.kind_is
-operator_class values operator Right Left k (inr (inr paired)) = ap need_class paired.kind_is
-
-flags_class : (values : List Value) (Right : ℤ → Type 0) (k : NodeKind) → IsFlagsNode values Right k → need_class k ≡ NeedClass.Children
-flags_class values Right k (inl unread) = ap need_class unread.kind_is
-flags_class values Right k (inr paired) = ap need_class paired.kind_is
-
-list_class : (values : List Value) (slots : Slots) (Beside : ExprType → Type 0) (items : Trees) (k : NodeKind) → IsListNode values slots Beside items k → need_class k ≡ NeedClass.Children
-list_class values slots Beside items k (inl unread) = ap need_class unread.kind_is
-list_class values slots Beside items k (inr numbered) = ap need_class numbered.kind_is
-
-pub class_of : (values : List Value) (slots : Slots) (root : List ℕ) (scope : Scope) (shape : Shape) (k : NodeKind) → IsKindOf values slots root scope shape k → ClassOf shape k
-class_of values slots root scope (literal kind spelling) k is = literal_class slots values kind spelling k is
-class_of values slots root scope it k is = ap need_class is
-class_of values slots root scope (name asked) k is = name_class _ _ asked k is
-class_of values slots root scope (member base asked) k is = member_class slots (Typed slots root scope base) asked k is
-class_of values slots root scope (count base) k is = ap need_class is
-class_of values slots root scope (negation operand) k is = ap need_class is
-class_of values slots root scope (logical_not operand) k is = ap need_class is
-class_of values slots root scope (binary operator left right) k is = operator_class values operator _ _ k is
-class_of values slots root scope (has left right) k is = flags_class values _ k is
-class_of values slots root scope (in_list left items) k is = list_class values slots _ items k is
-class_of values slots root scope (in_path left path) k is = ap need_class is
-class_of values slots root scope (call asked arguments) k is = call_class asked k is
-class_of values slots root scope (any_item base) k is = ap need_class is
-class_of values slots root scope (lambda quantifier base variable body) k is = ap need_class is
+pub class_of : (slots : Slots) (root : List ℕ) (scope : Scope) (shape : Shape) (k : NodeKind) → IsKindOf slots root scope shape k → ClassOf shape k
+class_of slots root scope (literal kind spelling) k is = literal_class kind k is
+class_of slots root scope it k is = ap need_class is
+class_of slots root scope (name asked) k is = name_class _ _ asked k is
+class_of slots root scope (member base asked) k is = member_class slots (Typed slots root scope base) asked k is
+class_of slots root scope (count base) k is = ap need_class is
+class_of slots root scope (negation operand) k is = ap need_class is
+class_of slots root scope (logical_not operand) k is = ap need_class is
+class_of slots root scope (binary operator left right) k is = ap need_class is
+class_of slots root scope (has left right) k is = ap need_class is
+class_of slots root scope (in_list left items) k is = ap need_class is
+class_of slots root scope (in_path left path) k is = ap need_class is
+class_of slots root scope (call asked arguments) k is = call_class asked k is
+class_of slots root scope (any_item base) k is = ap need_class is
+class_of slots root scope (lambda quantifier base variable body) k is = ap need_class is
 
 module _ (schema : SchemaModel) (n : ℕ) (scope : Scope) (list : FlatTree) where
   -- ---- the head
@@ -80,7 +67,7 @@ module _ (schema : SchemaModel) (n : ℕ) (scope : Scope) (list : FlatTree) wher
     pub tree : Tree
     pub more : List Tree
     pub middle : ℕ
-    pub stands : Stands schema n scope list place middle tree
+    pub stands : Lies schema n scope list place middle tree
     pub behind : StandInLine schema n scope list middle stop more
     pub is : trees ≡ tree ∷ more
 
@@ -89,11 +76,11 @@ module _ (schema : SchemaModel) (n : ℕ) (scope : Scope) (list : FlatTree) wher
   head_of place stop (tree ∷ more) line before = record { tree = tree; more = more; middle = line.0; stands = line.1; behind = line.2; is = refl }
 
   -- the node there is the top of the tree
-  pub found_top : (place stop start end : ℕ) (shape : Shape) (found : CheckedNode) (stands : Stands schema n scope list place stop (node start end shape)) → slice_get list.nodes place ≡ Some found
+  pub found_top : (place stop start end : ℕ) (shape : Shape) (found : CheckedNode) (stands : Lies schema n scope list place stop (node start end shape)) → slice_get list.nodes place ≡ Some found
       → stands.top.found ≡ found
   found_top place stop start end shape found stands at = same_found (slice_get list.nodes place) stands.top.found found stands.top.stands_at at
 
-  pub last_there : (place stop : ℕ) (tree : Tree) (found : CheckedNode) → Stands schema n scope list place stop tree → slice_get list.nodes place ≡ Some found → found.stop ≡ stop
+  pub last_there : (place stop : ℕ) (tree : Tree) (found : CheckedNode) → Lies schema n scope list place stop tree → slice_get list.nodes place ≡ Some found → found.stop ≡ stop
   last_there place stop (node start end shape) found stands at =
       subst (λ (f : CheckedNode). f.stop ≡ stop) (found_top place stop start end shape found stands at) stands.top.last
 
@@ -108,16 +95,16 @@ module _ (schema : SchemaModel) (n : ℕ) (scope : Scope) (list : FlatTree) wher
     pub body : Tree
     pub middle : ℕ
     pub is : tree ≡ node start end (lambda quantifier base variable body)
-    pub base_stands : Stands schema n scope list (place + 1) middle base
-    pub body_stands : InBody scope variable (Typed (slots_of schema) (type_name_at schema n) scope base) (λ at. Stands schema n at list middle stop body)
+    pub base_stands : Lies schema n scope list (place + 1) middle base
+    pub body_stands : InBody scope variable (Typed (slots_of schema) (type_name_at schema n) scope base) (λ at. Lies schema n at list middle stop body)
 
-  pub lambda_tree : (place stop : ℕ) (tree : Tree) (found : CheckedNode) → Stands schema n scope list place stop tree → slice_get list.nodes place ≡ Some found
+  pub lambda_tree : (place stop : ℕ) (tree : Tree) (found : CheckedNode) → Lies schema n scope list place stop tree → slice_get list.nodes place ≡ Some found
       → need_class found.kind ≡ NeedClass.Lambda → IsLambdaTree place stop tree
   lambda_tree place stop (node start end shape) found stands at class =
-      by shape stands (class_of list.values (slots_of schema) (type_name_at schema n) scope shape stands.top.found.kind stands.top.kind)
+      by shape stands (class_of (slots_of schema) (type_name_at schema n) scope shape stands.top.found.kind stands.top.kind)
       (subst (λ (f : CheckedNode). need_class f.kind ≡ NeedClass.Lambda) (sym (found_top place stop start end shape found stands at)) class)
     where
-      by : (shape : Shape) (stands : Stands schema n scope list place stop (node start end shape)) → ClassOf shape stands.top.found.kind → need_class stands.top.found.kind ≡ NeedClass.Lambda
+      by : (shape : Shape) (stands : Lies schema n scope list place stop (node start end shape)) → ClassOf shape stands.top.found.kind → need_class stands.top.found.kind ≡ NeedClass.Lambda
           → IsLambdaTree place stop (node start end shape)
       by (lambda quantifier base variable body) stands is class = record {
         start = start;
@@ -129,7 +116,7 @@ module _ (schema : SchemaModel) (n : ℕ) (scope : Scope) (list : FlatTree) wher
         middle = stands.children.middle;
         is = refl;
         base_stands = stands.children.left;
-        body_stands = subst (λ (m : ℕ). InBody scope variable (Typed (slots_of schema) (type_name_at schema n) scope base) (λ at. Stands schema n at list stands.children.middle m body))
+        body_stands = subst (λ (m : ℕ). InBody scope variable (Typed (slots_of schema) (type_name_at schema n) scope base) (λ at. Lies schema n at list stands.children.middle m body))
             stands.children.right.right stands.children.right.left;
       }
       by (name asked) stands (inl is) class = absurd (cc)
@@ -155,13 +142,13 @@ module _ (schema : SchemaModel) (n : ℕ) (scope : Scope) (list : FlatTree) wher
   IsWay place stop (node start end (member base asked)) = Unit {0}
   IsWay place stop (node start end shape) = ⊥
 
-  pub way_there : (place stop : ℕ) (tree : Tree) (found : CheckedNode) → Stands schema n scope list place stop tree → slice_get list.nodes place ≡ Some found
+  pub way_there : (place stop : ℕ) (tree : Tree) (found : CheckedNode) → Lies schema n scope list place stop tree → slice_get list.nodes place ≡ Some found
       → need_class found.kind ≡ NeedClass.Path → IsWay place stop tree
   way_there place stop (node start end shape) found stands at class =
-      by shape stands (class_of list.values (slots_of schema) (type_name_at schema n) scope shape stands.top.found.kind stands.top.kind)
+      by shape stands (class_of (slots_of schema) (type_name_at schema n) scope shape stands.top.found.kind stands.top.kind)
       (subst (λ (f : CheckedNode). need_class f.kind ≡ NeedClass.Path) (sym (found_top place stop start end shape found stands at)) class)
     where
-      by : (shape : Shape) (stands : Stands schema n scope list place stop (node start end shape)) → ClassOf shape stands.top.found.kind → need_class stands.top.found.kind ≡ NeedClass.Path
+      by : (shape : Shape) (stands : Lies schema n scope list place stop (node start end shape)) → ClassOf shape stands.top.found.kind → need_class stands.top.found.kind ≡ NeedClass.Path
           → IsWay place stop (node start end shape)
       by (name asked) stands is class = sym stands.children
       by (member base asked) stands is class = tt

@@ -11,7 +11,8 @@ use Rattle.odata_signatures.specs.declared.edm_type.EdmType.{EdmType}
 use Rattle.odata_signatures.specs.declared.edm_type.ValueType.{ValueType}
 use Rattle.odata_checked_filter.specs.FlatTree.{FlatTree}
 use Rattle.odata_checked_filter.specs.Levels.{level_named}
-use Rattle.odata_checked_filter.specs.Stands.{IsKindOf, IsMemberNode, IsNameNode, Stands, variable_names}
+use Rattle.odata_checked_filter.specs.private.Layout.{Lies}
+use Rattle.odata_checked_filter.specs.Stands.{IsKindOf, IsMemberNode, IsNameNode, variable_names}
 use Rattle.odata_checked_filter.specs.declared.checked_node.CheckedNode.{CheckedNode}
 use Rattle.odata_checked_filter.specs.declared.checked_node.NodeKind.{NodeKind}
 use Rattle.odata_checked_filter.specs.declared.needed_paths.NeedClass.{NeedClass}
@@ -45,15 +46,15 @@ member_kind slots Base asked _ is = absurd is
 
 module _ (schema : SchemaModel) (n : ℕ) (scope : Scope) (list : FlatTree) where
   -- the node of a tree has the tree's type
-  pub typed_there : (place stop : ℕ) (tree : Tree) → Stands schema n scope list place stop tree
+  pub typed_there : (place stop : ℕ) (tree : Tree) → Lies schema n scope list place stop tree
       → (found : CheckedNode) × ((slice_get list.nodes place ≡ Some found) × Typed (slots_of schema) (type_name_at schema n) scope tree (expr_type schema found.edm_type))
   typed_there place stop (node start end shape) stands = (stands.top.found, (stands.top.stands_at, stands.top.typed))
 
   -- the kind of the node there is one of the shape
-  kind_there : (place stop start end : ℕ) (shape : Shape) (found : CheckedNode) (kind : NodeKind) → Stands schema n scope list place stop (node start end shape) → slice_get list.nodes place ≡ Some found
-      → found.kind ≡ kind → IsKindOf list.values (slots_of schema) (type_name_at schema n) scope shape kind
+  kind_there : (place stop start end : ℕ) (shape : Shape) (found : CheckedNode) (kind : NodeKind) → Lies schema n scope list place stop (node start end shape) → slice_get list.nodes place ≡ Some found
+      → found.kind ≡ kind → IsKindOf (slots_of schema) (type_name_at schema n) scope shape kind
   kind_there place stop start end shape found kind stands at is =
-      subst (λ (k : NodeKind). IsKindOf list.values (slots_of schema) (type_name_at schema n) scope shape k)
+      subst (λ (k : NodeKind). IsKindOf (slots_of schema) (type_name_at schema n) scope shape k)
       (ap (λ (f : CheckedNode). f.kind) (found_top schema n scope list place stop start end shape found stands at) ∙ is) stands.top.kind
 
   -- ---- a step
@@ -64,17 +65,17 @@ module _ (schema : SchemaModel) (n : ℕ) (scope : Scope) (list : FlatTree) wher
     pub base : Tree
     pub asked : List ℕ
     pub is : tree ≡ node start end (member base asked)
-    pub base_stands : Stands schema n scope list (place + 1) stop base
+    pub base_stands : Lies schema n scope list (place + 1) stop base
     pub owner : List ℕ
     pub base_typed : Typed (slots_of schema) (type_name_at schema n) scope base (single (structured owner))
     pub named : slot_named ((slots_of schema).properties owner) asked ≡ Some slot
     pub text_at : slice_get list.texts place ≡ Some asked
 
-  pub step_there : (place stop slot : ℕ) (tree : Tree) (found : CheckedNode) → Stands schema n scope list place stop tree → slice_get list.nodes place ≡ Some found
+  pub step_there : (place stop slot : ℕ) (tree : Tree) (found : CheckedNode) → Lies schema n scope list place stop tree → slice_get list.nodes place ≡ Some found
       → found.kind ≡ NodeKind.Member slot → IsStepThere place stop slot tree
   step_there place stop slot (node start end shape) found stands at is = by shape stands (kind_there place stop start end shape found (NodeKind.Member slot) stands at is)
     where
-      by : (shape : Shape) → Stands schema n scope list place stop (node start end shape) → IsKindOf list.values (slots_of schema) (type_name_at schema n) scope shape (NodeKind.Member slot)
+      by : (shape : Shape) → Lies schema n scope list place stop (node start end shape) → IsKindOf (slots_of schema) (type_name_at schema n) scope shape (NodeKind.Member slot)
           → IsStepThere place stop slot (node start end shape)
       by (member base asked) stands kind = record {
         start = start;
@@ -95,9 +96,9 @@ module _ (schema : SchemaModel) (n : ℕ) (scope : Scope) (list : FlatTree) wher
       by (count base) stands kind = absurd (cc)
       by (negation operand) stands kind = absurd (cc)
       by (logical_not operand) stands kind = absurd (cc)
-      by (binary operator left right) stands kind = absurd (no_children (NodeKind.Member slot) refl (class_of list.values (slots_of schema) (type_name_at schema n) scope (binary operator left right) (NodeKind.Member slot) kind))
-      by (has left right) stands kind = absurd (no_children (NodeKind.Member slot) refl (class_of list.values (slots_of schema) (type_name_at schema n) scope (has left right) (NodeKind.Member slot) kind))
-      by (in_list left items) stands kind = absurd (no_children (NodeKind.Member slot) refl (class_of list.values (slots_of schema) (type_name_at schema n) scope (in_list left items) (NodeKind.Member slot) kind))
+      by (binary operator left right) stands kind = absurd (no_children (NodeKind.Member slot) refl (class_of (slots_of schema) (type_name_at schema n) scope (binary operator left right) (NodeKind.Member slot) kind))
+      by (has left right) stands kind = absurd (no_children (NodeKind.Member slot) refl (class_of (slots_of schema) (type_name_at schema n) scope (has left right) (NodeKind.Member slot) kind))
+      by (in_list left items) stands kind = absurd (no_children (NodeKind.Member slot) refl (class_of (slots_of schema) (type_name_at schema n) scope (in_list left items) (NodeKind.Member slot) kind))
       by (in_path left path) stands kind = absurd (cc)
       by (any_item base) stands kind = absurd (cc)
       by (lambda quantifier base variable body) stands kind = absurd (cc)
@@ -113,11 +114,11 @@ module _ (schema : SchemaModel) (n : ℕ) (scope : Scope) (list : FlatTree) wher
     pub named : slot_named (properties_at schema n) asked ≡ Some slot
     pub text_at : slice_get list.texts place ≡ Some asked
 
-  pub property_there : (place stop slot : ℕ) (tree : Tree) (found : CheckedNode) → Stands schema n scope list place stop tree → slice_get list.nodes place ≡ Some found
+  pub property_there : (place stop slot : ℕ) (tree : Tree) (found : CheckedNode) → Lies schema n scope list place stop tree → slice_get list.nodes place ≡ Some found
       → found.kind ≡ NodeKind.Property slot → IsPropertyThere place slot tree
   property_there place stop slot (node start end shape) found stands at is = by shape stands (kind_there place stop start end shape found (NodeKind.Property slot) stands at is)
     where
-      by : (shape : Shape) → Stands schema n scope list place stop (node start end shape) → IsKindOf list.values (slots_of schema) (type_name_at schema n) scope shape (NodeKind.Property slot)
+      by : (shape : Shape) → Lies schema n scope list place stop (node start end shape) → IsKindOf (slots_of schema) (type_name_at schema n) scope shape (NodeKind.Property slot)
           → IsPropertyThere place slot (node start end shape)
       by (name asked) stands kind = record { start = start; end = end; asked = asked; is = refl; unbound = kind.0; named = kind.1; text_at = stands.top.text_at }
       by (member base asked) stands kind = absurd kind
@@ -127,9 +128,9 @@ module _ (schema : SchemaModel) (n : ℕ) (scope : Scope) (list : FlatTree) wher
       by (count base) stands kind = absurd (cc)
       by (negation operand) stands kind = absurd (cc)
       by (logical_not operand) stands kind = absurd (cc)
-      by (binary operator left right) stands kind = absurd (no_children (NodeKind.Property slot) refl (class_of list.values (slots_of schema) (type_name_at schema n) scope (binary operator left right) (NodeKind.Property slot) kind))
-      by (has left right) stands kind = absurd (no_children (NodeKind.Property slot) refl (class_of list.values (slots_of schema) (type_name_at schema n) scope (has left right) (NodeKind.Property slot) kind))
-      by (in_list left items) stands kind = absurd (no_children (NodeKind.Property slot) refl (class_of list.values (slots_of schema) (type_name_at schema n) scope (in_list left items) (NodeKind.Property slot) kind))
+      by (binary operator left right) stands kind = absurd (no_children (NodeKind.Property slot) refl (class_of (slots_of schema) (type_name_at schema n) scope (binary operator left right) (NodeKind.Property slot) kind))
+      by (has left right) stands kind = absurd (no_children (NodeKind.Property slot) refl (class_of (slots_of schema) (type_name_at schema n) scope (has left right) (NodeKind.Property slot) kind))
+      by (in_list left items) stands kind = absurd (no_children (NodeKind.Property slot) refl (class_of (slots_of schema) (type_name_at schema n) scope (in_list left items) (NodeKind.Property slot) kind))
       by (in_path left path) stands kind = absurd (cc)
       by (any_item base) stands kind = absurd (cc)
       by (lambda quantifier base variable body) stands kind = absurd (cc)
@@ -143,11 +144,11 @@ module _ (schema : SchemaModel) (n : ℕ) (scope : Scope) (list : FlatTree) wher
     pub is : tree ≡ node start end (name asked)
     pub bound : level_named (variable_names scope) asked ≡ Some level
 
-  pub variable_there : (place stop level : ℕ) (tree : Tree) (found : CheckedNode) → Stands schema n scope list place stop tree → slice_get list.nodes place ≡ Some found
+  pub variable_there : (place stop level : ℕ) (tree : Tree) (found : CheckedNode) → Lies schema n scope list place stop tree → slice_get list.nodes place ≡ Some found
       → found.kind ≡ NodeKind.Variable level → IsVariableThere level tree
   variable_there place stop level (node start end shape) found stands at is = by shape (kind_there place stop start end shape found (NodeKind.Variable level) stands at is)
     where
-      by : (shape : Shape) → IsKindOf list.values (slots_of schema) (type_name_at schema n) scope shape (NodeKind.Variable level) → IsVariableThere level (node start end shape)
+      by : (shape : Shape) → IsKindOf (slots_of schema) (type_name_at schema n) scope shape (NodeKind.Variable level) → IsVariableThere level (node start end shape)
       by (name asked) kind = record { start = start; end = end; asked = asked; is = refl; bound = kind }
       by (member base asked) kind = absurd kind
       by (literal written spelling) kind = absurd kind
@@ -156,13 +157,9 @@ module _ (schema : SchemaModel) (n : ℕ) (scope : Scope) (list : FlatTree) wher
       by (count base) kind = absurd (cc)
       by (negation operand) kind = absurd (cc)
       by (logical_not operand) kind = absurd (cc)
-      by (binary operator left right) (inl unread) = let is = unread.kind_is in absurd (cc)
-      by (binary operator left right) (inr (inl paired)) = let is = paired.kind_is in absurd (cc)
-      by (binary operator left right) (inr (inr paired)) = let is = paired.kind_is in absurd (cc)
-      by (has left right) (inl unread) = let is = unread.kind_is in absurd (cc)
-      by (has left right) (inr paired) = let is = paired.kind_is in absurd (cc)
-      by (in_list left items) (inl unread) = let is = unread.kind_is in absurd (cc)
-      by (in_list left items) (inr numbered) = let is = numbered.kind_is in absurd (cc)
+      by (binary operator left right) is = absurd (cc)
+      by (has left right) is = absurd (cc)
+      by (in_list left items) is = absurd (cc)
       by (in_path left path) kind = absurd (cc)
       by (any_item base) kind = absurd (cc)
       by (lambda quantifier base variable body) kind = absurd (cc)
@@ -199,7 +196,7 @@ module _ (schema : SchemaModel) (n : ℕ) (scope : Scope) (list : FlatTree) wher
   way_none paths (node start end (lambda quantifier base variable body)) plain = (refl, (refl, λ path need. need))
 
   -- what stands where no step, no property and no variable does
-  pub other_there : (place stop : ℕ) (tree : Tree) (found : CheckedNode) → Stands schema n scope list place stop tree → slice_get list.nodes place ≡ Some found
+  pub other_there : (place stop : ℕ) (tree : Tree) (found : CheckedNode) → Lies schema n scope list place stop tree → slice_get list.nodes place ≡ Some found
       → ((slot : ℕ) → found.kind ≡ NodeKind.Member slot → ⊥) → ((slot : ℕ) → found.kind ≡ NodeKind.Property slot → ⊥) → ((level : ℕ) → found.kind ≡ NodeKind.Variable level → ⊥)
       → IsNoWay tree
   other_there place stop (node start end (name asked)) found stands at step property variable =

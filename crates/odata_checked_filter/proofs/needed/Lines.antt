@@ -11,14 +11,15 @@ use Rattle.odata_expression_types.specs.NeededPaths.{IsNeeded, IsNeededAmong, Va
 use Rattle.odata_expression_types.specs.Typed.{Scope, Typed, variable_type}
 use Rattle.odata_checked_filter.specs.FlatTree.{FlatTree}
 use Rattle.odata_checked_filter.specs.Levels.{level_named}
-use Rattle.odata_checked_filter.specs.Stands.{AllStand, IsMemberNode, IsNameNode, Stands, variable_names}
+use Rattle.odata_checked_filter.specs.private.Layout.{AllLie, Lies}
+use Rattle.odata_checked_filter.specs.Stands.{IsMemberNode, IsNameNode, variable_names}
 use Rattle.odata_checked_filter.specs.declared.checked_node.CheckedNode.{CheckedNode}
 use Rattle.odata_checked_filter.specs.declared.checked_node.NodeKind.{NodeKind}
 use Rattle.odata_checked_filter.specs.declared.needed_paths.NeedClass.{NeedClass}
 use Rattle.odata_checked_filter.specs.private.NeededWalk.{NeedsAmong, Puts, StandInLine, need_class}
 use Rattle.odata_checked_filter.proofs.flat.Children.{one_there, two_there}
 use Rattle.odata_checked_filter.proofs.flat.Places.{same_found}
-use Rattle.odata_checked_filter.proofs.flat.Standing.{stands_nonempty}
+use Rattle.odata_checked_filter.proofs.flat.Standing.{lies_nonempty}
 
 -- ---- what trees need
 
@@ -53,7 +54,7 @@ module _ (schema : SchemaModel) (n : ℕ) (scope : Scope) (list : FlatTree) wher
   pub line_onward : (i j : ℕ) (trees : List Tree) → StandInLine schema n scope list i j trees → i ≤ j
   line_onward i j [] line = omega (arith, line)
   line_onward i j (tree ∷ trees) line =
-      let before : i < line.0 = stands_nonempty schema n scope list i line.0 tree line.1 in
+      let before : i < line.0 = lies_nonempty schema n scope list i line.0 tree line.1 in
       let behind : line.0 ≤ j = line_onward line.0 j trees line.2 in
       omega (arith, before, behind)
 
@@ -62,10 +63,10 @@ module _ (schema : SchemaModel) (n : ℕ) (scope : Scope) (list : FlatTree) wher
   line_front i m j [] behind line more = subst (λ (k : ℕ). StandInLine schema n scope list k j behind) (sym line) more
   line_front i m j (tree ∷ first) behind line more = (line.0, line.1, line_front line.0 m j first behind line.2 more)
 
-  pub one_line : (i j : ℕ) (tree : Tree) → Stands schema n scope list i j tree → StandInLine schema n scope list i j (tree ∷ [])
+  pub one_line : (i j : ℕ) (tree : Tree) → Lies schema n scope list i j tree → StandInLine schema n scope list i j (tree ∷ [])
   one_line i j tree stands = (j, stands, refl)
 
-  pub all_line : (i j : ℕ) (trees : Trees) → AllStand schema n scope list i j trees → StandInLine schema n scope list i j (list_of_trees trees)
+  pub all_line : (i j : ℕ) (trees : Trees) → AllLie schema n scope list i j trees → StandInLine schema n scope list i j (list_of_trees trees)
   all_line i j no_trees stand = stand
   all_line i j (more_trees tree trees) stand = (stand.middle, stand.left, all_line stand.middle j trees stand.right)
 
@@ -101,7 +102,7 @@ some_variable (v ∷ scope) asked level named free = by (pointwise nat_eq asked 
     by false is outer at = outer at (rw is at free)
 
 module _ (schema : SchemaModel) (n : ℕ) (scope : Scope) (list : FlatTree) (paths : VariablePaths) where
-  one_child : (i j : ℕ) (tree child : Tree) → Stands schema n scope list (i + 1) j child
+  one_child : (i j : ℕ) (tree child : Tree) → Lies schema n scope list (i + 1) j child
       → ((path : PropertyPath) → IsNeeded (slots_of schema) (type_name_at schema n) scope paths tree path → IsNeeded (slots_of schema) (type_name_at schema n) scope paths child path)
       → ((path : PropertyPath) → IsNeeded (slots_of schema) (type_name_at schema n) scope paths child path → IsNeeded (slots_of schema) (type_name_at schema n) scope paths tree path)
       → NeedsByChildren schema n scope list paths i j tree
@@ -112,7 +113,7 @@ module _ (schema : SchemaModel) (n : ℕ) (scope : Scope) (list : FlatTree) (pat
     back = λ path need. elim need [ inl here ↦ back path here | inr none ↦ absurd none ];
   }
 
-  two_children : (i m j : ℕ) (tree left right : Tree) → Stands schema n scope list (i + 1) m left → Stands schema n scope list m j right
+  two_children : (i m j : ℕ) (tree left right : Tree) → Lies schema n scope list (i + 1) m left → Lies schema n scope list m j right
       → ((path : PropertyPath) → IsNeeded (slots_of schema) (type_name_at schema n) scope paths tree path
       → IsNeeded (slots_of schema) (type_name_at schema n) scope paths left path ⊎ IsNeeded (slots_of schema) (type_name_at schema n) scope paths right path)
       → ((path : PropertyPath) → IsNeeded (slots_of schema) (type_name_at schema n) scope paths left path ⊎ IsNeeded (slots_of schema) (type_name_at schema n) scope paths right path
@@ -125,14 +126,14 @@ module _ (schema : SchemaModel) (n : ℕ) (scope : Scope) (list : FlatTree) (pat
     back = λ path need. elim need [ inl here ↦ back path (inl here) | inr there ↦ elim there [ inl second_here ↦ back path (inr second_here) | inr none ↦ absurd none ] ];
   }
 
-  pub needs_by_children : (i j start stop : ℕ) (shape : Shape) (found : CheckedNode) → Stands schema n scope list i j (node start stop shape) → slice_get list.nodes i ≡ Some found
+  pub needs_by_children : (i j start stop : ℕ) (shape : Shape) (found : CheckedNode) → Lies schema n scope list i j (node start stop shape) → slice_get list.nodes i ≡ Some found
       → need_class found.kind ≡ NeedClass.Children → NeedsByChildren schema n scope list paths i j (node start stop shape)
   needs_by_children i j start stop shape found stands at class = by shape stands (subst (λ (f : CheckedNode). need_class f.kind ≡ NeedClass.Children) (sym same) class)
     where
       same : stands.top.found ≡ found
       same = same_found (slice_get list.nodes i) stands.top.found found stands.top.stands_at at
 
-      by : (shape : Shape) (stands : Stands schema n scope list i j (node start stop shape)) → need_class stands.top.found.kind ≡ NeedClass.Children
+      by : (shape : Shape) (stands : Lies schema n scope list i j (node start stop shape)) → need_class stands.top.found.kind ≡ NeedClass.Children
           → NeedsByChildren schema n scope list paths i j (node start stop shape)
       by (literal kind spelling) stands class = record { children = []; line = stands.children; forth = λ path need. need; back = λ path need. need }
       by it stands class = record { children = []; line = stands.children; forth = λ path need. need; back = λ path need. need }
@@ -225,7 +226,7 @@ module _ (schema : SchemaModel) (n : ℕ) (scope : Scope) (list : FlatTree) (pat
   none_left : (place : ℕ) (rest : List Tree) → StandInLine schema n scope list place stop rest → stop ≤ place → rest ≡ []
   none_left place [] line past = refl
   none_left place (tree ∷ rest) line past =
-      let before : place < line.0 = stands_nonempty schema n scope list place line.0 tree line.1 in
+      let before : place < line.0 = lies_nonempty schema n scope list place line.0 tree line.1 in
       let behind : line.0 ≤ stop = line_onward schema n scope list line.0 stop rest line.2 in
       absurd (omega (arith, before, behind, past))
 

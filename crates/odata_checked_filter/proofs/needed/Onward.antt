@@ -7,7 +7,7 @@ use Rattle.csdl_schema.specs.SchemaModel.{SchemaModel, slots_of, type_name_at}
 use Rattle.odata_expression_types.specs.NeededPaths.{IsNeeded, VariablePaths}
 use Rattle.odata_expression_types.specs.Typed.{Scope}
 use Rattle.odata_checked_filter.specs.FlatTree.{FlatTree}
-use Rattle.odata_checked_filter.specs.Stands.{Stands}
+use Rattle.odata_checked_filter.specs.private.Layout.{Lies}
 use Rattle.odata_checked_filter.specs.declared.checked_node.CheckedNode.{CheckedNode}
 use Rattle.odata_checked_filter.specs.declared.needed_paths.NeedClass.{NeedClass}
 use Rattle.odata_checked_filter.specs.private.NeededWalk.{LambdaNeeds, NeedsAmong, NeedsOnWay, Puts, StandInLine, base_of, need_class, steps_of}
@@ -47,7 +47,7 @@ module _ (schema : SchemaModel) (n : ℕ) (scope : Scope) (list : FlatTree) (pat
       (LambdaNeeds (slots_of schema) (type_name_at schema n) scope paths operator.base operator.variable operator.body) first.is puts whole parts line
 
   -- past the steps of a path, up to what stands before the first of them
-  way_base : (place middle : ℕ) (tree : Tree) → Stands schema n scope list place middle tree → IsWay schema n scope list place middle tree → (steps_of tree ≡ 0)
+  way_base : (place middle : ℕ) (tree : Tree) → Lies schema n scope list place middle tree → IsWay schema n scope list place middle tree → (steps_of tree ≡ 0)
       → middle ≡ place + 1
   way_base place middle (node start end (name asked)) stands way none = way
   way_base place middle (node start end (member base asked)) stands way none = absurd (omega (arith, none))
@@ -94,7 +94,7 @@ module _ (schema : SchemaModel) (n : ℕ) (scope : Scope) (list : FlatTree) (pat
       (found : CheckedNode) → slice_get list.nodes place ≡ Some found → need_class found.kind ≡ NeedClass.Children → Left now (place + 1)
   past_node now place left first found at class = by first.tree first.stands first.is
     where
-      by : (tree : Tree) → Stands schema n scope list place first.middle tree → left.rest ≡ tree ∷ first.more → Left now (place + 1)
+      by : (tree : Tree) → Lies schema n scope list place first.middle tree → left.rest ≡ tree ∷ first.more → Left now (place + 1)
       by (node start end shape) stands is =
           let below = needs_by_children schema n scope list paths place first.middle start end shape found stands at class in
           left_on schema n scope list paths old stop trees now now place (place + 1) left (node start end shape) first.more below.children (λ path. ⊥) is (puts_nothing now)

@@ -2,12 +2,13 @@
 use Rattle.std.proofs.Common.{◌≡◌, ℕ, ◌+◌, ◌<◌, Option, Some, IsSomeAnd, slice_get, sym, ◌∙◌, subst, arith}
 use Rattle.odata_syntax.specs.Tree.{Tree}
 use Rattle.odata_expression_types.specs.Typed.{Scope, Typed}
-use Rattle.odata_checked_filter.specs.Stands.{InBody, Stands}
+use Rattle.odata_checked_filter.specs.private.Layout.{Lies}
+use Rattle.odata_checked_filter.specs.Stands.{InBody}
 use Rattle.odata_checked_filter.specs.declared.checked_node.CheckedNode.{CheckedNode}
 use Rattle.odata_checked_filter.specs.declared.needed_paths.LambdaPlaces.{LambdaPlaces}
 use Rattle.odata_checked_filter.specs.declared.needed_paths.ListScene.{ListScene}
 use Rattle.odata_checked_filter.specs.private.NeededWalk.{ArePlacesOf, IsLambdaOf, root_there, slots_there}
-use Rattle.odata_checked_filter.proofs.flat.Standing.{stands_nonempty}
+use Rattle.odata_checked_filter.proofs.flat.Standing.{lies_nonempty}
 use Rattle.odata_checked_filter.proofs.needed.Heads.{IsLambdaTree, last_there}
 use Rattle.odata_checked_filter.proofs.needed.Kinds.{typed_there}
 
@@ -16,10 +17,10 @@ at_found : (P : CheckedNode → Type 0) (o : Option CheckedNode) (found : Checke
 at_found P o found at some = subst (λ (x : Option CheckedNode). IsSomeAnd x P) at some
 
 module _ (scene : ListScene) (scope : Scope) (place stop : ℕ) (tree : Tree) (found : CheckedNode) (places : LambdaPlaces)
-    (stands : Stands scene.schema.now scene.filtered_type scope scene.list.now place stop tree) (at : slice_get scene.list.now.nodes place ≡ Some found)
+    (stands : Lies scene.schema.now scene.filtered_type scope scene.list.now place stop tree) (at : slice_get scene.list.now.nodes place ≡ Some found)
     (are : ArePlacesOf scene.list.now place places) (operator : IsLambdaTree scene.schema.now scene.filtered_type scope scene.list.now place stop tree) where
   abbrev StandHere : ℕ → ℕ → Tree → Type 0
-  StandHere = Stands scene.schema.now scene.filtered_type scope scene.list.now
+  StandHere = Lies scene.schema.now scene.filtered_type scope scene.list.now
 
   pub body_begins : places.body ≡ operator.middle
   body_begins =
@@ -33,7 +34,7 @@ module _ (scene : ListScene) (scope : Scope) (place stop : ℕ) (tree : Tree) (f
       ∙ last_there scene.schema.now scene.filtered_type scope scene.list.now place stop tree found stands at
 
   abbrev Body : ℕ → ℕ → Type 0
-  Body i j = InBody scope operator.variable (Typed (slots_there scene) (root_there scene) scope operator.base) (λ within. Stands scene.schema.now scene.filtered_type within scene.list.now i j operator.body)
+  Body i j = InBody scope operator.variable (Typed (slots_there scene) (root_there scene) scope operator.base) (λ within. Lies scene.schema.now scene.filtered_type within scene.list.now i j operator.body)
 
   pub lambda_of : IsLambdaOf scene scope places operator.base operator.variable operator.body
   lambda_of = record {
@@ -45,9 +46,9 @@ module _ (scene : ListScene) (scope : Scope) (place stop : ℕ) (tree : Tree) (f
   -- the parts lie one after another
   pub parts_onward : (places.base < places.body) × (places.body < places.stop)
   parts_onward =
-      let first = stands_nonempty scene.schema.now scene.filtered_type scope scene.list.now (place + 1) operator.middle operator.base operator.base_stands in
+      let first = lies_nonempty scene.schema.now scene.filtered_type scope scene.list.now (place + 1) operator.middle operator.base operator.base_stands in
       let body = operator.body_stands in
-      let second = stands_nonempty scene.schema.now scene.filtered_type _ scene.list.now operator.middle stop operator.body body.body in
+      let second = lies_nonempty scene.schema.now scene.filtered_type _ scene.list.now operator.middle stop operator.body body.body in
       let begins = are.base_is in
       let middle = body_begins in
       let last = operator_stops in

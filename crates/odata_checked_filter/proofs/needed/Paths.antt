@@ -14,7 +14,7 @@ use Rattle.odata_signatures.specs.TypeView.{expr_type}
 use Rattle.odata_signatures.specs.declared.edm_type.EdmType.{EdmType}
 use Rattle.odata_signatures.specs.declared.edm_type.ValueType.{ValueType}
 use Rattle.odata_checked_filter.specs.FlatTree.{FlatTree}
-use Rattle.odata_checked_filter.specs.Stands.{Stands}
+use Rattle.odata_checked_filter.specs.private.Layout.{Lies}
 use Rattle.odata_checked_filter.specs.declared.checked_node.CheckedNode.{CheckedNode}
 use Rattle.odata_checked_filter.specs.declared.checked_node.NodeKind.{NodeKind}
 use Rattle.odata_checked_filter.specs.declared.needed_paths.PathEnd.{PathEnd}
@@ -144,7 +144,7 @@ module _ (schema : SchemaModel) (n : ℕ) (scope : Scope) (list : FlatTree) (pat
       }
 
   -- a property alone without a target needs nothing
-  pub without_target : (place stop : ℕ) (tree : Tree) (found : CheckedNode) (answer : Bool) → Stands schema n scope list place stop tree → slice_get list.nodes place ≡ Some found
+  pub without_target : (place stop : ℕ) (tree : Tree) (found : CheckedNode) (answer : Bool) → Lies schema n scope list place stop tree → slice_get list.nodes place ≡ Some found
       → IsWithoutTarget schema n found.kind answer → answer ≡ true → IsPutFrom (slots_of schema) (type_name_at schema n) scope paths old old place tree place
   without_target place stop tree found answer stands at plain is = by found.kind refl plain
     where

@@ -5,7 +5,7 @@ use Rattle.odata_syntax.specs.Tree.{Tree}
 use Rattle.csdl_schema.specs.SchemaModel.{SchemaModel}
 use Rattle.odata_expression_types.specs.Typed.{Scope}
 use Rattle.odata_checked_filter.specs.FlatTree.{FlatTree}
-use Rattle.odata_checked_filter.specs.Stands.{Stands}
+use Rattle.odata_checked_filter.specs.private.Layout.{Lies}
 use Rattle.odata_checked_filter.specs.declared.checked_node.CheckedNode.{CheckedNode}
 use Rattle.odata_checked_filter.specs.declared.checked_node.NodeKind.{NodeKind}
 use Rattle.odata_checked_filter.specs.private.PathSteps.{IsStepAt, is_step}
@@ -41,9 +41,9 @@ no_step list k found at none slot is =
 
 module _ (schema : SchemaModel) (n : ℕ) (scope : Scope) (list : FlatTree) (place bottom stop : ℕ) where
   abbrev Below : ℕ → Type 0
-  Below at = (tree : Tree) × Stands schema n scope list at stop tree
+  Below at = (tree : Tree) × Lies schema n scope list at stop tree
 
-  down : (k : ℕ) (tree : Tree) → Stands schema n scope list place stop tree → ((j : ℕ) → j < bottom → place ≤ j → IsStepAt list j) → place + k ≤ bottom → Below (place + k)
+  down : (k : ℕ) (tree : Tree) → Lies schema n scope list place stop tree → ((j : ℕ) → j < bottom → place ≤ j → IsStepAt list j) → place + k ≤ bottom → Below (place + k)
   down zero tree stands steps within = let same : place ≡ place + 0 = omega arith in subst Below same (tree, stands)
   down (suc k) tree stands steps within =
       let at = down k tree stands steps (omega (arith, within)) in
@@ -53,8 +53,8 @@ module _ (schema : SchemaModel) (n : ℕ) (scope : Scope) (list : FlatTree) (pla
       subst Below same (there.base, there.base_stands)
 
   -- what stands at a step or after them all, where a path stands
-  pub stands_below : (at : ℕ) (tree : Tree) → Stands schema n scope list place stop tree → ((j : ℕ) → j < bottom → place ≤ j → IsStepAt list j) → place ≤ at → at ≤ bottom
-      → (below : Tree) × Stands schema n scope list at stop below
+  pub stands_below : (at : ℕ) (tree : Tree) → Lies schema n scope list place stop tree → ((j : ℕ) → j < bottom → place ≤ j → IsStepAt list j) → place ≤ at → at ≤ bottom
+      → (below : Tree) × Lies schema n scope list at stop below
   stands_below at tree stands steps above within =
       let same : place + (at - place) ≡ at = omega (arith, above) in
       subst Below same (down (at - place) tree stands steps (omega (arith, above, within)))

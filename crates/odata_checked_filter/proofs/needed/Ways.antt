@@ -6,20 +6,20 @@ use Rattle.csdl_schema.specs.SchemaModel.{SchemaModel, Slots}
 use Rattle.odata_expression_types.specs.NeededPaths.{IsNeeded, VariablePaths}
 use Rattle.odata_expression_types.specs.Typed.{Scope}
 use Rattle.odata_checked_filter.specs.FlatTree.{FlatTree}
-use Rattle.odata_checked_filter.specs.Stands.{Stands}
+use Rattle.odata_checked_filter.specs.private.Layout.{Lies}
 use Rattle.odata_checked_filter.specs.private.NeededWalk.{NeedsOnWay, base_of, steps_of}
 use Rattle.odata_checked_filter.proofs.flat.Children.{one_there}
 
 -- what stands before the first step
-pub base_stands : (schema : SchemaModel) (n : ℕ) (scope : Scope) (list : FlatTree) (i j : ℕ) (tree : Tree) → Stands schema n scope list i j tree
-    → Stands schema n scope list (i + steps_of tree) j (base_of tree)
+pub base_stands : (schema : SchemaModel) (n : ℕ) (scope : Scope) (list : FlatTree) (i j : ℕ) (tree : Tree) → Lies schema n scope list i j tree
+    → Lies schema n scope list (i + steps_of tree) j (base_of tree)
 base_stands schema n scope list i j (node start stop (member base asked)) stands =
     let further = base_stands schema n scope list (i + 1) j base (one_there schema n scope list (i + 1) j base stands.children) in
     let same : (i + 1) + steps_of base ≡ i + (steps_of base + 1) = omega arith in
-    subst (λ (k : ℕ). Stands schema n scope list k j (base_of base)) same further
+    subst (λ (k : ℕ). Lies schema n scope list k j (base_of base)) same further
 base_stands schema n scope list i j (node start stop shape) stands =
     let same : i ≡ i + 0 = omega arith in
-    subst (λ (k : ℕ). Stands schema n scope list k j (node start stop shape)) same stands
+    subst (λ (k : ℕ). Lies schema n scope list k j (node start stop shape)) same stands
 
 -- what a tree needs is what its steps need, and what stands before them
 pub needs_way : (slots : Slots) (root : List ℕ) (scope : Scope) (paths : VariablePaths) (tree : Tree) (path : PropertyPath) → IsNeeded slots root scope paths tree path

@@ -13,11 +13,13 @@ use Rattle.odata_checked_filter.specs.declared.checked_node.NodeKind.{NodeKind}
 use Rattle.odata_checked_filter.specs.Filter.{Filter, IsFilter, tree_of_filter}
 use Rattle.odata_checked_filter.specs.FlatTree.{FlatTree}
 use Rattle.odata_checked_filter.specs.LambdaDepth.{lambda_depth, lambda_depth_among, lambda_depth_in}
-use Rattle.odata_checked_filter.specs.Stands.{AllStand, ChildrenStand, IsKindOf, Stands}
+use Rattle.odata_checked_filter.specs.private.Layout.{AllLie, ChildrenLie, Lies}
+use Rattle.odata_checked_filter.specs.Stands.{IsKindOf}
 use Rattle.odata_checked_filter.specs.private.LambdaLines.{AreInLine, StandsBetween, deepest_of, kind_is_lambda}
 use Rattle.odata_checked_filter.proofs.flat.Children.{body_there, one_there, two_there}
+use Rattle.odata_checked_filter.proofs.flat.Lying.{filter_lies}
 use Rattle.odata_checked_filter.proofs.flat.Places.{same_found}
-use Rattle.odata_checked_filter.proofs.flat.Standing.{stands_nonempty}
+use Rattle.odata_checked_filter.proofs.flat.Standing.{lies_nonempty}
 
 -- ---- lines of trees
 
@@ -25,7 +27,7 @@ pub line_onward : (list : FlatTree) (i j : ℕ) (trees : List Tree) → AreInLin
 line_onward list i j [] line = omega (arith, line)
 line_onward list i j (tree ∷ trees) line =
     let first = line.left in
-    let before : i < line.middle = stands_nonempty first.schema first.filtered first.scope list i line.middle tree first.stands in
+    let before : i < line.middle = lies_nonempty first.schema first.filtered first.scope list i line.middle tree first.stands in
     let behind : line.middle ≤ j = line_onward list line.middle j trees line.right in
     omega (arith, before, behind)
 
@@ -49,14 +51,14 @@ deepest_behind (tree ∷ trees) more =
 
 -- ---- the children of a node
 
-pub one_line : (schema : SchemaModel) (n : ℕ) (scope : Scope) (list : FlatTree) (i j : ℕ) (tree : Tree) → Stands schema n scope list i j tree → AreInLine list i j (tree ∷ [])
+pub one_line : (schema : SchemaModel) (n : ℕ) (scope : Scope) (list : FlatTree) (i j : ℕ) (tree : Tree) → Lies schema n scope list i j tree → AreInLine list i j (tree ∷ [])
 one_line schema n scope list i j tree stands =
     record { middle = j; left = record { schema = schema; filtered = n; scope = scope; stands = stands }; right = refl }
 
 two_line :
     (schema : SchemaModel) (n : ℕ) (scope at : Scope) (list : FlatTree) (i m j : ℕ) (left right : Tree)
-    → Stands schema n scope list i m left
-    → Stands schema n at list m j right
+    → Lies schema n scope list i m left
+    → Lies schema n at list m j right
     → AreInLine list i j (left ∷ right ∷ [])
 two_line schema n scope at list i m j left right first second = record {
   middle = m;
@@ -64,7 +66,7 @@ two_line schema n scope at list i m j left right first second = record {
   right = one_line schema n at list m j right second;
 }
 
-all_line : (schema : SchemaModel) (n : ℕ) (scope : Scope) (list : FlatTree) (i j : ℕ) (trees : Trees) → AllStand schema n scope list i j trees → AreInLine list i j (list_of_trees trees)
+all_line : (schema : SchemaModel) (n : ℕ) (scope : Scope) (list : FlatTree) (i j : ℕ) (trees : Trees) → AllLie schema n scope list i j trees → AreInLine list i j (list_of_trees trees)
 all_line schema n scope list i j no_trees stand = stand
 all_line schema n scope list i j (more_trees tree trees) stand = record {
   middle = stand.middle;
@@ -74,7 +76,7 @@ all_line schema n scope list i j (more_trees tree trees) stand = record {
 
 pub children_line :
     (schema : SchemaModel) (n : ℕ) (scope : Scope) (list : FlatTree) (i j : ℕ) (shape : Shape)
-    → ChildrenStand schema n scope list i j shape
+    → ChildrenLie schema n scope list i j shape
     → AreInLine list i j (children_of shape)
 children_line schema n scope list i j (literal kind spelling) stand = stand
 children_line schema n scope list i j it stand = stand
@@ -110,33 +112,29 @@ is_lambda (lambda quantifier base variable body) = true
 is_lambda _ = false
 
 pub lambda_kind :
-    (values : List Value) (slots : Slots) (root : List ℕ) (scope : Scope) (shape : Shape) (kind : NodeKind)
-    → IsKindOf values slots root scope shape kind
+    (slots : Slots) (root : List ℕ) (scope : Scope) (shape : Shape) (kind : NodeKind)
+    → IsKindOf slots root scope shape kind
     → kind_is_lambda kind ≡ is_lambda shape
-lambda_kind values slots root scope (literal k spelling) (NodeKind.Literal l place) is = refl
-lambda_kind values slots root scope (literal k spelling) _ is = absurd is
-lambda_kind values slots root scope it kind is = ap kind_is_lambda is
-lambda_kind values slots root scope (name asked) (NodeKind.Variable level) is = refl
-lambda_kind values slots root scope (name asked) (NodeKind.Property slot) is = refl
-lambda_kind values slots root scope (name asked) _ is = absurd is
-lambda_kind values slots root scope (member base asked) (NodeKind.Member slot) is = refl
-lambda_kind values slots root scope (member base asked) _ is = absurd is
-lambda_kind values slots root scope (count base) kind is = ap kind_is_lambda is
-lambda_kind values slots root scope (negation operand) kind is = ap kind_is_lambda is
-lambda_kind values slots root scope (logical_not operand) kind is = ap kind_is_lambda is
-lambda_kind values slots root scope (binary operator left right) kind (inl is) = ap kind_is_lambda is.kind_is
-lambda_kind values slots root scope (binary operator left right) kind (inr (inl is)) = ap kind_is_lambda is.kind_is
-lambda_kind values slots root scope (binary operator left right) kind (inr (inr is)) = ap kind_is_lambda is.kind_is
-lambda_kind values slots root scope (has left right) kind (inl is) = ap kind_is_lambda is.kind_is
-lambda_kind values slots root scope (has left right) kind (inr is) = ap kind_is_lambda is.kind_is
-lambda_kind values slots root scope (in_list left items) kind (inl is) = ap kind_is_lambda is.kind_is
-lambda_kind values slots root scope (in_list left items) kind (inr is) = ap kind_is_lambda is.kind_is
-lambda_kind values slots root scope (in_path left path) kind is = ap kind_is_lambda is
-lambda_kind values slots root scope (call asked arguments) NodeKind.Now is = refl
-lambda_kind values slots root scope (call asked arguments) (NodeKind.Call function) is = refl
-lambda_kind values slots root scope (call asked arguments) _ is = absurd is
-lambda_kind values slots root scope (any_item base) kind is = ap kind_is_lambda is
-lambda_kind values slots root scope (lambda quantifier base variable body) kind is = ap kind_is_lambda is
+lambda_kind slots root scope (literal k spelling) (NodeKind.Literal l place) is = refl
+lambda_kind slots root scope (literal k spelling) _ is = absurd is
+lambda_kind slots root scope it kind is = ap kind_is_lambda is
+lambda_kind slots root scope (name asked) (NodeKind.Variable level) is = refl
+lambda_kind slots root scope (name asked) (NodeKind.Property slot) is = refl
+lambda_kind slots root scope (name asked) _ is = absurd is
+lambda_kind slots root scope (member base asked) (NodeKind.Member slot) is = refl
+lambda_kind slots root scope (member base asked) _ is = absurd is
+lambda_kind slots root scope (count base) kind is = ap kind_is_lambda is
+lambda_kind slots root scope (negation operand) kind is = ap kind_is_lambda is
+lambda_kind slots root scope (logical_not operand) kind is = ap kind_is_lambda is
+lambda_kind slots root scope (binary operator left right) kind is = ap kind_is_lambda is
+lambda_kind slots root scope (has left right) kind is = ap kind_is_lambda is
+lambda_kind slots root scope (in_list left items) kind is = ap kind_is_lambda is
+lambda_kind slots root scope (in_path left path) kind is = ap kind_is_lambda is
+lambda_kind slots root scope (call asked arguments) NodeKind.Now is = refl
+lambda_kind slots root scope (call asked arguments) (NodeKind.Call function) is = refl
+lambda_kind slots root scope (call asked arguments) _ is = absurd is
+lambda_kind slots root scope (any_item base) kind is = ap kind_is_lambda is
+lambda_kind slots root scope (lambda quantifier base variable body) kind is = ap kind_is_lambda is
 
 deepest_among : (trees : Trees) → lambda_depth_among trees ≡ deepest_of (list_of_trees trees)
 deepest_among no_trees = refl
@@ -185,7 +183,7 @@ first_tree list i m j found (node start stop shape) trees first behind at =
     let same : top.found ≡ found = same_found (slice_get list.nodes i) top.found found top.stands_at at in
     let stops : m ≡ found.stop = sym top.last ∙ ap (λ (f : CheckedNode). f.stop) same in
     let kind : is_lambda shape ≡ kind_is_lambda found.kind =
-    sym (lambda_kind list.values (slots_of first.schema) (type_name_at first.schema first.filtered) first.scope shape top.found.kind top.kind)
+    sym (lambda_kind (slots_of first.schema) (type_name_at first.schema first.filtered) first.scope shape top.found.kind top.kind)
     ∙ ap (λ (f : CheckedNode). kind_is_lambda f.kind) same in
     let children = children_of shape in
     record {
@@ -281,7 +279,7 @@ no_trees_left : (list : FlatTree) (i j : ℕ) (trees : List Tree) → AreInLine 
 no_trees_left list i j [] line past = refl
 no_trees_left list i j (tree ∷ trees) line past =
     let first = line.left in
-    let before : i < line.middle = stands_nonempty first.schema first.filtered first.scope list i line.middle tree first.stands in
+    let before : i < line.middle = lies_nonempty first.schema first.filtered first.scope list i line.middle tree first.stands in
     let behind : line.middle ≤ j = line_onward list line.middle j trees line.right in
     absurd (omega (arith, before, behind, past))
 
@@ -304,7 +302,7 @@ whole_line filter list nodes is same beside =
     let trees = tree_of_filter filter ∷ [] in
     subst (λ (ns : List CheckedNode). AreInLine list 0 (length ns) trees) (sym beside)
     (subst (λ (l : FlatTree). AreInLine l 0 (length l.nodes) trees) (sym same)
-    (one_line filter.schema filter.filtered [] filter.list 0 (length filter.list.nodes) (tree_of_filter filter) is.stands))
+    (one_line filter.schema filter.filtered [] filter.list 0 (length filter.list.nodes) (tree_of_filter filter) (filter_lies filter is)))
 
 pub whole_depth : (filter : Filter) → deepest_of (tree_of_filter filter ∷ []) ≡ lambda_depth (tree_of_filter filter)
 whole_depth filter = sym (one_deepest (tree_of_filter filter))

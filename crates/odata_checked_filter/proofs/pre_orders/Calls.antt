@@ -15,7 +15,8 @@ use Rattle.odata_checked_filter.specs.declared.checked_node.CheckedNode.{Checked
 use Rattle.odata_checked_filter.specs.declared.checked_node.NodeKind.{NodeKind}
 use Rattle.odata_checked_filter.specs.Calls.{CallsOne, TakesMemory, UsesNow}
 use Rattle.odata_checked_filter.specs.Filter.{Filter, IsFilter, tree_of_filter}
-use Rattle.odata_checked_filter.specs.Stands.{IsKindOf, Stands}
+use Rattle.odata_checked_filter.specs.private.Layout.{Lies}
+use Rattle.odata_checked_filter.specs.Stands.{IsKindOf}
 use Rattle.odata_checked_filter.specs.private.CalledKinds.{function_makes_text, kind_is_now, kind_makes_text}
 use Rattle.odata_checked_filter.proofs.flat.Numbered.{count_of, numbered}
 use Rattle.odata_checked_filter.proofs.flat.Nodes.{node_within}
@@ -100,32 +101,32 @@ found_any test (y ∷ xs) (suc k) x found here =
 -- the test passes just the kinds of calls of these functions
 pub record Tests (test : NodeKind → Bool) (functions : List (List ℕ)) : Type 0 where
   pub sound :
-      (values : List Value) (slots : Slots) (root : List ℕ) (scope : Scope) (shape : Shape) (kind : NodeKind)
-      → IsKindOf values slots root scope shape kind → test kind ≡ true
+      (slots : Slots) (root : List ℕ) (scope : Scope) (shape : Shape) (kind : NodeKind)
+      → IsKindOf slots root scope shape kind → test kind ≡ true
       → (called : List ℕ) × (arguments : Trees) × (shape ≡ call called arguments) × Contains functions called
   pub complete :
-      (values : List Value) (slots : Slots) (root : List ℕ) (scope : Scope) (called : List ℕ) (arguments : Trees) (kind : NodeKind)
-      → IsKindOf values slots root scope (call called arguments) kind → Contains functions called → test kind ≡ true
+      (slots : Slots) (root : List ℕ) (scope : Scope) (called : List ℕ) (arguments : Trees) (kind : NodeKind)
+      → IsKindOf slots root scope (call called arguments) kind → Contains functions called → test kind ≡ true
 
 node_calls : (test : NodeKind → Bool) (functions : List (List ℕ)) (filter : Filter) (scope : Scope) (k stop : ℕ) (part : Tree) (found : CheckedNode)
-    → Tests test functions → Stands filter.schema filter.filtered scope filter.list k stop part → slice_get filter.list.nodes k ≡ Some found
+    → Tests test functions → Lies filter.schema filter.filtered scope filter.list k stop part → slice_get filter.list.nodes k ≡ Some found
     → test found.kind ≡ true → IsWithin part (tree_of_filter filter) → CallsOne functions (tree_of_filter filter)
 node_calls test functions filter scope k stop (node s e shape) found tests stands here passes within =
     let top = stands.top in
     let same : top.found ≡ found = same_found (slice_get filter.list.nodes k) top.found found top.stands_at here in
-    let is = tests.sound filter.list.values (slots_of filter.schema) (type_name_at filter.schema filter.filtered) scope shape top.found.kind top.kind
+    let is = tests.sound (slots_of filter.schema) (type_name_at filter.schema filter.filtered) scope shape top.found.kind top.kind
     (ap (λ (f : CheckedNode). test f.kind) same ∙ passes) in
     record { part = node s e shape; within = within; called = is.0; arguments = is.1; is_call = is.2; one = is.3 }
 
 call_passes : (test : NodeKind → Bool) (functions : List (List ℕ)) (filter : Filter) (scope : Scope) (k stop : ℕ) (part : Tree) (found : CheckedNode) (called : List ℕ) (arguments : Trees)
-    → Tests test functions → Stands filter.schema filter.filtered scope filter.list k stop part → slice_get filter.list.nodes k ≡ Some found
+    → Tests test functions → Lies filter.schema filter.filtered scope filter.list k stop part → slice_get filter.list.nodes k ≡ Some found
     → shape_of part ≡ call called arguments → Contains functions called → test found.kind ≡ true
 call_passes test functions filter scope k stop (node s e shape) found called arguments tests stands here is_call one =
     let top = stands.top in
     let same : top.found ≡ found = same_found (slice_get filter.list.nodes k) top.found found top.stands_at here in
-    let K : Shape → Type 0 = λ (x : Shape). IsKindOf filter.list.values (slots_of filter.schema) (type_name_at filter.schema filter.filtered) scope x top.found.kind in
+    let K : Shape → Type 0 = λ (x : Shape). IsKindOf (slots_of filter.schema) (type_name_at filter.schema filter.filtered) scope x top.found.kind in
     ap (λ (f : CheckedNode). test f.kind) (sym same)
-    ∙ tests.complete filter.list.values (slots_of filter.schema) (type_name_at filter.schema filter.filtered) scope called arguments top.found.kind (subst K is_call top.kind) one
+    ∙ tests.complete (slots_of filter.schema) (type_name_at filter.schema filter.filtered) scope called arguments top.found.kind (subst K is_call top.kind) one
 
 pub calls_by_nodes : (test : NodeKind → Bool) (functions : List (List ℕ)) (filter : Filter) → Tests test functions → IsFilter filter
     → (list_any (λ (n : CheckedNode). test n.kind) filter.list.nodes ≡ true) ↔ CallsOne functions (tree_of_filter filter)
@@ -172,71 +173,63 @@ no_maker : (b : Bool) → b ≡ false → b ≡ true → ⊥
 no_maker b fails passes = cc
 
 maker_sound :
-    (values : List Value) (slots : Slots) (root : List ℕ) (scope : Scope) (shape : Shape) (kind : NodeKind)
-    → IsKindOf values slots root scope shape kind → kind_makes_text kind ≡ true
+    (slots : Slots) (root : List ℕ) (scope : Scope) (shape : Shape) (kind : NodeKind)
+    → IsKindOf slots root scope shape kind → kind_makes_text kind ≡ true
     → (called : List ℕ) × (arguments : Trees) × (shape ≡ call called arguments) × Contains (codes "concat" ∷ codes "tolower" ∷ codes "toupper" ∷ []) called
-maker_sound values slots root scope (call called arguments) (NodeKind.Call function) is passes = (called, arguments, refl, maker_named function called passes is.0)
-maker_sound values slots root scope (literal k spelling) (NodeKind.Call function) is passes = absurd is
-maker_sound values slots root scope it (NodeKind.Call function) is passes = cc
-maker_sound values slots root scope (name asked) (NodeKind.Call function) is passes = absurd is
-maker_sound values slots root scope (member base asked) (NodeKind.Call function) is passes = absurd is
-maker_sound values slots root scope (negation operand) (NodeKind.Call function) is passes = cc
-maker_sound values slots root scope (logical_not operand) (NodeKind.Call function) is passes = cc
-maker_sound values slots root scope (binary operator left right) (NodeKind.Call function) (inl is) passes = let e = is.kind_is in cc
-maker_sound values slots root scope (binary operator left right) (NodeKind.Call function) (inr (inl is)) passes = let e = is.kind_is in cc
-maker_sound values slots root scope (binary operator left right) (NodeKind.Call function) (inr (inr is)) passes = let e = is.kind_is in cc
-maker_sound values slots root scope (count base) (NodeKind.Call function) is passes = cc
-maker_sound values slots root scope (any_item base) (NodeKind.Call function) is passes = cc
-maker_sound values slots root scope (has left right) (NodeKind.Call function) (inl is) passes = let e = is.kind_is in cc
-maker_sound values slots root scope (has left right) (NodeKind.Call function) (inr is) passes = let e = is.kind_is in cc
-maker_sound values slots root scope (in_list left items) (NodeKind.Call function) (inl is) passes = let e = is.kind_is in cc
-maker_sound values slots root scope (in_list left items) (NodeKind.Call function) (inr is) passes = let e = is.kind_is in cc
-maker_sound values slots root scope (in_path left path) (NodeKind.Call function) is passes = cc
-maker_sound values slots root scope (lambda quantifier base variable body) (NodeKind.Call function) is passes = cc
-maker_sound values slots root scope shape _ is passes = cc
+maker_sound slots root scope (call called arguments) (NodeKind.Call function) is passes = (called, arguments, refl, maker_named function called passes is.0)
+maker_sound slots root scope (literal k spelling) (NodeKind.Call function) is passes = absurd is
+maker_sound slots root scope it (NodeKind.Call function) is passes = cc
+maker_sound slots root scope (name asked) (NodeKind.Call function) is passes = absurd is
+maker_sound slots root scope (member base asked) (NodeKind.Call function) is passes = absurd is
+maker_sound slots root scope (negation operand) (NodeKind.Call function) is passes = cc
+maker_sound slots root scope (logical_not operand) (NodeKind.Call function) is passes = cc
+maker_sound slots root scope (binary operator left right) (NodeKind.Call function) is passes = let e = is in cc
+maker_sound slots root scope (count base) (NodeKind.Call function) is passes = cc
+maker_sound slots root scope (any_item base) (NodeKind.Call function) is passes = cc
+maker_sound slots root scope (has left right) (NodeKind.Call function) is passes = let e = is in cc
+maker_sound slots root scope (in_list left items) (NodeKind.Call function) is passes = let e = is in cc
+maker_sound slots root scope (in_path left path) (NodeKind.Call function) is passes = cc
+maker_sound slots root scope (lambda quantifier base variable body) (NodeKind.Call function) is passes = cc
+maker_sound slots root scope shape _ is passes = cc
 
 maker_complete : AreDistinct →
-    (values : List Value) (slots : Slots) (root : List ℕ) (scope : Scope) (called : List ℕ) (arguments : Trees) (kind : NodeKind)
-    → IsKindOf values slots root scope (call called arguments) kind → Contains (codes "concat" ∷ codes "tolower" ∷ codes "toupper" ∷ []) called
+    (slots : Slots) (root : List ℕ) (scope : Scope) (called : List ℕ) (arguments : Trees) (kind : NodeKind)
+    → IsKindOf slots root scope (call called arguments) kind → Contains (codes "concat" ∷ codes "tolower" ∷ codes "toupper" ∷ []) called
     → kind_makes_text kind ≡ true
-maker_complete distinct values slots root scope called arguments (NodeKind.Call function) is one = named_maker distinct function called is.0 one
-maker_complete distinct values slots root scope called arguments NodeKind.Now is one =
+maker_complete distinct slots root scope called arguments (NodeKind.Call function) is one = named_maker distinct function called is.0 one
+maker_complete distinct slots root scope called arguments NodeKind.Now is one =
     absurd (no_maker (function_makes_text Function.Now) refl (named_maker distinct Function.Now called is one))
-maker_complete distinct values slots root scope called arguments _ is one = absurd is
+maker_complete distinct slots root scope called arguments _ is one = absurd is
 
 now_sound :
-    (values : List Value) (slots : Slots) (root : List ℕ) (scope : Scope) (shape : Shape) (kind : NodeKind)
-    → IsKindOf values slots root scope shape kind → kind_is_now kind ≡ true
+    (slots : Slots) (root : List ℕ) (scope : Scope) (shape : Shape) (kind : NodeKind)
+    → IsKindOf slots root scope shape kind → kind_is_now kind ≡ true
     → (called : List ℕ) × (arguments : Trees) × (shape ≡ call called arguments) × Contains (codes "now" ∷ []) called
-now_sound values slots root scope (call called arguments) NodeKind.Now is passes = (called, arguments, refl, (0, omega arith, is))
-now_sound values slots root scope (literal k spelling) NodeKind.Now is passes = absurd is
-now_sound values slots root scope it NodeKind.Now is passes = cc
-now_sound values slots root scope (name asked) NodeKind.Now is passes = absurd is
-now_sound values slots root scope (member base asked) NodeKind.Now is passes = absurd is
-now_sound values slots root scope (negation operand) NodeKind.Now is passes = cc
-now_sound values slots root scope (logical_not operand) NodeKind.Now is passes = cc
-now_sound values slots root scope (binary operator left right) NodeKind.Now (inl is) passes = let e = is.kind_is in cc
-now_sound values slots root scope (binary operator left right) NodeKind.Now (inr (inl is)) passes = let e = is.kind_is in cc
-now_sound values slots root scope (binary operator left right) NodeKind.Now (inr (inr is)) passes = let e = is.kind_is in cc
-now_sound values slots root scope (count base) NodeKind.Now is passes = cc
-now_sound values slots root scope (any_item base) NodeKind.Now is passes = cc
-now_sound values slots root scope (has left right) NodeKind.Now (inl is) passes = let e = is.kind_is in cc
-now_sound values slots root scope (has left right) NodeKind.Now (inr is) passes = let e = is.kind_is in cc
-now_sound values slots root scope (in_list left items) NodeKind.Now (inl is) passes = let e = is.kind_is in cc
-now_sound values slots root scope (in_list left items) NodeKind.Now (inr is) passes = let e = is.kind_is in cc
-now_sound values slots root scope (in_path left path) NodeKind.Now is passes = cc
-now_sound values slots root scope (lambda quantifier base variable body) NodeKind.Now is passes = cc
-now_sound values slots root scope shape _ is passes = cc
+now_sound slots root scope (call called arguments) NodeKind.Now is passes = (called, arguments, refl, (0, omega arith, is))
+now_sound slots root scope (literal k spelling) NodeKind.Now is passes = absurd is
+now_sound slots root scope it NodeKind.Now is passes = cc
+now_sound slots root scope (name asked) NodeKind.Now is passes = absurd is
+now_sound slots root scope (member base asked) NodeKind.Now is passes = absurd is
+now_sound slots root scope (negation operand) NodeKind.Now is passes = cc
+now_sound slots root scope (logical_not operand) NodeKind.Now is passes = cc
+now_sound slots root scope (binary operator left right) NodeKind.Now is passes = let e = is in cc
+now_sound slots root scope (count base) NodeKind.Now is passes = cc
+now_sound slots root scope (any_item base) NodeKind.Now is passes = cc
+now_sound slots root scope (has left right) NodeKind.Now is passes = let e = is in cc
+now_sound slots root scope (in_list left items) NodeKind.Now is passes = let e = is in cc
+now_sound slots root scope (in_path left path) NodeKind.Now is passes = cc
+now_sound slots root scope (lambda quantifier base variable body) NodeKind.Now is passes = cc
+now_sound slots root scope shape _ is passes = cc
 
 now_complete : AreDistinct →
-    (values : List Value) (slots : Slots) (root : List ℕ) (scope : Scope) (called : List ℕ) (arguments : Trees) (kind : NodeKind)
-    → IsKindOf values slots root scope (call called arguments) kind → Contains (codes "now" ∷ []) called → kind_is_now kind ≡ true
-now_complete distinct values slots root scope called arguments (NodeKind.Call function) is (zero, within, named) =
+    (slots : Slots) (root : List ℕ) (scope : Scope) (called : List ℕ) (arguments : Trees) (kind : NodeKind)
+    → IsKindOf slots root scope (call called arguments) kind → Contains (codes "now" ∷ []) called → kind_is_now kind ≡ true
+now_complete distinct slots root scope called arguments (NodeKind.Call function) is (zero, within, named) =
     absurd (is.1 (distinct function Function.Now called is.0 named))
-now_complete distinct values slots root scope called arguments (NodeKind.Call function) is (suc k, within, named) =
+now_complete distinct slots root scope called arguments (NodeKind.Call function) is (suc k, within, named) =
     let h : suc k < 1 = within in absurd (omega arith)
-now_complete distinct values slots root scope called arguments NodeKind.Now is one = refl
-now_complete distinct values slots root scope called arguments _ is one = absurd is
+now_complete distinct slots root scope called arguments NodeKind.Now is one = refl
+now_complete distinct slots root scope called arguments _ is one = absurd is
 
 pub makers_told : AreDistinct → (filter : Filter) → IsFilter filter
     → (list_any (λ (n : CheckedNode). kind_makes_text n.kind) filter.list.nodes ≡ true) ↔ TakesMemory (tree_of_filter filter)

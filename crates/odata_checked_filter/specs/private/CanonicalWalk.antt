@@ -11,7 +11,7 @@ use Rattle.odata_checked_filter.specs.declared.checked_node.CheckedNode.{Checked
 use Rattle.odata_checked_filter.specs.declared.checked_node.NodeKind.{NodeKind}
 use Rattle.odata_signatures.specs.Functions.{row_of}
 use Rattle.odata_checked_filter.specs.FlatTree.{FlatTree}
-use Rattle.odata_checked_filter.specs.Stands.{AllStand, Stands}
+use Rattle.odata_checked_filter.specs.private.Layout.{AllLie, Lies}
 use Rattle.odata_checked_filter.specs.private.KindTexts.{IsJoining, joint_text}
 use Rattle.odata_expression_types.specs.Typed.{Scope}
 
@@ -21,7 +21,7 @@ pub record StandsThere (list : FlatTree) (i : ℕ) (tree : Tree) : Type 0 where
   pub filtered : ℕ
   pub scope : Scope
   pub stop : ℕ
-  pub stands : Stands schema filtered scope list i stop tree
+  pub stands : Lies schema filtered scope list i stop tree
 
 -- some tree stands there
 abbrev pub HasTreeAt : FlatTree → ℕ → Type 0
@@ -32,7 +32,7 @@ pub record AllThere (list : FlatTree) (i j : ℕ) (trees : Trees) : Type 0 where
   pub schema : SchemaModel
   pub filtered : ℕ
   pub scope : Scope
-  pub stand : AllStand schema filtered scope list i j trees
+  pub stand : AllLie schema filtered scope list i j trees
 
 -- what is still to be written: some text as it is, further arguments each after a comma, and an operand whose place
 -- needs a level
@@ -131,13 +131,9 @@ comma_before place stop = if nat_lt place stop then 44 ∷ [] else []
 -- it stops at another
 abbrev pub behind_kind : FlatTree → NodeKind → ℕ → ℕ → List Part
 behind_kind list (NodeKind.Binary operator) second stop = operand_of second (operator_level operator + 1)
-behind_kind list (NodeKind.PairedRight operator number) second stop = operand_of second (operator_level operator + 1)
-behind_kind list (NodeKind.PairedLeft operator number) second stop = operand_of second (operator_level operator + 1)
 behind_kind list NodeKind.Has second stop = operand_of second base_level
-behind_kind list (NodeKind.PairedHas number) second stop = operand_of second base_level
 behind_kind list NodeKind.InPath second stop = operand_of second path_level
 behind_kind list NodeKind.InList second stop = Close ∷ arguments_of list second stop
-behind_kind list (NodeKind.PairedList numbers) second stop = Close ∷ arguments_of list second stop
 behind_kind list (NodeKind.Lambda quantifier) second stop = Close ∷ operand_of second 0
 behind_kind list _ second stop = []
 

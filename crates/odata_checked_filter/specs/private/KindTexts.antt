@@ -19,24 +19,16 @@ kind_level NodeKind.Now = base_level
 kind_level NodeKind.Neg = unary_level
 kind_level NodeKind.Not = unary_level
 kind_level (NodeKind.Binary operator) = operator_level operator
-kind_level (NodeKind.PairedRight operator number) = operator_level operator
-kind_level (NodeKind.PairedLeft operator number) = operator_level operator
 kind_level NodeKind.Has = primary_level
-kind_level (NodeKind.PairedHas number) = primary_level
 kind_level NodeKind.InList = primary_level
-kind_level (NodeKind.PairedList numbers) = primary_level
 kind_level NodeKind.InPath = primary_level
 kind_level (NodeKind.Call function) = base_level
 
 -- the level that the place of its first operand needs: its own, where an operator stands after that
 abbrev pub first_level : NodeKind → Level
 first_level (NodeKind.Binary operator) = kind_level (NodeKind.Binary operator)
-first_level (NodeKind.PairedRight operator number) = kind_level (NodeKind.PairedRight operator number)
-first_level (NodeKind.PairedLeft operator number) = kind_level (NodeKind.PairedLeft operator number)
 first_level NodeKind.Has = kind_level NodeKind.Has
-first_level (NodeKind.PairedHas number) = kind_level (NodeKind.PairedHas number)
 first_level NodeKind.InList = kind_level NodeKind.InList
-first_level (NodeKind.PairedList numbers) = kind_level (NodeKind.PairedList numbers)
 first_level NodeKind.InPath = kind_level NodeKind.InPath
 first_level _ = 0
 
@@ -45,12 +37,8 @@ abbrev pub kind_word : NodeKind → List ℕ
 kind_word NodeKind.Neg = codes "-"
 kind_word NodeKind.Not = codes "not"
 kind_word (NodeKind.Binary operator) = operator_word operator
-kind_word (NodeKind.PairedRight operator number) = operator_word operator
-kind_word (NodeKind.PairedLeft operator number) = operator_word operator
 kind_word NodeKind.Has = codes "has"
-kind_word (NodeKind.PairedHas number) = codes "has"
 kind_word NodeKind.InList = codes "in"
-kind_word (NodeKind.PairedList numbers) = codes "in"
 kind_word NodeKind.InPath = codes "in"
 kind_word _ = []
 
@@ -68,12 +56,8 @@ abbrev pub joint_word : NodeKind → List ℕ
 joint_word NodeKind.Count = codes "/$count"
 joint_word NodeKind.AnyItem = codes "/any()"
 joint_word (NodeKind.Binary operator) = spaced (operator_word operator)
-joint_word (NodeKind.PairedRight operator number) = spaced (operator_word operator)
-joint_word (NodeKind.PairedLeft operator number) = spaced (operator_word operator)
 joint_word NodeKind.Has = codes " has "
-joint_word (NodeKind.PairedHas number) = codes " has "
 joint_word NodeKind.InList = codes " in ("
-joint_word (NodeKind.PairedList numbers) = codes " in ("
 joint_word NodeKind.InPath = codes " in "
 joint_word _ = []
 
@@ -90,11 +74,7 @@ IsJoining NodeKind.Count = Unit {0}
 IsJoining NodeKind.AnyItem = Unit {0}
 IsJoining (NodeKind.Lambda quantifier) = Unit {0}
 IsJoining (NodeKind.Binary operator) = Unit {0}
-IsJoining (NodeKind.PairedRight operator number) = Unit {0}
-IsJoining (NodeKind.PairedLeft operator number) = Unit {0}
 IsJoining NodeKind.Has = Unit {0}
-IsJoining (NodeKind.PairedHas number) = Unit {0}
 IsJoining NodeKind.InList = Unit {0}
-IsJoining (NodeKind.PairedList numbers) = Unit {0}
 IsJoining NodeKind.InPath = Unit {0}
 IsJoining _ = ⊥

@@ -6,14 +6,15 @@ use Rattle.odata_expression_types.specs.Typed.{Scope}
 use Rattle.odata_checked_filter.specs.declared.checked_node.NodeKind.{NodeKind}
 use Rattle.odata_checked_filter.specs.FlatTree.{FlatTree}
 use Rattle.odata_checked_filter.specs.LambdaDepth.{lambda_depth}
-use Rattle.odata_checked_filter.specs.Stands.{SideBySide, Stands}
+use Rattle.odata_checked_filter.specs.private.Layout.{Lies}
+use Rattle.odata_checked_filter.specs.Stands.{SideBySide}
 
 -- the nodes from the i-th up to the j-th stand for the tree, in some schema and scope
 pub record StandsBetween (list : FlatTree) (i j : ℕ) (tree : Tree) : Type 0 where
   pub schema : SchemaModel
   pub filtered : ℕ
   pub scope : Scope
-  pub stands : Stands schema filtered scope list i j tree
+  pub stands : Lies schema filtered scope list i j tree
 
 -- they stand for these trees, one after another
 abbrev pub AreInLine : FlatTree → ℕ → ℕ → List Tree → Type 0

@@ -11,7 +11,8 @@ use Rattle.odata_expression_types.specs.Typed.{Scope, Typed}
 use Rattle.odata_signatures.specs.declared.edm_type.EdmType.{EdmType}
 use Rattle.odata_signatures.specs.declared.edm_type.ValueType.{ValueType}
 use Rattle.odata_checked_filter.specs.FlatTree.{FlatTree}
-use Rattle.odata_checked_filter.specs.Stands.{InBody, Stands}
+use Rattle.odata_checked_filter.specs.private.Layout.{Lies}
+use Rattle.odata_checked_filter.specs.Stands.{InBody}
 use Rattle.odata_checked_filter.specs.declared.checked_node.NodeKind.{NodeKind}
 use Rattle.odata_checked_filter.specs.declared.needed_paths.LambdaPlaces.{LambdaPlaces}
 use Rattle.odata_checked_filter.specs.declared.needed_paths.ListScene.{ListScene}
@@ -123,7 +124,7 @@ NeedsAmong slots root scope paths (tree ∷ trees) path =
 abbrev pub StandInLine : SchemaModel → ℕ → Scope → FlatTree → ℕ → ℕ → List Tree → Type 0
 StandInLine schema n scope list i j [] = i ≡ j
 StandInLine schema n scope list i j (tree ∷ trees) =
-    (middle : ℕ) × Stands schema n scope list i middle tree × StandInLine schema n scope list middle j trees
+    (middle : ℕ) × Lies schema n scope list i middle tree × StandInLine schema n scope list middle j trees
 
 -- the types of the schema, and the name of the filtered one
 abbrev pub slots_there : ListScene → Slots
@@ -138,7 +139,7 @@ pub record IsTreeThere (scene : ListScene) (steps : List StepModel) (nodes : Lis
   pub paths : VariablePaths
   pub stop : ℕ
   pub tree : Tree
-  pub stands : Stands scene.schema.now scene.filtered_type scope scene.list.now place stop tree
+  pub stands : Lies scene.schema.now scene.filtered_type scope scene.list.now place stop tree
   pub lead : LeadThere steps scope paths nodes
 
 -- a tree stands there, in some scope
@@ -146,7 +147,7 @@ pub record HasTypedTree (scene : ListScene) (place : ℕ) : Type 0 where
   pub scope : Scope
   pub stop : ℕ
   pub tree : Tree
-  pub stands : Stands scene.schema.now scene.filtered_type scope scene.list.now place stop tree
+  pub stands : Lies scene.schema.now scene.filtered_type scope scene.list.now place stop tree
 
 -- a step to the property at a slot of the schema's n-th type stands there
 abbrev pub IsStepOn : FlatTree → ℕ → ℕ → ℕ → Type 0
@@ -165,9 +166,9 @@ pub record IsLambdaOf
     (scene : ListScene) (scope : Scope) (places : LambdaPlaces) (base : Tree) (variable : List ℕ) (body : Tree)
     : Type 0 where
   pub base_stands :
-      Stands scene.schema.now scene.filtered_type scope scene.list.now places.base places.body base
+      Lies scene.schema.now scene.filtered_type scope scene.list.now places.base places.body base
   pub body_stands : InBody scope variable (Typed (slots_there scene) (root_there scene) scope base)
-      (λ at. Stands scene.schema.now scene.filtered_type at scene.list.now places.body places.stop body)
+      (λ at. Lies scene.schema.now scene.filtered_type at scene.list.now places.body places.stop body)
 
 -- what the operator needs
 abbrev pub LambdaNeeds :

@@ -23,25 +23,23 @@ use Rattle.odata_filter_operations.specs.HasGives.{HasGives}
 use Rattle.odata_filter_operations.specs.LambdaGives.{InGives}
 use Rattle.odata_filter_operations.specs.Outcome.{gives}
 use Rattle.odata_filter_operations.specs.TruthGives.{truth_val}
-use Rattle.odata_filter_operations.specs.FaultView.{fault_outcome}
 use Rattle.odata_filter_operations.specs.DatumView.{reading_at}
 use Rattle.odata_eval.specs.declared.stop.EvalStop.{EvalStop}
-use Rattle.odata_eval.specs.private.ItemMarks.{AnswersItem}
 use Rattle.odata_eval.specs.Costs.{item_cost}
-use Rattle.odata_eval.specs.private.Scene.{EndsOnceHere}
-use Rattle.odata_eval.specs.private.Spending.{CountedDatum, CountedItem, CountedMembers, CountedTruth, SpendsAt, IsTaken, Takes, datum_stop, stopped_by}
+use Rattle.odata_eval.specs.private.Scene.{EndsOnceHere, TypedHere}
+use Rattle.odata_eval.specs.private.Spending.{CountedDatum, CountedMembers, CountedTruth, SpendsAt, IsTaken, Takes, datum_stop, stopped_by}
 use Rattle.odata_eval.specs.declared.budget.Budget.{Budget}
 use Rattle.odata_eval.proofs.spending.Bound.{never_costly}
 use Rattle.odata_eval.proofs.spending.Budgets.{takes_nothing}
 use Rattle.odata_eval.proofs.spending.Free.{called_free, leaf_free, numeric_free}
-use Rattle.odata_eval.proofs.spending.ItemStops.{datum_item_faults, item_ends, item_faults_of, item_pays, item_spends, item_stops, list_ends, list_is_costly, number_spends, other_counted}
+use Rattle.odata_eval.proofs.spending.ItemStops.{item_ends, item_pays, item_stops, list_ends, list_is_costly}
 use Rattle.odata_eval.proofs.spending.Lambdas.{members_spend, null_spends}
 use Rattle.odata_eval.proofs.spending.Rests.{free_spends, nothing_more, right_asked, right_compared, right_left_out}
 use Rattle.odata_eval.proofs.spending.Splits.{first_stops}
 use Rattle.odata_eval.proofs.spending.Stops.{after_stop, after_value, as_counted, as_spent, by_stop, datum_faults, fault_nothing, next_spent, truth_faults}
-use Rattle.odata_eval.proofs.spending.Wholes.{both_free, left_free, right_free}
+use Rattle.odata_eval.proofs.spending.Wholes.{both_free}
 use Rattle.odata_eval.proofs.spending.Members.{all_paid, body_decides, body_passes, body_stops, none_left, none_paid}
-use Rattle.odata_eval.specs.private.Place.{HasCall, HasKind, HasOperator, IsClassAt, IsStopOf, NumberStands, PartStands, TruthStands}
+use Rattle.odata_eval.specs.private.Place.{HasCall, HasKind, HasOperator, IsNumberOperand, IsStopOf, NumberStands, OperandStands, PartStands, TruthStands}
 use Rattle.odata_eval.specs.private.WalkClass.{walk_of_kind}
 use Rattle.odata_eval.specs.private.WalkAnswer.{AllAnswered, AnswersDatum, AnswersNumber, AnswersTruth}
 use Rattle.odata_eval.specs.private.Frames.{frame_of}
@@ -51,19 +49,20 @@ use Rattle.odata_eval.proofs.walking.Parts.{found_there, part_inside, there_foun
 use Rattle.odata_eval.proofs.walking.CallSteps.{OneName, argument_behind, argument_faults, argument_stands, call_answers, call_applies, first_argument, third_is_last}
 use Rattle.odata_eval.proofs.meaning.LawsBelow.{Promotes}
 use Rattle.odata_eval.proofs.walking.BaseSteps.{any_item_base, base_answers, base_members, count_base}
-use Rattle.odata_eval.proofs.walking.ItemSteps.{alone_answers, equal_due, item_differs, item_equals, item_faults, items_there, list_begins, may_compare_item, next_item, no_item, number_item, number_within, numbered_lists, plain_lists, stop_further}
+use Rattle.odata_eval.proofs.walking.ItemSteps.{equal_due, item_differs, item_equals, item_faults, items_there, list_begins, lists_there, may_compare_item, next_item, no_item, stop_further}
 use Rattle.odata_eval.proofs.walking.Lambdas.{body_behind, body_place, body_there, fault_answers, members_suit, null_answers, over_members, truth_answers}
 use Rattle.odata_eval.proofs.walking.MembersAsked.{all_undecided, body_truth, decided_at, each_is, fault_at, none_yet, undecided_at}
 use Rattle.odata_eval.proofs.walking.MemberValues.{flags_are, path_gives, some_compared}
-use Rattle.odata_eval.proofs.walking.Sides.{flags_sides, next_faults, next_further, next_part, next_there, path_sides, sides_answer, some_sides}
+use Rattle.odata_eval.proofs.walking.Sides.{flags_sides, next_faults, next_further, next_part, next_there, NoOperand, path_sides, sides_answer, some_sides}
 use Rattle.odata_eval.proofs.walking.MemberSteps.{step_answers, step_slot}
 use Rattle.odata_eval.proofs.walking.Compared.{kept_compared, may_compare, may_compare_kept, numbers_compared, truth_compared}
 use Rattle.odata_eval.proofs.walking.KeptValues.{kept_value, value_kept}
-use Rattle.odata_eval.proofs.walking.ReadPairs.{kept_everywhere, left_answers, left_faults, left_further, left_next, left_part, left_within, may_compare_left}
 use Rattle.odata_eval.proofs.walking.Readings.{number_values, truth_values}
-use Rattle.odata_eval.proofs.walking.Spines.{StepUp, at_top, below_bottom, bottom_down, first_faults, logical_stands, first_part, first_step, kind_walks, only_neg, only_not, part_down, right_further, right_part, right_there, right_typed, step_up, typed_down, typed_part, walks_by}
+use Rattle.odata_eval.proofs.walking.Extents.{right_further, right_part, right_there, right_typed}
+use Rattle.odata_eval.proofs.walking.Spines.{StepUp, at_top, below_bottom, bottom_down, first_faults, logical_stands, first_part, first_step, only_neg, only_not, part_down, step_up, typed_down, typed_part, walks_by}
 use Rattle.odata_eval.proofs.walking.WalkSteps.{both_faults, calculation_answers, decided_answers, joined_answers, joined_faults, negated_operand, negation_answers, not_answers, numbers_there}
 use Rattle.odata_eval.proofs.walking.WalkValues.{kept_datum, made_value, read_value, value_there}
+use Rattle.odata_eval.proofs.walking.Operands.{operand_inside, tree_of_class, tree_operand}
 use Rattle.odata_eval.proofs.+evaluate.Goals as goal
 
 pub walk::truth_at-returns-clause-answers : goal.walk::truth_at-returns-clause-answers
@@ -93,7 +92,7 @@ pub walk::truth_at-plain_truth_at-answer-requires : goal.walk::truth_at-plain_tr
 walk::truth_at-plain_truth_at-answer-requires g t c =
     let below : c.args.place ≤ c.spine_bottom-bottom.result = c.spine_bottom-bottom.ensures.below in
     let smaller : 16 * (length c.args.scene.now.list.nodes - c.spine_bottom-bottom.result) + 10 < 16 * (length c.args.scene.now.list.nodes - c.args.place) + 11 = omega arith in
-    let stands = typed_down c.args.scene.now WalkClass.Logical (λ leaf. cc) c.args.place c.spine_bottom-bottom.result below c.requires.stands c.spine_bottom-bottom.ensures.spine in
+    let stands : TruthStands c.args.scene.now c.spine_bottom-bottom.result = typed_down c.args.scene.now WalkClass.Logical (λ leaf. cc) c.args.place c.spine_bottom-bottom.result below c.requires.stands c.spine_bottom-bottom.ensures.spine in
     search rules
 
 pub walk::truth_at-logical_at-answer-requires : goal.walk::truth_at-logical_at-answer-requires
@@ -112,19 +111,19 @@ walk::eager_at-made_at-answer-requires g t c =
     let up : StepUp c.args.scene.now WalkClass.Eager (λ k. CountedDatum c.args.scene.now k l.answer) l.at = step_up c.args.scene.now WalkClass.Eager (λ leaf. cc) (λ k. CountedDatum c.args.scene.now k l.answer) c.args.place l.at c.spine_bottom-bottom.result above l.invariant.within c.requires.stands c.spine_bottom-bottom.ensures.spine l.invariant.answers in
     search rules
 
-pub walk::eager_at-bottom_at-answer-requires : goal.walk::eager_at-bottom_at-answer-requires
-walk::eager_at-bottom_at-answer-requires g t c =
+pub walk::eager_at-likely_stored_at-answer-requires : goal.walk::eager_at-likely_stored_at-answer-requires
+walk::eager_at-likely_stored_at-answer-requires g t c =
     let inside : c.args.place < length c.args.scene.now.list.nodes = part_inside c.args.scene.now c.args.place c.requires.stands in
     let behind : c.args.place < c.spine_bottom-bottom.result = below_bottom c.args.scene.now.list WalkClass.Eager c.args.place c.spine_bottom-bottom.result c.spine_bottom-bottom.ensures.below c.requires.eager c.spine_bottom-bottom.ensures.bottom in
     let smaller : 16 * (length c.args.scene.now.list.nodes - c.spine_bottom-bottom.result) + 13 < 16 * (length c.args.scene.now.list.nodes - c.args.place) + 5 = omega arith in
     let stands = part_down c.args.scene.now WalkClass.Eager (λ leaf. cc) c.args.place c.spine_bottom-bottom.result c.spine_bottom-bottom.ensures.below c.requires.stands c.spine_bottom-bottom.ensures.spine in
     search rules
 
-pub walk::bottom_at-returns-in-Leaf-clause-answers : goal.walk::bottom_at-returns-in-Leaf-clause-answers
-walk::bottom_at-returns-in-Leaf-clause-answers g t c = kept_datum c.args.scene.now c.args.place c.in-Leaf.value.now c.datum_of.result c.in-Leaf.ensures.0 c.datum_of.ensures
+pub walk::likely_stored_at-returns-in-Leaf-clause-answers : goal.walk::likely_stored_at-returns-in-Leaf-clause-answers
+walk::likely_stored_at-returns-in-Leaf-clause-answers g t c = kept_datum c.args.scene.now c.args.place c.in-Leaf.value.now c.datum_of.result c.in-Leaf.ensures.0 c.datum_of.ensures
 
-pub walk::bottom_at-returns-in-Leaf-clause-spent : goal.walk::bottom_at-returns-in-Leaf-clause-spent
-walk::bottom_at-returns-in-Leaf-clause-spent g t c =
+pub walk::likely_stored_at-returns-in-Leaf-clause-spent : goal.walk::likely_stored_at-returns-in-Leaf-clause-spent
+walk::likely_stored_at-returns-in-Leaf-clause-spent g t c =
     free_spends c.args.scene.now c.args.place None (g.B.Counting.left c.args.budget.now) (leaf_free c.args.scene.now c.args.place c.in-Leaf.ensures.1) (takes_nothing (g.B.Counting.left c.args.budget.now))
 
 -- ---- a node of truth values
@@ -147,12 +146,12 @@ walk::connected_at-side_at-requires g t c =
     let inside : c.args.place < length c.args.scene.now.list.nodes = part_inside c.args.scene.now c.args.place c.requires.stands in
     let behind : c.args.place < c.right_of-right_place.result = right_further c.args.scene.now c.args.place (BinaryOperator.Logical c.args.operator) c.requires.here c.requires.stands c.right_of-right_place.result c.right_of-right_place.ensures in
     let smaller : 16 * (length c.args.scene.now.list.nodes - c.right_of-right_place.result) + 12 < 16 * (length c.args.scene.now.list.nodes - c.args.place) + 3 = omega arith in
-    let stands : TruthStands c.args.scene.now c.right_of-right_place.result = right_typed c.args.scene.now c.args.place (BinaryOperator.Logical c.args.operator) c.requires.here c.requires.stands c.right_of-right_place.result c.right_of-right_place.ensures WalkClass.Logical refl in
+    let stands : TruthStands c.args.scene.now c.right_of-right_place.result = right_typed c.args.scene.now c.args.place (BinaryOperator.Logical c.args.operator) c.requires.here c.requires.stands c.right_of-right_place.result c.right_of-right_place.ensures WalkClass.Logical refl (λ same. cc) in
     search rules
 
 pub walk::connected_at-kept_truth_at-requires : goal.walk::connected_at-kept_truth_at-requires
 walk::connected_at-kept_truth_at-requires g t c = record {
-  stands = right_typed c.args.scene.now c.args.place (BinaryOperator.Logical c.args.operator) c.requires.here c.requires.stands c.right_of-right_place.result c.right_of-right_place.ensures WalkClass.Logical refl;
+  stands = right_typed c.args.scene.now c.args.place (BinaryOperator.Logical c.args.operator) c.requires.here c.requires.stands c.right_of-right_place.result c.right_of-right_place.ensures WalkClass.Logical refl (λ same. cc);
 }
 
 pub walk::connected_at-returns-in-Some-clause-answers : goal.walk::connected_at-returns-in-Some-clause-answers
@@ -219,7 +218,7 @@ number_walk::calculated_at-number_operand_at-requires g t c =
     let inside : c.args.place < length c.args.scene.now.list.nodes = part_inside c.args.scene.now c.args.place c.requires.stands in
     let behind : c.args.place < c.right_of.result = right_further c.args.scene.now c.args.place (BinaryOperator.Arithmetic c.args.operator) c.requires.here c.requires.stands c.right_of.result c.right_of.ensures in
     let smaller : 16 * (length c.args.scene.now.list.nodes - c.right_of.result) + 15 < 16 * (length c.args.scene.now.list.nodes - c.args.place) + 3 = omega arith in
-    let stands : NumberStands c.args.scene.now c.right_of.result = right_typed c.args.scene.now c.args.place (BinaryOperator.Arithmetic c.args.operator) c.requires.here c.requires.stands c.right_of.result c.right_of.ensures WalkClass.Numeric refl in
+    let stands : NumberStands c.args.scene.now c.right_of.result = right_typed c.args.scene.now c.args.place (BinaryOperator.Arithmetic c.args.operator) c.requires.here c.requires.stands c.right_of.result c.right_of.ensures WalkClass.Numeric refl (λ same. cc) in
     search rules
 
 pub number_walk::calculated_at-calculated-requires : goal.number_walk::calculated_at-calculated-requires
@@ -254,7 +253,7 @@ walk::compared_at-counted_at-requires g t c =
     let inside : c.args.place < length c.args.scene.now.list.nodes = part_inside c.args.scene.now c.args.place c.requires.stands in
     let behind : c.args.place < c.right_of-right_place.result = right_further c.args.scene.now c.args.place (BinaryOperator.Comparison c.args.comparison) c.requires.here c.requires.stands c.right_of-right_place.result c.right_of-right_place.ensures in
     let smaller : 16 * (length c.args.scene.now.list.nodes - c.right_of-right_place.result) + 12 < 16 * (length c.args.scene.now.list.nodes - c.args.place) + 3 = omega arith in
-    let stands : PartStands c.args.scene.now c.right_of-right_place.result = right_part c.args.scene.now c.args.place (BinaryOperator.Comparison c.args.comparison) c.requires.here c.requires.stands c.right_of-right_place.result c.right_of-right_place.ensures in
+    let stands : OperandStands c.args.scene.now c.right_of-right_place.result = right_part c.args.scene.now c.args.place (BinaryOperator.Comparison c.args.comparison) c.requires.here c.requires.stands c.right_of-right_place.result c.right_of-right_place.ensures in
     search rules
 
 pub walk::compared_at-compare-requires-in-Ok : goal.walk::compared_at-compare-requires-in-Ok
@@ -332,7 +331,8 @@ walk::numbers_truth_at-number_chain_at-requires g t c =
     let part = typed_part c.args.scene.now c.args.place IsBooleanOrNull c.requires.stands in
     let inside : c.args.place < length c.args.scene.now.list.nodes = part_inside c.args.scene.now c.args.place part in
     let smaller : 16 * (length c.args.scene.now.list.nodes - (c.args.place + 1)) + 10 < 16 * (length c.args.scene.now.list.nodes - c.args.place) + 8 = omega arith in
-    let left : PartStands c.args.scene.now (c.args.place + 1) = first_part c.args.scene.now c.args.place WalkClass.Eager (λ leaf. cc) (walks_by c.args.scene.now.list c.args.place (BinaryOperator.Comparison c.args.comparison) WalkClass.Eager c.requires.here refl) part in
+    let left : PartStands c.args.scene.now (c.args.place + 1) =
+    tree_of_class c.args.scene.now (c.args.place + 1) WalkClass.Numeric (λ leaf. cc) c.requires.numeric (first_part c.args.scene.now c.args.place WalkClass.Eager (λ leaf. cc) (walks_by c.args.scene.now.list c.args.place (BinaryOperator.Comparison c.args.comparison) WalkClass.Eager c.requires.here refl) part) in
     search rules
 
 pub walk::numbers_truth_at-part_at-requires : goal.walk::numbers_truth_at-part_at-requires
@@ -350,7 +350,8 @@ walk::numbers_truth_at-number_at-requires g t c =
     let inside : c.args.place < length c.args.scene.now.list.nodes = part_inside c.args.scene.now c.args.place part in
     let behind : c.args.place < c.right_of-right_place.result = right_further c.args.scene.now c.args.place (BinaryOperator.Comparison c.args.comparison) c.requires.here part c.right_of-right_place.result c.right_of-right_place.ensures in
     let smaller : 16 * (length c.args.scene.now.list.nodes - c.right_of-right_place.result) + 8 < 16 * (length c.args.scene.now.list.nodes - c.args.place) + 8 = omega arith in
-    let right : PartStands c.args.scene.now c.right_of-right_place.result = right_part c.args.scene.now c.args.place (BinaryOperator.Comparison c.args.comparison) c.requires.here part c.right_of-right_place.result c.right_of-right_place.ensures in
+    let right : PartStands c.args.scene.now c.right_of-right_place.result =
+    tree_of_class c.args.scene.now c.right_of-right_place.result WalkClass.Numeric (λ leaf. cc) c.in-Numeric.ensures (right_part c.args.scene.now c.args.place (BinaryOperator.Comparison c.args.comparison) c.requires.here part c.right_of-right_place.result c.right_of-right_place.ensures) in
     search rules
 
 pub walk::numbers_truth_at-returns-in-Err-number_at-clause-answers : goal.walk::numbers_truth_at-returns-in-Err-number_at-clause-answers
@@ -533,7 +534,7 @@ walk::called_at-operand_at-requires g t c =
     let inside : c.args.place < length c.args.scene.now.list.nodes = part_inside c.args.scene.now c.args.place c.requires.stands in
     let behind : c.args.place < c.stop_of-second_place.result = argument_behind c.args.scene.now c.calls_have_one_type.ensures.named c.args.place c.args.function c.requires.here c.stop_of-own_stop.result c.stop_of-own_stop.ensures c.stop_of-second_place.result (c.args.first ∷ []) c.requires.stands (one_answered c.args.scene.now c.calls_have_one_type.ensures.named c.args.place c.args.function c.requires.here c.stop_of-own_stop.result c.stop_of-own_stop.ensures c.requires.stands c.stop_of-second_place.result c.stop_of-second_place.ensures c.args.first c.requires.first) in
     let smaller : 16 * (length c.args.scene.now.list.nodes - c.stop_of-second_place.result) + 13 < 16 * (length c.args.scene.now.list.nodes - c.args.place) + 3 = omega arith in
-    let stands : PartStands c.args.scene.now c.stop_of-second_place.result = argument_stands c.args.scene.now c.calls_have_one_type.ensures.named c.args.place c.args.function c.requires.here c.stop_of-own_stop.result c.stop_of-own_stop.ensures c.stop_of-second_place.result (c.args.first ∷ []) c.requires.stands (one_answered c.args.scene.now c.calls_have_one_type.ensures.named c.args.place c.args.function c.requires.here c.stop_of-own_stop.result c.stop_of-own_stop.ensures c.requires.stands c.stop_of-second_place.result c.stop_of-second_place.ensures c.args.first c.requires.first) c.if-second_place-own_stop.false in
+    let stands : OperandStands c.args.scene.now c.stop_of-second_place.result = tree_operand c.args.scene.now c.stop_of-second_place.result (argument_stands c.args.scene.now c.calls_have_one_type.ensures.named c.args.place c.args.function c.requires.here c.stop_of-own_stop.result c.stop_of-own_stop.ensures c.stop_of-second_place.result (c.args.first ∷ []) c.requires.stands (one_answered c.args.scene.now c.calls_have_one_type.ensures.named c.args.place c.args.function c.requires.here c.stop_of-own_stop.result c.stop_of-own_stop.ensures c.requires.stands c.stop_of-second_place.result c.stop_of-second_place.ensures c.args.first c.requires.first) c.if-second_place-own_stop.false) in
     search rules
 
 pub walk::called_at-returns-in-Err : goal.walk::called_at-returns-in-Err
@@ -561,7 +562,7 @@ walk::called_at-operand_at-requires-2 g t c =
     let inside : c.args.place < length c.args.scene.now.list.nodes = part_inside c.args.scene.now c.args.place c.requires.stands in
     let behind : c.args.place < c.stop_of-third_place.result = argument_behind c.args.scene.now c.calls_have_one_type.ensures.named c.args.place c.args.function c.requires.here c.stop_of-own_stop.result c.stop_of-own_stop.ensures c.stop_of-third_place.result (c.args.first ∷ c.in-Ok.second ∷ []) c.requires.stands (two_answered c.args.scene.now c.calls_have_one_type.ensures.named c.args.place c.args.function c.requires.here c.stop_of-own_stop.result c.stop_of-own_stop.ensures c.requires.stands c.stop_of-second_place.result c.stop_of-second_place.ensures c.args.first c.requires.first c.if-second_place-own_stop.false c.stop_of-third_place.result c.stop_of-third_place.ensures c.in-Ok.second c.in-Ok.ensures) in
     let smaller : 16 * (length c.args.scene.now.list.nodes - c.stop_of-third_place.result) + 13 < 16 * (length c.args.scene.now.list.nodes - c.args.place) + 3 = omega arith in
-    let stands : PartStands c.args.scene.now c.stop_of-third_place.result = argument_stands c.args.scene.now c.calls_have_one_type.ensures.named c.args.place c.args.function c.requires.here c.stop_of-own_stop.result c.stop_of-own_stop.ensures c.stop_of-third_place.result (c.args.first ∷ c.in-Ok.second ∷ []) c.requires.stands (two_answered c.args.scene.now c.calls_have_one_type.ensures.named c.args.place c.args.function c.requires.here c.stop_of-own_stop.result c.stop_of-own_stop.ensures c.requires.stands c.stop_of-second_place.result c.stop_of-second_place.ensures c.args.first c.requires.first c.if-second_place-own_stop.false c.stop_of-third_place.result c.stop_of-third_place.ensures c.in-Ok.second c.in-Ok.ensures) c.if-third_place-own_stop.false in
+    let stands : OperandStands c.args.scene.now c.stop_of-third_place.result = tree_operand c.args.scene.now c.stop_of-third_place.result (argument_stands c.args.scene.now c.calls_have_one_type.ensures.named c.args.place c.args.function c.requires.here c.stop_of-own_stop.result c.stop_of-own_stop.ensures c.stop_of-third_place.result (c.args.first ∷ c.in-Ok.second ∷ []) c.requires.stands (two_answered c.args.scene.now c.calls_have_one_type.ensures.named c.args.place c.args.function c.requires.here c.stop_of-own_stop.result c.stop_of-own_stop.ensures c.requires.stands c.stop_of-second_place.result c.stop_of-second_place.ensures c.args.first c.requires.first c.if-second_place-own_stop.false c.stop_of-third_place.result c.stop_of-third_place.ensures c.in-Ok.second c.in-Ok.ensures) c.if-third_place-own_stop.false) in
     search rules
 
 pub walk::called_at-called_on_three-requires : goal.walk::called_at-called_on_three-requires
@@ -598,7 +599,7 @@ pub walk::called_truth_at-stop_of-own_stop-requires : goal.walk::called_truth_at
 walk::called_truth_at-stop_of-own_stop-requires g t c = part_inside c.args.scene.now c.args.place (typed_part c.args.scene.now c.args.place IsBooleanOrNull c.requires.stands)
 
 pub walk::called_truth_at-part_at-requires : goal.walk::called_truth_at-part_at-requires
-walk::called_truth_at-part_at-requires g t c = record { stands = first_there c.args.scene.now c.calls_have_one_type.ensures.named c.args.place c.args.function c.requires.here c.stop_of-own_stop.result c.stop_of-own_stop.ensures (typed_part c.args.scene.now c.args.place IsBooleanOrNull c.requires.stands) }
+walk::called_truth_at-part_at-requires g t c = record { stands = tree_operand c.args.scene.now (c.args.place + 1) (first_there c.args.scene.now c.calls_have_one_type.ensures.named c.args.place c.args.function c.requires.here c.stop_of-own_stop.result c.stop_of-own_stop.ensures (typed_part c.args.scene.now c.args.place IsBooleanOrNull c.requires.stands)) }
 
 pub walk::called_truth_at-lower_start_at-requires : goal.walk::called_truth_at-lower_start_at-requires
 walk::called_truth_at-lower_start_at-requires g t c = record { stands = typed_part c.args.scene.now c.args.place IsBooleanOrNull c.requires.stands; here = c.requires.here }
@@ -621,7 +622,7 @@ walk::called_truth_at-stop_of-requires g t c =
 pub walk::called_truth_at-part_at-requires-2 : goal.walk::called_truth_at-part_at-requires-2
 walk::called_truth_at-part_at-requires-2 g t c =
     let first : AnswersDatum c.args.scene.now (c.args.place + 1) (Ok c.datum_of-first.result) = kept_datum c.args.scene.now (c.args.place + 1) c.in-Leaf.value.now c.datum_of-first.result c.in-Leaf.ensures.0 c.datum_of-first.ensures in
-    record { stands = second_there c.args.scene.now c.calls_have_one_type.ensures.named c.args.place c.args.function c.requires.here c.stop_of-own_stop.result c.stop_of-own_stop.ensures (typed_part c.args.scene.now c.args.place IsBooleanOrNull c.requires.stands) c.stop_of-second_place.result c.stop_of-second_place.ensures c.datum_of-first.result first c.if-second_place-own_stop.false }
+    record { stands = tree_operand c.args.scene.now c.stop_of-second_place.result (second_there c.args.scene.now c.calls_have_one_type.ensures.named c.args.place c.args.function c.requires.here c.stop_of-own_stop.result c.stop_of-own_stop.ensures (typed_part c.args.scene.now c.args.place IsBooleanOrNull c.requires.stands) c.stop_of-second_place.result c.stop_of-second_place.ensures c.datum_of-first.result first c.if-second_place-own_stop.false) }
 
 pub walk::called_truth_at-called_on_two-requires : goal.walk::called_truth_at-called_on_two-requires
 walk::called_truth_at-called_on_two-requires g t c =
@@ -704,275 +705,104 @@ walk::made_at-listed_at-requires g t c =
     search rules
 
 pub collection_walk::flags_at-right_of-requires : goal.collection_walk::flags_at-right_of-requires
-collection_walk::flags_at-right_of-requires g t c = next_there c.args.scene.now c.args.place AreFlags HasGives (flags_sides c.args.scene.now c.args.place c.requires.here) c.requires.stands
+collection_walk::flags_at-right_of-requires g t c = next_there c.args.scene.now c.args.place (TypedHere c.args.scene.now) AreFlags HasGives (flags_sides c.args.scene.now c.args.place c.requires.here) c.requires.stands
 
 pub collection_walk::flags_at-operand_at-requires : goal.collection_walk::flags_at-operand_at-requires
 collection_walk::flags_at-operand_at-requires g t c =
     let inside : c.args.place < length c.args.scene.now.list.nodes = part_inside c.args.scene.now c.args.place c.requires.stands in
-    let behind : c.args.place < c.right_of.result = next_further c.args.scene.now c.args.place AreFlags HasGives (flags_sides c.args.scene.now c.args.place c.requires.here) c.right_of.result c.right_of.ensures c.requires.stands in
+    let behind : c.args.place < c.right_of.result = next_further c.args.scene.now c.args.place (TypedHere c.args.scene.now) AreFlags HasGives (flags_sides c.args.scene.now c.args.place c.requires.here) c.right_of.result c.right_of.ensures c.requires.stands in
     let smaller : 16 * (length c.args.scene.now.list.nodes - c.right_of.result) + 13 < 16 * (length c.args.scene.now.list.nodes - c.args.place) + 3 = omega arith in
-    let stands : PartStands c.args.scene.now c.right_of.result = next_part c.args.scene.now c.args.place AreFlags HasGives (flags_sides c.args.scene.now c.args.place c.requires.here) c.right_of.result c.right_of.ensures c.requires.stands in
+    let stands : OperandStands c.args.scene.now c.right_of.result = next_part c.args.scene.now c.args.place (TypedHere c.args.scene.now) AreFlags HasGives (flags_sides c.args.scene.now c.args.place c.requires.here) c.right_of.result c.right_of.ensures c.requires.stands in
     search rules
 
 pub collection_walk::flags_at-flags_of-requires : goal.collection_walk::flags_at-flags_of-requires
 collection_walk::flags_at-flags_of-requires g t c =
-    let there = some_sides c.args.scene.now c.args.place AreFlags HasGives (flags_sides c.args.scene.now c.args.place c.requires.here) c.right_of.result c.right_of.ensures c.args.left.now c.requires.left c.in-Ok.right c.in-Ok.ensures c.ends_once.ensures c.requires.stands in
+    let there = some_sides c.args.scene.now c.args.place (TypedHere c.args.scene.now) AreFlags HasGives (flags_sides c.args.scene.now c.args.place c.requires.here) c.right_of.result c.right_of.ensures c.args.left.now c.requires.left c.in-Ok.right c.in-Ok.ensures c.ends_once.ensures c.requires.stands in
     let are = flags_are (slots_of c.args.scene.now.row.schema) there.0 there.1 c.args.left.now c.in-Ok.right there.2.0 there.2.1 there.2.2 in
     record { left = are.0; right = are.1 }
 
 pub collection_walk::flags_at-returns-in-Ok : goal.collection_walk::flags_at-returns-in-Ok
 collection_walk::flags_at-returns-in-Ok g t c =
     let slots = slots_of c.args.scene.now.row.schema in
-    sides_answer c.args.scene.now c.args.place AreFlags HasGives (flags_sides c.args.scene.now c.args.place c.requires.here) c.right_of.result c.right_of.ensures c.args.left.now c.requires.left c.in-Ok.right c.in-Ok.ensures c.ends_once.ensures c.flags_of.result
+    sides_answer c.args.scene.now c.args.place (TypedHere c.args.scene.now) AreFlags HasGives (flags_sides c.args.scene.now c.args.place c.requires.here) c.right_of.result c.right_of.ensures c.args.left.now c.requires.left c.in-Ok.right c.in-Ok.ensures c.ends_once.ensures c.flags_of.result
     (λ s t type are of_left of_right. c.flags_of.ensures (reading_at slots s) (reading_at slots t) (reading_at slots type))
 
 pub collection_walk::flags_at-returns-in-Err : goal.collection_walk::flags_at-returns-in-Err
-collection_walk::flags_at-returns-in-Err g t c = next_faults c.args.scene.now c.args.place AreFlags HasGives (flags_sides c.args.scene.now c.args.place c.requires.here) c.right_of.result c.right_of.ensures c.args.left.now c.requires.left c.in-Err.fault c.in-Err.ensures
+collection_walk::flags_at-returns-in-Err g t c = next_faults c.args.scene.now c.args.place (TypedHere c.args.scene.now) AreFlags HasGives (flags_sides c.args.scene.now c.args.place c.requires.here) c.right_of.result c.right_of.ensures c.args.left.now c.requires.left c.in-Err.fault c.in-Err.ensures
 
 pub collection_walk::among_at-right_of-requires : goal.collection_walk::among_at-right_of-requires
-collection_walk::among_at-right_of-requires g t c = next_there c.args.scene.now c.args.place IsComparableWithMembers InGives (path_sides c.args.scene.now c.args.place c.requires.here) c.requires.stands
+collection_walk::among_at-right_of-requires g t c = next_there c.args.scene.now c.args.place NoOperand IsComparableWithMembers InGives (path_sides c.args.scene.now c.args.place c.requires.here) c.requires.stands
 
 pub collection_walk::among_at-operand_at-requires : goal.collection_walk::among_at-operand_at-requires
 collection_walk::among_at-operand_at-requires g t c =
     let inside : c.args.place < length c.args.scene.now.list.nodes = part_inside c.args.scene.now c.args.place c.requires.stands in
-    let behind : c.args.place < c.right_of.result = next_further c.args.scene.now c.args.place IsComparableWithMembers InGives (path_sides c.args.scene.now c.args.place c.requires.here) c.right_of.result c.right_of.ensures c.requires.stands in
+    let behind : c.args.place < c.right_of.result = next_further c.args.scene.now c.args.place NoOperand IsComparableWithMembers InGives (path_sides c.args.scene.now c.args.place c.requires.here) c.right_of.result c.right_of.ensures c.requires.stands in
     let smaller : 16 * (length c.args.scene.now.list.nodes - c.right_of.result) + 13 < 16 * (length c.args.scene.now.list.nodes - c.args.place) + 3 = omega arith in
-    let stands : PartStands c.args.scene.now c.right_of.result = next_part c.args.scene.now c.args.place IsComparableWithMembers InGives (path_sides c.args.scene.now c.args.place c.requires.here) c.right_of.result c.right_of.ensures c.requires.stands in
+    let stands : OperandStands c.args.scene.now c.right_of.result = next_part c.args.scene.now c.args.place NoOperand IsComparableWithMembers InGives (path_sides c.args.scene.now c.args.place c.requires.here) c.right_of.result c.right_of.ensures c.requires.stands in
     search rules
 
 pub collection_walk::among_at-among-requires : goal.collection_walk::among_at-among-requires
 collection_walk::among_at-among-requires g t c =
     let slots = slots_of c.args.scene.now.row.schema in
-    let there = some_sides c.args.scene.now c.args.place IsComparableWithMembers InGives (path_sides c.args.scene.now c.args.place c.requires.here) c.right_of.result c.right_of.ensures c.args.left.now c.requires.left c.in-Ok.path c.in-Ok.ensures c.ends_once.ensures c.requires.stands in
+    let there = some_sides c.args.scene.now c.args.place NoOperand IsComparableWithMembers InGives (path_sides c.args.scene.now c.args.place c.requires.here) c.right_of.result c.right_of.ensures c.args.left.now c.requires.left c.in-Ok.path c.in-Ok.ensures c.ends_once.ensures c.requires.stands in
     some_compared slots there.0 there.1 c.args.left.now c.in-Ok.path there.2.0 there.2.1 there.2.2
 
 pub collection_walk::among_at-returns-in-Ok : goal.collection_walk::among_at-returns-in-Ok
 collection_walk::among_at-returns-in-Ok g t c =
     let slots = slots_of c.args.scene.now.row.schema in
-    sides_answer c.args.scene.now c.args.place IsComparableWithMembers InGives (path_sides c.args.scene.now c.args.place c.requires.here) c.right_of.result c.right_of.ensures c.args.left.now c.requires.left c.in-Ok.path c.in-Ok.ensures c.ends_once.ensures c.among.result
+    sides_answer c.args.scene.now c.args.place NoOperand IsComparableWithMembers InGives (path_sides c.args.scene.now c.args.place c.requires.here) c.right_of.result c.right_of.ensures c.args.left.now c.requires.left c.in-Ok.path c.in-Ok.ensures c.ends_once.ensures c.among.result
     (λ s t type alike of_left of_path. path_gives slots s t c.args.left.now c.in-Ok.path (gives (datum_val (reading_at slots type) c.among.result)) alike of_left of_path (λ member may. c.among.ensures slots s member (reading_at slots type) may))
 
 pub collection_walk::among_at-returns-in-Err : goal.collection_walk::among_at-returns-in-Err
-collection_walk::among_at-returns-in-Err g t c = next_faults c.args.scene.now c.args.place IsComparableWithMembers InGives (path_sides c.args.scene.now c.args.place c.requires.here) c.right_of.result c.right_of.ensures c.args.left.now c.requires.left c.in-Err.fault c.in-Err.ensures
+collection_walk::among_at-returns-in-Err g t c = next_faults c.args.scene.now c.args.place NoOperand IsComparableWithMembers InGives (path_sides c.args.scene.now c.args.place c.requires.here) c.right_of.result c.right_of.ensures c.args.left.now c.requires.left c.in-Err.fault c.in-Err.ensures
 
 pub collection_walk::listed_at-stop_of-own_stop-requires : goal.collection_walk::listed_at-stop_of-own_stop-requires
 collection_walk::listed_at-stop_of-own_stop-requires g t c = part_inside c.args.scene.now c.args.place c.requires.stands
 
 pub collection_walk::listed_at-right_of-at-requires : goal.collection_walk::listed_at-right_of-at-requires
-collection_walk::listed_at-right_of-at-requires g t c = items_there c.args.scene.now c.args.place None (plain_lists c.args.scene.now c.args.place c.requires.here) c.requires.stands
+collection_walk::listed_at-right_of-at-requires g t c = items_there c.args.scene.now c.args.place (lists_there c.args.scene.now c.args.place c.requires.here) c.requires.stands
 
 pub collection_walk::listed_at-loop-at-init : goal.collection_walk::listed_at-loop-at-init
 collection_walk::listed_at-loop-at-init g t c =
-    list_begins c.args.scene.now c.args.place None (plain_lists c.args.scene.now c.args.place c.requires.here) c.stop_of-own_stop.result c.stop_of-own_stop.ensures c.right_of-at.result c.right_of-at.ensures c.args.left.now c.requires.left c.ends_once.ensures c.requires.stands
+    list_begins c.args.scene.now c.args.place (lists_there c.args.scene.now c.args.place c.requires.here) c.stop_of-own_stop.result c.stop_of-own_stop.ensures c.right_of-at.result c.right_of-at.ensures c.args.left.now c.requires.left c.ends_once.ensures c.requires.stands
     (Takes (g.B.Counting.left c.args.budget.now) (g.B.Counting.left c.args.budget.now)) (takes_nothing (g.B.Counting.left c.args.budget.now))
 
-pub collection_walk::listed_at-counted_at-requires : goal.collection_walk::listed_at-counted_at-requires
-collection_walk::listed_at-counted_at-requires g t c =
+pub collection_walk::listed_at-likely_stored_at-requires : goal.collection_walk::listed_at-likely_stored_at-requires
+collection_walk::listed_at-likely_stored_at-requires g t c =
     let inside : c.args.place < length c.args.scene.now.list.nodes = part_inside c.args.scene.now c.args.place c.requires.stands in
     let behind : c.args.place < c.loop-at.at = c.loop-at.invariant.behind in
-    let smaller : 16 * (length c.args.scene.now.list.nodes - c.loop-at.at) + 12 < 16 * (length c.args.scene.now.list.nodes - c.args.place) + 3 = omega arith in
-    let stands : PartStands c.args.scene.now c.loop-at.at = next_item c.args.scene.now c.args.place c.stop_of-own_stop.result c.loop-at.at (Takes (g.B.Counting.left c.args.budget.now) (g.B.Counting.left c.loop-at.budget)) None c.args.left.now c.loop-at.invariant c.requires.stands c.loop-at-test.true in
+    let smaller : 16 * (length c.args.scene.now.list.nodes - c.loop-at.at) + 13 < 16 * (length c.args.scene.now.list.nodes - c.args.place) + 3 = omega arith in
+    let stands : OperandStands c.args.scene.now c.loop-at.at = next_item c.args.scene.now c.args.place c.stop_of-own_stop.result c.loop-at.at (Takes (g.B.Counting.left c.args.budget.now) (g.B.Counting.left c.loop-at.budget)) c.args.left.now c.loop-at.invariant c.requires.stands c.loop-at-test.true in
     search rules
 
 pub collection_walk::listed_at-compare-requires : goal.collection_walk::listed_at-compare-requires
-collection_walk::listed_at-compare-requires g t c = may_compare_item c.args.scene.now c.args.place c.stop_of-own_stop.result c.loop-at.at (Takes (g.B.Counting.left c.args.budget.now) (g.B.Counting.left c.loop-at.budget)) None c.args.left.now c.loop-at.invariant c.trees_have_one_type.ensures c.in-Ok.item (alone_answers c.args.scene.now c.loop-at.at (λ type. Some (gives (datum_val (reading_at (slots_of c.args.scene.now.row.schema) type) c.in-Ok.item))) c.in-Ok.ensures.answers) c.loop-at-test.true c.ends_once.ensures c.comparisons_are_decided.ensures.any_reading c.requires.stands
+collection_walk::listed_at-compare-requires g t c = may_compare_item c.args.scene.now c.args.place c.stop_of-own_stop.result c.loop-at.at (Takes (g.B.Counting.left c.args.budget.now) (g.B.Counting.left c.loop-at.budget)) c.args.left.now c.loop-at.invariant c.trees_have_one_type.ensures c.in-Ok.item c.in-Ok.ensures.answers c.loop-at-test.true c.ends_once.ensures c.comparisons_are_decided.ensures.any_reading c.requires.stands
 
 pub collection_walk::listed_at-returns-then-compare-clause-answers : goal.collection_walk::listed_at-returns-then-compare-clause-answers
-collection_walk::listed_at-returns-then-compare-clause-answers g t c = item_equals c.args.scene.now c.args.place c.stop_of-own_stop.result c.loop-at.at (Takes (g.B.Counting.left c.args.budget.now) (g.B.Counting.left c.loop-at.budget)) None c.args.left.now c.loop-at.invariant c.trees_have_one_type.ensures c.in-Ok.item (alone_answers c.args.scene.now c.loop-at.at (λ type. Some (gives (datum_val (reading_at (slots_of c.args.scene.now.row.schema) type) c.in-Ok.item))) c.in-Ok.ensures.answers) c.loop-at-test.true c.ends_once.ensures c.compare.result c.compare.ensures c.if-compare.true
+collection_walk::listed_at-returns-then-compare-clause-answers g t c = item_equals c.args.scene.now c.args.place c.stop_of-own_stop.result c.loop-at.at (Takes (g.B.Counting.left c.args.budget.now) (g.B.Counting.left c.loop-at.budget)) c.args.left.now c.loop-at.invariant c.trees_have_one_type.ensures c.in-Ok.item c.in-Ok.ensures.answers c.loop-at-test.true c.ends_once.ensures c.compare.result c.compare.ensures c.if-compare.true
 
 pub collection_walk::listed_at-returns-in-Err-clause-answers : goal.collection_walk::listed_at-returns-in-Err-clause-answers
 collection_walk::listed_at-returns-in-Err-clause-answers g t c =
     by_stop (λ s. CountedDatum c.args.scene.now c.loop-at.at (Err s)) (λ s. CountedDatum c.args.scene.now c.args.place (Err s))
-    (λ fault is. item_faults c.args.scene.now c.args.place c.stop_of-own_stop.result c.loop-at.at (Takes (g.B.Counting.left c.args.budget.now) (g.B.Counting.left c.loop-at.budget)) None c.args.left.now c.loop-at.invariant c.loop-at-test.true fault (alone_answers c.args.scene.now c.loop-at.at (λ type. fault_outcome fault) is))
+    (λ fault is. item_faults c.args.scene.now c.args.place c.stop_of-own_stop.result c.loop-at.at (Takes (g.B.Counting.left c.args.budget.now) (g.B.Counting.left c.loop-at.budget)) c.args.left.now c.loop-at.invariant c.loop-at-test.true fault is)
     (λ is. tt) c.in-Err.stop c.in-Err.ensures.answers
 
 pub collection_walk::listed_at-stop_of-at-requires : goal.collection_walk::listed_at-stop_of-at-requires
-collection_walk::listed_at-stop_of-at-requires g t c = part_inside c.args.scene.now c.loop-at.at (next_item c.args.scene.now c.args.place c.stop_of-own_stop.result c.loop-at.at (Takes (g.B.Counting.left c.args.budget.now) (g.B.Counting.left c.loop-at.budget)) None c.args.left.now c.loop-at.invariant c.requires.stands c.loop-at-test.true)
+collection_walk::listed_at-stop_of-at-requires g t c = operand_inside c.args.scene.now c.loop-at.at (next_item c.args.scene.now c.args.place c.stop_of-own_stop.result c.loop-at.at (Takes (g.B.Counting.left c.args.budget.now) (g.B.Counting.left c.loop-at.budget)) c.args.left.now c.loop-at.invariant c.requires.stands c.loop-at-test.true)
 
 pub collection_walk::listed_at-loop-at-preserved : goal.collection_walk::listed_at-loop-at-preserved
-collection_walk::listed_at-loop-at-preserved g t c = item_differs c.args.scene.now c.args.place c.stop_of-own_stop.result c.loop-at.at (Takes (g.B.Counting.left c.args.budget.now) (g.B.Counting.left c.loop-at.budget)) None c.args.left.now c.loop-at.invariant c.trees_have_one_type.ensures c.in-Ok.item (alone_answers c.args.scene.now c.loop-at.at (λ type. Some (gives (datum_val (reading_at (slots_of c.args.scene.now.row.schema) type) c.in-Ok.item))) c.in-Ok.ensures.answers) c.loop-at-test.true c.ends_once.ensures c.compare.result c.compare.ensures c.if-compare.false c.requires.stands c.stop_of-at.result c.stop_of-at.ensures
-    (Takes (g.B.Counting.left c.args.budget.now) (g.B.Counting.left c.counted_at.new.budget)) (item_pays c.args.scene.now c.args.place c.stop_of-own_stop.result c.loop-at.at None c.args.left.now (g.B.Counting.left c.args.budget.now) (g.B.Counting.left c.loop-at.budget) c.loop-at.invariant (g.B.Counting.left c.take_item.new.budget) (g.B.Counting.left c.counted_at.new.budget) (subst (λ (b : Bool). IsTaken b (g.B.Counting.left c.loop-at.budget) (g.B.Counting.left c.take_item.new.budget) (item_cost (environment_of c.args.scene.now))) c.if-not-take_item.false c.take_item.ensures) (item_spends c.args.scene.now c.loop-at.at (g.B.Counting.left c.take_item.new.budget) (g.B.Counting.left c.counted_at.new.budget) None None c.in-Ok.ensures.spent))
+collection_walk::listed_at-loop-at-preserved g t c = item_differs c.args.scene.now c.args.place c.stop_of-own_stop.result c.loop-at.at (Takes (g.B.Counting.left c.args.budget.now) (g.B.Counting.left c.loop-at.budget)) c.args.left.now c.loop-at.invariant c.trees_have_one_type.ensures c.in-Ok.item c.in-Ok.ensures.answers c.loop-at-test.true c.ends_once.ensures c.compare.result c.compare.ensures c.if-compare.false c.requires.stands c.stop_of-at.result c.stop_of-at.ensures
+    (Takes (g.B.Counting.left c.args.budget.now) (g.B.Counting.left c.likely_stored_at.new.budget)) (item_pays c.args.scene.now c.args.place c.stop_of-own_stop.result c.loop-at.at c.args.left.now (g.B.Counting.left c.args.budget.now) (g.B.Counting.left c.loop-at.budget) c.loop-at.invariant (g.B.Counting.left c.take_item.new.budget) (g.B.Counting.left c.likely_stored_at.new.budget) (subst (λ (b : Bool). IsTaken b (g.B.Counting.left c.loop-at.budget) (g.B.Counting.left c.take_item.new.budget) (item_cost (environment_of c.args.scene.now))) c.if-not-take_item.false c.take_item.ensures) c.in-Ok.ensures.spent)
 
 pub collection_walk::listed_at-loop-at-smaller : goal.collection_walk::listed_at-loop-at-smaller
 collection_walk::listed_at-loop-at-smaller g t c =
-    let later : c.loop-at.at < c.stop_of-at.result = stop_further c.args.scene.now c.loop-at.at c.stop_of-at.result (next_item c.args.scene.now c.args.place c.stop_of-own_stop.result c.loop-at.at (Takes (g.B.Counting.left c.args.budget.now) (g.B.Counting.left c.loop-at.budget)) None c.args.left.now c.loop-at.invariant c.requires.stands c.loop-at-test.true) c.stop_of-at.ensures in
+    let later : c.loop-at.at < c.stop_of-at.result = stop_further c.args.scene.now c.loop-at.at c.stop_of-at.result (next_item c.args.scene.now c.args.place c.stop_of-own_stop.result c.loop-at.at (Takes (g.B.Counting.left c.args.budget.now) (g.B.Counting.left c.loop-at.budget)) c.args.left.now c.loop-at.invariant c.requires.stands c.loop-at-test.true) c.stop_of-at.ensures in
     let within : c.loop-at.at ≤ c.stop_of-own_stop.result = c.loop-at.invariant.within in
     let remains = c.loop-at-test.true in
     omega (arith, remains)
 
 pub collection_walk::listed_at-returns-clause-answers : goal.collection_walk::listed_at-returns-clause-answers
-collection_walk::listed_at-returns-clause-answers g t c = no_item c.args.scene.now c.args.place c.stop_of-own_stop.result c.loop-at.at (Takes (g.B.Counting.left c.args.budget.now) (g.B.Counting.left c.loop-at.budget)) None c.args.left.now c.loop-at.invariant c.loop-at-test.false
-
--- ---- the left operand read as a number
-
-pub paired_walk::compared_left_at-right_of-requires : goal.paired_walk::compared_left_at-right_of-requires
-paired_walk::compared_left_at-right_of-requires g t c = left_next c.args.scene.now c.args.place c.args.operator c.args.number c.requires.stands c.requires.here
-
-pub paired_walk::compared_left_at-operand_at-requires : goal.paired_walk::compared_left_at-operand_at-requires
-paired_walk::compared_left_at-operand_at-requires g t c =
-    let inside : c.args.place < length c.args.scene.now.list.nodes = part_inside c.args.scene.now c.args.place c.requires.stands in
-    let behind : c.args.place < c.right_of.result = left_further c.args.scene.now c.args.place c.args.operator c.args.number c.requires.stands c.requires.here c.right_of.result c.right_of.ensures in
-    let smaller : 16 * (length c.args.scene.now.list.nodes - c.right_of.result) + 13 < 16 * (length c.args.scene.now.list.nodes - c.args.place) + 3 = omega arith in
-    let stands : PartStands c.args.scene.now c.right_of.result = left_part c.args.scene.now c.args.place c.args.operator c.args.number c.requires.stands c.requires.here c.right_of.result c.right_of.ensures in
-    search rules
-
-pub paired_walk::compared_left_at-literal-requires : goal.paired_walk::compared_left_at-literal-requires
-paired_walk::compared_left_at-literal-requires g t c = (left_within c.trees_have_one_type.ensures c.args.scene.now c.args.place c.args.operator c.args.number c.requires.here c.requires.stands).1.1
-
-pub paired_walk::compared_left_at-equality_of-requires : goal.paired_walk::compared_left_at-equality_of-requires
-paired_walk::compared_left_at-equality_of-requires g t c = (left_within c.trees_have_one_type.ensures c.args.scene.now c.args.place c.args.operator c.args.number c.requires.here c.requires.stands).1.2
-
-pub paired_walk::compared_left_at-compare-requires : goal.paired_walk::compared_left_at-compare-requires
-paired_walk::compared_left_at-compare-requires g t c =
-    may_compare_left c.trees_have_one_type.ensures c.args.scene.now c.args.place c.args.operator c.args.number c.equality_of.result c.equality_of.ensures c.literal.result.now c.literal.ensures c.datum_of-left.result c.datum_of-left.ensures
-    c.in-Ok.right c.right_of.result c.right_of.ensures c.requires.here c.in-Ok.ensures c.ends_once.ensures c.comparisons_are_decided.ensures.any_reading c.requires.stands
-
-pub paired_walk::compared_left_at-returns-in-Ok : goal.paired_walk::compared_left_at-returns-in-Ok
-paired_walk::compared_left_at-returns-in-Ok g t c =
-    left_answers c.trees_have_one_type.ensures c.args.scene.now c.args.place c.args.operator c.args.number c.equality_of.result c.equality_of.ensures c.literal.result.now c.literal.ensures c.datum_of-left.result c.datum_of-left.ensures
-    c.in-Ok.right c.right_of.result c.right_of.ensures c.requires.here c.in-Ok.ensures c.ends_once.ensures c.requires.stands c.compare.result c.compare.ensures
-
-pub paired_walk::compared_left_at-returns-in-Err : goal.paired_walk::compared_left_at-returns-in-Err
-paired_walk::compared_left_at-returns-in-Err g t c =
-    left_faults c.trees_have_one_type.ensures c.args.scene.now c.args.place c.args.operator c.args.number c.right_of.result c.right_of.ensures c.requires.here c.requires.stands c.in-Err.fault c.in-Err.ensures
-
--- ---- a pair of stored values, one of them a number that is read
-
-pub paired_walk::right_read_truth_at-overflow_add-place : goal.paired_walk::right_read_truth_at-overflow_add-place
-paired_walk::right_read_truth_at-overflow_add-place g t c =
-    let within : c.args.place + 1 < length c.args.scene.now.list.nodes = part_inside c.args.scene.now (c.args.place + 1) (first_part c.args.scene.now c.args.place WalkClass.Eager (λ leaf. cc) (kind_walks c.args.scene.now.list c.args.place (NodeKind.PairedRight c.args.operator c.args.number) WalkClass.Eager refl c.requires.here) (typed_part c.args.scene.now c.args.place IsBooleanOrNull c.requires.stands)) in
-    let same = c.nodes-nodes.ensures in
-    search rules
-
-pub paired_walk::right_read_truth_at-part_at-requires : goal.paired_walk::right_read_truth_at-part_at-requires
-paired_walk::right_read_truth_at-part_at-requires g t c = record { stands = first_part c.args.scene.now c.args.place WalkClass.Eager (λ leaf. cc) (kind_walks c.args.scene.now.list c.args.place (NodeKind.PairedRight c.args.operator c.args.number) WalkClass.Eager refl c.requires.here) (typed_part c.args.scene.now c.args.place IsBooleanOrNull c.requires.stands) }
-
-pub paired_walk::right_read_truth_at-compared_kept_right-requires : goal.paired_walk::right_read_truth_at-compared_kept_right-requires
-paired_walk::right_read_truth_at-compared_kept_right-requires g t c = record { stands = typed_part c.args.scene.now c.args.place IsBooleanOrNull c.requires.stands; here = c.requires.here; left = c.in-Leaf.ensures.0 }
-
-pub paired_walk::right_read_truth_at-made_truth_at-requires : goal.paired_walk::right_read_truth_at-made_truth_at-requires
-paired_walk::right_read_truth_at-made_truth_at-requires g t c =
-    let eager : IsClassAt c.args.scene.now.list WalkClass.Eager c.args.place = kind_walks c.args.scene.now.list c.args.place (NodeKind.PairedRight c.args.operator c.args.number) WalkClass.Eager refl c.requires.here in
-    let smaller : 16 * (length c.args.scene.now.list.nodes - c.args.place) + 7 < 16 * (length c.args.scene.now.list.nodes - c.args.place) + 9 = omega arith in
-    search rules
-
-pub paired_walk::left_read_truth_at-right_of-requires : goal.paired_walk::left_read_truth_at-right_of-requires
-paired_walk::left_read_truth_at-right_of-requires g t c = left_next c.args.scene.now c.args.place c.args.operator c.args.number (typed_part c.args.scene.now c.args.place IsBooleanOrNull c.requires.stands) c.requires.here
-
-pub paired_walk::left_read_truth_at-part_at-requires : goal.paired_walk::left_read_truth_at-part_at-requires
-paired_walk::left_read_truth_at-part_at-requires g t c = record { stands = left_part c.args.scene.now c.args.place c.args.operator c.args.number (typed_part c.args.scene.now c.args.place IsBooleanOrNull c.requires.stands) c.requires.here c.right_of.result c.right_of.ensures }
-
-pub paired_walk::left_read_truth_at-compared_kept_left-requires : goal.paired_walk::left_read_truth_at-compared_kept_left-requires
-paired_walk::left_read_truth_at-compared_kept_left-requires g t c = record {
-  stands = typed_part c.args.scene.now c.args.place IsBooleanOrNull c.requires.stands;
-  here = c.requires.here;
-  right = kept_everywhere c.args.scene.now c.args.place c.right_of.result c.in-Leaf.right.now c.right_of.ensures c.in-Leaf.ensures.0;
-}
-
-pub paired_walk::left_read_truth_at-made_truth_at-requires : goal.paired_walk::left_read_truth_at-made_truth_at-requires
-paired_walk::left_read_truth_at-made_truth_at-requires g t c =
-    let eager : IsClassAt c.args.scene.now.list WalkClass.Eager c.args.place = kind_walks c.args.scene.now.list c.args.place (NodeKind.PairedLeft c.args.operator c.args.number) WalkClass.Eager refl c.requires.here in
-    let smaller : 16 * (length c.args.scene.now.list.nodes - c.args.place) + 7 < 16 * (length c.args.scene.now.list.nodes - c.args.place) + 9 = omega arith in
-    search rules
-
--- ---- items read as numbers
-
-pub paired_walk::numbered_item_at-returns-in-Enum-clause-answers : goal.paired_walk::numbered_item_at-returns-in-Enum-clause-answers
-paired_walk::numbered_item_at-returns-in-Enum-clause-answers g t c =
-    let slots = slots_of c.args.scene.now.row.schema in
-    let fits : SFits w64 c.in-Enum.n = search rules in
-    let told = number_item c.args.scene.now c.args.place c.args.number c.literal.result.now c.literal.ensures c.in-Enum.n c.in-Enum.is in
-    subst (λ (n : ℤ). AnswersItem c.args.scene.now c.args.place (Some c.args.number) (λ type. Some (gives (datum_val (reading_at slots type) (datum.Enum n)))))
-    (sym (to_z-of_z w64 c.in-Enum.n fits)) told
-
-pub paired_walk::numbered_item_at-returns-in_default-clause-answers : goal.paired_walk::numbered_item_at-returns-in_default-clause-answers
-paired_walk::numbered_item_at-returns-in_default-clause-answers g t c = other_counted c.args.scene.now c.args.place c.args.number c.literal.result.now c.literal.ensures c.in_default.not-Enum c.counted_at.result c.counted_at.ensures.answers
-
-pub paired_walk::numbered_item_at-counted_at-requires : goal.paired_walk::numbered_item_at-counted_at-requires
-paired_walk::numbered_item_at-counted_at-requires g t c =
-    let smaller : 16 * (length c.args.scene.now.list.nodes - c.args.place) + 12 < 16 * (length c.args.scene.now.list.nodes - c.args.place) + 13 = omega arith in
-    search rules
-
-pub paired_walk::numbered_at-stop_of-own_stop-requires : goal.paired_walk::numbered_at-stop_of-own_stop-requires
-paired_walk::numbered_at-stop_of-own_stop-requires g t c = part_inside c.args.scene.now c.args.place c.requires.stands
-
-pub paired_walk::numbered_at-right_of-at-requires : goal.paired_walk::numbered_at-right_of-at-requires
-paired_walk::numbered_at-right_of-at-requires g t c = items_there c.args.scene.now c.args.place (Some c.args.numbers) (numbered_lists c.args.scene.now c.args.place c.args.numbers c.requires.here) c.requires.stands
-
-pub paired_walk::numbered_at-loop-at-init : goal.paired_walk::numbered_at-loop-at-init
-paired_walk::numbered_at-loop-at-init g t c =
-    list_begins c.args.scene.now c.args.place (Some c.args.numbers) (numbered_lists c.args.scene.now c.args.place c.args.numbers c.requires.here) c.stop_of-own_stop.result c.stop_of-own_stop.ensures c.right_of-at.result c.right_of-at.ensures c.args.left.now c.requires.left c.ends_once.ensures c.requires.stands
-    (Takes (g.B.Counting.left c.args.budget.now) (g.B.Counting.left c.args.budget.now)) (takes_nothing (g.B.Counting.left c.args.budget.now))
-
-pub paired_walk::numbered_at-numbered_item_at-requires : goal.paired_walk::numbered_at-numbered_item_at-requires
-paired_walk::numbered_at-numbered_item_at-requires g t c =
-    let inside : c.args.place < length c.args.scene.now.list.nodes = part_inside c.args.scene.now c.args.place c.requires.stands in
-    let behind : c.args.place < c.loop-at.at = c.loop-at.invariant.behind in
-    let smaller : 16 * (length c.args.scene.now.list.nodes - c.loop-at.at) + 13 < 16 * (length c.args.scene.now.list.nodes - c.args.place) + 3 = omega arith in
-    let stands : PartStands c.args.scene.now c.loop-at.at = next_item c.args.scene.now c.args.place c.stop_of-own_stop.result c.loop-at.at (Takes (g.B.Counting.left c.args.budget.now) (g.B.Counting.left c.loop-at.budget)) (Some c.loop-at.number) c.args.left.now c.loop-at.invariant c.requires.stands c.loop-at-test.true in
-    let within : c.loop-at.number < length c.args.scene.now.list.values = number_within c.args.scene.now c.args.place c.stop_of-own_stop.result c.loop-at.at c.loop-at.number (Takes (g.B.Counting.left c.args.budget.now) (g.B.Counting.left c.loop-at.budget)) c.args.left.now c.loop-at.invariant c.requires.stands c.loop-at-test.true in
-    search rules
-
-pub paired_walk::numbered_at-compare-requires : goal.paired_walk::numbered_at-compare-requires
-paired_walk::numbered_at-compare-requires g t c = may_compare_item c.args.scene.now c.args.place c.stop_of-own_stop.result c.loop-at.at (Takes (g.B.Counting.left c.args.budget.now) (g.B.Counting.left c.loop-at.budget)) (Some c.loop-at.number) c.args.left.now c.loop-at.invariant c.trees_have_one_type.ensures c.in-Ok.item c.in-Ok.ensures.answers c.loop-at-test.true c.ends_once.ensures c.comparisons_are_decided.ensures.any_reading c.requires.stands
-
-pub paired_walk::numbered_at-returns-then-compare-clause-answers : goal.paired_walk::numbered_at-returns-then-compare-clause-answers
-paired_walk::numbered_at-returns-then-compare-clause-answers g t c = item_equals c.args.scene.now c.args.place c.stop_of-own_stop.result c.loop-at.at (Takes (g.B.Counting.left c.args.budget.now) (g.B.Counting.left c.loop-at.budget)) (Some c.loop-at.number) c.args.left.now c.loop-at.invariant c.trees_have_one_type.ensures c.in-Ok.item c.in-Ok.ensures.answers c.loop-at-test.true c.ends_once.ensures c.compare.result c.compare.ensures c.if-compare.true
-
-pub paired_walk::numbered_at-returns-in-Err-clause-answers : goal.paired_walk::numbered_at-returns-in-Err-clause-answers
-paired_walk::numbered_at-returns-in-Err-clause-answers g t c =
-    by_stop (λ s. CountedItem c.args.scene.now c.loop-at.at (Some c.loop-at.number) (Err s)) (λ s. CountedDatum c.args.scene.now c.args.place (Err s))
-    (λ fault. item_faults c.args.scene.now c.args.place c.stop_of-own_stop.result c.loop-at.at (Takes (g.B.Counting.left c.args.budget.now) (g.B.Counting.left c.loop-at.budget)) (Some c.loop-at.number) c.args.left.now c.loop-at.invariant c.loop-at-test.true fault)
-    (λ is. tt) c.in-Err.stop c.in-Err.ensures.answers
-
-pub paired_walk::numbered_at-stop_of-at-requires : goal.paired_walk::numbered_at-stop_of-at-requires
-paired_walk::numbered_at-stop_of-at-requires g t c = part_inside c.args.scene.now c.loop-at.at (next_item c.args.scene.now c.args.place c.stop_of-own_stop.result c.loop-at.at (Takes (g.B.Counting.left c.args.budget.now) (g.B.Counting.left c.loop-at.budget)) (Some c.loop-at.number) c.args.left.now c.loop-at.invariant c.requires.stands c.loop-at-test.true)
-
-pub paired_walk::numbered_at-loop-at-preserved : goal.paired_walk::numbered_at-loop-at-preserved
-paired_walk::numbered_at-loop-at-preserved g t c = item_differs c.args.scene.now c.args.place c.stop_of-own_stop.result c.loop-at.at (Takes (g.B.Counting.left c.args.budget.now) (g.B.Counting.left c.loop-at.budget)) (Some c.loop-at.number) c.args.left.now c.loop-at.invariant c.trees_have_one_type.ensures c.in-Ok.item c.in-Ok.ensures.answers c.loop-at-test.true c.ends_once.ensures c.compare.result c.compare.ensures c.if-compare.false c.requires.stands c.stop_of-at.result c.stop_of-at.ensures
-    (Takes (g.B.Counting.left c.args.budget.now) (g.B.Counting.left c.numbered_item_at.new.budget)) (item_pays c.args.scene.now c.args.place c.stop_of-own_stop.result c.loop-at.at (Some c.loop-at.number) c.args.left.now (g.B.Counting.left c.args.budget.now) (g.B.Counting.left c.loop-at.budget) c.loop-at.invariant (g.B.Counting.left c.take_item.new.budget) (g.B.Counting.left c.numbered_item_at.new.budget) (subst (λ (b : Bool). IsTaken b (g.B.Counting.left c.loop-at.budget) (g.B.Counting.left c.take_item.new.budget) (item_cost (environment_of c.args.scene.now))) c.if-not-take_item.false c.take_item.ensures) c.in-Ok.ensures.spent)
-
-pub paired_walk::numbered_at-overflow_add-number : goal.paired_walk::numbered_at-overflow_add-number
-paired_walk::numbered_at-overflow_add-number g t c =
-    let within : c.loop-at.number < length c.args.scene.now.list.values = number_within c.args.scene.now c.args.place c.stop_of-own_stop.result c.loop-at.at c.loop-at.number (Takes (g.B.Counting.left c.args.budget.now) (g.B.Counting.left c.loop-at.budget)) c.args.left.now c.loop-at.invariant c.requires.stands c.loop-at-test.true in
-    let same = c.values-values.ensures in
-    search rules
-
-pub paired_walk::numbered_at-loop-at-smaller : goal.paired_walk::numbered_at-loop-at-smaller
-paired_walk::numbered_at-loop-at-smaller g t c =
-    let later : c.loop-at.at < c.stop_of-at.result = stop_further c.args.scene.now c.loop-at.at c.stop_of-at.result (next_item c.args.scene.now c.args.place c.stop_of-own_stop.result c.loop-at.at (Takes (g.B.Counting.left c.args.budget.now) (g.B.Counting.left c.loop-at.budget)) (Some c.loop-at.number) c.args.left.now c.loop-at.invariant c.requires.stands c.loop-at-test.true) c.stop_of-at.ensures in
-    let within : c.loop-at.at ≤ c.stop_of-own_stop.result = c.loop-at.invariant.within in
-    let remains = c.loop-at-test.true in
-    omega (arith, remains)
-
-pub paired_walk::numbered_at-returns-clause-answers : goal.paired_walk::numbered_at-returns-clause-answers
-paired_walk::numbered_at-returns-clause-answers g t c = no_item c.args.scene.now c.args.place c.stop_of-own_stop.result c.loop-at.at (Takes (g.B.Counting.left c.args.budget.now) (g.B.Counting.left c.loop-at.budget)) (Some c.loop-at.number) c.args.left.now c.loop-at.invariant c.loop-at-test.false
-
-pub walk::made_at-compared_right-requires : goal.walk::made_at-compared_right-requires
-walk::made_at-compared_right-requires g t c =
-    let first : AnswersDatum c.args.scene.now (c.args.place + 1) (Ok c.in-Ok.first) = subst (λ (r : Result Datum EvalStop). CountedDatum c.args.scene.now (c.args.place + 1) r) c.in-Ok.is c.requires.first in
-    let here : HasKind c.args.scene.now.list c.args.place (NodeKind.PairedRight c.in-PairedRight.operator c.in-PairedRight.number) = there_found (λ (f : CheckedNode). f.kind ≡ NodeKind.PairedRight c.in-PairedRight.operator c.in-PairedRight.number) (slice_get c.args.scene.now.list.nodes c.args.place) c.node.result.now c.node.ensures c.in-PairedRight.is in
-    search rules
-
-pub walk::made_at-compared_left_at-requires : goal.walk::made_at-compared_left_at-requires
-walk::made_at-compared_left_at-requires g t c =
-    let first : AnswersDatum c.args.scene.now (c.args.place + 1) (Ok c.in-Ok.first) = subst (λ (r : Result Datum EvalStop). CountedDatum c.args.scene.now (c.args.place + 1) r) c.in-Ok.is c.requires.first in
-    let here : HasKind c.args.scene.now.list c.args.place (NodeKind.PairedLeft c.in-PairedLeft.operator c.in-PairedLeft.number) = there_found (λ (f : CheckedNode). f.kind ≡ NodeKind.PairedLeft c.in-PairedLeft.operator c.in-PairedLeft.number) (slice_get c.args.scene.now.list.nodes c.args.place) c.node.result.now c.node.ensures c.in-PairedLeft.is in
-    let smaller : 16 * (length c.args.scene.now.list.nodes - c.args.place) + 3 < 16 * (length c.args.scene.now.list.nodes - c.args.place) + 4 = omega arith in
-    search rules
-
-pub walk::made_at-flags_right-requires : goal.walk::made_at-flags_right-requires
-walk::made_at-flags_right-requires g t c =
-    let first : AnswersDatum c.args.scene.now (c.args.place + 1) (Ok c.in-Ok.first) = subst (λ (r : Result Datum EvalStop). CountedDatum c.args.scene.now (c.args.place + 1) r) c.in-Ok.is c.requires.first in
-    let here : HasKind c.args.scene.now.list c.args.place (NodeKind.PairedHas c.in-PairedHas.number) = there_found (λ (f : CheckedNode). f.kind ≡ NodeKind.PairedHas c.in-PairedHas.number) (slice_get c.args.scene.now.list.nodes c.args.place) c.node.result.now c.node.ensures c.in-PairedHas.is in
-    search rules
-
-pub walk::made_at-numbered_at-requires : goal.walk::made_at-numbered_at-requires
-walk::made_at-numbered_at-requires g t c =
-    let first : AnswersDatum c.args.scene.now (c.args.place + 1) (Ok c.in-Ok.first) = subst (λ (r : Result Datum EvalStop). CountedDatum c.args.scene.now (c.args.place + 1) r) c.in-Ok.is c.requires.first in
-    let here : HasKind c.args.scene.now.list c.args.place (NodeKind.PairedList c.in-PairedList.numbers) = there_found (λ (f : CheckedNode). f.kind ≡ NodeKind.PairedList c.in-PairedList.numbers) (slice_get c.args.scene.now.list.nodes c.args.place) c.node.result.now c.node.ensures c.in-PairedList.is in
-    let smaller : 16 * (length c.args.scene.now.list.nodes - c.args.place) + 3 < 16 * (length c.args.scene.now.list.nodes - c.args.place) + 4 = omega arith in
-    search rules
+collection_walk::listed_at-returns-clause-answers g t c = no_item c.args.scene.now c.args.place c.stop_of-own_stop.result c.loop-at.at (Takes (g.B.Counting.left c.args.budget.now) (g.B.Counting.left c.loop-at.budget)) c.args.left.now c.loop-at.invariant c.loop-at-test.false
 
 -- ---- a lambda operator
 
@@ -1057,11 +887,11 @@ lambda_walk::members_at-returns-clause-answers g t c = all_undecided c.args.scen
 -- ---- what search does not find any more with so many kinds
 
 pub number_walk::number_chain_at-class_at-requires : goal.number_walk::number_chain_at-class_at-requires
-number_walk::number_chain_at-class_at-requires g t c = part_inside c.args.scene.now (c.args.place + 1) (first_part c.args.scene.now c.args.place WalkClass.Numeric (λ leaf. cc) c.requires.numeric c.requires.stands)
+number_walk::number_chain_at-class_at-requires g t c = operand_inside c.args.scene.now (c.args.place + 1) (first_part c.args.scene.now c.args.place WalkClass.Numeric (λ leaf. cc) c.requires.numeric c.requires.stands)
 
 pub number_walk::number_chain_at-overflow_add-place-in-Numeric : goal.number_walk::number_chain_at-overflow_add-place-in-Numeric
 number_walk::number_chain_at-overflow_add-place-in-Numeric g t c =
-    let within : c.args.place + 1 < length c.args.scene.now.list.nodes = part_inside c.args.scene.now (c.args.place + 1) (first_part c.args.scene.now c.args.place WalkClass.Numeric (λ leaf. cc) c.requires.numeric c.requires.stands) in
+    let within : c.args.place + 1 < length c.args.scene.now.list.nodes = operand_inside c.args.scene.now (c.args.place + 1) (first_part c.args.scene.now c.args.place WalkClass.Numeric (λ leaf. cc) c.requires.numeric c.requires.stands) in
     let same = c.nodes-nodes.ensures in
     search rules
 
@@ -1069,7 +899,7 @@ pub number_walk::number_chain_at-number_on_leaf_at-first-requires : goal.number_
 number_walk::number_chain_at-number_on_leaf_at-first-requires g t c =
     let inside : c.args.place < length c.args.scene.now.list.nodes = part_inside c.args.scene.now c.args.place c.requires.stands in
     let smaller : 16 * (length c.args.scene.now.list.nodes - (c.args.place + 1)) + 9 < 16 * (length c.args.scene.now.list.nodes - c.args.place) + 10 = omega arith in
-    let stands : PartStands c.args.scene.now (c.args.place + 1) = first_part c.args.scene.now c.args.place WalkClass.Numeric (λ leaf. cc) c.requires.numeric c.requires.stands in
+    let stands : PartStands c.args.scene.now (c.args.place + 1) = typed_part c.args.scene.now (c.args.place + 1) IsNumberOperand (first_step c.args.scene.now c.args.place WalkClass.Numeric (λ leaf. cc) c.requires.numeric c.requires.stands) in
     search rules
 
 pub number_walk::number_on_leaf_at-part_at-requires : goal.number_walk::number_on_leaf_at-part_at-requires
@@ -1081,15 +911,36 @@ walk::compared_at-part_at-requires g t c =
 
 pub walk::counted_at-truth_at-requires : goal.walk::counted_at-truth_at-requires
 walk::counted_at-truth_at-requires g t c =
-    let stands : TruthStands c.args.scene.now c.args.place = logical_stands c.args.scene.now c.args.place c.in-Logical.ensures c.requires.stands in
+    let stands : TruthStands c.args.scene.now c.args.place = logical_stands c.args.scene.now c.args.place c.in-Logical.ensures (tree_of_class c.args.scene.now c.args.place WalkClass.Logical (λ leaf. cc) c.in-Logical.ensures c.requires.stands) in
     let smaller : 16 * (length c.args.scene.now.list.nodes - c.args.place) + 11 < 16 * (length c.args.scene.now.list.nodes - c.args.place) + 12 = omega arith in
+    search rules
+
+pub walk::counted_at-number_at-requires : goal.walk::counted_at-number_at-requires
+walk::counted_at-number_at-requires g t c =
+    let stands : PartStands c.args.scene.now c.args.place = tree_of_class c.args.scene.now c.args.place WalkClass.Numeric (λ leaf. cc) c.in-Numeric.ensures c.requires.stands in
+    let smaller : 16 * (length c.args.scene.now.list.nodes - c.args.place) + 8 < 16 * (length c.args.scene.now.list.nodes - c.args.place) + 12 = omega arith in
+    search rules
+
+pub walk::counted_at-eager_at-requires : goal.walk::counted_at-eager_at-requires
+walk::counted_at-eager_at-requires g t c =
+    let stands : PartStands c.args.scene.now c.args.place = tree_of_class c.args.scene.now c.args.place WalkClass.Eager (λ leaf. cc) c.in-Eager.ensures c.requires.stands in
+    let smaller : 16 * (length c.args.scene.now.list.nodes - c.args.place) + 5 < 16 * (length c.args.scene.now.list.nodes - c.args.place) + 12 = omega arith in
+    search rules
+
+pub walk::plain_truth_at-part_at-requires : goal.walk::plain_truth_at-part_at-requires
+walk::plain_truth_at-part_at-requires g t c = record { stands = tree_operand c.args.scene.now c.args.place (typed_part c.args.scene.now c.args.place IsBooleanOrNull c.requires.stands) }
+
+pub number_walk::number_operand_at-part_at-requires : goal.number_walk::number_operand_at-part_at-requires
+number_walk::number_operand_at-part_at-requires g t c = record { stands = tree_operand c.args.scene.now c.args.place (typed_part c.args.scene.now c.args.place IsNumberOperand c.requires.stands) }
+
+pub number_walk::made_number_at-operand_at-requires : goal.number_walk::made_number_at-operand_at-requires
+number_walk::made_number_at-operand_at-requires g t c =
+    let stands : OperandStands c.args.scene.now c.args.place = tree_operand c.args.scene.now c.args.place (typed_part c.args.scene.now c.args.place IsNumberOperand c.requires.stands) in
+    let smaller : 16 * (length c.args.scene.now.list.nodes - c.args.place) + 13 < 16 * (length c.args.scene.now.list.nodes - c.args.place) + 14 = omega arith in
     search rules
 
 pub walk::made_at-returns-in-Call-clause-answers : goal.walk::made_at-returns-in-Call-clause-answers
 walk::made_at-returns-in-Call-clause-answers g t c = as_counted c.args.scene.now c.args.place c.called_at.result c.as_stop.result c.as_stop.ensures c.called_at.ensures
-
-pub walk::made_at-returns-in-PairedLeft-clause-answers : goal.walk::made_at-returns-in-PairedLeft-clause-answers
-walk::made_at-returns-in-PairedLeft-clause-answers g t c = as_counted c.args.scene.now c.args.place c.compared_left_at.result c.as_stop-in-PairedLeft.result c.as_stop-in-PairedLeft.ensures c.compared_left_at.ensures
 
 pub walk::made_at-returns-in-Has-clause-answers : goal.walk::made_at-returns-in-Has-clause-answers
 walk::made_at-returns-in-Has-clause-answers g t c = as_counted c.args.scene.now c.args.place c.flags_at.result c.as_stop-in-Has.result c.as_stop-in-Has.ensures c.flags_at.ensures
@@ -1236,16 +1087,6 @@ walk::made_at-returns-in-AnyItem-clause-spent g t c =
     let here : HasKind c.args.scene.now.list c.args.place (NodeKind.AnyItem) = there_found (λ (f : CheckedNode). f.kind ≡ (NodeKind.AnyItem)) (slice_get c.args.scene.now.list.nodes c.args.place) c.node.result.now c.node.ensures c.in-AnyItem.is in
     after_value Datum c.args.scene.now c.args.place c.args.first c.in-Ok.first (g.B.Counting.left c.args.budget.now) (g.B.Counting.left c.args.budget.now) None c.in-Ok.is (nothing_more c.args.scene.now c.args.place (NodeKind.AnyItem) tt here (g.B.Counting.left c.args.budget.now) None (takes_nothing (g.B.Counting.left c.args.budget.now)))
 
-pub walk::made_at-returns-in-PairedRight-clause-spent : goal.walk::made_at-returns-in-PairedRight-clause-spent
-walk::made_at-returns-in-PairedRight-clause-spent g t c =
-    let here : HasKind c.args.scene.now.list c.args.place (NodeKind.PairedRight c.in-PairedRight.operator c.in-PairedRight.number) = there_found (λ (f : CheckedNode). f.kind ≡ (NodeKind.PairedRight c.in-PairedRight.operator c.in-PairedRight.number)) (slice_get c.args.scene.now.list.nodes c.args.place) c.node.result.now c.node.ensures c.in-PairedRight.is in
-    after_value Datum c.args.scene.now c.args.place c.args.first c.in-Ok.first (g.B.Counting.left c.args.budget.now) (g.B.Counting.left c.args.budget.now) None c.in-Ok.is (nothing_more c.args.scene.now c.args.place (NodeKind.PairedRight c.in-PairedRight.operator c.in-PairedRight.number) tt here (g.B.Counting.left c.args.budget.now) None (takes_nothing (g.B.Counting.left c.args.budget.now)))
-
-pub walk::made_at-returns-in-PairedHas-clause-spent : goal.walk::made_at-returns-in-PairedHas-clause-spent
-walk::made_at-returns-in-PairedHas-clause-spent g t c =
-    let here : HasKind c.args.scene.now.list c.args.place (NodeKind.PairedHas c.in-PairedHas.number) = there_found (λ (f : CheckedNode). f.kind ≡ (NodeKind.PairedHas c.in-PairedHas.number)) (slice_get c.args.scene.now.list.nodes c.args.place) c.node.result.now c.node.ensures c.in-PairedHas.is in
-    after_value Datum c.args.scene.now c.args.place c.args.first c.in-Ok.first (g.B.Counting.left c.args.budget.now) (g.B.Counting.left c.args.budget.now) None c.in-Ok.is (nothing_more c.args.scene.now c.args.place (NodeKind.PairedHas c.in-PairedHas.number) tt here (g.B.Counting.left c.args.budget.now) None (takes_nothing (g.B.Counting.left c.args.budget.now)))
-
 pub walk::made_at-returns-in-Call-clause-spent : goal.walk::made_at-returns-in-Call-clause-spent
 walk::made_at-returns-in-Call-clause-spent g t c =
     let here : HasKind c.args.scene.now.list c.args.place (NodeKind.Call c.in-Call.function) = there_found (λ (f : CheckedNode). f.kind ≡ (NodeKind.Call c.in-Call.function)) (slice_get c.args.scene.now.list.nodes c.args.place) c.node.result.now c.node.ensures c.in-Call.is in
@@ -1257,12 +1098,6 @@ walk::made_at-returns-in-Count-clause-spent g t c =
     let here : HasKind c.args.scene.now.list c.args.place (NodeKind.Count) = there_found (λ (f : CheckedNode). f.kind ≡ (NodeKind.Count)) (slice_get c.args.scene.now.list.nodes c.args.place) c.node.result.now c.node.ensures c.in-Count.is in
     after_value Datum c.args.scene.now c.args.place c.args.first c.in-Ok.first (g.B.Counting.left c.args.budget.now) (g.B.Counting.left c.args.budget.now) (datum_stop c.as_stop-in-Count.result) c.in-Ok.is
     (nothing_more c.args.scene.now c.args.place (NodeKind.Count) tt here (g.B.Counting.left c.args.budget.now) (datum_stop c.as_stop-in-Count.result) (as_spent c.count_of.result c.as_stop-in-Count.result (g.B.Counting.left c.args.budget.now) c.as_stop-in-Count.ensures))
-
-pub walk::made_at-returns-in-PairedLeft-clause-spent : goal.walk::made_at-returns-in-PairedLeft-clause-spent
-walk::made_at-returns-in-PairedLeft-clause-spent g t c =
-    let here : HasKind c.args.scene.now.list c.args.place (NodeKind.PairedLeft c.in-PairedLeft.operator c.in-PairedLeft.number) = there_found (λ (f : CheckedNode). f.kind ≡ (NodeKind.PairedLeft c.in-PairedLeft.operator c.in-PairedLeft.number)) (slice_get c.args.scene.now.list.nodes c.args.place) c.node.result.now c.node.ensures c.in-PairedLeft.is in
-    after_value Datum c.args.scene.now c.args.place c.args.first c.in-Ok.first (g.B.Counting.left c.args.budget.now) (g.B.Counting.left c.args.budget.now) (datum_stop c.as_stop-in-PairedLeft.result) c.in-Ok.is
-    (nothing_more c.args.scene.now c.args.place (NodeKind.PairedLeft c.in-PairedLeft.operator c.in-PairedLeft.number) tt here (g.B.Counting.left c.args.budget.now) (datum_stop c.as_stop-in-PairedLeft.result) (as_spent c.compared_left_at.result c.as_stop-in-PairedLeft.result (g.B.Counting.left c.args.budget.now) c.as_stop-in-PairedLeft.ensures))
 
 pub walk::made_at-returns-in-Has-clause-spent : goal.walk::made_at-returns-in-Has-clause-spent
 walk::made_at-returns-in-Has-clause-spent g t c =
@@ -1279,10 +1114,6 @@ walk::made_at-returns-in-InPath-clause-spent g t c =
 pub walk::made_at-returns-in-InList-clause-spent : goal.walk::made_at-returns-in-InList-clause-spent
 walk::made_at-returns-in-InList-clause-spent g t c =
     after_value Datum c.args.scene.now c.args.place c.args.first c.in-Ok.first (g.B.Counting.left c.args.budget.now) (g.B.Counting.left c.listed_at.new.budget) (datum_stop c.listed_at.result) c.in-Ok.is c.listed_at.ensures.spent
-
-pub walk::made_at-returns-in-PairedList-clause-spent : goal.walk::made_at-returns-in-PairedList-clause-spent
-walk::made_at-returns-in-PairedList-clause-spent g t c =
-    after_value Datum c.args.scene.now c.args.place c.args.first c.in-Ok.first (g.B.Counting.left c.args.budget.now) (g.B.Counting.left c.numbered_at.new.budget) (datum_stop c.numbered_at.result) c.in-Ok.is c.numbered_at.ensures.spent
 
 pub walk::made_at-returns-in-Lambda-clause-spent : goal.walk::made_at-returns-in-Lambda-clause-spent
 walk::made_at-returns-in-Lambda-clause-spent g t c =
@@ -1304,14 +1135,6 @@ walk::compared_at-returns-in-Ok-clause-spent g t c =
 pub walk::compared_at-returns-clause-spent : goal.walk::compared_at-returns-clause-spent
 walk::compared_at-returns-clause-spent g t c =
     right_compared c.args.scene.now c.args.place c.args.comparison c.requires.here c.ends_once.ensures (λ type. datum_val (reading_at (slots_of c.args.scene.now.row.schema) type) c.args.left) c.requires.left c.right_of-right_place.result c.right_of-right_place.ensures (g.B.Counting.left c.args.budget.now) (g.B.Counting.left c.counted_at.new.budget) (Some c.in-Err.behind) c.in-Err.ensures.spent
-
-pub paired_walk::right_read_truth_at-returns-in-Leaf-clause-spent : goal.paired_walk::right_read_truth_at-returns-in-Leaf-clause-spent
-paired_walk::right_read_truth_at-returns-in-Leaf-clause-spent g t c =
-    free_spends c.args.scene.now c.args.place None (g.B.Counting.left c.args.budget.now) (left_free c.args.scene.now c.args.place c.args.operator c.args.number c.requires.here (leaf_free c.args.scene.now (c.args.place + 1) c.in-Leaf.ensures.1)) (takes_nothing (g.B.Counting.left c.args.budget.now))
-
-pub paired_walk::left_read_truth_at-returns-in-Leaf-clause-spent : goal.paired_walk::left_read_truth_at-returns-in-Leaf-clause-spent
-paired_walk::left_read_truth_at-returns-in-Leaf-clause-spent g t c =
-    free_spends c.args.scene.now c.args.place None (g.B.Counting.left c.args.budget.now) (right_free c.args.scene.now c.args.place c.args.operator c.args.number c.requires.here c.right_of.result c.right_of.ensures (leaf_free c.args.scene.now c.right_of.result c.in-Leaf.ensures.1)) (takes_nothing (g.B.Counting.left c.args.budget.now))
 
 pub walk::operand_at-returns-in-Leaf : goal.walk::operand_at-returns-in-Leaf
 walk::operand_at-returns-in-Leaf g t c = kept_datum c.args.scene.now c.args.place c.in-Leaf.value.now c.datum_of.result c.in-Leaf.ensures.0 c.datum_of.ensures
@@ -1355,46 +1178,20 @@ lambda_walk::members_at-returns-then-not-is_undecided-clause-spent g t c =
     body_decides c.args.scene.now c.args.body.place c.args.body.quantifier c.args.variable.now c.args.members.now c.loop-at.at (g.B.Counting.left c.args.budget.now) (g.B.Counting.left c.loop-at.budget) c.loop-at.invariant.paid c.loop-at-test.true c.index-members-at.result (sym c.index-members-at.is) (g.B.Counting.left c.take_one.new.self) (subst (λ (b : Bool). IsTaken b (g.B.Counting.left c.loop-at.budget) (g.B.Counting.left c.take_one.new.self) 1) c.if-not-take_one.false c.take_one.ensures) (g.B.Counting.left c.side_at.new.budget) (subst (λ (s : SceneModel). EndsOnceHere s) c.with-bound.ensures c.ends_once.ensures) c.in-Ok.truth
     (subst (λ (s : SceneModel). AnswersTruth s c.args.body.place (Ok c.in-Ok.truth)) c.with-bound.ensures c.in-Ok.ensures.answers) (subst (λ (s : SceneModel). SpendsAt s c.args.body.place (g.B.Counting.left c.take_one.new.self) (g.B.Counting.left c.side_at.new.budget) None) c.with-bound.ensures c.in-Ok.ensures.spent) (λ passes. let e = c.is_undecided.ensures.1 passes in cc)
 
-pub paired_walk::numbered_item_at-returns-in-Enum-clause-spent : goal.paired_walk::numbered_item_at-returns-in-Enum-clause-spent
-paired_walk::numbered_item_at-returns-in-Enum-clause-spent g t c =
-    number_spends c.args.scene.now c.args.place c.args.number c.literal.result.now c.literal.ensures c.in-Enum.n c.in-Enum.is (g.B.Counting.left c.args.budget.now)
-
-pub paired_walk::numbered_item_at-returns-in_default-clause-spent : goal.paired_walk::numbered_item_at-returns-in_default-clause-spent
-paired_walk::numbered_item_at-returns-in_default-clause-spent g t c =
-    item_spends c.args.scene.now c.args.place (g.B.Counting.left c.args.budget.now) (g.B.Counting.left c.counted_at.new.budget) (datum_stop c.counted_at.result) (Some c.args.number) c.counted_at.ensures.spent
-
 pub collection_walk::listed_at-returns-clause-spent : goal.collection_walk::listed_at-returns-clause-spent
 collection_walk::listed_at-returns-clause-spent g t c =
-    list_ends c.args.scene.now c.args.place c.stop_of-own_stop.result c.loop-at.at None c.args.left.now (g.B.Counting.left c.args.budget.now) (g.B.Counting.left c.loop-at.budget) c.loop-at.invariant c.loop-at-test.false
+    list_ends c.args.scene.now c.args.place c.stop_of-own_stop.result c.loop-at.at c.args.left.now (g.B.Counting.left c.args.budget.now) (g.B.Counting.left c.loop-at.budget) c.loop-at.invariant c.loop-at-test.false
 
 pub collection_walk::listed_at-returns-then-not-take_item-clause-spent : goal.collection_walk::listed_at-returns-then-not-take_item-clause-spent
 collection_walk::listed_at-returns-then-not-take_item-clause-spent g t c =
-    list_is_costly c.args.scene.now c.args.place c.stop_of-own_stop.result c.loop-at.at None c.args.left.now (g.B.Counting.left c.args.budget.now) (g.B.Counting.left c.loop-at.budget) c.loop-at.invariant c.loop-at-test.true (subst (λ (b : Bool). IsTaken b (g.B.Counting.left c.loop-at.budget) (g.B.Counting.left c.take_item.new.budget) (item_cost (environment_of c.args.scene.now))) c.if-not-take_item.true c.take_item.ensures) (g.B.Counting.left c.take_item.new.budget)
+    list_is_costly c.args.scene.now c.args.place c.stop_of-own_stop.result c.loop-at.at c.args.left.now (g.B.Counting.left c.args.budget.now) (g.B.Counting.left c.loop-at.budget) c.loop-at.invariant c.loop-at-test.true (subst (λ (b : Bool). IsTaken b (g.B.Counting.left c.loop-at.budget) (g.B.Counting.left c.take_item.new.budget) (item_cost (environment_of c.args.scene.now))) c.if-not-take_item.true c.take_item.ensures) (g.B.Counting.left c.take_item.new.budget)
 
 pub collection_walk::listed_at-returns-in-Err-clause-spent : goal.collection_walk::listed_at-returns-in-Err-clause-spent
 collection_walk::listed_at-returns-in-Err-clause-spent g t c =
-    item_stops c.args.scene.now c.args.place c.stop_of-own_stop.result c.loop-at.at None c.args.left.now (g.B.Counting.left c.args.budget.now) (g.B.Counting.left c.loop-at.budget) c.loop-at.invariant (g.B.Counting.left c.take_item.new.budget) (g.B.Counting.left c.counted_at.new.budget) (subst (λ (b : Bool). IsTaken b (g.B.Counting.left c.loop-at.budget) (g.B.Counting.left c.take_item.new.budget) (item_cost (environment_of c.args.scene.now))) c.if-not-take_item.false c.take_item.ensures) c.ends_once.ensures c.loop-at-test.true c.in-Err.stop (datum_item_faults c.args.scene.now c.loop-at.at c.in-Err.stop c.in-Err.ensures.answers) (item_spends c.args.scene.now c.loop-at.at (g.B.Counting.left c.take_item.new.budget) (g.B.Counting.left c.counted_at.new.budget) (Some c.in-Err.stop) None c.in-Err.ensures.spent)
+    item_stops c.args.scene.now c.args.place c.stop_of-own_stop.result c.loop-at.at c.args.left.now (g.B.Counting.left c.args.budget.now) (g.B.Counting.left c.loop-at.budget) c.loop-at.invariant (g.B.Counting.left c.take_item.new.budget) (g.B.Counting.left c.likely_stored_at.new.budget) (subst (λ (b : Bool). IsTaken b (g.B.Counting.left c.loop-at.budget) (g.B.Counting.left c.take_item.new.budget) (item_cost (environment_of c.args.scene.now))) c.if-not-take_item.false c.take_item.ensures) c.ends_once.ensures c.loop-at-test.true c.in-Err.stop (datum_faults c.args.scene.now c.loop-at.at c.in-Err.stop c.in-Err.ensures.answers) c.in-Err.ensures.spent
 
 pub collection_walk::listed_at-returns-then-compare-clause-spent : goal.collection_walk::listed_at-returns-then-compare-clause-spent
 collection_walk::listed_at-returns-then-compare-clause-spent g t c =
-    item_ends c.args.scene.now c.args.place c.stop_of-own_stop.result c.loop-at.at None c.args.left.now (g.B.Counting.left c.args.budget.now) (g.B.Counting.left c.loop-at.budget) c.loop-at.invariant (g.B.Counting.left c.take_item.new.budget) (g.B.Counting.left c.counted_at.new.budget) (subst (λ (b : Bool). IsTaken b (g.B.Counting.left c.loop-at.budget) (g.B.Counting.left c.take_item.new.budget) (item_cost (environment_of c.args.scene.now))) c.if-not-take_item.false c.take_item.ensures)
-    (equal_due c.args.scene.now c.args.place c.stop_of-own_stop.result c.loop-at.at (Takes (g.B.Counting.left c.args.budget.now) (g.B.Counting.left c.loop-at.budget)) None c.args.left.now c.loop-at.invariant c.trees_have_one_type.ensures c.in-Ok.item (alone_answers c.args.scene.now c.loop-at.at (λ type. Some (gives (datum_val (reading_at (slots_of c.args.scene.now.row.schema) type) c.in-Ok.item))) c.in-Ok.ensures.answers) c.loop-at-test.true c.ends_once.ensures c.compare.result c.compare.ensures c.if-compare.true)
-    (item_spends c.args.scene.now c.loop-at.at (g.B.Counting.left c.take_item.new.budget) (g.B.Counting.left c.counted_at.new.budget) None None c.in-Ok.ensures.spent)
-
-pub paired_walk::numbered_at-returns-clause-spent : goal.paired_walk::numbered_at-returns-clause-spent
-paired_walk::numbered_at-returns-clause-spent g t c =
-    list_ends c.args.scene.now c.args.place c.stop_of-own_stop.result c.loop-at.at (Some c.loop-at.number) c.args.left.now (g.B.Counting.left c.args.budget.now) (g.B.Counting.left c.loop-at.budget) c.loop-at.invariant c.loop-at-test.false
-
-pub paired_walk::numbered_at-returns-then-not-take_item-clause-spent : goal.paired_walk::numbered_at-returns-then-not-take_item-clause-spent
-paired_walk::numbered_at-returns-then-not-take_item-clause-spent g t c =
-    list_is_costly c.args.scene.now c.args.place c.stop_of-own_stop.result c.loop-at.at (Some c.loop-at.number) c.args.left.now (g.B.Counting.left c.args.budget.now) (g.B.Counting.left c.loop-at.budget) c.loop-at.invariant c.loop-at-test.true (subst (λ (b : Bool). IsTaken b (g.B.Counting.left c.loop-at.budget) (g.B.Counting.left c.take_item.new.budget) (item_cost (environment_of c.args.scene.now))) c.if-not-take_item.true c.take_item.ensures) (g.B.Counting.left c.take_item.new.budget)
-
-pub paired_walk::numbered_at-returns-in-Err-clause-spent : goal.paired_walk::numbered_at-returns-in-Err-clause-spent
-paired_walk::numbered_at-returns-in-Err-clause-spent g t c =
-    item_stops c.args.scene.now c.args.place c.stop_of-own_stop.result c.loop-at.at (Some c.loop-at.number) c.args.left.now (g.B.Counting.left c.args.budget.now) (g.B.Counting.left c.loop-at.budget) c.loop-at.invariant (g.B.Counting.left c.take_item.new.budget) (g.B.Counting.left c.numbered_item_at.new.budget) (subst (λ (b : Bool). IsTaken b (g.B.Counting.left c.loop-at.budget) (g.B.Counting.left c.take_item.new.budget) (item_cost (environment_of c.args.scene.now))) c.if-not-take_item.false c.take_item.ensures) c.ends_once.ensures c.loop-at-test.true c.in-Err.stop (item_faults_of c.args.scene.now c.loop-at.at (Some c.loop-at.number) c.in-Err.stop c.in-Err.ensures.answers) c.in-Err.ensures.spent
-
-pub paired_walk::numbered_at-returns-then-compare-clause-spent : goal.paired_walk::numbered_at-returns-then-compare-clause-spent
-paired_walk::numbered_at-returns-then-compare-clause-spent g t c =
-    item_ends c.args.scene.now c.args.place c.stop_of-own_stop.result c.loop-at.at (Some c.loop-at.number) c.args.left.now (g.B.Counting.left c.args.budget.now) (g.B.Counting.left c.loop-at.budget) c.loop-at.invariant (g.B.Counting.left c.take_item.new.budget) (g.B.Counting.left c.numbered_item_at.new.budget) (subst (λ (b : Bool). IsTaken b (g.B.Counting.left c.loop-at.budget) (g.B.Counting.left c.take_item.new.budget) (item_cost (environment_of c.args.scene.now))) c.if-not-take_item.false c.take_item.ensures)
-    (equal_due c.args.scene.now c.args.place c.stop_of-own_stop.result c.loop-at.at (Takes (g.B.Counting.left c.args.budget.now) (g.B.Counting.left c.loop-at.budget)) (Some c.loop-at.number) c.args.left.now c.loop-at.invariant c.trees_have_one_type.ensures c.in-Ok.item c.in-Ok.ensures.answers c.loop-at-test.true c.ends_once.ensures c.compare.result c.compare.ensures c.if-compare.true)
+    item_ends c.args.scene.now c.args.place c.stop_of-own_stop.result c.loop-at.at c.args.left.now (g.B.Counting.left c.args.budget.now) (g.B.Counting.left c.loop-at.budget) c.loop-at.invariant (g.B.Counting.left c.take_item.new.budget) (g.B.Counting.left c.likely_stored_at.new.budget) (subst (λ (b : Bool). IsTaken b (g.B.Counting.left c.loop-at.budget) (g.B.Counting.left c.take_item.new.budget) (item_cost (environment_of c.args.scene.now))) c.if-not-take_item.false c.take_item.ensures)
+    (equal_due c.args.scene.now c.args.place c.stop_of-own_stop.result c.loop-at.at (Takes (g.B.Counting.left c.args.budget.now) (g.B.Counting.left c.loop-at.budget)) c.args.left.now c.loop-at.invariant c.trees_have_one_type.ensures c.in-Ok.item c.in-Ok.ensures.answers c.loop-at-test.true c.ends_once.ensures c.compare.result c.compare.ensures c.if-compare.true)
     c.in-Ok.ensures.spent

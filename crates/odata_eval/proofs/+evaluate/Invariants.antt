@@ -1,4 +1,4 @@
-use Rattle.std.proofs.Common.{◌≤◌, ◌+◌, ◌-◌, ◌*◌, None, Some, length}
+use Rattle.std.proofs.Common.{◌≤◌, ◌+◌, ◌-◌, ◌*◌, length}
 use Rattle.odata_eval.specs.private.Spending.{CountedDatum, CountedTruth, SpendsAt, Takes, datum_stop, stopped_by}
 use Rattle.odata_eval.specs.private.WalkAnswer.{AnswersNumber}
 use Rattle.odata_eval.proofs.spending.Members.{MembersPaid}
@@ -16,8 +16,8 @@ decreases-number_walk::made_number_at g l = 16 * (length l.scene.now.list.nodes 
 abbrev pub decreases-walk::operand_at : goal.decreases-walk::operand_at
 decreases-walk::operand_at g l = 16 * (length l.scene.now.list.nodes - l.place) + 13
 
-abbrev pub decreases-walk::bottom_at : goal.decreases-walk::bottom_at
-decreases-walk::bottom_at g l = 16 * (length l.scene.now.list.nodes - l.place) + 13
+abbrev pub decreases-walk::likely_stored_at : goal.decreases-walk::likely_stored_at
+decreases-walk::likely_stored_at g l = 16 * (length l.scene.now.list.nodes - l.place) + 13
 
 abbrev pub decreases-walk::counted_at : goal.decreases-walk::counted_at
 decreases-walk::counted_at g l = 16 * (length l.scene.now.list.nodes - l.place) + 12
@@ -128,31 +128,10 @@ decreases-walk::eager_at-loop-at g l = l.at
 
 -- the items before the index are none that is equal
 abbrev pub invariant-collection_walk::listed_at-loop-at : goal.invariant-collection_walk::listed_at-loop-at
-invariant-collection_walk::listed_at-loop-at g l = ListLeft l.scene l.place l.own_stop l.at (Takes (g.B.Counting.left l.fn.budget) (g.B.Counting.left l.budget)) None l.left
+invariant-collection_walk::listed_at-loop-at g l = ListLeft l.scene l.place l.own_stop l.at (Takes (g.B.Counting.left l.fn.budget) (g.B.Counting.left l.budget)) l.left
 
 abbrev pub decreases-collection_walk::listed_at-loop-at : goal.decreases-collection_walk::listed_at-loop-at
 decreases-collection_walk::listed_at-loop-at g l = l.own_stop - l.at
-
-abbrev pub decreases-paired_walk::compared_left_at : goal.decreases-paired_walk::compared_left_at
-decreases-paired_walk::compared_left_at g l = 16 * (length l.scene.now.list.nodes - l.place) + 3
-
-abbrev pub decreases-paired_walk::right_read_truth_at : goal.decreases-paired_walk::right_read_truth_at
-decreases-paired_walk::right_read_truth_at g l = 16 * (length l.scene.now.list.nodes - l.place) + 9
-
-abbrev pub decreases-paired_walk::left_read_truth_at : goal.decreases-paired_walk::left_read_truth_at
-decreases-paired_walk::left_read_truth_at g l = 16 * (length l.scene.now.list.nodes - l.place) + 9
-
-abbrev pub decreases-paired_walk::numbered_at : goal.decreases-paired_walk::numbered_at
-decreases-paired_walk::numbered_at g l = 16 * (length l.scene.now.list.nodes - l.place) + 3
-
-abbrev pub decreases-paired_walk::numbered_item_at : goal.decreases-paired_walk::numbered_item_at
-decreases-paired_walk::numbered_item_at g l = 16 * (length l.scene.now.list.nodes - l.place) + 13
-
-abbrev pub invariant-paired_walk::numbered_at-loop-at : goal.invariant-paired_walk::numbered_at-loop-at
-invariant-paired_walk::numbered_at-loop-at g l = ListLeft l.scene l.place l.own_stop l.at (Takes (g.B.Counting.left l.fn.budget) (g.B.Counting.left l.budget)) (Some l.number) l.left
-
-abbrev pub decreases-paired_walk::numbered_at-loop-at : goal.decreases-paired_walk::numbered_at-loop-at
-decreases-paired_walk::numbered_at-loop-at g l = l.own_stop - l.at
 
 -- the members before the index are all undecided
 abbrev pub invariant-lambda_walk::members_at-loop-at : goal.invariant-lambda_walk::members_at-loop-at

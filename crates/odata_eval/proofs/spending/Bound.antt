@@ -1,5 +1,5 @@
 -- What a bound allows of a whole filter, and that nothing is too costly without one.
-use Rattle.std.proofs.Common.{◌≡◌, ◌≤◌, ℕ, [], Option, Some, None, Result, Ok, Err, length, sym, subst, arith}
+use Rattle.std.proofs.Common.{◌≡◌, ◌≤◌, ℕ, [], Option, Some, Result, Ok, Err, length, sym, subst, inl, inr, arith}
 use Rattle.edm_values.specs.MomentParts.{MomentParts}
 use Rattle.csdl_schema.specs.SchemaModel.{slots_of, type_name_at}
 use Rattle.edm_entities.specs.Row.{Row, value_of}
@@ -15,19 +15,25 @@ use Rattle.std.specs.Prelude.{IfSome}
 use Rattle.odata_checked_filter.specs.Calls.{TakesMemory}
 use Rattle.odata_eval.specs.MeansOn.{IsTheOutcome}
 use Rattle.odata_eval.specs.VerdictView.{outcome_told}
-use Rattle.odata_eval.specs.private.Place.{PartStands}
+use Rattle.odata_eval.specs.private.Place.{OperandStands}
 use Rattle.odata_eval.specs.private.Scene.{EndsOnceHere}
 use Rattle.odata_eval.specs.private.SceneModel.{SceneModel}
 use Rattle.odata_eval.specs.private.Spending.{CostsHere, CostsOnceHere, CountedTruth, SpendsAt, Spent, Takes, stopped_by}
 use Rattle.odata_eval.proofs.walking.Spines.{has_type}
 use Rattle.odata_eval.proofs.walking.TopNode.{no_variables, top_memory, top_outcome, whole_stands, whole_typed}
 
+-- so many were taken for what stands there
+some_spent : (scene : SceneModel) (place : ℕ) (old new : Budget) (stop : Option EvalStop) → OperandStands scene place → CostsOnceHere scene → SpendsAt scene place old new stop → (n : ℕ) × Spent stop old new n
+some_spent scene place old new stop operand once spends = elim operand.stands [
+  | inl stands ↦ (let typed = has_type scene place operand.stop operand.tree stands in
+      let cost = once operand.tree typed.0 typed.1 in
+      (cost.cost, spends.of_tree operand.stop operand.tree cost.cost stands cost.related))
+  | inr number ↦ (0, spends.of_number number.0 operand.stop operand.tree number.1)
+]
+
 -- without a bound nothing is too costly
-pub never_costly : (scene : SceneModel) (place : ℕ) → PartStands scene place → CostsOnceHere scene → (new : Budget) → SpendsAt scene place Budget.Unbounded new (Some EvalStop.TooCostly) → ⊥
-never_costly scene place part once new spends =
-    let typed = has_type scene place part.stop part.tree part.stands in
-    let cost = once part.tree typed.0 typed.1 in
-    spends.of_tree part.stop part.tree cost.cost part.stands cost.related
+pub never_costly : (scene : SceneModel) (place : ℕ) → OperandStands scene place → CostsOnceHere scene → (new : Budget) → SpendsAt scene place Budget.Unbounded new (Some EvalStop.TooCostly) → ⊥
+never_costly scene place operand once new spends = (some_spent scene place Budget.Unbounded new (Some EvalStop.TooCostly) operand once spends).1
 
 -- what was taken lies within the bound
 taken_within : (most n : ℕ) (new : Budget) → Takes (Budget.Left most) new n → n ≤ most

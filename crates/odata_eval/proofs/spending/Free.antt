@@ -1,23 +1,22 @@
--- What costs nothing: leaves, nodes of numbers, calls, and literals that are read beside an enumeration.
-use Rattle.std.proofs.Common.{◌≡◌, ℕ, ℤ, List, Option, refl, slice_get, ◌+◌, inl, inr}
+-- What costs nothing: leaves, nodes of numbers, and calls.
+use Rattle.std.proofs.Common.{◌≡◌, ℕ, refl, slice_get, ◌+◌, inl, inr}
 use Rattle.csdl_schema.specs.ExprType.{ExprType, collection, enumeration, null_type, single}
-use Rattle.csdl_schema.specs.SchemaModel.{Slots, slots_of, type_name_at}
+use Rattle.csdl_schema.specs.SchemaModel.{slots_of, type_name_at}
 use Rattle.edm_entities.specs.Row.{value_of}
 use Rattle.odata_checked_filter.specs.declared.checked_node.CheckedNode.{CheckedNode}
 use Rattle.odata_checked_filter.specs.declared.checked_node.NodeKind.{NodeKind}
 use Rattle.odata_signatures.specs.CollectionTyped.{IsComparableWithMembers}
 use Rattle.odata_signatures.specs.HasTyped.{AreFlags}
 use Rattle.odata_signatures.specs.OperatorTyped.{OperatorByTypes}
-use Rattle.odata_signatures.specs.QuotedNumber.{NumberBeside}
 use Rattle.odata_syntax.specs.declared.binary_operator.BinaryOperator.{BinaryOperator}
-use Rattle.odata_expression_types.specs.Sides.{quoted_text}
-use Rattle.odata_syntax.specs.Tree.{Tree, binary, node, literal}
+use Rattle.odata_expression_types.specs.Sides.{side_of}
+use Rattle.odata_syntax.specs.Tree.{Tree, binary, node}
 use Rattle.odata_signatures.specs.declared.function.Function.{Function}
 use Rattle.odata_eval.specs.Costs.{RightCosts}
 use Rattle.odata_eval.specs.declared.part.WalkClass.{WalkClass}
 use Rattle.odata_eval.specs.private.KeptOperands.{IsPathAt}
 use Rattle.odata_eval.specs.private.Place.{HasKind, IsClassAt}
-use Rattle.odata_eval.specs.private.Scene.{MeansHere, StandsHere, TypedHere}
+use Rattle.odata_eval.specs.private.Scene.{MeansHere, OperandHere, StandsHere, TypedHere}
 use Rattle.odata_eval.specs.private.SceneModel.{SceneModel, environment_of}
 use Rattle.odata_eval.specs.private.Spending.{CostsHere}
 use Rattle.odata_eval.specs.private.WalkClass.{walk_of_kind, walk_of_operator}
@@ -25,7 +24,8 @@ use Rattle.odata_eval.proofs.costs.PlainTypes.{IsPlainType, call_free, number_pl
 use Rattle.odata_eval.proofs.costs.Zero.{IsFree, after_free, right_free}
 use Rattle.odata_eval.proofs.walking.Children.{only_child}
 use Rattle.odata_eval.proofs.walking.Parts.{by_kind, some_there, there_found}
-use Rattle.odata_eval.proofs.walking.Unread.{operator_plain}
+use Rattle.odata_eval.proofs.walking.Spines.{equality_walks, plain_types}
+use Rattle.odata_eval.proofs.spending.Splits.{number_free}
 
 -- no operator is taken as a leaf
 operator_inner : (operator : BinaryOperator) → walk_of_operator operator ≡ WalkClass.Leaf → ⊥
@@ -51,11 +51,6 @@ pub path_plain_type : (left path : ExprType) → IsComparableWithMembers left pa
 path_plain_type left (collection member) is = tt
 path_plain_type left _ is = absurd is
 
--- beside a literal that is read
-pub beside_plain : (slots : Slots) (type : ExprType) (quoted : Option (List ℕ)) (n : ℤ) → NumberBeside slots type quoted n → IsPlainType type
-beside_plain slots (single (enumeration of)) quoted n is = tt
-beside_plain slots _ quoted n is = absurd is
-
 module _ (scene : SceneModel) where
   abbrev pub FreeThere : ℕ → Type 0
   FreeThere place = (stop : ℕ) (tree : Tree) → StandsHere scene place stop tree → IsFree (CostsHere scene tree)
@@ -64,11 +59,10 @@ module _ (scene : SceneModel) where
   pub plain_here : (tree : Tree) (type : ExprType) → TypedHere scene tree type → IsPlainType type → IsFree (CostsHere scene tree)
   plain_here = plain_free (slots_of scene.row.schema) (type_name_at scene.row.schema scene.row.type_id) scene.moment (value_of scene.row) (environment_of scene)
 
-  -- a literal that is read
-  pub read_free : (slots : Slots) (type : ExprType) (tree : Tree) (n : ℤ) → NumberBeside slots type (quoted_text tree) n → IsFree (CostsHere scene tree)
-  read_free slots (single (enumeration of)) (node start stop (literal kind spelling)) n is = λ m costs. costs
-  read_free slots (single (enumeration of)) _ n is = absurd is
-  read_free slots _ tree n is = absurd is
+  -- so is an operand
+  pub operand_free : (place : ℕ) → FreeThere place → (stop : ℕ) (tree : Tree) → OperandHere scene place stop tree → IsFree (CostsHere scene tree)
+  operand_free place free stop tree (inl stands) = free stop tree stands
+  operand_free place free stop tree (inr number) = number_free scene number.0 place stop tree number.1
 
   -- ---- nodes by their class
 
@@ -104,7 +98,7 @@ module _ (scene : SceneModel) where
   numeric_of_kind place (NodeKind.Binary operator) numeric here = by_kind scene place (NodeKind.Binary operator) here (λ stop tree. IsFree (CostsHere scene tree))
       (λ left right stop from to stands.
       let typed = stands.top.typed in
-      let plain = numbers_plain operator typed.left typed.right _ numeric (operator_plain scene place stop from to left right operator here stands _ typed) in
+      let plain = numbers_plain operator typed.left typed.right _ numeric (plain_types (slots_of scene.row.schema) operator (side_of left typed.left) (side_of right typed.right) _ (λ equality. let eager = equality_walks operator equality in cc) typed.makes) in
       after_free (MeansHere scene left) (CostsHere scene left) (λ l. RightCosts operator l (CostsHere scene right)) (plain_here left typed.left typed.left_typed plain.0)
       (λ l. right_free operator l (CostsHere scene right) (plain_here right typed.right typed.right_typed plain.1)))
   numeric_of_kind place _ numeric here = absurd (cc)

@@ -17,11 +17,11 @@ use Rattle.odata_syntax.specs.declared.node.Quantifier.{Quantifier}
 use Rattle.odata_expression_types.specs.Sides.{side_of}
 use Rattle.odata_eval.specs.Costs.{CostAfter, CostThen, ItemsCost, OthersCost, item_cost}
 use Rattle.odata_eval.specs.Means.{ItemMeans}
-use Rattle.odata_eval.specs.private.ItemMarks.{AloneHere}
 use Rattle.odata_eval.specs.private.Scene.{EndsOnceHere, MeansHere, StandsHere, TypedHere}
 use Rattle.odata_eval.specs.private.SceneModel.{SceneModel, environment_of}
 use Rattle.odata_eval.specs.private.Spending.{CostsHere}
 use Rattle.odata_eval.proofs.spending.Splits.{follows}
+use Rattle.odata_eval.proofs.walking.Operands.{AloneHere}
 
 module _ (scene : SceneModel) where
   -- what items cost from the first on, after a left value

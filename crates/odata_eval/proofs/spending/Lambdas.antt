@@ -1,5 +1,5 @@
 -- What a lambda operator takes from a budget, once its base has been answered.
-use Rattle.std.proofs.Common.{◌≡◌, ◌+◌, ◌∙◌, ℕ, Bor, List, Option, None, Ok, map, sym, subst}
+use Rattle.std.proofs.Common.{◌≡◌, ◌+◌, ◌∙◌, ℕ, Bor, List, Option, None, Ok, inl, map, sym, subst}
 use Rattle.edm_values.specs.Val.{Vals, null}
 use Rattle.edm_values.specs.declared.datum.Datum.{Datum}
 use Rattle.edm_values.specs.declared.datum.Datum.TheVariants as datum
@@ -32,14 +32,15 @@ use Rattle.odata_eval.proofs.spending.Budgets.{spent_same, takes_nothing}
 use Rattle.odata_eval.proofs.spending.Splits.{SplitWith, follows, rest_spends}
 use Rattle.odata_eval.proofs.walking.Children.{body_stands}
 use Rattle.odata_eval.proofs.walking.Lambdas.{IsNamed, in_scope, is_named, null_otherwise, vals_same}
+use Rattle.odata_eval.proofs.walking.Operands.{no_number}
 use Rattle.odata_eval.proofs.walking.Parts.{by_kind}
-use Rattle.odata_eval.proofs.walking.Spines.{stops_there}
+use Rattle.odata_eval.proofs.walking.Extents.{stops_there}
 use Rattle.odata_eval.proofs.walking.WalkValues.{value_has}
 
 module _ (types : OneType) (scene : SceneModel) (place : ℕ) (quantifier : Quantifier) (here : HasKind scene.list place (NodeKind.Lambda quantifier)) (ends : EndsOnceHere scene) where
   -- over null nothing
   pub null_spends : (base : Datum) → AnswersDatum scene (place + 1) (Ok base) → ((held : Bor (List Value)) → base ≡ datum.List held → ⊥) → (budget : Budget) → SpendsRest scene place budget None budget None
-  null_spends value first other budget = rest_spends scene place budget budget None
+  null_spends value first other budget = rest_spends scene place budget budget None (no_number scene place (NodeKind.Lambda quantifier) tt here)
       (λ whole_last whole whole_cost whole_stands whole_costs.
       by_kind scene place (NodeKind.Lambda quantifier) here (λ last tree. (n : ℕ) → CostsHere scene tree n → SplitWith scene place n (λ rest. Spent None budget budget rest))
       (λ base asked body last from to stands n costs.
@@ -54,7 +55,7 @@ module _ (types : OneType) (scene : SceneModel) (place : ℕ) (quantifier : Quan
       record {
         stop = stands.children.middle;
         operand = base;
-        stands = stands.children.left;
+        stands = inl stands.children.left;
         own = costs.own;
         costs = costs.costs;
         rest = costs.rest;
@@ -86,7 +87,7 @@ module _ (types : OneType) (scene : SceneModel) (place : ℕ) (quantifier : Quan
     -- over a collection its members
     pub members_spend : (held : Bor (List Value)) → AnswersDatum scene (place + 1) (Ok (datum.List held)) → (old new : Budget) (stop : Option EvalStop)
         → SpendsMembers scene right quantifier variable held.now old new stop → SpendsRest scene place old None new stop
-    members_spend held first old new stop spends = rest_spends scene place old new stop
+    members_spend held first old new stop spends = rest_spends scene place old new stop (no_number scene place (NodeKind.Lambda quantifier) tt here)
         (λ whole_last whole whole_cost whole_stands whole_costs.
         by_kind scene place (NodeKind.Lambda quantifier) here (λ last tree. (n : ℕ) → CostsHere scene tree n → SplitWith scene place n (λ rest. Spent stop old new rest))
         (λ base asked body last from to stands n costs.
@@ -105,7 +106,7 @@ module _ (types : OneType) (scene : SceneModel) (place : ℕ) (quantifier : Quan
         record {
           stop = stands.children.middle;
           operand = base;
-          stands = stands.children.left;
+          stands = inl stands.children.left;
           own = costs.own;
           costs = costs.costs;
           rest = costs.rest;

@@ -1,11 +1,11 @@
 -- What the rest of a node takes from a budget, once its first operand has been answered.
-use Rattle.std.proofs.Common.{◌≡◌, ◌+◌, ◌∙◌, ℕ, List, [], ◌∷◌, Bool, true, false, Option, Some, None, Ok, refl, sym, subst}
+use Rattle.std.proofs.Common.{◌≡◌, ◌+◌, ◌∙◌, ℕ, List, [], ◌∷◌, Bool, true, false, Option, Some, None, Ok, refl, sym, subst, ℤ, inl, inr}
 use Rattle.edm_values.specs.Val.{Val}
 use Rattle.csdl_schema.specs.ExprType.{ExprType}
 use Rattle.csdl_schema.specs.SchemaModel.{slots_of, type_name_at}
 use Rattle.edm_entities.specs.Row.{value_of}
 use Rattle.odata_checked_filter.specs.declared.checked_node.NodeKind.{NodeKind}
-use Rattle.odata_filter_operations.specs.Outcome.{gives}
+use Rattle.odata_filter_operations.specs.Outcome.{divides_by_zero, gives, Outcome, overflow}
 use Rattle.odata_filter_operations.specs.TruthGives.{truth_val}
 use Rattle.odata_signatures.specs.ArgumentTypes.{AreArgumentTypes}
 use Rattle.odata_signatures.specs.declared.argument_kind.ArgumentKind.{ArgumentKind}
@@ -13,32 +13,54 @@ use Rattle.odata_signatures.specs.declared.function.Function.{Function}
 use Rattle.odata_syntax.specs.declared.binary_operator.LogicalOperator.{LogicalOperator}
 use Rattle.odata_syntax.specs.declared.binary_operator.BinaryOperator.{BinaryOperator}
 use Rattle.odata_syntax.specs.declared.binary_operator.ComparisonOperator.{ComparisonOperator}
-use Rattle.odata_syntax.specs.Tree.{Tree, Trees, node, call, more_trees, no_trees}
+use Rattle.odata_syntax.specs.Tree.{call, has, literal, more_trees, no_trees, node, Tree, Trees}
 use Rattle.odata_signatures.specs.Functions.{IsNamed}
-use Rattle.odata_eval.specs.Costs.{ArgumentsCost, CostAfter, RightCosts}
+use Rattle.odata_eval.specs.Costs.{ArgumentsCost, CostAfter, CostThen, RightCosts}
 use Rattle.odata_eval.specs.declared.budget.Budget.{Budget}
 use Rattle.odata_eval.specs.declared.stop.EvalStop.{EvalStop}
 use Rattle.odata_eval.specs.private.Place.{HasKind, IsRightOf}
-use Rattle.odata_eval.specs.private.Scene.{EndsOnceHere, MeansHere, StandsHere}
+use Rattle.odata_eval.specs.private.Scene.{EndsOnceHere, MeansHere, NumberHere, OperandHere, StandsHere, TypedHere}
 use Rattle.odata_eval.specs.private.SceneModel.{SceneModel, environment_of}
 use Rattle.odata_eval.specs.private.Spending.{CostsHere, SpendsAt, SpendsRest, Spent}
 use Rattle.odata_eval.specs.private.WalkAnswer.{AnswersAtPlace, AnswersTruth}
 use Rattle.odata_eval.specs.private.WalkClass.{IsDecided}
 use Rattle.odata_eval.proofs.costs.PlainTypes.{arguments_free}
-use Rattle.odata_eval.proofs.costs.Zero.{IsFree, right_free, then_free}
+use Rattle.odata_eval.proofs.costs.Zero.{IsFree, then_free}
 use Rattle.odata_eval.proofs.spending.Budgets.{spent_same, takes_nothing}
-use Rattle.odata_eval.proofs.spending.Free.{FreeThere, beside_plain, flags_plain_type, path_plain_type, plain_here, read_free}
-use Rattle.odata_eval.proofs.spending.Splits.{SplitWith, follows, no_more, rest_spends}
+use Rattle.odata_eval.proofs.spending.Free.{FreeThere, flags_plain_type, path_plain_type, plain_here}
+use Rattle.odata_eval.proofs.spending.Splits.{follows, no_more, number_free, operand_spent, rest_spends, SplitWith}
 use Rattle.odata_eval.proofs.walking.Children.{only_child}
 use Rattle.odata_eval.proofs.walking.Parts.{by_kind}
-use Rattle.odata_eval.proofs.walking.ReadSides.{flags_read, left_read, right_read}
-use Rattle.odata_eval.proofs.walking.Spines.{TypedAll, no_empty_call, only_now, stops_there}
-use Rattle.odata_eval.proofs.walking.Unread.{flags_plain}
+use Rattle.odata_eval.proofs.walking.Extents.{left_here, operand_stops_there, right_beside}
+use Rattle.odata_eval.proofs.walking.Spines.{no_empty_call, only_now, TypedAll}
+use Rattle.odata_signatures.specs.OperatorTyped.{IsEquality}
+use Rattle.odata_syntax.specs.declared.node.LiteralKind.{LiteralKind}
+use Rattle.odata_expression_types.specs.Reads.{OfEquality}
+use Rattle.odata_eval.proofs.walking.Operands.{BesideHere, IsOther, beside_here, no_number}
+use Rattle.odata_eval.proofs.walking.Sides.{flags_alone}
 
 -- ---- a tree that costs nothing
 
 pub free_spends : (scene : SceneModel) (place : ℕ) (stop : Option EvalStop) (budget : Budget) → FreeThere scene place → Spent stop budget budget 0 → SpendsAt scene place budget budget stop
-free_spends scene place stop budget free spent = record { of_tree = λ last tree n stands costs. spent_same stop budget budget 0 n (free last tree stands n costs) spent }
+free_spends scene place stop budget free spent = record {
+  of_tree = λ last tree n stands costs. spent_same stop budget budget 0 n (free last tree stands n costs) spent;
+  of_number = λ number last tree there. spent;
+}
+
+-- ---- literals that are read
+
+-- a text evaluates to a value, which something follows
+text_then : (scene : SceneModel) (place stop : ℕ) (tree : Tree) (number : ℤ) (outcome : Outcome) → NumberHere scene number place stop tree → MeansHere scene tree outcome
+    → (GoesOn : Val → ℕ → Type 0) (rest : ℕ) → CostThen outcome GoesOn rest → (v : Val) × GoesOn v rest
+text_then scene place stop (node from to (literal LiteralKind.Str spelling)) number (gives v) there means GoesOn rest costs = (v, costs)
+text_then scene place stop (node from to (literal LiteralKind.Str spelling)) number overflow there means GoesOn rest costs = absurd means
+text_then scene place stop (node from to (literal LiteralKind.Str spelling)) number divides_by_zero there means GoesOn rest costs = absurd means
+text_then scene place stop _ number outcome there means GoesOn rest costs = absurd there
+
+-- after any value an equality asks for its right side
+equality_costs : (operator : BinaryOperator) → IsEquality operator → (v w : Val) (Right : ℕ → Type 0) (n : ℕ) → RightCosts operator v Right n → RightCosts operator w Right n
+equality_costs (BinaryOperator.Comparison comparison) equality v w Right n costs = costs
+equality_costs _ equality v w Right n costs = absurd equality
 
 -- ---- nodes whose other operands cost nothing
 
@@ -48,10 +70,7 @@ HasNoRest NodeKind.Count = Unit {0}
 HasNoRest NodeKind.AnyItem = Unit {0}
 HasNoRest NodeKind.Not = Unit {0}
 HasNoRest (NodeKind.Call function) = Unit {0}
-HasNoRest (NodeKind.PairedRight operator number) = Unit {0}
-HasNoRest (NodeKind.PairedLeft operator number) = Unit {0}
 HasNoRest NodeKind.Has = Unit {0}
-HasNoRest (NodeKind.PairedHas number) = Unit {0}
 HasNoRest NodeKind.InPath = Unit {0}
 HasNoRest _ = ⊥
 
@@ -59,11 +78,11 @@ module _ (scene : SceneModel) where
   abbrev NoRest : ℕ → ℕ → Tree → Type 0
   NoRest place stop tree = (n : ℕ) → CostsHere scene tree n → SplitWith scene place n (λ rest. rest ≡ 0)
 
-  no_rest_one : (place stop : ℕ) (operand : Tree) → StandsHere scene (place + 1) stop operand → (n : ℕ) → CostsHere scene operand n → SplitWith scene place n (λ rest. rest ≡ 0)
+  no_rest_one : (place stop : ℕ) (operand : Tree) → OperandHere scene (place + 1) stop operand → (n : ℕ) → CostsHere scene operand n → SplitWith scene place n (λ rest. rest ≡ 0)
   no_rest_one place stop operand stands n costs =
       record { stop = stop; operand = operand; stands = stands; own = n; costs = costs; rest = 0; sum = no_more n; holds = refl }
 
-  no_rest_after : (place stop : ℕ) (operand : Tree) → StandsHere scene (place + 1) stop operand → (GoesOn : Val → ℕ → Type 0) → ((v : Val) → IsFree (GoesOn v)) → (n : ℕ)
+  no_rest_after : (place stop : ℕ) (operand : Tree) → OperandHere scene (place + 1) stop operand → (GoesOn : Val → ℕ → Type 0) → ((v : Val) → IsFree (GoesOn v)) → (n : ℕ)
       → CostAfter (MeansHere scene operand) (CostsHere scene operand) GoesOn n → SplitWith scene place n (λ rest. rest ≡ 0)
   no_rest_after place stop operand stands GoesOn free n after = record {
     stop = stop;
@@ -89,52 +108,45 @@ module _ (scene : SceneModel) where
   call_no_rest place asked (more_trees argument more) stop from to later stands n costs =
       let typed = stands.top.typed in
       let free = others_free _ argument more typed.types typed.arguments_typed typed.call_typed.typed.arguments in
-      no_rest_after place stands.children.middle argument stands.children.left _ (λ v. free) n costs
+      no_rest_after place stands.children.middle argument (inl stands.children.left) _ (λ v. free) n costs
+
+  flags_free : (from to : ℕ) (left right : Tree) (type : ExprType) (i j : ℕ) → TypedHere scene (node from to (has left right)) type → BesideHere scene (TypedHere scene left) right i j
+      → IsFree (CostsHere scene right)
+  flags_free from to left right type i j typed (inl read) = number_free scene read.0 i j right read.2
+  flags_free from to left right type i j typed (inr alone) =
+      plain_here scene right typed.right typed.right_typed
+      (flags_plain_type typed.left typed.right (flags_alone scene left right alone.0 typed.left typed.right typed.left_typed typed.makes.0))
 
   no_rest : (place : ℕ) (kind : NodeKind) → HasNoRest kind → HasKind scene.list place kind → (stop : ℕ) (tree : Tree) → StandsHere scene place stop tree → NoRest place stop tree
   no_rest place (NodeKind.Member slot) none here = by_kind scene place (NodeKind.Member slot) here (NoRest place)
-      (λ base asked stop from to stands. no_rest_one place stop base (only_child scene (place + 1) stop base stands.children))
+      (λ base asked stop from to stands. no_rest_one place stop base (inl (only_child scene (place + 1) stop base stands.children)))
   no_rest place NodeKind.Count none here = by_kind scene place NodeKind.Count here (NoRest place)
-      (λ base stop from to stands. no_rest_one place stop base (only_child scene (place + 1) stop base stands.children))
+      (λ base stop from to stands. no_rest_one place stop base (inl (only_child scene (place + 1) stop base stands.children)))
   no_rest place NodeKind.AnyItem none here = by_kind scene place NodeKind.AnyItem here (NoRest place)
-      (λ base stop from to stands. no_rest_one place stop base (only_child scene (place + 1) stop base stands.children))
+      (λ base stop from to stands. no_rest_one place stop base (inl (only_child scene (place + 1) stop base stands.children)))
   no_rest place NodeKind.Not none here = by_kind scene place NodeKind.Not here (NoRest place)
-      (λ operand stop from to stands. no_rest_one place stop operand (only_child scene (place + 1) stop operand stands.children))
+      (λ operand stop from to stands. no_rest_one place stop operand (inl (only_child scene (place + 1) stop operand stands.children)))
   no_rest place (NodeKind.Call function) none here = by_kind scene place (NodeKind.Call function) here (NoRest place)
       (λ asked arguments named later stop from to stands. call_no_rest place asked arguments stop from to (λ of_now. later (only_now function (named ∙ sym of_now))) stands)
-  no_rest place (NodeKind.PairedRight operator number) none here = by_kind scene place (NodeKind.PairedRight operator number) here (NoRest place)
-      (λ left right stop from to stands n costs.
-      let reads = (right_read scene place operator number here stop from to left right stands).reads in
-      let free = read_free scene (slots_of scene.row.schema) reads.type_of right _ reads.number in
-      no_rest_after place stands.children.middle left stands.children.left (λ l. RightCosts operator l (CostsHere scene right))
-      (λ l. right_free operator l (CostsHere scene right) free) n costs)
-  no_rest place (NodeKind.PairedLeft operator number) none here = by_kind scene place (NodeKind.PairedLeft operator number) here (NoRest place)
-      (λ left right stop from to stands n costs.
-      let reads = (left_read scene place operator number here stop from to left right stands).reads.1 in
-      let free = plain_here scene right reads.type_of reads.beside.1 (beside_plain (slots_of scene.row.schema) reads.type_of _ _ reads.number) in
-      no_rest_after place stands.children.middle left stands.children.left (λ l. RightCosts operator l (CostsHere scene right))
-      (λ l. right_free operator l (CostsHere scene right) free) n costs)
   no_rest place NodeKind.Has none here = by_kind scene place NodeKind.Has here (NoRest place)
       (λ left right stop from to stands n costs.
-      let typed = stands.top.typed in
-      let free = plain_here scene right typed.right typed.right_typed (flags_plain_type typed.left typed.right (flags_plain scene place stop from to left right here stands _ typed)) in
-      no_rest_after place stands.children.middle left stands.children.left (λ l. CostsHere scene right) (λ l. free) n costs)
-  no_rest place (NodeKind.PairedHas number) none here = by_kind scene place (NodeKind.PairedHas number) here (NoRest place)
-      (λ left right stop from to stands n costs.
-      let reads = (flags_read scene place number here stop from to left right stands).reads in
-      let free = read_free scene (slots_of scene.row.schema) reads.type_of right _ reads.number in
-      no_rest_after place stands.children.middle left stands.children.left (λ l. CostsHere scene right) (λ l. free) n costs)
+      let free = flags_free from to left right _ stands.children.middle stands.children.right.middle stands.top.typed stands.children.right.left in
+      no_rest_after place stands.children.middle left (inl stands.children.left) (λ l. CostsHere scene right) (λ l. free) n costs)
   no_rest place NodeKind.InPath none here = by_kind scene place NodeKind.InPath here (NoRest place)
       (λ left path stop from to stands n costs.
       let typed = stands.top.typed in
       let free = plain_here scene path typed.right typed.right_typed (path_plain_type typed.left typed.right typed.makes.0) in
-      no_rest_after place stands.children.middle left stands.children.left (λ l. CostsHere scene path) (λ l. free) n costs)
+      no_rest_after place stands.children.middle left (inl stands.children.left) (λ l. CostsHere scene path) (λ l. free) n costs)
   no_rest place _ none here = absurd none
+
+  other_kind : (kind : NodeKind) → HasNoRest kind → IsOther kind
+  other_kind (NodeKind.Literal kind value) none = none
+  other_kind _ none = tt
 
   pub nothing_more : (place : ℕ) (kind : NodeKind) → HasNoRest kind → HasKind scene.list place kind → (budget : Budget) (stop : Option EvalStop) → Spent stop budget budget 0
       → SpendsRest scene place budget None budget stop
   nothing_more place kind none here budget stop spent =
-      rest_spends scene place budget budget stop
+      rest_spends scene place budget budget stop (no_number scene place kind (other_kind kind none) here)
       (λ last tree n stands costs.
       let it = no_rest place kind none here last tree stands n costs in
       record {
@@ -152,30 +164,42 @@ module _ (scene : SceneModel) where
 
   module _ (place : ℕ) (operator : BinaryOperator) (here : HasKind scene.list place (NodeKind.Binary operator)) (ends : EndsOnceHere scene)
       (l : ExprType → Val) (first : AnswersAtPlace scene (place + 1) (λ type. Some (gives (l type)))) where
+    -- what the right side costs after the left value
+    right_due : (left right : Tree) (type : ExprType) (i j rest : ℕ) (outcome : Outcome) → TypedHere scene left type → BesideHere scene (OfEquality operator (TypedHere scene right)) left (place + 1) j
+        → MeansHere scene left outcome → CostThen outcome (λ v. RightCosts operator v (CostsHere scene right)) rest → RightCosts operator (l type) (CostsHere scene right) rest
+    right_due left right type i j rest outcome typed (inl read) is costs =
+        let value = text_then scene (place + 1) j left read.0 outcome read.2 is (λ v. RightCosts operator v (CostsHere scene right)) rest costs in
+        equality_costs operator read.1.beside.0 value.0 (l type) (CostsHere scene right) rest value.1
+    right_due left right type i j rest outcome typed (inr alone) is costs =
+        let means : MeansHere scene left (gives (l type)) = first.of_tree j left type alone.1 typed in
+        let once = ends left type typed in
+        let same : outcome ≡ gives (l type) = once.only outcome is ∙ sym (once.only (gives (l type)) means) in
+        follows outcome (gives (l type)) (λ v. RightCosts operator v (CostsHere scene right)) rest same costs
+
     binary_rest : (old new : Budget) (stop : Option EvalStop)
-        → ((middle last : ℕ) (right : Tree) (type : ExprType) (rest : ℕ) → ((at : ℕ) → IsRightOf scene.list place at → middle ≡ at) → StandsHere scene middle last right
+        → ((middle last : ℕ) (right : Tree) (type : ExprType) (rest : ℕ) → ((at : ℕ) → IsRightOf scene.list place at → middle ≡ at) → OperandHere scene middle last right
         → RightCosts operator (l type) (CostsHere scene right) rest → Spent stop old new rest)
         → SpendsRest scene place old None new stop
     binary_rest old new stop goes =
-        rest_spends scene place old new stop
+        rest_spends scene place old new stop (no_number scene place (NodeKind.Binary operator) tt here)
         (λ whole_last whole whole_cost whole_stands whole_costs.
         by_kind scene place (NodeKind.Binary operator) here (λ last tree. (n : ℕ) → CostsHere scene tree n → SplitWith scene place n (λ rest. Spent stop old new rest))
         (λ left right last from to stands n costs.
         let typed = stands.top.typed in
-        let means : MeansHere scene left (gives (l typed.left)) = first.of_tree stands.children.middle left typed.left stands.children.left typed.left_typed in
-        let once = ends left typed.left typed.left_typed in
-        let same : costs.outcome ≡ gives (l typed.left) = once.only costs.outcome costs.is ∙ sym (once.only (gives (l typed.left)) means) in
-        let asked = follows costs.outcome (gives (l typed.left)) (λ v. RightCosts operator v (CostsHere scene right)) costs.rest same costs.follows in
+        let m = stands.children.middle in
+        let first_there = left_here scene place last from to operator left right stands in
+        let Beside : ExprType → Type 0 = OfEquality operator (TypedHere scene left) in
+        let second_there = beside_here scene Beside right m last (right_beside scene Beside m m last right refl stands.children.right) in
         record {
-          stop = stands.children.middle;
+          stop = m;
           operand = left;
-          stands = stands.children.left;
+          stands = first_there;
           own = costs.own;
           costs = costs.costs;
           rest = costs.rest;
           sum = costs.sum;
-          holds = goes stands.children.middle last right typed.left costs.rest (λ at is_right. stops_there scene (place + 1) stands.children.middle at left stands.children.left is_right)
-              (only_child scene stands.children.middle last right stands.children.right) asked;
+          holds = goes m last right typed.left costs.rest (λ at is_right. operand_stops_there scene (place + 1) m at left first_there is_right) second_there
+              (right_due left right typed.left place m costs.rest costs.outcome typed.left_typed stands.children.left costs.is costs.follows);
         })
         whole_last whole whole_stands whole_cost whole_costs)
 
@@ -187,7 +211,7 @@ module _ (scene : SceneModel) where
     right_compared right_place is_right old new stop second =
         binary_rest place (BinaryOperator.Comparison comparison) here ends l first old new stop
         (λ middle last right type rest same stands asked.
-        second.of_tree last right rest (subst (λ (m : ℕ). StandsHere scene m last right) (same right_place is_right) stands) asked)
+        operand_spent scene right_place old new stop second last right rest (subst (λ (m : ℕ). OperandHere scene m last right) (same right_place is_right) stands) asked)
 
 -- a left side that decides asks for nothing more, another one for the right side
 decided_costs : (logical : LogicalOperator) (left : Option Bool) (Right : ℕ → Type 0) (n : ℕ) → IsDecided logical (truth_val left) → RightCosts (BinaryOperator.Logical logical) (truth_val left) Right n → n ≡ 0
@@ -220,5 +244,5 @@ module _ (scene : SceneModel) (place : ℕ) (logical : LogicalOperator) (here : 
   right_asked undecided right_place is_right old new stop second =
       binary_rest scene place (BinaryOperator.Logical logical) here ends (λ type. truth_val left) first old new stop
       (λ middle last right type rest same stands asked.
-      second.of_tree last right rest (subst (λ (m : ℕ). StandsHere scene m last right) (same right_place is_right) stands)
+      operand_spent scene right_place old new stop second last right rest (subst (λ (m : ℕ). OperandHere scene m last right) (same right_place is_right) stands)
       (undecided_costs logical left (CostsHere scene right) rest undecided asked))

@@ -11,12 +11,14 @@ use Rattle.odata_checked_filter.specs.FlatTree.{FlatTree}
 use Rattle.odata_filter_operations.specs.TruthGives.{joined, truth_val}
 use Rattle.odata_filter_operations.specs.declared.fault.EvalFault.{EvalFault}
 use Rattle.odata_eval.specs.declared.part.WalkClass.{WalkClass}
-use Rattle.odata_eval.specs.private.Place.{HasOperator, IsClassAt, IsRightOf, PartStands, TruthStands}
+use Rattle.odata_eval.specs.private.Place.{HasOperator, IsClassAt, IsRightOf, OperandStands, PartStands, TruthStands}
 use Rattle.odata_eval.specs.private.SceneModel.{SceneModel}
 use Rattle.odata_eval.specs.private.WalkAnswer.{AnswersKept, AnswersTruth}
 use Rattle.odata_eval.specs.private.WalkClass.{IsDecided, walk_of_operator}
 use Rattle.odata_eval.proofs.walking.KeptValues.{kept_value}
-use Rattle.odata_eval.proofs.walking.Spines.{first_faults, first_part, first_step, part_down, right_there, right_typed, typed_part, walks_by}
+use Rattle.odata_eval.proofs.walking.Operands.{tree_of_class}
+use Rattle.odata_eval.proofs.walking.Extents.{right_there, right_typed}
+use Rattle.odata_eval.proofs.walking.Spines.{first_faults, first_part, first_step, part_down, typed_part, walks_by}
 use Rattle.odata_eval.proofs.walking.WalkSteps.{decided_answers, joined_answers, joined_faults}
 
 -- before so many indexes there are only `and`s
@@ -85,8 +87,9 @@ module _ (scene : SceneModel) where
 
       part_there : PartStands scene (at - 1)
       part_there =
-          part_down scene WalkClass.Logical (λ leaf. cc) 0 (at - 1) (omega arith) (typed_part scene 0 IsBooleanOrNull top)
-          (λ i before from. and_walks i (ands i (omega arith)))
+          tree_of_class scene (at - 1) WalkClass.Logical (λ leaf. cc) (and_walks (at - 1) and_there)
+          (part_down scene WalkClass.Logical (λ leaf. cc) 0 (at - 1) (omega arith) (typed_part scene 0 IsBooleanOrNull top)
+          (λ i before from. and_walks i (ands i (omega arith))))
 
       -- the next term stands on its right
       pub term_there : (right : ℕ) × IsRightOf scene.list (at - 1) right
@@ -94,7 +97,7 @@ module _ (scene : SceneModel) where
 
       module _ (right : ℕ) (is_right : IsRightOf scene.list (at - 1) right) where
         pub term_stands : TruthStands scene right
-        term_stands = right_typed scene (at - 1) (BinaryOperator.Logical LogicalOperator.And) and_there part_there right is_right WalkClass.Logical refl
+        term_stands = right_typed scene (at - 1) (BinaryOperator.Logical LogicalOperator.And) and_there part_there right is_right WalkClass.Logical refl (λ same. cc)
 
         module _ (left : Option Bool) (undecided : ¬ (IsDecided LogicalOperator.And (truth_val left))) (first : AnswersTruth scene at (Ok left)) where
           left_there : AnswersTruth scene (at - 1 + 1) (Ok left)
@@ -132,7 +135,7 @@ operator_inner (BinaryOperator.Comparison comparison) leaf = cc
 operator_inner (BinaryOperator.Arithmetic arithmetic) leaf = cc
 
 -- its left side stands after it
-pub left_side : (scene : SceneModel) (place : ℕ) (operator : BinaryOperator) → HasOperator scene.list place operator → PartStands scene place → PartStands scene (place + 1)
+pub left_side : (scene : SceneModel) (place : ℕ) (operator : BinaryOperator) → HasOperator scene.list place operator → PartStands scene place → OperandStands scene (place + 1)
 left_side scene place operator here part =
     first_part scene place (walk_of_operator operator) (operator_inner operator)
     (walks_by scene.list place operator (walk_of_operator operator) here refl) part

@@ -23,6 +23,7 @@ use Rattle.odata_eval.specs.private.Scene.{EndsOnceHere, MeansHere, StandsHere, 
 use Rattle.odata_eval.specs.private.SceneModel.{SceneModel}
 use Rattle.odata_eval.specs.private.WalkAnswer.{AnswersDatum}
 use Rattle.odata_eval.proofs.walking.Children.{only_child}
+use Rattle.odata_eval.proofs.walking.Operands.{HasNone, no_number}
 use Rattle.odata_eval.proofs.walking.Parts.{by_kind, goes_there, some_tells}
 use Rattle.odata_eval.proofs.walking.Spines.{has_type}
 use Rattle.odata_eval.proofs.walking.WalkValues.{value_has}
@@ -35,7 +36,7 @@ pub record OfBase (scene : SceneModel) (place stop : ℕ) (Gives : Val → Outco
   pub means : (o : Outcome) → After (MeansHere scene base) Gives o → MeansHere scene tree o
 
 abbrev pub AreOfBase : SceneModel → ℕ → (Val → Outcome → Type 0) → Type 0
-AreOfBase scene place Gives = (stop : ℕ) (tree : Tree) → StandsHere scene place stop tree → OfBase scene place stop Gives tree
+AreOfBase scene place Gives = HasNone scene place × ((stop : ℕ) (tree : Tree) → StandsHere scene place stop tree → OfBase scene place stop Gives tree)
 
 pub member_type : (type : ExprType) → IsCollection type → (member : SingleType) × (type ≡ collection member)
 member_type (collection member) is = (member, refl)
@@ -48,24 +49,28 @@ typed_collection scene base type typed is =
     (of_member.0, subst (TypedHere scene base) of_member.1 typed)
 
 pub count_base : (scene : SceneModel) (place : ℕ) → HasKind scene.list place NodeKind.Count → AreOfBase scene place CountGives
-count_base scene place here =
-    by_kind scene place NodeKind.Count here (λ stop tree. OfBase scene place stop CountGives tree)
-    (λ base stop from to stands. record {
-      base = base;
-      stands = only_child scene (place + 1) stop base stands.children;
-      typed = λ type typed. typed_collection scene base typed.operand typed.operand_typed typed.makes.0;
-      means = λ o given. given;
-    })
+count_base scene place here = (
+  no_number scene place NodeKind.Count tt here,
+  by_kind scene place NodeKind.Count here (λ stop tree. OfBase scene place stop CountGives tree)
+      (λ base stop from to stands. record {
+        base = base;
+        stands = only_child scene (place + 1) stop base stands.children;
+        typed = λ type typed. typed_collection scene base typed.operand typed.operand_typed typed.makes.0;
+        means = λ o given. given;
+      }),
+)
 
 pub any_item_base : (scene : SceneModel) (place : ℕ) → HasKind scene.list place NodeKind.AnyItem → AreOfBase scene place AnyItemGives
-any_item_base scene place here =
-    by_kind scene place NodeKind.AnyItem here (λ stop tree. OfBase scene place stop AnyItemGives tree)
-    (λ base stop from to stands. record {
-      base = base;
-      stands = only_child scene (place + 1) stop base stands.children;
-      typed = λ type typed. typed_collection scene base typed.operand typed.operand_typed typed.makes.0;
-      means = λ o given. given;
-    })
+any_item_base scene place here = (
+  no_number scene place NodeKind.AnyItem tt here,
+  by_kind scene place NodeKind.AnyItem here (λ stop tree. OfBase scene place stop AnyItemGives tree)
+      (λ base stop from to stands. record {
+        base = base;
+        stands = only_child scene (place + 1) stop base stands.children;
+        typed = λ type typed. typed_collection scene base typed.operand typed.operand_typed typed.makes.0;
+        means = λ o given. given;
+      }),
+)
 
 -- a value of a collection type is a list or null
 pub of_collection : (slots : Slots) (member : SingleType) (made : Datum) → HasType slots (collection member) (datum_val (reading_at slots (collection member)) made)
@@ -79,7 +84,7 @@ module _ (scene : SceneModel) (place : ℕ) (Gives : Val → Outcome → Type 0)
   pub base_members : EndsOnceHere scene → PartStands scene place → HasMembers made
   base_members ends part =
       let slots = slots_of scene.row.schema in
-      let it = are part.stop part.tree part.stands in
+      let it = are.1 part.stop part.tree part.stands in
       let typed = has_type scene place part.stop part.tree part.stands in
       let of_base = it.typed typed.0 typed.1 in
       let type = collection of_base.0 in
@@ -93,11 +98,12 @@ module _ (scene : SceneModel) (place : ℕ) (Gives : Val → Outcome → Type 0)
   base_answers answer given = record {
     of_tree = λ stop tree type stands typed.
         let slots = slots_of scene.row.schema in
-        let it = are stop tree stands in
+        let it = are.1 stop tree stands in
         let of_base = it.typed type typed in
         let v = datum_val (reading_at slots (collection of_base.0)) made in
         let told = answer_outcome (datum_val (reading_at slots type)) answer in
         some_tells told (TakesMemory tree) (MeansHere scene tree)
         (goes_there told (Gives v) (MeansHere scene tree) (λ o is. it.means o (gives v, (first.of_tree stop it.base (collection of_base.0) it.stands of_base.1, is)))
         (given slots of_base.0 (reading_at slots type)));
+    of_number = λ number stop tree type there. absurd (are.0 number stop tree there);
   }

@@ -27,8 +27,10 @@ use Rattle.odata_eval.specs.private.SceneModel.{SceneModel}
 use Rattle.odata_filter_operations.specs.Tells.{Tells}
 use Rattle.odata_eval.specs.private.WalkAnswer.{AllAnswered, AnswersAtPlace, AnswersDatum}
 use Rattle.odata_eval.proofs.meaning.CallEnds.{HaveTypes, applies_of}
+use Rattle.odata_eval.proofs.walking.Operands.{no_number}
 use Rattle.odata_eval.proofs.walking.Parts.{by_kind, tells_there}
-use Rattle.odata_eval.proofs.walking.Spines.{MeanAll, StandsAll, TypedAll, all_further, child_takes, fault_stays, first_child, further, some_taken, stops_here, stops_there}
+use Rattle.odata_eval.proofs.walking.Extents.{all_further, further, stops_here, stops_there}
+use Rattle.odata_eval.proofs.walking.Spines.{MeanAll, StandsAll, TypedAll, child_takes, fault_stays, first_child, some_taken}
 use Rattle.odata_eval.proofs.walking.WalkValues.{value_has}
 
 -- the kinds of arguments are plain, so they are read alike everywhere
@@ -243,6 +245,7 @@ module _ (scene : SceneModel) where
           (next_faults (place + 1) at own answers arguments typed.types fault (CallGives scene.moment function) (TakesMemory whole)
           (subst (λ (s : ℕ). StandsAll scene (place + 1) s arguments) e stands.children) typed.arguments_typed answered behind faults (child_takes whole)))
           stop tree stands typed;
+      of_number = λ number stop tree type there. absurd (no_number scene place (NodeKind.Call function) tt here number stop tree there);
     }
 
     -- no function takes more than three
@@ -301,6 +304,7 @@ module _ (scene : SceneModel) where
             })
             (given (reading_at slots type) (reading_at slots type)))
             stop tree stands typed;
+        of_number = λ number stop tree type there. absurd (no_number scene place (NodeKind.Call function) tt here number stop tree there);
       }
 
       -- so is an outcome that no answer reports
@@ -322,4 +326,5 @@ module _ (scene : SceneModel) where
                   (subst (λ (vs : List Val). CallGives scene.moment function vs told) (sym read) (given (reading_at slots type)));
             })
             stop tree stands typed;
+        of_number = λ number stop tree type there. absurd (no_number scene place (NodeKind.Call function) tt here number stop tree there);
       }

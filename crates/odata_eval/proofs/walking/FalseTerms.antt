@@ -14,7 +14,7 @@ use Rattle.edm_values.specs.Val.{FieldVal, Val, absent, boolean, fields, null, p
 use Rattle.edm_values.specs.declared.sieve.Sieve.{Sieve}
 use Rattle.edm_values.specs.declared.value.Value.{Value}
 use Rattle.odata_functions.specs.Comparison.{AreEqual, ComparesTrue, IsGreater}
-use Rattle.odata_syntax.specs.Tree.{Tree, binary, literal, name, node}
+use Rattle.odata_syntax.specs.Tree.{Tree, literal, name, node}
 use Rattle.odata_syntax.specs.declared.binary_operator.BinaryOperator.{BinaryOperator}
 use Rattle.odata_syntax.specs.declared.binary_operator.ComparisonOperator.{ComparisonOperator}
 use Rattle.odata_syntax.specs.declared.binary_operator.LogicalOperator.{LogicalOperator}
@@ -24,11 +24,11 @@ use Rattle.csdl_schema.specs.SchemaModel.{PropertyModel, Slots, opaque, properti
 use Rattle.odata_expression_types.specs.Laws.{OneLiteralValue}
 use Rattle.odata_expression_types.specs.LiteralValue.{LiteralValue}
 use Rattle.odata_checked_filter.specs.Filter.{Filter, IsFilter, tree_of_filter}
-use Rattle.odata_checked_filter.specs.Stands.{IsOperatorNode, IsValueOf, SideBySide}
-use Rattle.odata_expression_types.specs.Reads.{OfEquality, ReadsNone, ReadsNumber}
+use Rattle.odata_checked_filter.specs.Stands.{IsValueOf, SideBySide}
+use Rattle.odata_expression_types.specs.Reads.{OfEquality, ReadsNone}
 use Rattle.odata_expression_types.specs.Sides.{Between}
 use Rattle.odata_expression_types.specs.Typed.{OperandsTyped, Typed}
-use Rattle.odata_signatures.specs.OperatorTyped.{OperatorTyped}
+use Rattle.odata_signatures.specs.OperatorTyped.{IsEquality, OperatorTyped}
 use Rattle.odata_checked_filter.specs.declared.checked_node.NodeKind.{NodeKind}
 use Rattle.odata_filter_operations.specs.CompareGives.{CompareGives, GivesTruth, IsWhether}
 use Rattle.odata_filter_operations.specs.LeftFirst.{After, Then}
@@ -40,12 +40,14 @@ use Rattle.odata_eval.specs.LiteralGives.{LiteralGives}
 use Rattle.odata_eval.specs.Means.{BinaryGives, Means}
 use Rattle.odata_eval.specs.NameGives.{FieldGives}
 use Rattle.odata_eval.specs.OperatorGives.{SidesGive}
-use Rattle.odata_eval.specs.private.ChainTerms.{AndsAbove, GoesUp, IsFalseAt, IsTermSieve, IsValue, LeavesNoFault, Refutes, StandsFor}
+use Rattle.odata_eval.specs.private.ChainTerms.{AndsAbove, GoesUp, IsFalseAt, IsNoNumber, IsTermSieve, IsValue, LeavesNoFault, Refutes, StandsFor}
 use Rattle.odata_eval.specs.private.Place.{HasKind, HasOperator, IsRightOf}
+use Rattle.odata_eval.specs.private.Scene.{NumberHere}
 use Rattle.odata_eval.specs.private.SceneModel.{SceneModel, scene_in}
-use Rattle.odata_eval.proofs.walking.Children.{two_children}
+use Rattle.odata_eval.proofs.walking.Leaves.{literal_own, number_held}
+use Rattle.odata_eval.proofs.walking.Operands.{BesideHere, no_number}
 use Rattle.odata_eval.proofs.walking.Parts.{by_kind, found_there, kind_there}
-use Rattle.odata_eval.proofs.walking.Spines.{stops_there}
+use Rattle.odata_eval.proofs.walking.Extents.{right_beside, stops_there}
 
 -- ---- outcomes of operands and of what takes them
 
@@ -181,23 +183,30 @@ module _ (filter : Filter) where
   binary_alone operator l r Left Right right left o (inr (none, inl read)) = absurd (left read.0 read.1)
   binary_alone operator l r Left Right right left o (inr (none, inr (other, given))) = given
 
-  unread_both : (ReadsRight ReadsLeft : ℤ → Type 0) (operator : BinaryOperator) (values : List Value) → IsOperatorNode values operator ReadsRight ReadsLeft (NodeKind.Binary operator)
-      → ((n : ℤ) → ¬ ReadsRight n) × ((n : ℤ) → ¬ ReadsLeft n)
-  unread_both ReadsRight ReadsLeft operator values (inl unread) = unread.none
-  unread_both ReadsRight ReadsLeft operator values (inr (inl paired)) = let is = paired.kind_is in absurd (cc)
-  unread_both ReadsRight ReadsLeft operator values (inr (inr paired)) = let is = paired.kind_is in absurd (cc)
+  -- no literal that has a number stands there, if the operator is an equality
+  abbrev NoneRead : MomentParts → BinaryOperator → ℕ → Type 0
+  NoneRead now operator i =
+      IsEquality operator → (j : ℕ) (tree : Tree) (number : ℤ) → NumberHere (seen now) number i j tree → ⊥
 
-  binary_sides : (now : MomentParts) (held : List ℕ → FieldVal) (place : ℕ) (operator : BinaryOperator) → HasOperator filter.list place operator → (P : Outcome → Type 0)
+  stands_alone : (now : MomentParts) (operator : BinaryOperator) (Operand : ExprType → Type 0) (tree : Tree) (i j : ℕ) → NoneRead now operator i → BesideHere (seen now) (OfEquality operator Operand) tree i j
+      → ReadsNone (slots_of filter.schema) (OfEquality operator Operand) tree × StandsFor filter i j tree
+  stands_alone now operator Operand tree i j none (inl read) = absurd (none read.1.beside.0 j tree read.0 read.2)
+  stands_alone now operator Operand tree i j none (inr alone) = alone
+
+  binary_sides : (now : MomentParts) (held : List ℕ → FieldVal) (place : ℕ) (operator : BinaryOperator) → HasOperator filter.list place operator → NoneRead now operator (place + 1)
+      → ((middle : ℕ) (left : Tree) → StandsFor filter (place + 1) middle left → NoneRead now operator middle) → (P : Outcome → Type 0)
       → ((stop : ℕ) (left right : Tree) → SideBySide (λ middle. StandsFor filter (place + 1) middle left) (λ middle. StandsFor filter middle stop right)
       → (o : Outcome) → Sides operator left right (Comes now held left) (Comes now held right) o → P o)
       → (stop : ℕ) (tree : Tree) → StandsFor filter place stop tree → (o : Outcome) → Comes now held tree o → P o
-  binary_sides now held place operator here P goes =
+  binary_sides now held place operator here left_none right_none P goes =
       by_kind (seen now) place (NodeKind.Binary operator) here (λ stop tree. (o : Outcome) → Comes now held tree o → P o)
       (λ left right stop from to stands o means.
-      let kind = kind_there (seen now) place (NodeKind.Binary operator) here stop from to (binary operator left right) stands in
-      let none = unread_both (ReadsNumber (slots_of filter.schema) (OfEquality operator (Side left)) right) (ReadsNumber (slots_of filter.schema) (OfEquality operator (Side right)) left) operator filter.list.values kind in
-      goes stop left right (two_children (seen now) (place + 1) stop left right stands.children) o
-      (binary_alone operator left right (Comes now held left) (Comes now held right) none.0 none.1 o means))
+      let middle = stands.children.middle in
+      let first = stands_alone now operator (Side right) left (place + 1) middle left_none stands.children.left in
+      let second = stands_alone now operator (Side left) right middle stop (right_none middle left first.1)
+      (right_beside (seen now) (OfEquality operator (Side left)) middle middle stop right refl stands.children.right) in
+      goes stop left right (record { middle = middle; left = first.1; right = second.1 }) o
+      (binary_alone operator left right (Comes now held left) (Comes now held right) second.0 first.0 o means))
 
   -- the right operand begins where the left one stops
   right_at : (now : MomentParts) (place right stop : ℕ) (l r : Tree) → IsRightOf filter.list place right
@@ -208,22 +217,26 @@ module _ (filter : Filter) where
 
   -- ---- `and`
 
+  -- none of its operands is read
+  and_unread : (now : MomentParts) (i : ℕ) → NoneRead now (BinaryOperator.Logical LogicalOperator.And) i
+  and_unread now i equality j tree number there = equality
+
   module _ (place right : ℕ) (here : HasOperator filter.list place (BinaryOperator.Logical LogicalOperator.And)) (is_right : IsRightOf filter.list place right) where
     pub and_no_fault : LeavesNoFault filter (place + 1) → LeavesNoFault filter right → LeavesNoFault filter place
     and_no_fault left_ok right_ok stop tree stands now held =
-        binary_sides now held place (BinaryOperator.Logical LogicalOperator.And) here IsValue
+        binary_sides now held place (BinaryOperator.Logical LogicalOperator.And) here (and_unread now (place + 1)) (λ middle left stands. and_unread now middle) IsValue
         (λ stop l r sides. and_sides_no_fault (OfSides (BinaryOperator.Logical LogicalOperator.And) l r) (Comes now held l) (Comes now held r) (left_ok sides.middle l sides.left now held)
         (right_ok stop r (right_at now place right stop l r is_right sides) now held)) stop tree stands
 
     pub and_right_false : LeavesNoFault filter (place + 1) → (slot : ℕ) (sieve : Sieve) → IsFalseAt filter right slot sieve → IsFalseAt filter place slot sieve
     and_right_false left_ok slot sieve decides stop tree stands word named now held value o has rejected =
-        binary_sides now held place (BinaryOperator.Logical LogicalOperator.And) here (λ o. o ≡ gives (boolean false))
+        binary_sides now held place (BinaryOperator.Logical LogicalOperator.And) here (and_unread now (place + 1)) (λ middle left stands. and_unread now middle) (λ o. o ≡ gives (boolean false))
         (λ stop l r sides. and_false_right (OfSides (BinaryOperator.Logical LogicalOperator.And) l r) (Comes now held l) (Comes now held r) (left_ok sides.middle l sides.left now held)
         (λ o means. decides stop r (right_at now place right stop l r is_right sides) word named now held value o has rejected means)) stop tree stands o
 
   pub and_left_false : (place : ℕ) → HasOperator filter.list place (BinaryOperator.Logical LogicalOperator.And) → (slot : ℕ) (sieve : Sieve) → IsFalseAt filter (place + 1) slot sieve → IsFalseAt filter place slot sieve
   and_left_false place here slot sieve decides stop tree stands word named now held value o has rejected =
-      binary_sides now held place (BinaryOperator.Logical LogicalOperator.And) here (λ o. o ≡ gives (boolean false))
+      binary_sides now held place (BinaryOperator.Logical LogicalOperator.And) here (and_unread now (place + 1)) (λ middle left stands. and_unread now middle) (λ o. o ≡ gives (boolean false))
       (λ stop l r sides. and_false_left (OfSides (BinaryOperator.Logical LogicalOperator.And) l r) (Comes now held l) (Comes now held r) (λ o means. decides sides.middle l sides.left word named now held value o has rejected means)) stop tree stands o
 
   -- from a place of the chain to its top
@@ -263,7 +276,7 @@ module _ (filter : Filter) where
     literal_read : (now : MomentParts) (stop from to : ℕ) (k : LiteralKind) (spelling : List ℕ) → StandsFor filter place stop (node from to (literal k spelling)) → IsValueOf (slots_of filter.schema) k spelling value
     literal_read now stop from to k spelling stands =
         found_there (IsValueOf (slots_of filter.schema) k spelling) (slice_get filter.list.values index) value at
-        (kind_there (seen now) place (NodeKind.Literal kind index) here stop from to (literal k spelling) stands).1
+        (literal_own (seen now) place kind index here k spelling stop from to stands)
 
     pub literal_gives : (stop : ℕ) (tree : Tree) → StandsFor filter place stop tree → (now : MomentParts) (held : List ℕ → FieldVal) → (right : Val) × ((plain_val value ≡ Some right) × Only right (Comes now held tree))
     literal_gives stop tree stands now held =
@@ -272,18 +285,32 @@ module _ (filter : Filter) where
         let read = literal_read now stop from to k spelling stands in
         (read.val, (read.plain, literal_only known (slots_of filter.schema) k spelling read.val read.value_of))) stop tree stands
 
+    -- a value that is no number of an enumeration was not read as one
+    literal_unread : IsNoNumber value → (now : MomentParts) (operator : BinaryOperator) → NoneRead now operator place
+    literal_unread none now operator equality j tree number there =
+        subst IsNoNumber (number_held (seen now) place kind index here value at number j tree there) none
+
+    property_unread : (top slot : ℕ) → HasKind filter.list top (NodeKind.Property slot) → (now : MomentParts) (operator : BinaryOperator) → NoneRead now operator top
+    property_unread top slot property now operator equality j tree number there = no_number (seen now) top (NodeKind.Property slot) tt property number j tree there
+
+    right_unread : IsNoNumber value → (top : ℕ) → IsRightOf filter.list top place → (now : MomentParts) (operator : BinaryOperator) (middle : ℕ) (left : Tree) → StandsFor filter (top + 1) middle left
+        → NoneRead now operator middle
+    right_unread none top is_right now operator middle left stands =
+        let same : middle ≡ place = stops_there (seen now) (top + 1) middle place left stands is_right in
+        subst (λ (k : ℕ). NoneRead now operator k) (sym same) (literal_unread none now operator)
+
     -- a comparison of the property with it
     pub compared_sieve : (top slot : ℕ) (comparison : ComparisonOperator) (sieve : Sieve) → HasOperator filter.list top (BinaryOperator.Comparison comparison) → HasKind filter.list (top + 1) (NodeKind.Property slot)
-        → IsRightOf filter.list top place → ((right : Val) → plain_val value ≡ Some right → Refutes comparison right sieve) → IsTermSieve filter top slot sieve
-    compared_sieve top slot comparison sieve compares property is_right refutes = record {
+        → IsRightOf filter.list top place → IsNoNumber value → ((right : Val) → plain_val value ≡ Some right → Refutes comparison right sieve) → IsTermSieve filter top slot sieve
+    compared_sieve top slot comparison sieve compares property is_right none refutes = record {
       decides = λ stop tree stands word named now held v o has rejected.
-          binary_sides now held top (BinaryOperator.Comparison comparison) compares (λ o. o ≡ gives (boolean false))
+          binary_sides now held top (BinaryOperator.Comparison comparison) compares (property_unread (top + 1) slot property now (BinaryOperator.Comparison comparison)) (right_unread none top is_right now (BinaryOperator.Comparison comparison)) (λ o. o ≡ gives (boolean false))
           (λ stop l r sides.
           let found = literal_gives stop r (right_at now top place stop l r is_right sides) now held in
           compared_false (OfSides (BinaryOperator.Comparison comparison) l r) (Comes now held l) (Comes now held r) comparison v found.0
           (property_only (top + 1) slot property sides.middle l sides.left word named now held v has) found.1.1 (refutes found.0 found.1.0 v rejected)) stop tree stands o;
       no_fault = λ stop tree stands now held.
-          binary_sides now held top (BinaryOperator.Comparison comparison) compares IsValue
+          binary_sides now held top (BinaryOperator.Comparison comparison) compares (property_unread (top + 1) slot property now (BinaryOperator.Comparison comparison)) (right_unread none top is_right now (BinaryOperator.Comparison comparison)) IsValue
           (λ stop l r sides.
           let found = literal_gives stop r (right_at now top place stop l r is_right sides) now held in
           compared_no_fault (OfSides (BinaryOperator.Comparison comparison) l r) (Comes now held l) (Comes now held r) comparison

@@ -1,9 +1,7 @@
 -- What `in` before a list evaluates to, item after item from the left.
-use Rattle.std.proofs.Common.{◌≡◌, ◌∙◌, ℕ, ℤ, zero, suc, ap, Result, slice_get, ◌<◌, ◌≤◌, ◌+◌, List, [], ◌∷◌, Bool, true, false, Option, Some, None, Ok, length, refl, sym, subst, inl, inr, arith}
+use Rattle.std.proofs.Common.{◌≡◌, ◌∙◌, ℕ, zero, suc, ◌<◌, ◌≤◌, ◌+◌, List, [], ◌∷◌, Bool, true, false, Some, Ok, length, refl, sym, subst, inl, inr, arith}
 use Rattle.std.specs.Prelude.{Contains, IsTrue, ◌↔◌}
 use Rattle.std.specs.List.{AllByRecursion}
-use Rattle.std.proofs.lemmas.Option.{slice_get_within}
-use Rattle.edm_values.specs.declared.value.Value.{Value}
 use Rattle.edm_values.specs.Val.{Val, boolean, member}
 use Rattle.edm_values.specs.declared.datum.Datum.{Datum}
 use Rattle.edm_values.specs.declared.datum.Datum.TheVariants as datum
@@ -23,7 +21,7 @@ use Rattle.odata_signatures.specs.QuotedNumber.{NumberBeside}
 use Rattle.odata_expression_types.specs.Laws.{OneType}
 use Rattle.odata_expression_types.specs.Sides.{quoted_text, side_of, sides_of}
 use Rattle.odata_checked_filter.specs.Calls.{TakesMemory}
-use Rattle.odata_checked_filter.specs.Stands.{AreItemNumbers, IsItemNumber, SideBySide}
+use Rattle.odata_checked_filter.specs.Stands.{ItemsStand, SideBySide}
 use Rattle.odata_checked_filter.specs.declared.checked_node.NodeKind.{NodeKind}
 use Rattle.odata_filter_operations.specs.declared.fault.EvalFault.{EvalFault}
 use Rattle.odata_filter_operations.specs.CompareGives.{CompareGives}
@@ -34,24 +32,23 @@ use Rattle.odata_eval.specs.Means.{ItemMeans}
 use Rattle.odata_filter_operations.specs.Outcome.{Outcome, divides_by_zero, gives, overflow}
 use Rattle.odata_filter_operations.specs.QuantifierGives.{Passes, QuantifierGives}
 use Rattle.odata_filter_operations.specs.FaultView.{fault_outcome}
-use Rattle.odata_filter_operations.specs.DatumView.{answer_outcome, reading_at}
-use Rattle.odata_eval.specs.private.ItemMarks.{AloneHere, AnswersItem, AreMarked, IsMarked, next_mark}
-use Rattle.odata_eval.specs.private.Place.{HasKind, IsRightOf, IsStopOf, PartStands}
-use Rattle.odata_eval.specs.private.Scene.{EndsOnceHere, MeansHere, StandsHere, TypedHere}
+use Rattle.odata_filter_operations.specs.DatumView.{reading_at}
+use Rattle.odata_eval.specs.private.Place.{HasKind, IsRightOf, IsStopOf, OperandStands, PartStands}
+use Rattle.odata_eval.specs.private.Scene.{EndsOnceHere, MeansHere, OperandHere, StandsHere, TypedHere}
 use Rattle.odata_eval.specs.private.SceneModel.{SceneModel, environment_of}
 use Rattle.odata_filter_operations.specs.Tells.{Tells}
 use Rattle.odata_eval.specs.private.WalkAnswer.{AnswersAtPlace, AnswersDatum}
 use Rattle.odata_eval.proofs.meaning.Kinds.{comparable_values}
 use Rattle.odata_eval.proofs.meaning.Reads.{number_comparable, read_has}
-use Rattle.odata_eval.proofs.walking.CallSteps.{behind_first, no_more, rest_stands}
+use Rattle.odata_eval.proofs.walking.CallSteps.{behind_first}
 use Rattle.odata_eval.proofs.walking.Compared.{ComparedAnyhow}
 use Rattle.odata_eval.specs.Costs.{CostAfter, CostThen, OthersCost, item_cost}
 use Rattle.odata_eval.specs.private.Spending.{CostsHere}
 use Rattle.odata_eval.proofs.spending.Items.{ComparedHere, ItemDue, ItemsCostHere, ItemsDue, SideItem, due_first, item_due, one_compared}
-use Rattle.odata_eval.proofs.walking.Parts.{by_kind, tells_there}
-use Rattle.odata_eval.proofs.walking.ReadSides.{list_numbers}
-use Rattle.odata_eval.proofs.walking.Unread.{list_plain}
-use Rattle.odata_eval.proofs.walking.Spines.{StandsAll, TypedAll, all_further, child_takes, first_child, further, has_type, stops_here, stops_there}
+use Rattle.odata_eval.proofs.walking.Parts.{by_kind}
+use Rattle.odata_eval.proofs.walking.Operands.{AloneHere, HasNone, beside_here, beside_operand, beside_tells, no_number}
+use Rattle.odata_eval.proofs.walking.Extents.{further, items_further_in, operand_further, operand_stops_there, stops_here, stops_there}
+use Rattle.odata_eval.proofs.walking.Spines.{TypedAll, child_takes, first_child, has_type}
 use Rattle.odata_eval.proofs.walking.WalkValues.{value_has}
 
 -- the first index passes, and so do the later ones
@@ -88,93 +85,97 @@ module _ (scene : SceneModel) where
   abbrev AllBeside : ExprType → Trees → List ExprType → Type 0
   AllBeside left items types = AllByRecursion (IsItemBeside (slots_of scene.row.schema) left) (sides_of items types)
 
-  abbrev MarkedHere : Tree → Option ℕ → Trees → Type 0
-  MarkedHere left = AreMarked scene.list.values (slots_of scene.row.schema) (TypedHere scene left)
+  -- what stands for items beside operands of some types
+  abbrev pub ListedHere : (ExprType → Type 0) → ℕ → ℕ → Trees → Type 0
+  ListedHere = ItemsStand scene.row.schema scene.row.type_id (scope_of (environment_of scene)) scene.list
 
-  -- a tree of `in` before a list, for whose items values may stand
-  pub record ListThere (place stop : ℕ) (mark : Option ℕ) (tree : Tree) : Type 0 where
+  pub listed_further : (Beside : ExprType → Type 0) (i j : ℕ) (items : Trees) → ListedHere Beside i j items → i ≤ j
+  listed_further Beside i j items = items_further_in scene.row.schema scene.row.type_id scene.list (scope_of (environment_of scene)) i j Beside items
+
+  pub no_more_listed : (Beside : ExprType → Type 0) (i j : ℕ) (tree : Tree) (more : Trees) → ListedHere Beside i j (more_trees tree more) → ¬ (i ≡ j)
+  no_more_listed Beside i j tree more stand same =
+      let a : i < stand.middle = operand_further scene i stand.middle tree (beside_here scene Beside tree i stand.middle stand.left) in
+      let b : stand.middle ≤ j = listed_further Beside stand.middle j more stand.right in
+      omega arith
+
+  -- the rest stands from where the first item stops
+  pub rest_listed : (Beside : ExprType → Type 0) (i j stop : ℕ) (tree : Tree) (more : Trees) → IsStopOf scene.list i stop → ListedHere Beside i j (more_trees tree more) → ListedHere Beside stop j more
+  rest_listed Beside i j stop tree more stops stand =
+      let same : stand.middle ≡ stop = operand_stops_there scene i stand.middle stop tree (beside_here scene Beside tree i stand.middle stand.left) stops in
+      subst (λ (m : ℕ). ListedHere Beside m j more) same stand.right
+
+  -- a tree of `in` before a list
+  pub record ListThere (place stop : ℕ) (tree : Tree) : Type 0 where
     pub left : Tree
     pub items : Trees
-    pub sides : SideBySide (λ middle. StandsHere scene (place + 1) middle left) (λ middle. StandsAll scene middle stop items)
+    pub sides : SideBySide (λ middle. StandsHere scene (place + 1) middle left) (λ middle. ListedHere (TypedHere scene left) middle stop items)
     pub typed : (type : ExprType) → TypedHere scene tree type → (s : ExprType) × (types : List ExprType) × (TypedHere scene left s × TypedAll scene items types × AllBeside s items types)
-    pub marked : MarkedHere left mark items
     pub takes : (child : Tree) → Contains (list_of_trees items) child → TakesMemory child → TakesMemory tree
     pub means : (o : Outcome) → After (MeansHere scene left) (λ l. ItemsHere (TypedHere scene left) l items) o → MeansHere scene tree o
     pub costs : (n : ℕ) → CostsHere scene tree n → CostAfter (MeansHere scene left) (CostsHere scene left) (λ l. ItemsCostHere scene (TypedHere scene left) l items) n
 
   -- each tree that stands there is one
-  abbrev pub AreLists : ℕ → Option ℕ → Type 0
-  AreLists place mark = (stop : ℕ) (tree : Tree) → StandsHere scene place stop tree → ListThere place stop mark tree
+  abbrev pub AreLists : ℕ → Type 0
+  AreLists place = HasNone scene place × ((stop : ℕ) (tree : Tree) → StandsHere scene place stop tree → ListThere place stop tree)
 
-  pub plain_lists : (place : ℕ) → HasKind scene.list place NodeKind.InList → AreLists place None
-  plain_lists place here = by_kind scene place NodeKind.InList here (λ stop tree. ListThere place stop None tree)
-      (λ a items stop from to stands. record {
-        left = a;
-        items = items;
-        sides = record { middle = stands.children.middle; left = stands.children.left; right = stands.children.right };
-        typed = λ type typed. (typed.left, typed.items, (typed.left_typed, typed.items_typed, typed.makes.1));
-        marked = list_plain scene place stop from to a items here stands;
-        takes = λ child among. child_takes (node from to (in_list a items)) child (behind_first a child (list_of_trees items) among);
-        means = λ o given. given;
-        costs = λ n costs. costs;
-      })
-
-  pub numbered_lists : (place numbers : ℕ) → HasKind scene.list place (NodeKind.PairedList numbers) → AreLists place (Some numbers)
-  numbered_lists place numbers here = by_kind scene place (NodeKind.PairedList numbers) here (λ stop tree. ListThere place stop (Some numbers) tree)
-      (λ a items stop from to stands. record {
-        left = a;
-        items = items;
-        sides = record { middle = stands.children.middle; left = stands.children.left; right = stands.children.right };
-        typed = λ type typed. (typed.left, typed.items, (typed.left_typed, typed.items_typed, typed.makes.1));
-        marked = list_numbers scene place numbers here stop from to a items stands;
-        takes = λ child among. child_takes (node from to (in_list a items)) child (behind_first a child (list_of_trees items) among);
-        means = λ o given. given;
-        costs = λ n costs. costs;
-      })
+  pub lists_there : (place : ℕ) → HasKind scene.list place NodeKind.InList → AreLists place
+  lists_there place here = (
+    no_number scene place NodeKind.InList tt here,
+    by_kind scene place NodeKind.InList here (λ stop tree. ListThere place stop tree)
+        (λ a items stop from to stands. record {
+          left = a;
+          items = items;
+          sides = record { middle = stands.children.middle; left = stands.children.left; right = stands.children.right };
+          typed = λ type typed. (typed.left, typed.items, (typed.left_typed, typed.items_typed, typed.makes.1));
+          takes = λ child among. child_takes (node from to (in_list a items)) child (behind_first a child (list_of_trees items) among);
+          means = λ o given. given;
+          costs = λ n costs. costs;
+        }),
+  )
 
   -- of a tree, the items from an index on: the left side has been answered, and no earlier item is equal to it; so many
   -- as IsPaid says have been paid for these
-  pub record ItemsLeft (place own at : ℕ) (IsPaid : ℕ → Type 0) (mark : Option ℕ) (left : Datum) (tree : Tree) : Type 0 where
+  pub record ItemsLeft (place own at : ℕ) (IsPaid : ℕ → Type 0) (left : Datum) (tree : Tree) : Type 0 where
     pub left_tree : Tree
     pub left_type : ExprType
     pub left_typed : TypedHere scene left_tree left_type
     pub left_has : HasType (slots_of scene.row.schema) left_type (left_at left left_type)
     pub items : Trees
     pub types : List ExprType
-    pub stand : StandsAll scene at own items
+    pub stand : ListedHere (TypedHere scene left_tree) at own items
     pub typed : TypedAll scene items types
     pub beside : AllBeside left_type items types
-    pub marked : MarkedHere left_tree mark items
     pub takes : (child : Tree) → Contains (list_of_trees items) child → TakesMemory child → TakesMemory tree
     pub goes : (o : Outcome) → ItemsHere (TypedHere scene left_tree) (left_at left left_type) items o → MeansHere scene tree o
     pub left_means : MeansHere scene left_tree (gives (left_at left left_type))
     pub due : (n : ℕ) → CostsHere scene tree n → ItemsDue scene place n IsPaid left_tree (left_at left left_type) items
 
   -- whatever tree stands there
-  pub record ListLeft (place own at : ℕ) (IsPaid : ℕ → Type 0) (mark : Option ℕ) (left : Datum) : Type 0 where
+  pub record ListLeft (place own at : ℕ) (IsPaid : ℕ → Type 0) (left : Datum) : Type 0 where
     pub behind : place < at
     pub within : at ≤ own
-    pub of_tree : (stop : ℕ) (tree : Tree) (type : ExprType) → StandsHere scene place stop tree → TypedHere scene tree type → ItemsLeft place own at IsPaid mark left tree
+    pub none : HasNone scene place
+    pub of_tree : (stop : ℕ) (tree : Tree) (type : ExprType) → StandsHere scene place stop tree → TypedHere scene tree type → ItemsLeft place own at IsPaid left tree
 
   -- what stands at an index stops after it
-  pub stop_further : (at stop : ℕ) → PartStands scene at → IsStopOf scene.list at stop → at < stop
-  stop_further at stop part is_stop =
-      let same : part.stop ≡ stop = stops_there scene at part.stop stop part.tree part.stands is_stop in
-      let later : at < part.stop = further scene at part.stop part.tree part.stands in
+  pub stop_further : (at stop : ℕ) → OperandStands scene at → IsStopOf scene.list at stop → at < stop
+  stop_further at stop operand is_stop =
+      let same : operand.stop ≡ stop = operand_stops_there scene at operand.stop stop operand.tree operand.stands is_stop in
+      let later : at < operand.stop = operand_further scene at operand.stop operand.tree operand.stands in
       omega arith
 
-  module _ (place : ℕ) (mark : Option ℕ) (are : AreLists place mark) where
+  module _ (place : ℕ) (are : AreLists place) where
     pub items_there : PartStands scene place → (first : ℕ) × IsRightOf scene.list place first
     items_there part =
-        let it = are part.stop part.tree part.stands in
+        let it = are.1 part.stop part.tree part.stands in
         (it.sides.middle, stops_here scene (place + 1) it.sides.middle it.left it.sides.left)
 
     module _ (own : ℕ) (is_own : IsStopOf scene.list place own) (at : ℕ) (is_at : IsRightOf scene.list place at) (left : Datum)
         (first : AnswersDatum scene (place + 1) (Ok left)) (ends : EndsOnceHere scene) (part : PartStands scene place) (IsPaid : ℕ → Type 0) (none_paid : IsPaid 0) where
       -- at the beginning these are all items
-      all_items : (stop : ℕ) (tree : Tree) (type : ExprType) → StandsHere scene place stop tree → TypedHere scene tree type → ItemsLeft place own at IsPaid mark left tree
+      all_items : (stop : ℕ) (tree : Tree) (type : ExprType) → StandsHere scene place stop tree → TypedHere scene tree type → ItemsLeft place own at IsPaid left tree
       all_items stop tree type stands typed =
-          let it = are stop tree stands in
+          let it = are.1 stop tree stands in
           let sides = it.typed type typed in
           let e : stop ≡ own = stops_there scene place stop own tree stands is_own in
           let f : it.sides.middle ≡ at = stops_there scene (place + 1) it.sides.middle at it.left it.sides.left is_at in
@@ -187,10 +188,9 @@ module _ (scene : SceneModel) where
             left_has = value_has scene ends it.left sides.0 l sides.2.0 first_is;
             items = it.items;
             types = sides.1;
-            stand = subst (λ (j : ℕ). StandsAll scene at j it.items) e (subst (λ (i : ℕ). StandsAll scene i stop it.items) f it.sides.right);
+            stand = subst (λ (j : ℕ). ListedHere (TypedHere scene it.left) at j it.items) e (subst (λ (i : ℕ). ListedHere (TypedHere scene it.left) i stop it.items) f it.sides.right);
             typed = sides.2.1;
             beside = sides.2.2;
-            marked = it.marked;
             takes = it.takes;
             goes = λ o given. it.means o (gives l, (first_is, given));
             left_means = first_is;
@@ -199,103 +199,43 @@ module _ (scene : SceneModel) where
                 (λ o of_o. let once = ends it.left sides.0 sides.2.0 in once.only o of_o ∙ sym (once.only (gives l) first_is)) (it.costs n costs);
           }
 
-      pub list_begins : ListLeft place own at IsPaid mark left
+      pub list_begins : ListLeft place own at IsPaid left
       list_begins =
           let typed = has_type scene place part.stop part.tree part.stands in
           let all = all_items part.stop part.tree typed.0 part.stands typed.1 in
-          let it = are part.stop part.tree part.stands in
+          let it = are.1 part.stop part.tree part.stands in
           let f : it.sides.middle ≡ at = stops_there scene (place + 1) it.sides.middle at it.left it.sides.left is_at in
           let g : place + 1 < it.sides.middle = further scene (place + 1) it.sides.middle it.left it.sides.left in
           record {
             behind = omega arith;
-            within = all_further scene at own all.items all.stand;
+            within = listed_further (TypedHere scene all.left_tree) at own all.items all.stand;
+            none = are.0;
             of_tree = all_items;
           }
 
-  -- the mark of the first one, and those of the others
-  pub first_marked : (left tree : Tree) (more : Trees) (mark : Option ℕ) → MarkedHere left mark (more_trees tree more)
-      → IsMarked scene.list.values (slots_of scene.row.schema) (TypedHere scene left) mark tree × MarkedHere left (next_mark mark) more
-  first_marked left tree more (Some place) are = are
-  first_marked left tree more None are = are
-
-  -- an item that is not read is answered by itself
-  pub alone_answers : (at : ℕ) (told : ExprType → Option Outcome) → AnswersAtPlace scene at told → AnswersItem scene at None told
-  alone_answers at told answers = record {
-    of_item = λ left stop tree type stands typed none.
-        tells_there (told type) (TakesMemory tree) (TakesMemory tree) (MeansHere scene tree) (AloneHere scene (TypedHere scene left) tree) (λ takes. takes) (λ o means. inr (none, means))
-        (answers.of_tree stop tree type stands typed);
-  }
-
-  -- a number stands at the index for an item, or null and the item is answered by itself
-  pub number_item : (at number : ℕ) (value : Value) → slice_get scene.list.values number ≡ Some value → (n : ℤ) → value ≡ Value.Enum n
-      → AnswersItem scene at (Some number) (λ type. Some (gives (datum_val (reading_at (slots_of scene.row.schema) type) (datum.Enum n))))
-  number_item at number value here n is = record {
-    of_item = λ left stop tree type stands typed marked. elim marked [
-      | inl read ↦ (
-          let same : Some value ≡ Some (Value.Enum read.0) = sym here ∙ read.2 in
-          let e : value ≡ Value.Enum read.0 = cc in
-          let one : n ≡ read.0 = cc in
-          inl (read.0, read.1, ap (λ (k : ℤ). gives (member k)) one)
-          )
-      | inr none ↦ (let same : Some value ≡ Some Value.Null = sym here ∙ none.1 in let e : value ≡ Value.Null = cc in absurd (cc))
-    ];
-  }
-
-  pub other_item : (at number : ℕ) (value : Value) → slice_get scene.list.values number ≡ Some value → ((n : ℤ) → ¬ (value ≡ Value.Enum n)) → (answer : Result Datum EvalFault) → AnswersDatum scene at answer
-      → AnswersItem scene at (Some number) (λ type. answer_outcome (datum_val (reading_at (slots_of scene.row.schema) type)) answer)
-  other_item at number value here other answer answers = record {
-    of_item = λ left stop tree type stands typed marked. elim marked [
-      | inl read ↦ (
-          let same : Some value ≡ Some (Value.Enum read.0) = sym here ∙ read.2 in
-          let e : value ≡ Value.Enum read.0 = cc in
-          absurd (other read.0 e)
-          )
-      | inr none ↦ (
-          let told = answer_outcome (datum_val (reading_at (slots_of scene.row.schema) type)) answer in
-          tells_there told (TakesMemory tree) (TakesMemory tree) (MeansHere scene tree) (AloneHere scene (TypedHere scene left) tree) (λ takes. takes) (λ o means. inr (none.0, means))
-          (answers.of_tree stop tree type stands typed)
-          )
-    ];
-  }
-
-  -- such a value stands there for each item
-  item_within : (Beside : ExprType → Type 0) (tree : Tree) (number : ℕ) → IsItemNumber scene.list.values (slots_of scene.row.schema) Beside tree number → number < length scene.list.values
-  item_within Beside tree number (inl read) = slice_get_within scene.list.values number (Value.Enum read.0) read.2
-  item_within Beside tree number (inr none) = slice_get_within scene.list.values number Value.Null none.1
-
-  one_within : (Beside : ExprType → Type 0) (own at number : ℕ) (items : Trees) → StandsAll scene at own items → ¬ (at ≡ own) → AreItemNumbers scene.list.values (slots_of scene.row.schema) Beside items number
-      → number < length scene.list.values
-  one_within Beside own at number no_trees stand remains are = absurd (remains stand)
-  one_within Beside own at number (more_trees item more) stand remains are = item_within Beside item number are.0
-
-  pub number_within : (place own at number : ℕ) (IsPaid : ℕ → Type 0) (left : Datum) → ListLeft place own at IsPaid (Some number) left → PartStands scene place → ¬ (at ≡ own) → number < length scene.list.values
-  number_within place own at number IsPaid left rest part remains =
-      let typed = has_type scene place part.stop part.tree part.stands in
-      let it = rest.of_tree part.stop part.tree typed.0 part.stands typed.1 in
-      one_within (TypedHere scene it.left_tree) own at number it.items it.stand remains it.marked
-
-  module _ (place own at : ℕ) (IsPaid : ℕ → Type 0) (mark : Option ℕ) (left : Datum) (rest : ListLeft place own at IsPaid mark left) where
-    item_stands : (tree : Tree) (items : Trees) → StandsAll scene at own items → ¬ (at ≡ own) → PartStands scene at
-    item_stands tree no_trees stand further = absurd (further stand)
-    item_stands tree (more_trees item more) stand further = record { stop = stand.middle; tree = item; stands = stand.left }
+  module _ (place own at : ℕ) (IsPaid : ℕ → Type 0) (left : Datum) (rest : ListLeft place own at IsPaid left) where
+    item_stands : (Beside : ExprType → Type 0) (items : Trees) → ListedHere Beside at own items → ¬ (at ≡ own) → OperandStands scene at
+    item_stands Beside no_trees stand further = absurd (further stand)
+    item_stands Beside (more_trees item more) stand further = beside_operand scene Beside item at stand.middle stand.left
 
     -- the next item
-    pub next_item : PartStands scene place → ¬ (at ≡ own) → PartStands scene at
+    pub next_item : PartStands scene place → ¬ (at ≡ own) → OperandStands scene at
     next_item part further =
         let typed = has_type scene place part.stop part.tree part.stands in
         let it = rest.of_tree part.stop part.tree typed.0 part.stands typed.1 in
-        item_stands part.tree it.items it.stand further
+        item_stands (TypedHere scene it.left_tree) it.items it.stand further
 
     -- no item is left
-    none_left : (Beside : ExprType → Type 0) (l : Val) (items : Trees) → StandsAll scene at own items → at ≡ own → ItemsHere Beside l items (gives (boolean false))
+    none_left : (Beside : ExprType → Type 0) (l : Val) (items : Trees) → ListedHere Beside at own items → at ≡ own → ItemsHere Beside l items (gives (boolean false))
     none_left Beside l no_trees stand end = inr (record { each = λ k within. absurd (omega (arith, within)); is = refl })
-    none_left Beside l (more_trees item more) stand end = absurd (no_more scene at own item more stand end)
+    none_left Beside l (more_trees item more) stand end = absurd (no_more_listed Beside at own item more stand end)
 
     pub no_item : at ≡ own → AnswersDatum scene place (Ok (datum.Bool false))
     no_item end = record {
       of_tree = λ stop tree type stands typed.
           let it = rest.of_tree stop tree type stands typed in
           it.goes (gives (boolean false)) (none_left (TypedHere scene it.left_tree) (left_at left it.left_type) it.items it.stand end);
+      of_number = λ number stop tree type there. absurd (rest.none number stop tree there);
     }
 
     -- a fault of the next item is the outcome
@@ -308,21 +248,22 @@ module _ (scene : SceneModel) where
         goes divides_by_zero (inl (record { place = 0; here = (divides_by_zero, ((divides_by_zero, (is, refl)), refl)); earlier = λ k before. absurd (omega (arith, before)) }))
     item_fault EvalFault.Memory Beside left_type whole item more takes goes is = takes is
 
-    faults_of : (fault : EvalFault) (left_tree : Tree) (left_type : ExprType) (whole : Tree) (items : Trees) (types : List ExprType) → StandsAll scene at own items → TypedAll scene items types
-        → MarkedHere left_tree mark items → ¬ (at ≡ own) → ((child : Tree) → Contains (list_of_trees items) child → TakesMemory child → TakesMemory whole)
+    faults_of : (fault : EvalFault) (left_tree : Tree) (left_type : ExprType) (whole : Tree) (items : Trees) (types : List ExprType) → ListedHere (TypedHere scene left_tree) at own items
+        → TypedAll scene items types → ¬ (at ≡ own) → ((child : Tree) → Contains (list_of_trees items) child → TakesMemory child → TakesMemory whole)
         → ((o : Outcome) → ItemsHere (TypedHere scene left_tree) (left_at left left_type) items o → MeansHere scene whole o)
-        → AnswersItem scene at mark (λ type. fault_outcome fault) → Tells (TakesMemory whole) (MeansHere scene whole) (fault_outcome fault)
-    faults_of fault left_tree left_type whole no_trees types stand typed marked further takes goes faults = absurd (further stand)
-    faults_of fault left_tree left_type whole (more_trees item more) [] stand typed marked further takes goes faults = absurd typed
-    faults_of fault left_tree left_type whole (more_trees item more) (t ∷ types) stand typed marked further takes goes faults =
+        → AnswersAtPlace scene at (λ type. fault_outcome fault) → Tells (TakesMemory whole) (MeansHere scene whole) (fault_outcome fault)
+    faults_of fault left_tree left_type whole no_trees types stand typed further takes goes faults = absurd (further stand)
+    faults_of fault left_tree left_type whole (more_trees item more) [] stand typed further takes goes faults = absurd typed
+    faults_of fault left_tree left_type whole (more_trees item more) (t ∷ types) stand typed further takes goes faults =
         item_fault fault (TypedHere scene left_tree) left_type whole item more (takes item (first_child item (list_of_trees more))) goes
-        (faults.of_item left_tree stand.middle item t stand.left typed.0 (first_marked left_tree item more mark marked).0)
+        (beside_tells scene (TypedHere scene left_tree) item at stand.middle t (λ type. fault_outcome fault) stand.left typed.0 faults)
 
-    pub item_faults : ¬ (at ≡ own) → (fault : EvalFault) → AnswersItem scene at mark (λ type. fault_outcome fault) → AnswersAtPlace scene place (λ type. fault_outcome fault)
+    pub item_faults : ¬ (at ≡ own) → (fault : EvalFault) → AnswersAtPlace scene at (λ type. fault_outcome fault) → AnswersAtPlace scene place (λ type. fault_outcome fault)
     item_faults further fault faults = record {
       of_tree = λ stop tree type stands typed.
           let it = rest.of_tree stop tree type stands typed in
-          faults_of fault it.left_tree it.left_type tree it.items it.types it.stand it.typed it.marked further it.takes it.goes faults;
+          faults_of fault it.left_tree it.left_type tree it.items it.types it.stand it.typed further it.takes it.goes faults;
+      of_number = λ number stop tree type there. absurd (rest.none number stop tree there);
     }
 
     -- what is due where the next item is equal
@@ -332,26 +273,23 @@ module _ (scene : SceneModel) where
       pub tree : Tree
       pub more : Trees
       pub last : ℕ
-      pub stands : StandsHere scene at last tree
-      pub mark_is : IsMarked scene.list.values (slots_of scene.row.schema) (TypedHere scene left_tree) mark tree
+      pub stands : OperandHere scene at last tree
       pub due : ItemDue scene place n IsPaid left_tree left_val tree more (gives (boolean true))
 
-    module _ (types_one : OneType) (item : Datum) (answers : AnswersItem scene at mark (λ type. Some (gives (left_at item type)))) (remains : ¬ (at ≡ own)) where
+    module _ (types_one : OneType) (item : Datum) (answers : AnswersAtPlace scene at (λ type. Some (gives (left_at item type)))) (remains : ¬ (at ≡ own)) where
       -- the next item, with its type and its value
       record NextItem (left_tree : Tree) (left_type : ExprType) (whole : Tree) : Type 0 where
         tree : Tree
         more : Trees
         type_of : ExprType
         types : List ExprType
-        stand : StandsAll scene at own (more_trees tree more)
+        stand : ListedHere (TypedHere scene left_tree) at own (more_trees tree more)
         means : AloneHere scene (TypedHere scene left_tree) tree (gives (left_at item type_of))
         equality : HaveEquality (left_at left left_type) (left_at item type_of)
         typed : TypedAll scene more types
         beside : AllBeside left_type more types
-        marked : MarkedHere left_tree (next_mark mark) more
         takes : (child : Tree) → Contains (list_of_trees more) child → TakesMemory child → TakesMemory whole
         goes : (o : Outcome) → ItemsHere (TypedHere scene left_tree) (left_at left left_type) (more_trees tree more) o → MeansHere scene whole o
-        mark_is : IsMarked scene.list.values (slots_of scene.row.schema) (TypedHere scene left_tree) mark tree
         side : SideItem scene left_tree (left_at left left_type) tree
         due : (n : ℕ) → CostsHere scene whole n → ItemsDue scene place n IsPaid left_tree (left_at left left_type) (more_trees tree more)
 
@@ -376,16 +314,15 @@ module _ (scene : SceneModel) where
 
       next_of : EndsOnceHere scene → (left_tree : Tree) (left_type : ExprType) (whole : Tree) (items : Trees) (types : List ExprType) → TypedHere scene left_tree left_type
           → HasType (slots_of scene.row.schema) left_type (left_at left left_type)
-          → StandsAll scene at own items → TypedAll scene items types → AllBeside left_type items types → MarkedHere left_tree mark items
+          → ListedHere (TypedHere scene left_tree) at own items → TypedAll scene items types → AllBeside left_type items types
           → ((child : Tree) → Contains (list_of_trees items) child → TakesMemory child → TakesMemory whole)
           → ((o : Outcome) → ItemsHere (TypedHere scene left_tree) (left_at left left_type) items o → MeansHere scene whole o)
           → MeansHere scene left_tree (gives (left_at left left_type)) → ((n : ℕ) → CostsHere scene whole n → ItemsDue scene place n IsPaid left_tree (left_at left left_type) items) → NextItem left_tree left_type whole
-      next_of ends left_tree left_type whole no_trees types left_typed has stand typed beside marked takes goes left_means due = absurd (remains stand)
-      next_of ends left_tree left_type whole (more_trees tree more) [] left_typed has stand typed beside marked takes goes left_means due = absurd typed
-      next_of ends left_tree left_type whole (more_trees tree more) (t ∷ types) left_typed has stand typed beside marked takes goes left_means due =
-          let marks = first_marked left_tree tree more mark marked in
+      next_of ends left_tree left_type whole no_trees types left_typed has stand typed beside takes goes left_means due = absurd (remains stand)
+      next_of ends left_tree left_type whole (more_trees tree more) [] left_typed has stand typed beside takes goes left_means due = absurd typed
+      next_of ends left_tree left_type whole (more_trees tree more) (t ∷ types) left_typed has stand typed beside takes goes left_means due =
           let is : AloneHere scene (TypedHere scene left_tree) tree (gives (left_at item t)) =
-          answers.of_item left_tree stand.middle tree t stand.left typed.0 marks.0 in
+          beside_tells scene (TypedHere scene left_tree) tree at stand.middle t (λ type. Some (gives (left_at item type))) stand.left typed.0 answers in
           record {
             tree = tree;
             more = more;
@@ -396,16 +333,14 @@ module _ (scene : SceneModel) where
             equality = item_equality ends left_tree left_type (left_at left left_type) tree t (left_at item t) left_typed has typed.0 beside.0 is;
             typed = typed.1;
             beside = beside.1;
-            marked = marks.1;
             takes = λ child among. takes child (behind_first tree child (list_of_trees more) among);
             goes = goes;
-            mark_is = marks.0;
             side = record { left_type = left_type; left_typed = left_typed; left_means = left_means; item_type = t; item_typed = typed.0; beside = beside.0 };
             due = due;
           }
 
-      next_in : EndsOnceHere scene → (whole : Tree) (it : ItemsLeft place own at IsPaid mark left whole) → NextItem it.left_tree it.left_type whole
-      next_in ends whole it = next_of ends it.left_tree it.left_type whole it.items it.types it.left_typed it.left_has it.stand it.typed it.beside it.marked it.takes it.goes it.left_means it.due
+      next_in : EndsOnceHere scene → (whole : Tree) (it : ItemsLeft place own at IsPaid left whole) → NextItem it.left_tree it.left_type whole
+      next_in ends whole it = next_of ends it.left_tree it.left_type whole it.items it.types it.left_typed it.left_has it.stand it.typed it.beside it.takes it.goes it.left_means it.due
 
       -- it may be compared with the left value
       pub may_compare_item : EndsOnceHere scene → ComparedAnyhow → PartStands scene place → (l r : Reading) → HaveEquality (datum_val l left) (datum_val r item)
@@ -434,6 +369,7 @@ module _ (scene : SceneModel) where
                 here = (gives (boolean true), ((gives v, (next.means, (next.equality, ((λ yes. equal), (λ same. refl))))), refl));
                 earlier = λ k before. absurd (omega (arith, before));
               }));
+          of_number = λ number stop tree type there. absurd (rest.none number stop tree there);
         }
 
         -- one that differs does not, and the others are left
@@ -454,7 +390,7 @@ module _ (scene : SceneModel) where
             (λ p of_p. one_compared scene ends left_tree (left_at left left_type) next.tree next.side p o of_p is) (next.due n costs)
 
         module _ (IsPaidNow : ℕ → Type 0)
-            (pays : (left_tree : Tree) (last : ℕ) (tree : Tree) (paid cost : ℕ) → StandsHere scene at last tree → IsMarked scene.list.values (slots_of scene.row.schema) (TypedHere scene left_tree) mark tree
+            (pays : (last : ℕ) (tree : Tree) (paid cost : ℕ) → OperandHere scene at last tree
             → CostsHere scene tree cost → IsPaid paid → IsPaidNow (paid + (item_cost (environment_of scene) + cost))) where
           -- so it has been paid for
           whole_due : (o : Outcome) → (whole : Tree) (left_tree : Tree) (left_type : ExprType) (next : NextItem left_tree left_type whole)
@@ -472,24 +408,27 @@ module _ (scene : SceneModel) where
                 paid = it.paid + (item_cost (environment_of scene) + it.item_own);
                 due = it.later;
                 sum = paid_sum n it.own it.paid (item_cost (environment_of scene)) it.item_own it.later it.sum;
-                is_paid = pays left_tree next.stand.middle next.tree it.paid it.item_own next.stand.left next.mark_is it.item_costs it.is_paid;
+                is_paid = pays next.stand.middle next.tree it.paid it.item_own (beside_here scene (TypedHere scene left_tree) next.tree at next.stand.middle next.stand.left) it.item_costs it.is_paid;
                 asked = goes it.later it.follows_item;
               }
 
         pub item_differs : answer ≡ false → PartStands scene place → (stop : ℕ) → IsStopOf scene.list at stop → (IsPaidNow : ℕ → Type 0)
-            → ((left_tree : Tree) (last : ℕ) (tree : Tree) (paid cost : ℕ) → StandsHere scene at last tree → IsMarked scene.list.values (slots_of scene.row.schema) (TypedHere scene left_tree) mark tree
+            → ((last : ℕ) (tree : Tree) (paid cost : ℕ) → OperandHere scene at last tree
             → CostsHere scene tree cost → IsPaid paid → IsPaidNow (paid + (item_cost (environment_of scene) + cost)))
-            → ListLeft place own stop IsPaidNow (next_mark mark) left
+            → ListLeft place own stop IsPaidNow left
         item_differs so part stop is_stop IsPaidNow pays =
             let has = has_type scene place part.stop part.tree part.stands in
             let there = rest.of_tree part.stop part.tree has.0 part.stands has.1 in
             let found = next_in ends part.tree there in
-            let middle_is : found.stand.middle ≡ stop = stops_there scene at found.stand.middle stop found.tree found.stand.left is_stop in
-            let later : at < found.stand.middle = further scene at found.stand.middle found.tree found.stand.left in
-            let over : stop ≤ own = all_further scene stop own found.more (rest_stands scene at own stop found.tree found.more is_stop found.stand) in
+            let Beside : ExprType → Type 0 = TypedHere scene there.left_tree in
+            let first = beside_here scene Beside found.tree at found.stand.middle found.stand.left in
+            let middle_is : found.stand.middle ≡ stop = operand_stops_there scene at found.stand.middle stop found.tree first is_stop in
+            let later : at < found.stand.middle = operand_further scene at found.stand.middle found.tree first in
+            let over : stop ≤ own = listed_further Beside stop own found.more (rest_listed Beside at own stop found.tree found.more is_stop found.stand) in
             record {
               behind = let before : place < at = rest.behind in omega arith;
               within = over;
+              none = rest.none;
               of_tree = λ j tree type stands typed.
                   let it = rest.of_tree j tree type stands typed in
                   let next = next_in ends tree it in
@@ -503,10 +442,9 @@ module _ (scene : SceneModel) where
                     left_has = it.left_has;
                     items = next.more;
                     types = next.types;
-                    stand = rest_stands scene at own stop next.tree next.more is_stop next.stand;
+                    stand = rest_listed (TypedHere scene it.left_tree) at own stop next.tree next.more is_stop next.stand;
                     typed = next.typed;
                     beside = next.beside;
-                    marked = next.marked;
                     takes = next.takes;
                     left_means = it.left_means;
                     due = whole_due IsPaidNow pays (gives (boolean false)) tree it.left_tree it.left_type next (differs_here (TypedHere scene it.left_tree) l v next.tree next.more next.means next.equality differs) (λ later costs. costs);
@@ -530,7 +468,6 @@ module _ (scene : SceneModel) where
               tree = next.tree;
               more = next.more;
               last = next.stand.middle;
-              stands = next.stand.left;
-              mark_is = next.mark_is;
+              stands = beside_here scene (TypedHere scene it.left_tree) next.tree at next.stand.middle next.stand.left;
               due = next_due whole it.left_tree it.left_type next (gives (boolean true)) (gives v, (next.means, (next.equality, ((λ yes. equal), (λ same. refl))))) n costs;
             }

@@ -38,8 +38,10 @@ use Rattle.odata_filter_operations.specs.Tells.{Tells}
 use Rattle.odata_eval.specs.private.WalkAnswer.{AnswersDatum, AnswersTruth}
 use Rattle.odata_eval.proofs.meaning.OneByOne.{members_one_by_one}
 use Rattle.odata_eval.proofs.walking.Children.{body_stands}
+use Rattle.odata_eval.proofs.walking.Operands.{no_number}
 use Rattle.odata_eval.proofs.walking.Parts.{by_kind, found_there, some_there, tells_there, there_found}
-use Rattle.odata_eval.proofs.walking.Spines.{child_takes, further, second_child, stops_here, stops_there}
+use Rattle.odata_eval.proofs.walking.Extents.{further, stops_here, stops_there}
+use Rattle.odata_eval.proofs.walking.Spines.{child_takes, second_child}
 use Rattle.odata_eval.proofs.walking.WalkValues.{value_has}
 
 -- ---- collections of the code
@@ -229,6 +231,7 @@ module _ (types : OneType) (scene : SceneModel) (place : ℕ) (quantifier : Quan
               by_kind scene place (NodeKind.Lambda quantifier) here (λ stop tree. TypedHere scene tree type → MeansHere scene tree (gives (truth_val truth)))
               (λ base asked body stop from to stands typed. members_tell (Ok truth) answers stop from to base asked body stands type typed)
               stop tree stands typed;
+          of_number = λ number stop tree type there. absurd (no_number scene place (NodeKind.Lambda quantifier) tt here number stop tree there);
         }
 
         pub fault_answers : (fault : EvalFault) → AnswersMembers scene right quantifier variable held.now (Err fault) → AnswersDatum scene place (Err fault)
@@ -237,6 +240,7 @@ module _ (types : OneType) (scene : SceneModel) (place : ℕ) (quantifier : Quan
               by_kind scene place (NodeKind.Lambda quantifier) here (λ stop tree. TypedHere scene tree type → Tells (TakesMemory tree) (MeansHere scene tree) (answer_outcome truth_val (Err fault)))
               (λ base asked body stop from to stands typed. members_tell (Err fault) answers stop from to base asked body stands type typed)
               stop tree stands typed;
+          of_number = λ number stop tree type there. absurd (no_number scene place (NodeKind.Lambda quantifier) tt here number stop tree there);
         }
 
   -- over null it is null
@@ -252,4 +256,5 @@ module _ (types : OneType) (scene : SceneModel) (place : ℕ) (quantifier : Quan
         (value_has scene ends base (collection typed.member_type) (datum_val (reading_at slots (collection typed.member_type)) value) typed.binds.over means) other in
         (gives null, (subst (λ (d : Datum). MeansHere scene base (gives (datum_val (reading_at slots (collection typed.member_type)) d))) is means, refl)))
         stop tree stands typed;
+    of_number = λ number stop tree type there. absurd (no_number scene place (NodeKind.Lambda quantifier) tt here number stop tree there);
   }

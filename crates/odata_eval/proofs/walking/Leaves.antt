@@ -1,31 +1,34 @@
 -- What a node without operands evaluates to: the value that is stored for it.
-use Rattle.std.proofs.Common.{◌≡◌, ◌∙◌, ℕ, ◌<◌, ◌≤◌, [], ◌∷◌, arith, subst, sym, List, MatchOption, Option, false, Some, length, nat_eq, ap, rules}
-use Rattle.std.specs.Prelude.{slice_get, string_bytes}
+use Rattle.std.proofs.Common.{◌≡◌, ◌∙◌, ◌+◌, ℕ, ◌<◌, ◌≤◌, [], ◌∷◌, arith, inl, inr, refl, subst, sym, ℤ, List, MatchOption, Option, false, Some, length, nat_eq, ap, rules}
+use Rattle.std.specs.Prelude.{IsSomeAnd, slice_get, string_bytes}
 use Rattle.std.specs.Cmp.Lexicographic.{pointwise}
+use Rattle.std.proofs.lemmas.Option.{slice_get_within}
 use Rattle.std.proofs.lemmas.List.Quantifiers.{position-Some}
 use Rattle.edm_values.specs.PlainVal.{plain_val}
 use Rattle.edm_values.specs.Val.{Val, null, boolean, whole, text, date, moment, guid, member}
 use Rattle.edm_values.specs.declared.value.Value.{Value, Null, Bool, Int, Text, Date, Moment, Guid, Enum, Record', List', the_lemmas}
-use Rattle.odata_syntax.specs.Tree.{Trees, literal, more_trees, name, no_trees}
+use Rattle.odata_syntax.specs.Tree.{Tree, Trees, literal, more_trees, name, no_trees, node}
 use Rattle.odata_syntax.specs.declared.node.LiteralKind.{LiteralKind}
 use Rattle.csdl_schema.specs.ExprType.{ExprType}
 use Rattle.csdl_schema.specs.SchemaModel.{PropertyModel, Slots, opaque, properties_at, slot_named, slots_of}
 use Rattle.edm_entities.specs.Row.{val_of, value_of}
 use Rattle.odata_expression_types.specs.Typed.{PropertyTyped, variable_type}
 use Rattle.odata_checked_filter.specs.declared.checked_node.NodeKind.{NodeKind}
-use Rattle.odata_checked_filter.specs.Stands.{IsValueOf}
+use Rattle.odata_checked_filter.specs.Stands.{HasOwnValue, IsValueOf}
 use Rattle.odata_eval.specs.Environment.{scope_of, variable_value}
 use Rattle.odata_eval.specs.NameGives.{FoundGives}
 use Rattle.odata_filter_operations.specs.Outcome.{Outcome, gives}
 use Rattle.odata_eval.specs.private.Frames.{StandsAtLevel, names_of}
-use Rattle.odata_eval.specs.private.Place.{HasKind, PartStands}
-use Rattle.odata_eval.specs.private.Scene.{HoldsAt, MeansHere, TypedHere}
+use Rattle.odata_eval.specs.private.Place.{HasKind, IsRightOf, IsStopOf, OperandStands}
+use Rattle.odata_eval.specs.private.Scene.{HoldsAt, MeansHere, NumberHere, StandsHere, TypedHere}
 use Rattle.odata_eval.specs.private.SceneModel.{SceneModel, environment_of}
 use Rattle.odata_eval.specs.private.WalkAnswer.{AnswersKept}
 use Rattle.odata_signatures.specs.Functions.{IsNamed, row_of}
 use Rattle.odata_signatures.specs.declared.function.Function.{Function}
 use Rattle.odata_signatures.specs.CallTyped.{CallTyped}
 use Rattle.odata_filter_operations.specs.CallGives.{CallGives}
+use Rattle.odata_eval.proofs.walking.Extents.{stops_here}
+use Rattle.odata_eval.proofs.walking.Operands.{NumberThere, no_number, number_there, one_kind, tree_of_kind}
 use Rattle.odata_eval.proofs.walking.Parts.{by_kind, found_there, inside, kind_there}
 use Rattle.odata_eval.proofs.walking.Spines.{MeanAll, TypedAll, only_now}
 use Rattle.odata_eval.proofs.walking.SlotValue.{slot_value}
@@ -49,12 +52,54 @@ slot_below asked slot properties named =
     (position-Some (λ p. pointwise nat_eq asked p.name) properties slot (record { name = []; type_of = opaque; many = false; nullable = false }) named).0
 
 module _ (scene : SceneModel) (place : ℕ) where
-  pub literal_within : (kind : LiteralKind) (value : ℕ) → HasKind scene.list place (NodeKind.Literal kind value) → PartStands scene place → value < length scene.list.values
-  literal_within kind value here part =
-      by_kind scene place (NodeKind.Literal kind value) here (λ stop tree. value < length scene.list.values)
-      (λ k spelling stop from to stands.
-      inside (IsValueOf (slots_of scene.row.schema) k spelling) scene.list.values value (kind_there scene place (NodeKind.Literal kind value) here stop from to (literal k spelling) stands).1)
-      part.stop part.tree part.stands
+  -- a literal has a value: its own, or its number
+  own_value : (values : List Value) (slots : Slots) (k : LiteralKind) (spelling : List ℕ) (kind : LiteralKind) (value : ℕ)
+      → HasOwnValue values slots (literal k spelling) (NodeKind.Literal kind value) → IsSomeAnd (slice_get values value) (IsValueOf slots k spelling)
+  own_value values slots k spelling kind value has = has
+
+  pub literal_own : (kind : LiteralKind) (value : ℕ) → HasKind scene.list place (NodeKind.Literal kind value) → (k : LiteralKind) (spelling : List ℕ) (stop from to : ℕ)
+      → StandsHere scene place stop (node from to (literal k spelling)) → IsSomeAnd (slice_get scene.list.values value) (IsValueOf (slots_of scene.row.schema) k spelling)
+  literal_own kind value here k spelling stop from to stands =
+      own_value scene.list.values (slots_of scene.row.schema) k spelling kind value
+      (subst (λ (l : NodeKind). HasOwnValue scene.list.values (slots_of scene.row.schema) (literal k spelling) l)
+      (found_there (λ found. found.kind ≡ NodeKind.Literal kind value) (slice_get scene.list.nodes place) stands.top.found stands.top.stands_at here) stands.top.valued)
+
+  same_literal : (kind : LiteralKind) (value : ℕ) → HasKind scene.list place (NodeKind.Literal kind value) → (number : ℤ) (stop : ℕ) → (there : NumberThere scene number place stop)
+      → there.value ≡ value
+  same_literal kind value here number stop there =
+      let same : NodeKind.Literal kind value ≡ NodeKind.Literal LiteralKind.Str there.value =
+      one_kind (slice_get scene.list.nodes place) (NodeKind.Literal kind value) (NodeKind.Literal LiteralKind.Str there.value) here there.here in
+      cc
+
+  pub literal_within : (kind : LiteralKind) (value : ℕ) → HasKind scene.list place (NodeKind.Literal kind value) → OperandStands scene place → value < length scene.list.values
+  literal_within kind value here operand = elim operand.stands [
+    | inl stands ↦
+        by_kind scene place (NodeKind.Literal kind value) here (λ stop tree. value < length scene.list.values)
+        (λ k spelling stop from to stands.
+        inside (IsValueOf (slots_of scene.row.schema) k spelling) scene.list.values value (literal_own kind value here k spelling stop from to stands))
+        operand.stop operand.tree stands
+    | inr number ↦
+        let there = number_there scene number.0 place operand.stop operand.tree number.1 in
+        subst (λ (k : ℕ). k < length scene.list.values) (same_literal kind value here number.0 operand.stop there)
+        (slice_get_within scene.list.values there.value (Enum number.0) there.at)
+  ]
+
+  -- a number that stands there is the value there
+  pub number_held : (kind : LiteralKind) (value : ℕ) → HasKind scene.list place (NodeKind.Literal kind value) → (v : Value) → slice_get scene.list.values value ≡ Some v
+      → (number : ℤ) (stop : ℕ) (tree : Tree) → NumberHere scene number place stop tree → v ≡ Enum number
+  number_held kind value here v at number stop tree stands =
+      let there = number_there scene number place stop tree stands in
+      let same : there.value ≡ value = same_literal kind value here number stop there in
+      let held : Some v ≡ Some (Enum number) = sym at ∙ ap (slice_get scene.list.values) (sym same) ∙ there.at in
+      cc
+
+  -- the number that is answered
+  number_answers : (kind : LiteralKind) (value : ℕ) → HasKind scene.list place (NodeKind.Literal kind value) → (v : Value) → slice_get scene.list.values value ≡ Some v
+      → (number : ℤ) (stop : ℕ) (tree : Tree) (type : ExprType) → NumberHere scene number place stop tree
+      → Some (gives (val_of v (slots_of scene.row.schema).properties type)) ≡ Some (gives (member number))
+  number_answers kind value here v at number stop tree type stands =
+      ap (λ (w : Value). Some (gives (val_of w (slots_of scene.row.schema).properties type))) (number_held kind value here v at number stop tree stands)
+      ∙ ap (λ (w : Val). Some (gives w)) (plain_is (slots_of scene.row.schema) type (Enum number) (member number) refl)
 
   pub literal_answers : (kind : LiteralKind) (value : ℕ) → HasKind scene.list place (NodeKind.Literal kind value) → (v : Value) → slice_get scene.list.values value ≡ Some v
       → AnswersKept scene place v
@@ -63,10 +108,10 @@ module _ (scene : SceneModel) (place : ℕ) where
         by_kind scene place (NodeKind.Literal kind value) here (λ stop tree. MeansHere scene tree (gives (val_of v (slots_of scene.row.schema).properties type)))
         (λ k spelling stop from to stands.
         let read : IsValueOf (slots_of scene.row.schema) k spelling v =
-        found_there (IsValueOf (slots_of scene.row.schema) k spelling) (slice_get scene.list.values value) v at
-        (kind_there scene place (NodeKind.Literal kind value) here stop from to (literal k spelling) stands).1 in
+        found_there (IsValueOf (slots_of scene.row.schema) k spelling) (slice_get scene.list.values value) v at (literal_own kind value here k spelling stop from to stands) in
         rw (plain_is (slots_of scene.row.schema) type v read.val read.plain) read.value_of)
         stop tree stands;
+    of_number = number_answers kind value here v at;
   }
 
   pub it_answers : HasKind scene.list place NodeKind.It → AnswersKept scene place scene.row.value
@@ -75,6 +120,7 @@ module _ (scene : SceneModel) (place : ℕ) where
         by_kind scene place NodeKind.It here (λ stop tree. (t : ExprType) → TypedHere scene tree t → MeansHere scene tree (gives (val_of scene.row.value (slots_of scene.row.schema).properties t)))
         (λ stop from to stands t typed. ap (λ (s : ExprType). gives (val_of scene.row.value (slots_of scene.row.schema).properties s)) typed)
         stop tree stands type typed;
+    of_number = λ number stop tree type there. absurd (no_number scene place NodeKind.It tt here number stop tree there);
   }
 
   -- `now()` has no argument
@@ -102,17 +148,30 @@ module _ (scene : SceneModel) (place : ℕ) where
               (ap gives (plain_is (slots_of scene.row.schema) t v (moment scene.moment) (ap plain_val is)));
         })
         stop tree stands type typed;
+    of_number = λ number stop tree type there. absurd (no_number scene place NodeKind.Now tt here number stop tree there);
   }
 
-  pub property_within : (slot : ℕ) → HasKind scene.list place (NodeKind.Property slot) → PartStands scene place → slot < length (properties_at scene.row.schema scene.row.type_id)
-  property_within slot here part =
+  pub property_within : (slot : ℕ) → HasKind scene.list place (NodeKind.Property slot) → OperandStands scene place → slot < length (properties_at scene.row.schema scene.row.type_id)
+  property_within slot here operand =
+      let part = tree_of_kind scene place (NodeKind.Property slot) tt here operand in
       by_kind scene place (NodeKind.Property slot) here (λ stop tree. slot < length (properties_at scene.row.schema scene.row.type_id))
       (λ asked stop from to stands.
       slot_below asked slot (properties_at scene.row.schema scene.row.type_id) (kind_there scene place (NodeKind.Property slot) here stop from to (name asked) stands).1)
       part.stop part.tree part.stands
 
-  pub variable_within : (level : ℕ) → HasKind scene.list place (NodeKind.Variable level) → PartStands scene place → level < length (names_of (environment_of scene))
-  variable_within level here part =
+  -- it has no children
+  property_stops : (slot : ℕ) → HasKind scene.list place (NodeKind.Property slot) → OperandStands scene place → IsStopOf scene.list place (place + 1)
+  property_stops slot here operand =
+      let part = tree_of_kind scene place (NodeKind.Property slot) tt here operand in
+      by_kind scene place (NodeKind.Property slot) here (λ stop tree. IsStopOf scene.list place (place + 1))
+      (λ asked stop from to stands.
+      let e : place + 1 ≡ stop = stands.children in
+      subst (λ (k : ℕ). IsStopOf scene.list place k) (sym e) (stops_here scene place stop (node from to (name asked)) stands))
+      part.stop part.tree part.stands
+
+  pub variable_within : (level : ℕ) → HasKind scene.list place (NodeKind.Variable level) → OperandStands scene place → level < length (names_of (environment_of scene))
+  variable_within level here operand =
+      let part = tree_of_kind scene place (NodeKind.Variable level) tt here operand in
       by_kind scene place (NodeKind.Variable level) here (λ stop tree. level < length (names_of (environment_of scene)))
       (λ asked stop from to stands.
       level_below (names_of (environment_of scene)) asked level (kind_there scene place (NodeKind.Variable level) here stop from to (name asked) stands))
@@ -127,6 +186,7 @@ module _ (scene : SceneModel) (place : ℕ) where
         (PropertyTyped (properties_at scene.row.schema scene.row.type_id) asked t) t v
         (at.holds asked (kind_there scene place (NodeKind.Variable level) here stop from to (name asked) stands)) typed)
         stop tree stands type typed;
+    of_number = λ number stop tree type there. absurd (no_number scene place (NodeKind.Variable level) tt here number stop tree there);
   }
 
   pub property_answers : (slot : ℕ) → HasKind scene.list place (NodeKind.Property slot) → (v : Value) → HoldsAt scene.row slot v → AnswersKept scene place v
@@ -140,4 +200,11 @@ module _ (scene : SceneModel) (place : ℕ) where
         (slot_value scene.row slot v asked t holds kind.1
         (subst (λ (u : Option ExprType). MatchOption u (PropertyTyped (properties_at scene.row.schema scene.row.type_id) asked t) (λ w. t ≡ w)) none.1 typed)))
         stop tree stands type typed;
+    of_number = λ number stop tree type there. absurd (no_number scene place (NodeKind.Property slot) tt here number stop tree there);
   }
+
+-- what stands after a property that is a first child
+pub property_right : (scene : SceneModel) (place slot : ℕ) → HasKind scene.list (place + 1) (NodeKind.Property slot) → OperandStands scene (place + 1) → IsRightOf scene.list place (place + 2)
+property_right scene place slot here operand =
+    let e : place + 1 + 1 ≡ place + 2 = omega arith in
+    subst (λ (k : ℕ). IsRightOf scene.list place k) e (property_stops scene (place + 1) slot here operand)

@@ -26,6 +26,7 @@ use Rattle.odata_eval.specs.private.WalkAnswer.{AnswersDatum, AnswersKept}
 use Rattle.odata_eval.proofs.meaning.Progress.{field_gives}
 use Rattle.odata_eval.proofs.meaning.TypeValues.{held_present}
 use Rattle.odata_eval.proofs.walking.Children.{only_child}
+use Rattle.odata_eval.proofs.walking.Operands.{no_number}
 use Rattle.odata_eval.proofs.walking.Parts.{by_kind, kind_there, some_there}
 use Rattle.odata_eval.proofs.walking.SlotValue.{field_at, found_slot, slot_within}
 use Rattle.odata_eval.proofs.walking.WalkValues.{value_has}
@@ -76,6 +77,7 @@ kept_step types scene place slot here held v first at = record {
         ),
       ))
       stop tree stands type typed;
+  of_number = λ number stop tree type there. absurd (no_number scene place (NodeKind.Member slot) tt here number stop tree there);
 }
 
 module _ (types : OneType) (scene : SceneModel) (ends : EndsOnceHere scene) (place slot : ℕ) (here : HasKind scene.list place (NodeKind.Member slot)) where
@@ -109,4 +111,5 @@ module _ (types : OneType) (scene : SceneModel) (ends : EndsOnceHere scene) (pla
           ),
         ))
         stop tree stands type typed;
+    of_number = λ number stop tree type there. absurd (no_number scene place (NodeKind.Member slot) tt here number stop tree there);
   }

@@ -1,8 +1,7 @@
 -- What stands at an index, by the kind of its node.
-use Rattle.std.proofs.Common.{◌≡◌, ℕ, ◌<◌, List, Option, Some, None, length, refl, sym, subst, inl, inr}
+use Rattle.std.proofs.Common.{◌≡◌, ℕ, ◌<◌, List, Option, Some, None, length, refl, sym, subst}
 use Rattle.std.specs.Prelude.{IfSome, IsSomeAnd, slice_get}
 use Rattle.std.proofs.lemmas.Option.{slice_get_within}
-use Rattle.edm_values.specs.declared.value.Value.{Value}
 use Rattle.odata_syntax.specs.Tree.{Shape, Tree, Trees, any_item, binary, call, count, has, in_list, in_path, it, lambda, literal, logical_not, member, name, negation, node}
 use Rattle.odata_syntax.specs.declared.node.LiteralKind.{LiteralKind}
 use Rattle.csdl_schema.specs.SchemaModel.{Slots, slots_of, type_name_at}
@@ -69,12 +68,8 @@ CasesOf (NodeKind.Member slot) P = (base : Tree) (asked : List ℕ) → P (membe
 CasesOf NodeKind.Count P = (base : Tree) → P (count base)
 CasesOf NodeKind.Neg P = (operand : Tree) → P (negation operand)
 CasesOf NodeKind.Not P = (operand : Tree) → P (logical_not operand)
-CasesOf (NodeKind.PairedRight operator number) P = (left right : Tree) → P (binary operator left right)
-CasesOf (NodeKind.PairedLeft operator number) P = (left right : Tree) → P (binary operator left right)
 CasesOf NodeKind.Has P = (left right : Tree) → P (has left right)
-CasesOf (NodeKind.PairedHas number) P = (left right : Tree) → P (has left right)
 CasesOf NodeKind.InList P = (left : Tree) (items : Trees) → P (in_list left items)
-CasesOf (NodeKind.PairedList numbers) P = (left : Tree) (items : Trees) → P (in_list left items)
 CasesOf NodeKind.InPath P = (left path : Tree) → P (in_path left path)
 CasesOf (NodeKind.Call function) P = (asked : List ℕ) (arguments : Trees) → IsNamed function asked → ¬ (function ≡ Function.Now) → P (call asked arguments)
 CasesOf NodeKind.Now P = (asked : List ℕ) (arguments : Trees) → IsNamed Function.Now asked → P (call asked arguments)
@@ -82,44 +77,32 @@ CasesOf NodeKind.AnyItem P = (base : Tree) → P (any_item base)
 CasesOf (NodeKind.Lambda quantifier) P = (base : Tree) (asked : List ℕ) (body : Tree) → P (lambda quantifier base asked body)
 CasesOf (NodeKind.Binary operator) P = (left right : Tree) → P (binary operator left right)
 
-by_case : (values : List Value) (slots : Slots) (root : List ℕ) (scope : Scope) (P : Shape → Type 0) (shape : Shape) (kind : NodeKind)
-    → IsKindOf values slots root scope shape kind → CasesOf kind P → P shape
-by_case values slots root scope P (literal k spelling) (NodeKind.Literal kind value) is cases = cases k spelling
-by_case values slots root scope P it kind is cases = subst (λ (k : NodeKind). CasesOf k P) is cases
-by_case values slots root scope P (name asked) (NodeKind.Property slot) is cases = cases asked
-by_case values slots root scope P (name asked) (NodeKind.Variable level) is cases = cases asked
-by_case values slots root scope P (member base asked) (NodeKind.Member slot) is cases = cases base asked
-by_case values slots root scope P (count base) kind is cases = subst (λ (k : NodeKind). CasesOf k P) is cases base
-by_case values slots root scope P (negation operand) kind is cases = subst (λ (k : NodeKind). CasesOf k P) is cases operand
-by_case values slots root scope P (logical_not operand) kind is cases = subst (λ (k : NodeKind). CasesOf k P) is cases operand
-by_case values slots root scope P (binary operator left right) kind is cases = elim is [
-  | inl unread ↦ subst (λ (k : NodeKind). CasesOf k P) unread.kind_is cases left right
-  | inr read ↦ elim read [
-    | inl paired ↦ subst (λ (k : NodeKind). CasesOf k P) paired.kind_is cases left right
-    | inr paired ↦ subst (λ (k : NodeKind). CasesOf k P) paired.kind_is cases left right
-  ]
-]
-by_case values slots root scope P (has left right) kind is cases = elim is [
-  | inl unread ↦ subst (λ (k : NodeKind). CasesOf k P) unread.kind_is cases left right
-  | inr paired ↦ subst (λ (k : NodeKind). CasesOf k P) paired.kind_is cases left right
-]
-by_case values slots root scope P (in_list left items) kind is cases = elim is [
-  | inl unread ↦ subst (λ (k : NodeKind). CasesOf k P) unread.kind_is cases left items
-  | inr numbered ↦ subst (λ (k : NodeKind). CasesOf k P) numbered.kind_is cases left items
-]
-by_case values slots root scope P (in_path left path) kind is cases = subst (λ (k : NodeKind). CasesOf k P) is cases left path
-by_case values slots root scope P (any_item base) kind is cases = subst (λ (k : NodeKind). CasesOf k P) is cases base
-by_case values slots root scope P (lambda quantifier base asked body) kind is cases = subst (λ (k : NodeKind). CasesOf k P) is cases base asked body
-by_case values slots root scope P (call asked arguments) (NodeKind.Call function) is cases = cases asked arguments is.0 is.1
-by_case values slots root scope P (call asked arguments) NodeKind.Now is cases = cases asked arguments is
-by_case values slots root scope P _ _ is cases = absurd is
+by_case : (slots : Slots) (root : List ℕ) (scope : Scope) (P : Shape → Type 0) (shape : Shape) (kind : NodeKind)
+    → IsKindOf slots root scope shape kind → CasesOf kind P → P shape
+by_case slots root scope P (literal k spelling) (NodeKind.Literal kind value) is cases = cases k spelling
+by_case slots root scope P it kind is cases = subst (λ (k : NodeKind). CasesOf k P) is cases
+by_case slots root scope P (name asked) (NodeKind.Property slot) is cases = cases asked
+by_case slots root scope P (name asked) (NodeKind.Variable level) is cases = cases asked
+by_case slots root scope P (member base asked) (NodeKind.Member slot) is cases = cases base asked
+by_case slots root scope P (count base) kind is cases = subst (λ (k : NodeKind). CasesOf k P) is cases base
+by_case slots root scope P (negation operand) kind is cases = subst (λ (k : NodeKind). CasesOf k P) is cases operand
+by_case slots root scope P (logical_not operand) kind is cases = subst (λ (k : NodeKind). CasesOf k P) is cases operand
+by_case slots root scope P (binary operator left right) kind is cases = subst (λ (k : NodeKind). CasesOf k P) is cases left right
+by_case slots root scope P (has left right) kind is cases = subst (λ (k : NodeKind). CasesOf k P) is cases left right
+by_case slots root scope P (in_list left items) kind is cases = subst (λ (k : NodeKind). CasesOf k P) is cases left items
+by_case slots root scope P (in_path left path) kind is cases = subst (λ (k : NodeKind). CasesOf k P) is cases left path
+by_case slots root scope P (any_item base) kind is cases = subst (λ (k : NodeKind). CasesOf k P) is cases base
+by_case slots root scope P (lambda quantifier base asked body) kind is cases = subst (λ (k : NodeKind). CasesOf k P) is cases base asked body
+by_case slots root scope P (call asked arguments) (NodeKind.Call function) is cases = cases asked arguments is.0 is.1
+by_case slots root scope P (call asked arguments) NodeKind.Now is cases = cases asked arguments is
+by_case slots root scope P _ _ is cases = absurd is
 
 module _ (scene : SceneModel) (place : ℕ) where
   -- the kind is that of the node there
   pub kind_there : (kind : NodeKind) → HasKind scene.list place kind → (stop from to : ℕ) (shape : Shape) → StandsHere scene place stop (node from to shape)
-      → IsKindOf scene.list.values (slots_of scene.row.schema) (type_name_at scene.row.schema scene.row.type_id) (scope_of (environment_of scene)) shape kind
+      → IsKindOf (slots_of scene.row.schema) (type_name_at scene.row.schema scene.row.type_id) (scope_of (environment_of scene)) shape kind
   kind_there kind here stop from to shape stands =
-      subst (λ (k : NodeKind). IsKindOf scene.list.values (slots_of scene.row.schema) (type_name_at scene.row.schema scene.row.type_id) (scope_of (environment_of scene)) shape k)
+      subst (λ (k : NodeKind). IsKindOf (slots_of scene.row.schema) (type_name_at scene.row.schema scene.row.type_id) (scope_of (environment_of scene)) shape k)
       (found_there (λ found. found.kind ≡ kind) (slice_get scene.list.nodes place) stands.top.found stands.top.stands_at here)
       stands.top.kind
 
@@ -128,7 +111,7 @@ module _ (scene : SceneModel) (place : ℕ) where
       → CasesOf kind (λ s. (stop from to : ℕ) → StandsHere scene place stop (node from to s) → P stop (node from to s))
       → (stop : ℕ) (tree : Tree) → StandsHere scene place stop tree → P stop tree
   by_kind kind here P cases stop (node from to shape) stands =
-      by_case scene.list.values (slots_of scene.row.schema) (type_name_at scene.row.schema scene.row.type_id) (scope_of (environment_of scene))
+      by_case (slots_of scene.row.schema) (type_name_at scene.row.schema scene.row.type_id) (scope_of (environment_of scene))
       (λ (s : Shape). (stop from to : ℕ) → StandsHere scene place stop (node from to s) → P stop (node from to s)) shape kind
       (kind_there kind here stop from to shape stands) cases stop from to stands
 
@@ -140,7 +123,7 @@ module _ (scene : SceneModel) (place : ℕ) where
       let is : stands.top.found ≡ found = cc in
       subst (λ (f : CheckedNode). TypedHere scene (node from to shape) (expr_type scene.row.schema f.edm_type)) is stands.top.typed
 
-  stands_inside : (stop : ℕ) (tree : Tree) → StandsHere scene place stop tree → place < length scene.list.nodes
+  pub stands_inside : (stop : ℕ) (tree : Tree) → StandsHere scene place stop tree → place < length scene.list.nodes
   stands_inside stop (node from to shape) stands = slice_get_within scene.list.nodes place stands.top.found stands.top.stands_at
 
   pub part_inside : PartStands scene place → place < length scene.list.nodes

@@ -1,6 +1,6 @@
 -- What `has` and `in` before a path evaluate to, from what was answered of both their sides.
-use Rattle.std.proofs.Common.{◌≡◌, ℕ, ◌<◌, ◌+◌, [], Ok, subst, arith}
-use Rattle.edm_values.specs.Val.{Val}
+use Rattle.std.proofs.Common.{◌≡◌, ◌⊎◌, inl, inr, refl, sym, ℕ, ℤ, ◌<◌, ◌+◌, [], Ok, subst, arith}
+use Rattle.edm_values.specs.Val.{Val, member}
 use Rattle.edm_values.specs.declared.datum.Datum.{Datum}
 use Rattle.odata_syntax.specs.Tree.{Tree, has, in_path, node}
 use Rattle.csdl_schema.specs.ExprType.{ExprType}
@@ -9,8 +9,10 @@ use Rattle.edm_entities.specs.HasType.{HasType}
 use Rattle.odata_functions.specs.DatumVal.{datum_val}
 use Rattle.odata_signatures.specs.CollectionTyped.{IsComparableWithMembers}
 use Rattle.odata_signatures.specs.HasTyped.{AreFlags}
+use Rattle.odata_signatures.specs.QuotedNumber.{HasNumber}
+use Rattle.odata_expression_types.specs.Reads.{ReadsNone, ReadsNumber}
+use Rattle.odata_expression_types.specs.Sides.{quoted_text}
 use Rattle.odata_checked_filter.specs.Calls.{TakesMemory}
-use Rattle.odata_checked_filter.specs.Stands.{SideBySide}
 use Rattle.odata_checked_filter.specs.declared.checked_node.NodeKind.{NodeKind}
 use Rattle.odata_filter_operations.specs.declared.fault.EvalFault.{EvalFault}
 use Rattle.odata_filter_operations.specs.HasGives.{HasGives}
@@ -19,73 +21,115 @@ use Rattle.odata_filter_operations.specs.LeftFirst.{After}
 use Rattle.odata_filter_operations.specs.Outcome.{Outcome, gives}
 use Rattle.odata_filter_operations.specs.FaultView.{fault_outcome}
 use Rattle.odata_filter_operations.specs.DatumView.{reading_at}
-use Rattle.odata_eval.specs.private.Place.{HasKind, IsRightOf, PartStands}
+use Rattle.odata_eval.specs.private.Place.{HasKind, IsRightOf, OperandStands, PartStands}
 use Rattle.odata_eval.specs.private.Scene.{EndsOnceHere, MeansHere, StandsHere, TypedHere}
 use Rattle.odata_eval.specs.private.SceneModel.{SceneModel}
 use Rattle.odata_eval.specs.private.WalkAnswer.{AnswersAtPlace, AnswersDatum}
 use Rattle.odata_eval.proofs.walking.Children.{two_children}
+use Rattle.odata_eval.proofs.meaning.Reads.{number_flags, read_has}
+use Rattle.odata_eval.proofs.walking.Operands.{BesideHere, HasNone, beside_operand, fault_no_value, no_number, number_is}
 use Rattle.odata_eval.proofs.walking.Parts.{by_kind, tells_there}
-use Rattle.odata_eval.proofs.walking.Spines.{child_takes, fault_stays, further, has_type, second_child, stops_here, stops_there}
-use Rattle.odata_eval.proofs.walking.Unread.{flags_means, flags_plain}
+use Rattle.odata_eval.proofs.walking.Extents.{further, right_beside, stops_here, stops_there}
+use Rattle.odata_eval.proofs.walking.Spines.{child_takes, fault_stays, has_type, second_child}
 use Rattle.odata_eval.proofs.walking.WalkValues.{value_has}
+use Rattle.odata_filter_operations.specs.Tells.{Tells}
 
--- a tree of two sides, both of which are evaluated: of which types they are, and what is made of their values
-pub record OfSides (scene : SceneModel) (place stop : ℕ) (Makes : ExprType → ExprType → Type 0) (Gives : Val → Val → Outcome → Type 0) (tree : Tree) : Type 0 where
+-- beside no operand
+abbrev pub NoOperand : Tree → ExprType → Type 0
+NoOperand left type = ⊥
+
+-- a tree of two sides, both of which are evaluated, the right one perhaps as a number beside the left one: of which types
+-- they are, and what is made of their values
+pub record OfSides (scene : SceneModel) (place stop : ℕ) (Beside : Tree → ExprType → Type 0) (Makes : ExprType → ExprType → Type 0) (Gives : Val → Val → Outcome → Type 0)
+    (tree : Tree) : Type 0 where
   pub left : Tree
   pub right : Tree
-  pub sides : SideBySide (λ middle. StandsHere scene (place + 1) middle left) (λ middle. StandsHere scene middle stop right)
-  pub typed : (type : ExprType) → TypedHere scene tree type → (s t : ExprType) × (TypedHere scene left s × TypedHere scene right t × Makes s t)
+  pub middle : ℕ
+  pub first : StandsHere scene (place + 1) middle left
+  pub second : BesideHere scene (Beside left) right middle stop
+  pub typed : ReadsNone (slots_of scene.row.schema) (Beside left) right → (type : ExprType) → TypedHere scene tree type
+      → (s t : ExprType) × (TypedHere scene left s × TypedHere scene right t × Makes s t)
+  pub read : (n : ℤ) → (reads : ReadsNumber (slots_of scene.row.schema) (Beside left) right n)
+      → TypedHere scene left reads.type_of × Makes reads.type_of reads.type_of × HasType (slots_of scene.row.schema) reads.type_of (member n)
   pub takes : TakesMemory right → TakesMemory tree
-  pub means : (o : Outcome) → After (MeansHere scene left) (λ l. After (MeansHere scene right) (Gives l)) o → MeansHere scene tree o
+  pub means : ReadsNone (slots_of scene.row.schema) (Beside left) right → (o : Outcome) → After (MeansHere scene left) (λ l. After (MeansHere scene right) (Gives l)) o → MeansHere scene tree o
+  pub means_read : (n : ℤ) → ReadsNumber (slots_of scene.row.schema) (Beside left) right n → (o : Outcome) → After (MeansHere scene left) (λ l. Gives l (member n)) o → MeansHere scene tree o
 
 -- each tree that stands there is one
-abbrev pub AreOfSides : SceneModel → ℕ → (ExprType → ExprType → Type 0) → (Val → Val → Outcome → Type 0) → Type 0
-AreOfSides scene place Makes Gives = (stop : ℕ) (tree : Tree) → StandsHere scene place stop tree → OfSides scene place stop Makes Gives tree
+abbrev pub AreOfSides : SceneModel → ℕ → (Tree → ExprType → Type 0) → (ExprType → ExprType → Type 0) → (Val → Val → Outcome → Type 0) → Type 0
+AreOfSides scene place Beside Makes Gives =
+    HasNone scene place × ((stop : ℕ) (tree : Tree) → StandsHere scene place stop tree → OfSides scene place stop Beside Makes Gives tree)
 
-pub flags_sides : (scene : SceneModel) (place : ℕ) → HasKind scene.list place NodeKind.Has → AreOfSides scene place AreFlags HasGives
-flags_sides scene place here =
-    by_kind scene place NodeKind.Has here (λ stop tree. OfSides scene place stop AreFlags HasGives tree)
-    (λ left right stop from to stands. record {
-      left = left;
-      right = right;
-      sides = two_children scene (place + 1) stop left right stands.children;
-      typed = λ type typed. (typed.left, typed.right, (typed.left_typed, typed.right_typed, flags_plain scene place stop from to left right here stands type typed));
-      takes = child_takes (node from to (has left right)) right (second_child left right []);
-      means = flags_means scene place stop from to left right here stands;
-    })
+pub flags_alone : (scene : SceneModel) (left right : Tree) → ReadsNone (slots_of scene.row.schema) (TypedHere scene left) right → (s t : ExprType) → TypedHere scene left s
+    → AreFlags s t ⊎ HasNumber (slots_of scene.row.schema) s (quoted_text right) → AreFlags s t
+flags_alone scene left right none s t typed (inl flags) = flags
+flags_alone scene left right none s t typed (inr number) = absurd (none number.0 (record { type_of = s; beside = typed; number = number.1 }))
 
-pub path_sides : (scene : SceneModel) (place : ℕ) → HasKind scene.list place NodeKind.InPath → AreOfSides scene place IsComparableWithMembers InGives
-path_sides scene place here =
-    by_kind scene place NodeKind.InPath here (λ stop tree. OfSides scene place stop IsComparableWithMembers InGives tree)
-    (λ left path stop from to stands. record {
-      left = left;
-      right = path;
-      sides = two_children scene (place + 1) stop left path stands.children;
-      typed = λ type typed. (typed.left, typed.right, (typed.left_typed, typed.right_typed, typed.makes.0));
-      takes = child_takes (node from to (in_path left path)) path (second_child left path []);
-      means = λ o given. given;
-    })
+pub flags_sides : (scene : SceneModel) (place : ℕ) → HasKind scene.list place NodeKind.Has → AreOfSides scene place (TypedHere scene) AreFlags HasGives
+flags_sides scene place here = (
+  no_number scene place NodeKind.Has tt here,
+  by_kind scene place NodeKind.Has here (λ stop tree. OfSides scene place stop (TypedHere scene) AreFlags HasGives tree)
+      (λ left right stop from to stands.
+      let slots = slots_of scene.row.schema in
+      record {
+        left = left;
+        right = right;
+        middle = stands.children.middle;
+        first = stands.children.left;
+        second = right_beside scene (TypedHere scene left) stands.children.middle stands.children.middle stop right refl stands.children.right;
+        typed = λ none type typed. (typed.left, typed.right, (typed.left_typed, typed.right_typed, flags_alone scene left right none typed.left typed.right typed.left_typed typed.makes.0));
+        read = λ n reads.
+            (reads.beside, number_flags slots reads.type_of (quoted_text right) n reads.number, read_has slots reads.type_of (quoted_text right) n reads.number);
+        takes = child_takes (node from to (has left right)) right (second_child left right []);
+        means = λ none o given. inr (none, given);
+        means_read = λ n reads o given. inl (n, reads, given);
+      }),
+)
 
-module _ (scene : SceneModel) (place : ℕ) (Makes : ExprType → ExprType → Type 0) (Gives : Val → Val → Outcome → Type 0) (are : AreOfSides scene place Makes Gives) where
+pub path_sides : (scene : SceneModel) (place : ℕ) → HasKind scene.list place NodeKind.InPath → AreOfSides scene place NoOperand IsComparableWithMembers InGives
+path_sides scene place here = (
+  no_number scene place NodeKind.InPath tt here,
+  by_kind scene place NodeKind.InPath here (λ stop tree. OfSides scene place stop NoOperand IsComparableWithMembers InGives tree)
+      (λ left path stop from to stands.
+      let sides = two_children scene (place + 1) stop left path stands.children in
+      record {
+        left = left;
+        right = path;
+        middle = sides.middle;
+        first = sides.left;
+        second = inr (λ n reads. reads.beside, sides.right);
+        typed = λ none type typed. (typed.left, typed.right, (typed.left_typed, typed.right_typed, typed.makes.0));
+        read = λ n reads. absurd reads.beside;
+        takes = child_takes (node from to (in_path left path)) path (second_child left path []);
+        means = λ none o given. given;
+        means_read = λ n reads o given. absurd reads.beside;
+      }),
+)
+
+module _ (scene : SceneModel) (place : ℕ) (Beside : Tree → ExprType → Type 0) (Makes : ExprType → ExprType → Type 0) (Gives : Val → Val → Outcome → Type 0)
+    (are : AreOfSides scene place Beside Makes Gives) where
   pub next_there : PartStands scene place → (right : ℕ) × IsRightOf scene.list place right
   next_there part =
-      let it = are part.stop part.tree part.stands in
-      (it.sides.middle, stops_here scene (place + 1) it.sides.middle it.left it.sides.left)
+      let it = are.1 part.stop part.tree part.stands in
+      (it.middle, stops_here scene (place + 1) it.middle it.left it.first)
 
   module _ (right_place : ℕ) (is_right : IsRightOf scene.list place right_place) where
-    next_stands : (stop : ℕ) (tree : Tree) (stands : StandsHere scene place stop tree) → StandsHere scene right_place stop (are stop tree stands).right
-    next_stands stop tree stands =
-        let it = are stop tree stands in
-        subst (λ (m : ℕ). StandsHere scene m stop it.right) (stops_there scene (place + 1) it.sides.middle right_place it.left it.sides.left is_right) it.sides.right
+    next_beside : (stop : ℕ) (tree : Tree) (stands : StandsHere scene place stop tree)
+        → BesideHere scene (Beside (are.1 stop tree stands).left) (are.1 stop tree stands).right right_place stop
+    next_beside stop tree stands =
+        let it = are.1 stop tree stands in
+        subst (λ (m : ℕ). BesideHere scene (Beside it.left) it.right m stop) (stops_there scene (place + 1) it.middle right_place it.left it.first is_right) it.second
 
-    pub next_part : PartStands scene place → PartStands scene right_place
-    next_part part = record { stop = part.stop; tree = (are part.stop part.tree part.stands).right; stands = next_stands part.stop part.tree part.stands }
+    pub next_part : PartStands scene place → OperandStands scene right_place
+    next_part part =
+        let it = are.1 part.stop part.tree part.stands in
+        beside_operand scene (Beside it.left) it.right right_place part.stop (next_beside part.stop part.tree part.stands)
 
     pub next_further : PartStands scene place → place < right_place
     next_further part =
-        let it = are part.stop part.tree part.stands in
-        let e : it.sides.middle ≡ right_place = stops_there scene (place + 1) it.sides.middle right_place it.left it.sides.left is_right in
-        let f : place + 1 < it.sides.middle = further scene (place + 1) it.sides.middle it.left it.sides.left in
+        let it = are.1 part.stop part.tree part.stands in
+        let e : it.middle ≡ right_place = stops_there scene (place + 1) it.middle right_place it.left it.first is_right in
+        let f : place + 1 < it.middle = further scene (place + 1) it.middle it.left it.first in
         omega arith
 
     module _ (left : Datum) (first : AnswersDatum scene (place + 1) (Ok left)) where
@@ -93,54 +137,85 @@ module _ (scene : SceneModel) (place : ℕ) (Makes : ExprType → ExprType → T
       made value type = datum_val (reading_at (slots_of scene.row.schema) type) value
 
       -- a fault of the second side is the outcome
+      fault_told : (fault : EvalFault) → AnswersAtPlace scene right_place (λ type. fault_outcome fault) → (stop : ℕ) (tree : Tree) (type : ExprType) → TypedHere scene tree type
+          → (it : OfSides scene place stop Beside Makes Gives tree) → BesideHere scene (Beside it.left) it.right right_place stop
+          → Tells (TakesMemory tree) (MeansHere scene tree) (fault_outcome fault)
+      fault_told fault second stop tree type typed it (inl read) = absurd (fault_no_value fault (member read.0) (second.of_number read.0 stop it.right type read.2))
+      fault_told fault second stop tree type typed it (inr alone) =
+          let sides = it.typed alone.0 type typed in
+          let l = made left sides.0 in
+          tells_there (fault_outcome fault) (TakesMemory tree) (TakesMemory tree) (After (MeansHere scene it.right) (Gives l)) (MeansHere scene tree) (λ takes. takes)
+          (λ o given. it.means alone.0 o (gives l, (first.of_tree it.middle it.left sides.0 it.first sides.2.0, given)))
+          (fault_stays fault (TakesMemory it.right) (TakesMemory tree) (MeansHere scene it.right) (Gives l) it.takes
+          (second.of_tree stop it.right sides.1 alone.1 sides.2.1))
+
       pub next_faults : (fault : EvalFault) → AnswersAtPlace scene right_place (λ type. fault_outcome fault) → AnswersAtPlace scene place (λ type. fault_outcome fault)
       next_faults fault second = record {
-        of_tree = λ stop tree type stands typed.
-            let it = are stop tree stands in
-            let sides = it.typed type typed in
-            let l = made left sides.0 in
-            tells_there (fault_outcome fault) (TakesMemory tree) (TakesMemory tree) (After (MeansHere scene it.right) (Gives l)) (MeansHere scene tree) (λ takes. takes)
-            (λ o given. it.means o (gives l, (first.of_tree it.sides.middle it.left sides.0 it.sides.left sides.2.0, given)))
-            (fault_stays fault (TakesMemory it.right) (TakesMemory tree) (MeansHere scene it.right) (Gives l) it.takes
-            (second.of_tree stop it.right sides.1 (next_stands stop tree stands) sides.2.1));
+        of_tree = λ stop tree type stands typed. fault_told fault second stop tree type typed (are.1 stop tree stands) (next_beside stop tree stands);
+        of_number = λ number stop tree type there. absurd (are.0 number stop tree there);
       }
 
-      module _ (right : Datum) (second : AnswersDatum scene right_place (Ok right)) where
-        -- both values are of the types of their sides
-        sides_have : EndsOnceHere scene → (stop : ℕ) (tree : Tree) (type : ExprType) → StandsHere scene place stop tree → TypedHere scene tree type
-            → (s t : ExprType) × (Makes s t × HasType (slots_of scene.row.schema) s (made left s) × HasType (slots_of scene.row.schema) t (made right t))
-        sides_have ends stop tree type stands typed =
-            let it = are stop tree stands in
-            let sides = it.typed type typed in (
+      module _ (right : Datum) (second : AnswersDatum scene right_place (Ok right)) (ends : EndsOnceHere scene) where
+        abbrev Have : Type 0
+        Have = (s t : ExprType) × (Makes s t × HasType (slots_of scene.row.schema) s (made left s) × HasType (slots_of scene.row.schema) t (made right t))
+
+        -- both values are of the types of their sides, a number of the type beside it
+        sides_have : (stop : ℕ) (tree : Tree) (type : ExprType) → TypedHere scene tree type → (it : OfSides scene place stop Beside Makes Gives tree)
+            → BesideHere scene (Beside it.left) it.right right_place stop → Have
+        sides_have stop tree type typed it (inl read) =
+            let s = read.1.type_of in
+            let known = it.read read.0 read.1 in (
+              s,
+              s,
+              (
+                known.1,
+                value_has scene ends it.left s (made left s) known.0 (first.of_tree it.middle it.left s it.first known.0),
+                subst (λ (v : Val). HasType (slots_of scene.row.schema) s v) (sym (number_is scene right_place stop it.right read.0 (made right) read.2 second s)) known.2,
+              ),
+            )
+        sides_have stop tree type typed it (inr alone) =
+            let sides = it.typed alone.0 type typed in (
               sides.0,
               sides.1,
               (
                 sides.2.2,
-                value_has scene ends it.left sides.0 (made left sides.0) sides.2.0 (first.of_tree it.sides.middle it.left sides.0 it.sides.left sides.2.0),
-                value_has scene ends it.right sides.1 (made right sides.1) sides.2.1 (second.of_tree stop it.right sides.1 (next_stands stop tree stands) sides.2.1),
+                value_has scene ends it.left sides.0 (made left sides.0) sides.2.0 (first.of_tree it.middle it.left sides.0 it.first sides.2.0),
+                value_has scene ends it.right sides.1 (made right sides.1) sides.2.1 (second.of_tree stop it.right sides.1 alone.1 sides.2.1),
               ),
             )
 
-        pub some_sides : EndsOnceHere scene → PartStands scene place
-            → (s t : ExprType) × (Makes s t × HasType (slots_of scene.row.schema) s (made left s) × HasType (slots_of scene.row.schema) t (made right t))
-        some_sides ends part =
+        pub some_sides : PartStands scene place → Have
+        some_sides part =
             let typed = has_type scene place part.stop part.tree part.stands in
-            sides_have ends part.stop part.tree typed.0 part.stands typed.1
+            sides_have part.stop part.tree typed.0 typed.1 (are.1 part.stop part.tree part.stands) (next_beside part.stop part.tree part.stands)
 
-        -- what is made of them is the outcome
-        pub sides_answer : EndsOnceHere scene → (answer : Datum)
-            → ((s t type : ExprType) → Makes s t → HasType (slots_of scene.row.schema) s (made left s) → HasType (slots_of scene.row.schema) t (made right t)
-            → Gives (made left s) (made right t) (gives (made answer type)))
-            → AnswersDatum scene place (Ok answer)
-        sides_answer ends answer given = record {
-          of_tree = λ stop tree type stands typed.
-              let it = are stop tree stands in
-              let sides = it.typed type typed in
+        module _ (answer : Datum)
+            (given : (s t type : ExprType) → Makes s t → HasType (slots_of scene.row.schema) s (made left s) → HasType (slots_of scene.row.schema) t (made right t)
+            → Gives (made left s) (made right t) (gives (made answer type))) where
+          -- what is made of them is the outcome
+          sides_tell : (stop : ℕ) (tree : Tree) (type : ExprType) → TypedHere scene tree type → (it : OfSides scene place stop Beside Makes Gives tree)
+              → BesideHere scene (Beside it.left) it.right right_place stop → MeansHere scene tree (gives (made answer type))
+          sides_tell stop tree type typed it (inl read) =
+              let s = read.1.type_of in
+              let known = it.read read.0 read.1 in
+              let first_is = first.of_tree it.middle it.left s it.first known.0 in
+              let is : made right s ≡ member read.0 = number_is scene right_place stop it.right read.0 (made right) read.2 second s in
+              let has = value_has scene ends it.left s (made left s) known.0 first_is in
+              it.means_read read.0 read.1 (gives (made answer type)) (
+                gives (made left s),
+                (
+                  first_is,
+                  subst (λ (v : Val). Gives (made left s) v (gives (made answer type))) is
+                      (given s s type known.1 has (subst (λ (v : Val). HasType (slots_of scene.row.schema) s v) (sym is) known.2)),
+                ),
+              )
+          sides_tell stop tree type typed it (inr alone) =
+              let sides = it.typed alone.0 type typed in
               let s = sides.0 in
               let t = sides.1 in
-              let first_is = first.of_tree it.sides.middle it.left s it.sides.left sides.2.0 in
-              let second_is = second.of_tree stop it.right t (next_stands stop tree stands) sides.2.1 in
-              it.means (gives (made answer type)) (
+              let first_is = first.of_tree it.middle it.left s it.first sides.2.0 in
+              let second_is = second.of_tree stop it.right t alone.1 sides.2.1 in
+              it.means alone.0 (gives (made answer type)) (
                 gives (made left s),
                 (
                   first_is,
@@ -152,5 +227,10 @@ module _ (scene : SceneModel) (place : ℕ) (Makes : ExprType → ExprType → T
                     ),
                   ),
                 ),
-              );
-        }
+              )
+
+          pub sides_answer : AnswersDatum scene place (Ok answer)
+          sides_answer = record {
+            of_tree = λ stop tree type stands typed. sides_tell stop tree type typed (are.1 stop tree stands) (next_beside stop tree stands);
+            of_number = λ number stop tree type there. absurd (are.0 number stop tree there);
+          }

@@ -1,17 +1,18 @@
--- What stands after a node, and down a chain of nodes of one class.
+-- What stands first below a node, and down a chain of nodes of one class.
 use Rattle.std.proofs.Common.{◌≡◌, ◌∙◌, ℕ, zero, suc, ◌<◌, ◌≤◌, ◌+◌, ◌-◌, List, [], ◌∷◌, length, slice_get, slice_index_or, ap, refl, sym, subst, inl, inr, arith}
-use Rattle.std.specs.Prelude.{Contains, IsSomeAnd}
+use Rattle.std.specs.Prelude.{Contains}
 use Rattle.std.proofs.lemmas.Bool.{cases_lt}
 use Rattle.edm_values.specs.Val.{Val}
 use Rattle.odata_syntax.specs.Spans.{children_of, in_child, list_of_trees}
-use Rattle.odata_syntax.specs.Tree.{Tree, Trees, any_item, binary, call, count, has, in_list, in_path, it, lambda, literal, logical_not, member, more_trees, name, negation, no_trees, node, shape_of}
+use Rattle.odata_syntax.specs.Tree.{Tree, Trees, any_item, binary, call, count, has, in_list, in_path, lambda, logical_not, member, more_trees, name, negation, no_trees, node, shape_of}
 use Rattle.odata_syntax.specs.declared.binary_operator.BinaryOperator.{BinaryOperator}
 use Rattle.odata_syntax.specs.declared.node.LiteralKind.{LiteralKind}
 use Rattle.odata_syntax.specs.declared.binary_operator.LogicalOperator.{LogicalOperator}
 use Rattle.odata_syntax.specs.declared.binary_operator.ArithmeticOperator.{ArithmeticOperator}
-use Rattle.csdl_schema.specs.ExprType.{ExprType, collection, single}
+use Rattle.csdl_schema.specs.ExprType.{ExprType, collection}
 use Rattle.odata_signatures.specs.ExprTypes.{IsBooleanOrNull}
-use Rattle.odata_signatures.specs.OperatorTyped.{OperatorByTypes}
+use Rattle.odata_signatures.specs.OperatorTyped.{IsEquality, OperatorByTypes, OperatorTyped}
+use Rattle.odata_signatures.specs.Side.{Side}
 use Rattle.odata_checked_filter.specs.Calls.{TakesMemory}
 use Rattle.odata_checked_filter.specs.declared.checked_node.CheckedNode.{CheckedNode}
 use Rattle.odata_checked_filter.specs.declared.checked_node.NodeKind.{NodeKind}
@@ -23,11 +24,12 @@ use Rattle.odata_filter_operations.specs.LeftFirst.{After}
 use Rattle.odata_filter_operations.specs.HasGives.{HasGives}
 use Rattle.odata_eval.specs.OperatorGives.{OperatorGives, SidesGive}
 use Rattle.odata_eval.specs.ReadGives.{GivesMember}
-use Rattle.odata_expression_types.specs.Reads.{OfEquality}
+use Rattle.odata_expression_types.specs.Reads.{OfEquality, ReadsNone}
+use Rattle.odata_expression_types.specs.Sides.{side_of}
 use Rattle.edm_values.specs.Val as val
 use Rattle.odata_filter_operations.specs.Outcome.{Outcome, overflow, divides_by_zero}
 use Rattle.odata_filter_operations.specs.FaultView.{fault_outcome}
-use Rattle.odata_eval.specs.private.Place.{HasKind, IsClassAt, IsNumberOperand, IsRightOf, PartStands, TypedStands}
+use Rattle.odata_eval.specs.private.Place.{HasKind, IsClassAt, IsNumberOperand, OperandStands, PartStands, TypedStands}
 use Rattle.odata_eval.specs.private.Scene.{MeansHere, StandsHere, TypedHere}
 use Rattle.odata_eval.specs.private.SceneModel.{SceneModel, environment_of}
 use Rattle.odata_filter_operations.specs.Tells.{Tells}
@@ -36,16 +38,15 @@ use Rattle.odata_eval.specs.private.WalkClass.{walk_of_kind, walk_of_operator}
 use Rattle.odata_signatures.specs.Functions.{IsNamed, row_of}
 use Rattle.odata_signatures.specs.declared.function.Function.{Function}
 use Rattle.odata_signatures.specs.CallTyped.{CallTyped}
-use Rattle.odata_checked_filter.specs.Stands.{AllStand, Stands}
-use Rattle.odata_expression_types.specs.Typed.{AreTyped, Scope, with_variable}
+use Rattle.odata_checked_filter.specs.Stands.{AllStand}
+use Rattle.odata_expression_types.specs.Typed.{AreTyped}
 use Rattle.odata_eval.specs.Means.{ArgumentsMean}
 use Rattle.odata_filter_operations.specs.CallGives.{CallGives}
-use Rattle.csdl_schema.specs.SchemaModel.{SchemaModel, slots_of, type_name_at}
+use Rattle.csdl_schema.specs.SchemaModel.{Slots, slots_of, type_name_at}
 use Rattle.edm_entities.specs.Row.{value_of}
-use Rattle.odata_eval.proofs.walking.Children.{body_stands, one_there, only_child}
-use Rattle.odata_eval.proofs.walking.ReadSides.{flags_read, left_read, read_faults, right_read}
-use Rattle.odata_eval.proofs.walking.Unread.{flags_means, operator_means, operator_plain}
-use Rattle.odata_eval.proofs.walking.Parts.{by_kind, found_there, goes_there, some_there, tells_there, there_found}
+use Rattle.odata_eval.proofs.walking.Children.{only_child}
+use Rattle.odata_eval.proofs.walking.Operands.{BesideHere, fault_no_value, inner_number, tree_of_class, tree_operand}
+use Rattle.odata_eval.proofs.walking.Parts.{by_kind, goes_there, some_there, tells_there, there_found}
 
 -- the walk takes the operator's node by its class
 pub walks_by : (list : FlatTree) (place : ℕ) (operator : BinaryOperator) (class : WalkClass) → HasKind list place (NodeKind.Binary operator)
@@ -114,7 +115,7 @@ AllowedBy WalkClass.Logical type = IsBooleanOrNull type
 AllowedBy WalkClass.Numeric type = IsNumberOperand type
 AllowedBy _ type = Unit {0}
 
-operands_allowed : (operator : BinaryOperator) (left right type : ExprType) → OperatorByTypes operator left right type
+pub operands_allowed : (operator : BinaryOperator) (left right type : ExprType) → OperatorByTypes operator left right type
     → AllowedBy (walk_of_operator operator) left × AllowedBy (walk_of_operator operator) right
 operands_allowed (BinaryOperator.Logical logical) left right type typed = (typed.0, typed.1)
 operands_allowed (BinaryOperator.Comparison comparison) left right type typed = (tt, tt)
@@ -125,14 +126,71 @@ logical_type : (operator : BinaryOperator) (left right type : ExprType) → walk
 logical_type (BinaryOperator.Logical operator) left right type logical typed = inl typed.2
 logical_type _ left right type logical typed = absurd (cc)
 
+-- what may stand as the first operand of a node of the class
+abbrev pub StandsBy : SceneModel → ℕ → WalkClass → Type 0
+StandsBy scene place WalkClass.Logical = TypedStands scene place IsBooleanOrNull
+StandsBy scene place WalkClass.Numeric = TypedStands scene place IsNumberOperand
+StandsBy scene place _ = OperandStands scene place
+
 -- the first operand of a node: its faults are those of the node
 pub record FirstOperand (scene : SceneModel) (place : ℕ) (class : WalkClass) (tree : Tree) : Type 0 where
-  pub stop : ℕ
-  pub operand : Tree
-  pub stands : StandsHere scene (place + 1) stop operand
-  pub typed : (type : ExprType) → TypedHere scene tree type → (first : ExprType) × (TypedHere scene operand first × AllowedBy class first)
-  pub faults : (fault : EvalFault) → Tells (TakesMemory operand) (MeansHere scene operand) (fault_outcome fault)
+  pub operand : StandsBy scene (place + 1) class
+  pub faults : (fault : EvalFault) → AnswersAtPlace scene (place + 1) (λ type. fault_outcome fault) → (type : ExprType) → TypedHere scene tree type
       → Tells (TakesMemory tree) (MeansHere scene tree) (fault_outcome fault)
+
+-- that is a tree
+record FirstTree (scene : SceneModel) (place : ℕ) (class : WalkClass) (tree : Tree) : Type 0 where
+  stop : ℕ
+  operand : Tree
+  stands : StandsHere scene (place + 1) stop operand
+  typed : (type : ExprType) → TypedHere scene tree type → (first : ExprType) × (TypedHere scene operand first × AllowedBy class first)
+  faults : (fault : EvalFault) → Tells (TakesMemory operand) (MeansHere scene operand) (fault_outcome fault)
+      → Tells (TakesMemory tree) (MeansHere scene tree) (fault_outcome fault)
+
+tree_by : (scene : SceneModel) (place : ℕ) (class : WalkClass) (tree : Tree) (type : ExprType) → FirstTree scene place class tree → TypedHere scene tree type → StandsBy scene (place + 1) class
+tree_by scene place WalkClass.Logical tree type first typed =
+    let of_it = first.typed type typed in
+    record { stop = first.stop; tree = first.operand; stands = first.stands; type_of = of_it.0; typed = of_it.1.0; allowed = of_it.1.1 }
+tree_by scene place WalkClass.Numeric tree type first typed =
+    let of_it = first.typed type typed in
+    record { stop = first.stop; tree = first.operand; stands = first.stands; type_of = of_it.0; typed = of_it.1.0; allowed = of_it.1.1 }
+tree_by scene place _ tree type first typed = record { stop = first.stop; tree = first.operand; stands = inl first.stands }
+
+pub has_type : (scene : SceneModel) (place stop : ℕ) (tree : Tree) → StandsHere scene place stop tree → (type : ExprType) × TypedHere scene tree type
+has_type scene place stop (node from to shape) stands = (_, stands.top.typed)
+
+of_first : (scene : SceneModel) (place : ℕ) (class : WalkClass) (stop : ℕ) (tree : Tree) → StandsHere scene place stop tree → FirstTree scene place class tree
+    → FirstOperand scene place class tree
+of_first scene place class stop tree stands first =
+    let has = has_type scene place stop tree stands in
+    record {
+      operand = tree_by scene place class tree has.0 first has.1;
+      faults = λ fault answers type typed.
+          let of_it = first.typed type typed in
+          first.faults fault (answers.of_tree first.stop first.operand of_it.0 first.stands of_it.1.0);
+    }
+
+-- an operator that reads no literal goes by the types of its operands
+pub plain_types : (slots : Slots) (operator : BinaryOperator) (left right : Side) (type : ExprType) → ¬ IsEquality operator → OperatorTyped slots operator left right type
+    → OperatorByTypes operator left.type_of right.type_of type
+plain_types slots operator left right type other (inl plain) = plain
+plain_types slots operator left right type other (inr read) = absurd (other read.0.0)
+
+pub types_alone : (scene : SceneModel) (from to : ℕ) (operator : BinaryOperator) (left right : Tree) → ReadsNone (slots_of scene.row.schema) (OfEquality operator (TypedHere scene left)) right
+    → ReadsNone (slots_of scene.row.schema) (OfEquality operator (TypedHere scene right)) left → (type : ExprType)
+    → (typed : TypedHere scene (node from to (binary operator left right)) type) → OperatorByTypes operator typed.left typed.right type
+types_alone scene from to operator left right no_right no_left type typed = elim typed.makes [
+  | inl plain ↦ plain
+  | inr read ↦ elim read.0.1 [
+    | inl number ↦ absurd (no_right number.0 (record { type_of = typed.left; beside = (read.0.0, typed.left_typed); number = number.1 }))
+    | inr number ↦ absurd (no_left number.0 (record { type_of = typed.right; beside = (read.0.0, typed.right_typed); number = number.1 }))
+  ]
+]
+
+-- an operator whose operands may be read takes both as values
+pub equality_walks : (operator : BinaryOperator) → IsEquality operator → walk_of_operator operator ≡ WalkClass.Eager
+equality_walks (BinaryOperator.Comparison comparison) equality = refl
+equality_walks _ equality = absurd equality
 
 pub typed_part : (scene : SceneModel) (place : ℕ) (Allowed : ExprType → Type 0) → TypedStands scene place Allowed → PartStands scene place
 typed_part scene place Allowed typed = record { stop = typed.stop; tree = typed.tree; stands = typed.stands }
@@ -190,53 +248,6 @@ TypedAll scene = AreTyped (slots_of scene.row.schema) (type_name_at scene.row.sc
 abbrev pub MeanAll : SceneModel → Trees → (List Val → Outcome → Type 0) → Outcome → Type 0
 MeanAll scene = ArgumentsMean (slots_of scene.row.schema) (type_name_at scene.row.schema scene.row.type_id) scene.moment (value_of scene.row) (environment_of scene)
 
--- what stands somewhere stops after that
-module _ (schema : SchemaModel) (n : ℕ) (list : FlatTree) where
-  mutual
-    pub further_in : (scope : Scope) (i j : ℕ) (tree : Tree) → Stands schema n scope list i j tree → i < j
-    further_in scope i j (node from to (literal kind spelling)) stands = let e : i + 1 ≡ j = stands.children in omega arith
-    further_in scope i j (node from to it) stands = let e : i + 1 ≡ j = stands.children in omega arith
-    further_in scope i j (node from to (name asked)) stands = let e : i + 1 ≡ j = stands.children in omega arith
-    further_in scope i j (node from to (member base asked)) stands = let a : i + 1 < j = further_in scope (i + 1) j base (one_there schema n scope list (i + 1) j base stands.children) in omega arith
-    further_in scope i j (node from to (count base)) stands = let a : i + 1 < j = further_in scope (i + 1) j base (one_there schema n scope list (i + 1) j base stands.children) in omega arith
-    further_in scope i j (node from to (any_item base)) stands = let a : i + 1 < j = further_in scope (i + 1) j base (one_there schema n scope list (i + 1) j base stands.children) in omega arith
-    further_in scope i j (node from to (negation operand)) stands = let a : i + 1 < j = further_in scope (i + 1) j operand (one_there schema n scope list (i + 1) j operand stands.children) in omega arith
-    further_in scope i j (node from to (logical_not operand)) stands = let a : i + 1 < j = further_in scope (i + 1) j operand (one_there schema n scope list (i + 1) j operand stands.children) in omega arith
-    further_in scope i j (node from to (binary operator left right)) stands =
-        let m = stands.children.middle in
-        let a : i + 1 < m = further_in scope (i + 1) m left stands.children.left in
-        let b : m < j = further_in scope m j right (one_there schema n scope list m j right stands.children.right) in
-        omega arith
-    further_in scope i j (node from to (has left right)) stands =
-        let m = stands.children.middle in
-        let a : i + 1 < m = further_in scope (i + 1) m left stands.children.left in
-        let b : m < j = further_in scope m j right (one_there schema n scope list m j right stands.children.right) in
-        omega arith
-    further_in scope i j (node from to (in_path left path)) stands =
-        let m = stands.children.middle in
-        let a : i + 1 < m = further_in scope (i + 1) m left stands.children.left in
-        let b : m < j = further_in scope m j path (one_there schema n scope list m j path stands.children.right) in
-        omega arith
-    further_in scope i j (node from to (in_list left items)) stands =
-        let m = stands.children.middle in
-        let a : i + 1 < m = further_in scope (i + 1) m left stands.children.left in
-        let b : m ≤ j = all_further_in scope m j items stands.children.right in
-        omega arith
-    further_in scope i j (node from to (call asked arguments)) stands = let a : i + 1 ≤ j = all_further_in scope (i + 1) j arguments stands.children in omega arith
-    further_in scope i j (node from to (lambda quantifier base asked body)) stands =
-        let m = stands.children.middle in
-        let a : i + 1 < m = further_in scope (i + 1) m base stands.children.left in
-        let behind = body_stands schema n scope list m j base asked body stands.children.right in
-        let b : m < j = further_in (with_variable scope asked (single behind.member_type)) m j body behind.body in
-        omega arith
-
-    pub all_further_in : (scope : Scope) (i j : ℕ) (trees : Trees) → AllStand schema n scope list i j trees → i ≤ j
-    all_further_in scope i j no_trees stand = let same : i ≡ j = stand in omega arith
-    all_further_in scope i j (more_trees tree more) stand =
-        let a : i < stand.middle = further_in scope i stand.middle tree stand.left in
-        let b : stand.middle ≤ j = all_further_in scope stand.middle j more stand.right in
-        omega arith
-
 module _ (scene : SceneModel) where
   pub no_empty_call : (asked : List ℕ) (types : List ExprType) (type : ExprType) → ¬ (IsNamed Function.Now asked) → TypedAll scene no_trees types → CallTyped asked types type → ⊥
   no_empty_call asked [] type later typed called =
@@ -252,7 +263,7 @@ module _ (scene : SceneModel) where
 
   -- a call of another function than `now` has a first argument
   call_first : (place : ℕ) (asked : List ℕ) (arguments : Trees) (stop from to : ℕ) → ¬ (IsNamed Function.Now asked)
-      → StandsHere scene place stop (node from to (call asked arguments)) → FirstOperand scene place WalkClass.Eager (node from to (call asked arguments))
+      → StandsHere scene place stop (node from to (call asked arguments)) → FirstTree scene place WalkClass.Eager (node from to (call asked arguments))
   call_first place asked no_trees stop from to later stands = absurd (no_empty_call asked stands.top.typed.types _ later stands.top.typed.arguments_typed stands.top.typed.call_typed)
   call_first place asked (more_trees argument more) stop from to later stands =
       let whole = node from to (call asked (more_trees argument more)) in
@@ -268,106 +279,116 @@ module _ (scene : SceneModel) where
             (fault_stays fault (TakesMemory argument) (TakesMemory whole) (MeansHere scene argument) _ (child_takes whole argument (first_child argument (list_of_trees more))) is);
       }
 
+  -- an operator's is a tree or a literal that is read
+  equality_operand : (operator : BinaryOperator) (place : ℕ) → IsEquality operator → OperandStands scene place → StandsBy scene place (walk_of_operator operator)
+  equality_operand (BinaryOperator.Comparison comparison) place equality operand = operand
+  equality_operand _ place equality operand = absurd equality
+
+  equality_allows : (operator : BinaryOperator) (type : ExprType) → IsEquality operator → AllowedBy (walk_of_operator operator) type
+  equality_allows (BinaryOperator.Comparison comparison) type equality = tt
+  equality_allows _ type equality = absurd equality
+
+  binary_first : (place : ℕ) (operator : BinaryOperator) (stop from to : ℕ) (left right : Tree) → (stands : StandsHere scene place stop (node from to (binary operator left right)))
+      → BesideHere scene (OfEquality operator (TypedHere scene right)) left (place + 1) stands.children.middle
+      → BesideHere scene (OfEquality operator (TypedHere scene left)) right stands.children.middle stands.children.right.middle
+      → FirstOperand scene place (walk_of_operator operator) (node from to (binary operator left right))
+  binary_first place operator stop from to left right stands (inl read) second = record {
+    operand = equality_operand operator (place + 1) read.1.beside.0 (record { stop = stands.children.middle; tree = left; stands = inr (read.0, read.2) });
+    faults = λ fault answers type typed.
+        absurd (fault_no_value fault (val.member read.0) (answers.of_number read.0 stands.children.middle left type read.2));
+  }
+  binary_first place operator stop from to left right stands (inr alone) (inl read) =
+      let whole = node from to (binary operator left right) in
+      of_first scene place (walk_of_operator operator) stop whole stands (record {
+        stop = stands.children.middle;
+        operand = left;
+        stands = alone.1;
+        typed = λ type typed. (typed.left, (typed.left_typed, equality_allows operator typed.left read.1.beside.0));
+        faults = λ fault is.
+            tells_there (fault_outcome fault) (TakesMemory whole) (TakesMemory whole) (SidesGive operator (TypedHere scene whole) (MeansHere scene left) (GivesMember read.0)) (MeansHere scene whole) (λ takes. takes)
+            (λ o given. inl (read.0, read.1, given))
+            (fault_stays fault (TakesMemory left) (TakesMemory whole) (MeansHere scene left) (λ l. OperatorGives operator (TypedHere scene whole) l (GivesMember read.0)) (child_takes whole left (first_child left (right ∷ []))) is);
+      })
+  binary_first place operator stop from to left right stands (inr alone) (inr other) =
+      let whole = node from to (binary operator left right) in
+      of_first scene place (walk_of_operator operator) stop whole stands (record {
+        stop = stands.children.middle;
+        operand = left;
+        stands = alone.1;
+        typed = λ type typed.
+            (typed.left, (typed.left_typed, (operands_allowed operator typed.left typed.right type (types_alone scene from to operator left right other.0 alone.0 type typed)).0));
+        faults = λ fault is.
+            tells_there (fault_outcome fault) (TakesMemory whole) (TakesMemory whole) (SidesGive operator (TypedHere scene whole) (MeansHere scene left) (MeansHere scene right)) (MeansHere scene whole) (λ takes. takes)
+            (λ o given. inr (other.0, inr (alone.0, given)))
+            (fault_stays fault (TakesMemory left) (TakesMemory whole) (MeansHere scene left) (λ l. OperatorGives operator (TypedHere scene whole) l (MeansHere scene right)) (child_takes whole left (first_child left (right ∷ []))) is);
+      })
+
+  -- so does `has`, of which the right operand may be read
+  flags_faults : (from to : ℕ) (left right : Tree) (i j : ℕ) (fault : EvalFault) → BesideHere scene (TypedHere scene left) right i j
+      → Tells (TakesMemory left) (MeansHere scene left) (fault_outcome fault)
+      → Tells (TakesMemory (node from to (has left right))) (MeansHere scene (node from to (has left right))) (fault_outcome fault)
+  flags_faults from to left right i j fault (inl read) is =
+      let whole = node from to (has left right) in
+      tells_there (fault_outcome fault) (TakesMemory whole) (TakesMemory whole) (After (MeansHere scene left) (λ l. HasGives l (val.member read.0))) (MeansHere scene whole) (λ takes. takes)
+      (λ o given. inl (read.0, read.1, given))
+      (fault_stays fault (TakesMemory left) (TakesMemory whole) (MeansHere scene left) (λ l. HasGives l (val.member read.0)) (child_takes whole left (first_child left (right ∷ []))) is)
+  flags_faults from to left right i j fault (inr alone) is =
+      let whole = node from to (has left right) in
+      tells_there (fault_outcome fault) (TakesMemory whole) (TakesMemory whole) (After (MeansHere scene left) (λ l. After (MeansHere scene right) (HasGives l))) (MeansHere scene whole) (λ takes. takes)
+      (λ o given. inr (alone.0, given))
+      (fault_stays fault (TakesMemory left) (TakesMemory whole) (MeansHere scene left) (λ l. After (MeansHere scene right) (HasGives l)) (child_takes whole left (first_child left (right ∷ []))) is)
+
   first_of_kind : (place : ℕ) (kind : NodeKind) → ¬ (walk_of_kind kind ≡ WalkClass.Leaf) → HasKind scene.list place kind
       → (stop : ℕ) (tree : Tree) → StandsHere scene place stop tree → FirstOperand scene place (walk_of_kind kind) tree
-  first_of_kind place (NodeKind.Member slot) inner here = by_kind scene place (NodeKind.Member slot) here (λ stop tree. FirstOperand scene place WalkClass.Eager tree)
+  first_of_kind place (NodeKind.Member slot) inner here stop tree stands = of_first scene place (walk_of_kind (NodeKind.Member slot)) stop tree stands (by_kind scene place (NodeKind.Member slot) here (λ stop tree. FirstTree scene place WalkClass.Eager tree)
       (λ base asked stop from to stands. record {
         stop = stop;
         operand = base;
         stands = only_child scene (place + 1) stop base stands.children;
         typed = λ type typed. (typed.operand, (typed.operand_typed, tt));
         faults = λ fault. fault_stays fault (TakesMemory base) (TakesMemory (node from to (member base asked))) (MeansHere scene base) _ (child_takes (node from to (member base asked)) base (first_child base []));
-      })
-  first_of_kind place NodeKind.Count inner here = by_kind scene place NodeKind.Count here (λ stop tree. FirstOperand scene place WalkClass.Eager tree)
+      }) stop tree stands)
+  first_of_kind place NodeKind.Count inner here stop tree stands = of_first scene place (walk_of_kind NodeKind.Count) stop tree stands (by_kind scene place NodeKind.Count here (λ stop tree. FirstTree scene place WalkClass.Eager tree)
       (λ base stop from to stands. record {
         stop = stop;
         operand = base;
         stands = only_child scene (place + 1) stop base stands.children;
         typed = λ type typed. (typed.operand, (typed.operand_typed, tt));
         faults = λ fault. fault_stays fault (TakesMemory base) (TakesMemory (node from to (count base))) (MeansHere scene base) _ (child_takes (node from to (count base)) base (first_child base []));
-      })
-  first_of_kind place NodeKind.AnyItem inner here = by_kind scene place NodeKind.AnyItem here (λ stop tree. FirstOperand scene place WalkClass.Eager tree)
+      }) stop tree stands)
+  first_of_kind place NodeKind.AnyItem inner here stop tree stands = of_first scene place (walk_of_kind NodeKind.AnyItem) stop tree stands (by_kind scene place NodeKind.AnyItem here (λ stop tree. FirstTree scene place WalkClass.Eager tree)
       (λ base stop from to stands. record {
         stop = stop;
         operand = base;
         stands = only_child scene (place + 1) stop base stands.children;
         typed = λ type typed. (typed.operand, (typed.operand_typed, tt));
         faults = λ fault. fault_stays fault (TakesMemory base) (TakesMemory (node from to (any_item base))) (MeansHere scene base) _ (child_takes (node from to (any_item base)) base (first_child base []));
-      })
-  first_of_kind place NodeKind.Has inner here = by_kind scene place NodeKind.Has here (λ stop tree. FirstOperand scene place WalkClass.Eager tree)
+      }) stop tree stands)
+  first_of_kind place NodeKind.Has inner here stop tree stands = of_first scene place (walk_of_kind NodeKind.Has) stop tree stands (by_kind scene place NodeKind.Has here (λ stop tree. FirstTree scene place WalkClass.Eager tree)
       (λ left right stop from to stands. record {
         stop = stands.children.middle;
         operand = left;
         stands = stands.children.left;
         typed = λ type typed. (typed.left, (typed.left_typed, tt));
-        faults = λ fault is.
-            let whole = node from to (has left right) in
-            tells_there (fault_outcome fault) (TakesMemory whole) (TakesMemory whole) (After (MeansHere scene left) (λ l. After (MeansHere scene right) (HasGives l))) (MeansHere scene whole) (λ takes. takes)
-            (flags_means scene place stop from to left right here stands)
-            (fault_stays fault (TakesMemory left) (TakesMemory whole) (MeansHere scene left) (λ l. After (MeansHere scene right) (HasGives l)) (child_takes whole left (first_child left (right ∷ []))) is);
-      })
-  first_of_kind place NodeKind.InPath inner here = by_kind scene place NodeKind.InPath here (λ stop tree. FirstOperand scene place WalkClass.Eager tree)
+        faults = λ fault. flags_faults from to left right stands.children.middle stands.children.right.middle fault stands.children.right.left;
+      }) stop tree stands)
+  first_of_kind place NodeKind.InPath inner here stop tree stands = of_first scene place (walk_of_kind NodeKind.InPath) stop tree stands (by_kind scene place NodeKind.InPath here (λ stop tree. FirstTree scene place WalkClass.Eager tree)
       (λ left path stop from to stands. record {
         stop = stands.children.middle;
         operand = left;
         stands = stands.children.left;
         typed = λ type typed. (typed.left, (typed.left_typed, tt));
         faults = λ fault. fault_stays fault (TakesMemory left) (TakesMemory (node from to (in_path left path))) (MeansHere scene left) _ (child_takes (node from to (in_path left path)) left (first_child left (path ∷ [])));
-      })
-  first_of_kind place NodeKind.InList inner here = by_kind scene place NodeKind.InList here (λ stop tree. FirstOperand scene place WalkClass.Eager tree)
+      }) stop tree stands)
+  first_of_kind place NodeKind.InList inner here stop tree stands = of_first scene place (walk_of_kind NodeKind.InList) stop tree stands (by_kind scene place NodeKind.InList here (λ stop tree. FirstTree scene place WalkClass.Eager tree)
       (λ left items stop from to stands. record {
         stop = stands.children.middle;
         operand = left;
         stands = stands.children.left;
         typed = λ type typed. (typed.left, (typed.left_typed, tt));
         faults = λ fault. fault_stays fault (TakesMemory left) (TakesMemory (node from to (in_list left items))) (MeansHere scene left) _ (child_takes (node from to (in_list left items)) left (first_child left (list_of_trees items)));
-      })
-  first_of_kind place (NodeKind.PairedRight operator number) inner here = by_kind scene place (NodeKind.PairedRight operator number) here (λ stop tree. FirstOperand scene place WalkClass.Eager tree)
-      (λ left right stop from to stands. record {
-        stop = stands.children.middle;
-        operand = left;
-        stands = stands.children.left;
-        typed = λ type typed. (typed.left, (typed.left_typed, tt));
-        faults = λ fault is.
-            let whole = node from to (binary operator left right) in
-            let read = right_read scene place operator number here stop from to left right stands in
-            tells_there (fault_outcome fault) (TakesMemory whole) (TakesMemory whole) (SidesGive operator (TypedHere scene whole) (MeansHere scene left) (GivesMember read.number)) (MeansHere scene whole) (λ takes. takes)
-            (λ o given. inl (read.number, read.reads, given))
-            (fault_stays fault (TakesMemory left) (TakesMemory whole) (MeansHere scene left) (λ l. OperatorGives operator (TypedHere scene whole) l (GivesMember read.number)) (child_takes whole left (first_child left (right ∷ []))) is);
-      })
-  first_of_kind place (NodeKind.PairedLeft operator number) inner here = by_kind scene place (NodeKind.PairedLeft operator number) here (λ stop tree. FirstOperand scene place WalkClass.Eager tree)
-      (λ left right stop from to stands. record {
-        stop = stands.children.middle;
-        operand = left;
-        stands = stands.children.left;
-        typed = λ type typed. (typed.left, (typed.left_typed, tt));
-        faults = λ fault is.
-            let whole = node from to (binary operator left right) in
-            let read = left_read scene place operator number here stop from to left right stands in
-            read_faults scene fault left whole (OfEquality operator (TypedHere scene right)) read.number read.reads.1 (child_takes whole left (first_child left (right ∷ []))) is;
-      })
-  first_of_kind place (NodeKind.PairedHas number) inner here = by_kind scene place (NodeKind.PairedHas number) here (λ stop tree. FirstOperand scene place WalkClass.Eager tree)
-      (λ left right stop from to stands. record {
-        stop = stands.children.middle;
-        operand = left;
-        stands = stands.children.left;
-        typed = λ type typed. (typed.left, (typed.left_typed, tt));
-        faults = λ fault is.
-            let whole = node from to (has left right) in
-            let read = flags_read scene place number here stop from to left right stands in
-            tells_there (fault_outcome fault) (TakesMemory whole) (TakesMemory whole) (After (MeansHere scene left) (λ l. HasGives l (val.member read.number))) (MeansHere scene whole) (λ takes. takes)
-            (λ o given. inl (read.number, read.reads, given))
-            (fault_stays fault (TakesMemory left) (TakesMemory whole) (MeansHere scene left) (λ l. HasGives l (val.member read.number)) (child_takes whole left (first_child left (right ∷ []))) is);
-      })
-  first_of_kind place (NodeKind.PairedList numbers) inner here = by_kind scene place (NodeKind.PairedList numbers) here (λ stop tree. FirstOperand scene place WalkClass.Eager tree)
-      (λ left items stop from to stands. record {
-        stop = stands.children.middle;
-        operand = left;
-        stands = stands.children.left;
-        typed = λ type typed. (typed.left, (typed.left_typed, tt));
-        faults = λ fault. fault_stays fault (TakesMemory left) (TakesMemory (node from to (in_list left items))) (MeansHere scene left) _ (child_takes (node from to (in_list left items)) left (first_child left (list_of_trees items)));
-      })
-  first_of_kind place (NodeKind.Lambda quantifier) inner here = by_kind scene place (NodeKind.Lambda quantifier) here (λ stop tree. FirstOperand scene place WalkClass.Eager tree)
+      }) stop tree stands)
+  first_of_kind place (NodeKind.Lambda quantifier) inner here stop tree stands = of_first scene place (walk_of_kind (NodeKind.Lambda quantifier)) stop tree stands (by_kind scene place (NodeKind.Lambda quantifier) here (λ stop tree. FirstTree scene place WalkClass.Eager tree)
       (λ base asked body stop from to stands.
       let whole = node from to (lambda quantifier base asked body) in
       record {
@@ -376,38 +397,30 @@ module _ (scene : SceneModel) where
         stands = stands.children.left;
         typed = λ type typed. (collection typed.member_type, (typed.binds.over, tt));
         faults = λ fault. fault_stays fault (TakesMemory base) (TakesMemory whole) (MeansHere scene base) _ (child_takes whole base (first_child base (body ∷ [])));
-      })
-  first_of_kind place NodeKind.Neg inner here = by_kind scene place NodeKind.Neg here (λ stop tree. FirstOperand scene place WalkClass.Numeric tree)
+      }) stop tree stands)
+  first_of_kind place NodeKind.Neg inner here stop tree stands = of_first scene place (walk_of_kind NodeKind.Neg) stop tree stands (by_kind scene place NodeKind.Neg here (λ stop tree. FirstTree scene place WalkClass.Numeric tree)
       (λ operand stop from to stands. record {
         stop = stop;
         operand = operand;
         stands = only_child scene (place + 1) stop operand stands.children;
         typed = λ type typed. (typed.operand, (typed.operand_typed, (typed.makes.number, typed.makes.operand_is)));
         faults = λ fault. fault_stays fault (TakesMemory operand) (TakesMemory (node from to (negation operand))) (MeansHere scene operand) _ (child_takes (node from to (negation operand)) operand (first_child operand []));
-      })
-  first_of_kind place NodeKind.Not inner here = by_kind scene place NodeKind.Not here (λ stop tree. FirstOperand scene place WalkClass.Logical tree)
+      }) stop tree stands)
+  first_of_kind place NodeKind.Not inner here stop tree stands = of_first scene place (walk_of_kind NodeKind.Not) stop tree stands (by_kind scene place NodeKind.Not here (λ stop tree. FirstTree scene place WalkClass.Logical tree)
       (λ operand stop from to stands. record {
         stop = stop;
         operand = operand;
         stands = only_child scene (place + 1) stop operand stands.children;
         typed = λ type typed. (typed.operand, (typed.operand_typed, typed.makes.0));
         faults = λ fault. fault_stays fault (TakesMemory operand) (TakesMemory (node from to (logical_not operand))) (MeansHere scene operand) _ (child_takes (node from to (logical_not operand)) operand (first_child operand []));
-      })
-  first_of_kind place (NodeKind.Binary operator) inner here = by_kind scene place (NodeKind.Binary operator) here (λ stop tree. FirstOperand scene place (walk_of_operator operator) tree)
-      (λ left right stop from to stands. record {
-        stop = stands.children.middle;
-        operand = left;
-        stands = stands.children.left;
-        typed = λ type typed. (typed.left, (typed.left_typed, (operands_allowed operator typed.left typed.right type (operator_plain scene place stop from to left right operator here stands type typed)).0));
-        faults = λ fault is.
-            let whole = node from to (binary operator left right) in
-            tells_there (fault_outcome fault) (TakesMemory whole) (TakesMemory whole) (SidesGive operator (TypedHere scene whole) (MeansHere scene left) (MeansHere scene right)) (MeansHere scene whole) (λ takes. takes)
-            (operator_means scene place stop from to left right operator here stands)
-            (fault_stays fault (TakesMemory left) (TakesMemory whole) (MeansHere scene left) (λ l. OperatorGives operator (TypedHere scene whole) l (MeansHere scene right)) (child_takes whole left (first_child left (right ∷ []))) is);
-      })
-  first_of_kind place (NodeKind.Call function) inner here = by_kind scene place (NodeKind.Call function) here (λ stop tree. FirstOperand scene place WalkClass.Eager tree)
-      (λ asked arguments named later stop from to stands. call_first place asked arguments stop from to (λ of_now. later (only_now function (named ∙ sym of_now))) stands)
-  first_of_kind place _ inner here = absurd (inner refl)
+      }) stop tree stands)
+  first_of_kind place (NodeKind.Call function) inner here stop tree stands = of_first scene place (walk_of_kind (NodeKind.Call function)) stop tree stands (by_kind scene place (NodeKind.Call function) here (λ stop tree. FirstTree scene place WalkClass.Eager tree)
+      (λ asked arguments named later stop from to stands. call_first place asked arguments stop from to (λ of_now. later (only_now function (named ∙ sym of_now))) stands) stop tree stands)
+  first_of_kind place (NodeKind.Binary operator) inner here stop tree stands =
+      by_kind scene place (NodeKind.Binary operator) here (λ stop tree. FirstOperand scene place (walk_of_operator operator) tree)
+      (λ left right stop from to stands. binary_first place operator stop from to left right stands stands.children.left stands.children.right.left)
+      stop tree stands
+  first_of_kind place _ inner here stop tree stands = absurd (inner refl)
 
   first_operand : (place : ℕ) (class : WalkClass) → ¬ (class ≡ WalkClass.Leaf) → IsClassAt scene.list class place
       → (stop : ℕ) (tree : Tree) → StandsHere scene place stop tree → FirstOperand scene place class tree
@@ -422,23 +435,14 @@ module _ (scene : SceneModel) where
   pub first_faults : (place : ℕ) (class : WalkClass) (fault : EvalFault) → ¬ (class ≡ WalkClass.Leaf) → IsClassAt scene.list class place
       → AnswersAtPlace scene (place + 1) (λ type. fault_outcome fault) → AnswersAtPlace scene place (λ type. fault_outcome fault)
   first_faults place class fault inner is first = record {
-    of_tree = λ stop tree type stands typed.
-        let it = first_operand place class inner is stop tree stands in
-        let of_it = it.typed type typed in
-        it.faults fault (first.of_tree it.stop it.operand of_it.0 it.stands of_it.1.0);
+    of_tree = λ stop tree type stands typed. (first_operand place class inner is stop tree stands).faults fault first type typed;
+    of_number = λ number stop tree type there. absurd (inner_number scene place class inner is number stop tree there);
   }
 
   -- the next node is the first operand
-  pub has_type : (place stop : ℕ) (tree : Tree) → StandsHere scene place stop tree → (type : ExprType) × TypedHere scene tree type
-  has_type place stop (node from to shape) stands = (_, stands.top.typed)
-
   pub first_step : (place : ℕ) (class : WalkClass) → ¬ (class ≡ WalkClass.Leaf) → IsClassAt scene.list class place → PartStands scene place
-      → TypedStands scene (place + 1) (AllowedBy class)
-  first_step place class inner is part =
-      let it = first_operand place class inner is part.stop part.tree part.stands in
-      let typed = has_type place part.stop part.tree part.stands in
-      let of_it = it.typed typed.0 typed.1 in
-      record { stop = it.stop; tree = it.operand; stands = it.stands; type_of = of_it.0; typed = of_it.1.0; allowed = of_it.1.1 }
+      → StandsBy scene (place + 1) class
+  first_step place class inner is part = (first_operand place class inner is part.stop part.tree part.stands).operand
 
   -- a node of truth values is of type Boolean
   truth_of_kind : (place : ℕ) (kind : NodeKind) → walk_of_kind kind ≡ WalkClass.Logical → HasKind scene.list place kind
@@ -448,13 +452,14 @@ module _ (scene : SceneModel) where
       (λ operand stop from to stands type typed. inl typed.makes.1)
   truth_of_kind place (NodeKind.Binary operator) logical here =
       by_kind scene place (NodeKind.Binary operator) here (λ stop tree. (type : ExprType) → TypedHere scene tree type → IsBooleanOrNull type)
-      (λ left right stop from to stands type typed. logical_type operator typed.left typed.right type logical (operator_plain scene place stop from to left right operator here stands type typed))
+      (λ left right stop from to stands type typed. logical_type operator typed.left typed.right type logical
+      (plain_types (slots_of scene.row.schema) operator (side_of left typed.left) (side_of right typed.right) type (λ equality. let eager = equality_walks operator equality in cc) typed.makes))
   truth_of_kind place _ logical here = absurd (cc)
 
   pub logical_stands : (place : ℕ) → IsClassAt scene.list WalkClass.Logical place → PartStands scene place → TypedStands scene place IsBooleanOrNull
   logical_stands place is part =
       let found = some_there (λ (f : CheckedNode). walk_of_kind f.kind ≡ WalkClass.Logical) (slice_get scene.list.nodes place) is in
-      let typed = has_type place part.stop part.tree part.stands in
+      let typed = has_type scene place part.stop part.tree part.stands in
       record {
         stop = part.stop;
         tree = part.tree;
@@ -466,8 +471,16 @@ module _ (scene : SceneModel) where
             part.stop part.tree part.stands typed.0 typed.1;
       }
 
-  pub first_part : (place : ℕ) (class : WalkClass) → ¬ (class ≡ WalkClass.Leaf) → IsClassAt scene.list class place → PartStands scene place → PartStands scene (place + 1)
-  first_part place class inner is part = typed_part scene (place + 1) (AllowedBy class) (first_step place class inner is part)
+  pub operand_by : (place : ℕ) (class : WalkClass) → StandsBy scene place class → OperandStands scene place
+  operand_by place WalkClass.Logical typed = tree_operand scene place (typed_part scene place IsBooleanOrNull typed)
+  operand_by place WalkClass.Numeric typed = tree_operand scene place (typed_part scene place IsNumberOperand typed)
+  operand_by place _ operand = operand
+
+  part_by : (place : ℕ) (class : WalkClass) → ¬ (class ≡ WalkClass.Leaf) → IsClassAt scene.list class place → StandsBy scene place class → PartStands scene place
+  part_by place class inner is by = tree_of_class scene place class inner is (operand_by place class by)
+
+  pub first_part : (place : ℕ) (class : WalkClass) → ¬ (class ≡ WalkClass.Leaf) → IsClassAt scene.list class place → PartStands scene place → OperandStands scene (place + 1)
+  first_part place class inner is part = operand_by (place + 1) class (first_step place class inner is part)
 
   -- what goes on from each place to the next goes down a chain
   down : (P Q : ℕ → Type 0) → ((i : ℕ) → P i → Q i → P (i + 1)) → (top d k : ℕ) → k ≡ top + d → P top → ((i : ℕ) → i < k → top ≤ i → Q i) → P k
@@ -477,19 +490,19 @@ module _ (scene : SceneModel) where
       subst P e (step (top + d) (down P Q step top d (top + d) refl first (λ i before from. all i (omega arith) from)) (all (top + d) (omega arith) (omega arith)))
 
   module _ (class : WalkClass) (inner : ¬ (class ≡ WalkClass.Leaf)) (top k : ℕ) where
-    pub typed_down : top ≤ k → TypedStands scene top (AllowedBy class) → ((i : ℕ) → i < k → top ≤ i → IsClassAt scene.list class i)
-        → TypedStands scene k (AllowedBy class)
+    pub typed_down : top ≤ k → StandsBy scene top class → ((i : ℕ) → i < k → top ≤ i → IsClassAt scene.list class i) → StandsBy scene k class
     typed_down below first all =
-        down (λ i. TypedStands scene i (AllowedBy class)) (IsClassAt scene.list class)
-        (λ i typed is. first_step i class inner is (typed_part scene i (AllowedBy class) typed)) top (k - top) k (omega arith) first all
+        down (λ i. StandsBy scene i class) (IsClassAt scene.list class)
+        (λ i by is. first_step i class inner is (part_by i class inner is by)) top (k - top) k (omega arith) first all
 
-    pub part_down : top ≤ k → PartStands scene top → ((i : ℕ) → i < k → top ≤ i → IsClassAt scene.list class i) → PartStands scene k
+    pub part_down : top ≤ k → PartStands scene top → ((i : ℕ) → i < k → top ≤ i → IsClassAt scene.list class i) → OperandStands scene k
     part_down below first all =
-        down (PartStands scene) (IsClassAt scene.list class) (λ i part is. first_part i class inner is part) top (k - top) k (omega arith) first all
+        down (OperandStands scene) (IsClassAt scene.list class) (λ i operand is. first_part i class inner is (tree_of_class scene i class inner is operand)) top (k - top) k (omega arith)
+        (tree_operand scene top first) all
 
   -- the bottom of a chain, after its top
   pub bottom_down : (class : WalkClass) → ¬ (class ≡ WalkClass.Leaf) → (top k : ℕ) → top < k → PartStands scene top
-      → ((i : ℕ) → i < k → top ≤ i → IsClassAt scene.list class i) → TypedStands scene k (AllowedBy class)
+      → ((i : ℕ) → i < k → top ≤ i → IsClassAt scene.list class i) → StandsBy scene k class
   bottom_down class inner top k below first all =
       typed_down class inner (top + 1) k (omega arith) (first_step top class inner (all top below (omega arith)) first) (λ i before from. all i before (omega arith))
 
@@ -504,66 +517,10 @@ module _ (scene : SceneModel) where
   step_up class inner Answers top at bottom above within part all answers =
       let e : at ≡ at - 1 + 1 = omega arith in
       record {
-        stands = part_down class inner top (at - 1) (omega arith) part (λ i before from. all i (omega arith) from);
+        stands = tree_of_class scene (at - 1) class inner (all (at - 1) (omega arith) (omega arith)) (part_down class inner top (at - 1) (omega arith) part (λ i before from. all i (omega arith) from));
         here = all (at - 1) (omega arith) (omega arith);
         first = subst Answers e answers;
       }
-
-  pub further : (i j : ℕ) (tree : Tree) → StandsHere scene i j tree → i < j
-  further = further_in scene.row.schema scene.row.type_id scene.list (scope_of (environment_of scene))
-
-  pub all_further : (i j : ℕ) (trees : Trees) → StandsAll scene i j trees → i ≤ j
-  all_further = all_further_in scene.row.schema scene.row.type_id scene.list (scope_of (environment_of scene))
-
-  -- where a node says that it stops
-  pub stops_there : (i j right : ℕ) (tree : Tree) → StandsHere scene i j tree
-      → IsSomeAnd (slice_get scene.list.nodes i) (λ found. found.stop ≡ right) → j ≡ right
-  stops_there i j right (node from to shape) stands is =
-      let e : stands.top.found.stop ≡ right = found_there (λ found. found.stop ≡ right) (slice_get scene.list.nodes i) stands.top.found stands.top.stands_at is in
-      sym stands.top.last ∙ e
-
-  pub stops_here : (i j : ℕ) (tree : Tree) → StandsHere scene i j tree → IsSomeAnd (slice_get scene.list.nodes i) (λ found. found.stop ≡ j)
-  stops_here i j (node from to shape) stands = there_found (λ found. found.stop ≡ j) (slice_get scene.list.nodes i) stands.top.found stands.top.stands_at stands.top.last
-
-  module _ (place : ℕ) where
-    -- the right operand stands where the left one says that it stops
-    pub right_stands : (right stop from to : ℕ) (operator : BinaryOperator) (l r : Tree) → IsRightOf scene.list place right
-        → StandsHere scene place stop (node from to (binary operator l r))
-        → StandsHere scene right stop r
-    right_stands right stop from to operator l r is stands =
-        subst (λ (m : ℕ). StandsHere scene m stop r)
-        (stops_there (place + 1) stands.children.middle right l stands.children.left is) (only_child scene stands.children.middle stop r stands.children.right)
-
-    module _ (operator : BinaryOperator) (here : HasKind scene.list place (NodeKind.Binary operator)) (part : PartStands scene place) where
-      pub right_there : (right : ℕ) × IsRightOf scene.list place right
-      right_there = by_kind scene place (NodeKind.Binary operator) here (λ stop tree. (right : ℕ) × IsRightOf scene.list place right)
-          (λ left right stop from to stands. (stands.children.middle, stops_here (place + 1) stands.children.middle left stands.children.left))
-          part.stop part.tree part.stands
-
-      module _ (right_place : ℕ) (is_right : IsRightOf scene.list place right_place) where
-        pub right_typed : (class : WalkClass) → walk_of_operator operator ≡ class → TypedStands scene right_place (AllowedBy class)
-        right_typed class class_is = by_kind scene place (NodeKind.Binary operator) here (λ stop tree. TypedStands scene right_place (AllowedBy class))
-            (λ left right stop from to stands. record {
-              stop = stop;
-              tree = right;
-              stands = right_stands right_place stop from to operator left right is_right stands;
-              type_of = stands.top.typed.right;
-              typed = stands.top.typed.right_typed;
-              allowed = subst (λ (c : WalkClass). AllowedBy c stands.top.typed.right) class_is
-                  (operands_allowed operator stands.top.typed.left stands.top.typed.right _ (operator_plain scene place stop from to left right operator here stands _ stands.top.typed)).1;
-            })
-            part.stop part.tree part.stands
-
-        pub right_part : PartStands scene right_place
-        right_part = let walk = walk_of_operator operator in typed_part scene right_place (AllowedBy walk) (right_typed walk refl)
-
-        pub right_further : place < right_place
-        right_further = by_kind scene place (NodeKind.Binary operator) here (λ stop tree. place < right_place)
-            (λ left right stop from to stands.
-            let e : stands.children.middle ≡ right_place = stops_there (place + 1) stands.children.middle right_place left stands.children.left is_right in
-            let f : place + 1 < stands.children.middle = further (place + 1) stands.children.middle left stands.children.left in
-            omega arith)
-            part.stop part.tree part.stands
 
 -- a chain that begins at an index of a class ends after it
 pub below_bottom : (list : FlatTree) (class : WalkClass) (place bottom : ℕ) → place ≤ bottom → IsClassAt list class place

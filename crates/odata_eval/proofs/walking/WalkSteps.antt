@@ -1,7 +1,8 @@
 -- What the walk answers at a node with operands, from what it found of these.
-use Rattle.std.proofs.Common.{◌≡◌, ℕ, ℤ, ◌+◌, [], Bool, Option, Some, Result, Ok, slice_get, subst}
+use Rattle.std.proofs.Common.{◌≡◌, ap, inl, inr, refl, sym, ℕ, ℤ, ◌+◌, [], Bool, Option, Some, Result, Ok, slice_get, subst}
 use Rattle.std.specs.Prelude.{IsSomeAnd}
 use Rattle.odata_checked_filter.specs.Calls.{TakesMemory}
+use Rattle.edm_values.specs.Val as val
 use Rattle.edm_values.specs.Val.{Val}
 use Rattle.odata_syntax.specs.Tree.{Tree, node, negation, binary}
 use Rattle.odata_syntax.specs.declared.binary_operator.BinaryOperator.{BinaryOperator}
@@ -15,7 +16,10 @@ use Rattle.odata_checked_filter.specs.declared.checked_node.NodeKind.{NodeKind}
 use Rattle.odata_syntax.specs.declared.binary_operator.LogicalOperator.{LogicalOperator}
 use Rattle.odata_expression_types.specs.Laws.{OneType}
 use Rattle.odata_signatures.specs.TypeView.{expr_type}
-use Rattle.odata_signatures.specs.OperatorTyped.{OperatorByTypes}
+use Rattle.odata_signatures.specs.ExprTypes.{boolean_type}
+use Rattle.odata_signatures.specs.OperatorTyped.{IsEquality, OperatorByTypes}
+use Rattle.odata_expression_types.specs.Reads.{OfEquality, ReadsNone}
+use Rattle.odata_expression_types.specs.Sides.{quoted_text, side_of}
 use Rattle.odata_filter_operations.specs.declared.fault.EvalFault.{EvalFault}
 use Rattle.odata_filter_operations.specs.CalculationGives.{CalculationGives, NegatedGives, number_val}
 use Rattle.odata_filter_operations.specs.CompareGives.{CompareGives}
@@ -35,11 +39,14 @@ use Rattle.odata_eval.specs.private.WalkAnswer.{AnswersAtPlace, AnswersNumber, A
 use Rattle.odata_eval.specs.private.WalkClass.{IsDecided}
 use Rattle.odata_eval.proofs.meaning.LawsBelow.{Promotes}
 use Rattle.odata_eval.proofs.meaning.Numbers.{calculated_values, negated_value}
+use Rattle.odata_eval.specs.ReadGives.{GivesMember}
+use Rattle.odata_eval.proofs.meaning.Reads.{equality_typed, number_comparable, read_has}
 use Rattle.odata_eval.proofs.meaning.Progress.{decided_gives, join_gives, not_gives, undecided_goes}
 use Rattle.odata_eval.proofs.walking.Children.{only_child}
+use Rattle.odata_eval.proofs.walking.Operands.{BesideHere, HasNone, equality_boolean, no_number, not_both, number_is}
 use Rattle.odata_eval.proofs.walking.Parts.{by_kind, goes_there, some_tells, tells_there, type_there}
-use Rattle.odata_eval.proofs.walking.Spines.{child_takes, fault_stays, right_stands, second_child}
-use Rattle.odata_eval.proofs.walking.Unread.{operator_means, operator_plain}
+use Rattle.odata_eval.proofs.walking.Extents.{right_stands}
+use Rattle.odata_eval.proofs.walking.Spines.{child_takes, fault_stays, second_child, types_alone}
 use Rattle.odata_eval.proofs.walking.Readings.{numbers_anywhere, one_number_anywhere}
 use Rattle.odata_eval.proofs.walking.WalkValues.{value_has}
 
@@ -72,6 +79,7 @@ module _ (scene : SceneModel) (place : ℕ) where
         by_kind scene place NodeKind.Not here (λ stop tree. TypedHere scene tree type → MeansHere scene tree (gives (truth_val (not3 truth))))
         (λ operand stop from to stands typed. (gives (truth_val truth), (first.of_tree stop operand typed.operand (only_child scene (place + 1) stop operand stands.children) typed.operand_typed, not_gives truth)))
         stop tree stands typed;
+    of_number = λ number stop tree type there. absurd (no_number scene place NodeKind.Not tt here number stop tree there);
   }
 
   -- the one type of the tree is that which the node says
@@ -115,46 +123,83 @@ module _ (scene : SceneModel) (place : ℕ) where
           ))
           (given scene.row.schema)))
           stop tree stands typed;
+      of_number = λ number stop tree type there. absurd (no_number scene place NodeKind.Neg tt here number stop tree there);
     }
 
   -- ---- operators with two operands
 
   module _ (operator : BinaryOperator) (here : HasKind scene.list place (NodeKind.Binary operator)) where
-    -- after the left side's value goes what the operator says of it and of the right side
-    of_left : (l : ExprType → Val) (told : ExprType → Option Outcome)
+    no_number_here : HasNone scene place
+    no_number_here = no_number scene place (NodeKind.Binary operator) tt here
+
+    -- an operator that is no equality reads nothing
+    by_itself : ¬ IsEquality operator → (Operand : ExprType → Type 0) (tree : Tree) (i j : ℕ) → BesideHere scene (OfEquality operator Operand) tree i j
+        → ReadsNone (slots_of scene.row.schema) (OfEquality operator Operand) tree × StandsHere scene i j tree
+    by_itself other Operand tree i j (inl read) = absurd (other read.1.beside.0)
+    by_itself other Operand tree i j (inr alone) = alone
+
+    -- after its left side's value goes what it says of that and of the right side
+    of_left : ¬ IsEquality operator → (l : ExprType → Val) (told : ExprType → Option Outcome)
         → AnswersAtPlace scene (place + 1) (λ type. Some (gives (l type)))
         → ((stop from to : ℕ) (a b : Tree) (type : ExprType) → StandsHere scene place stop (node from to (binary operator a b))
         → (typed : TypedHere scene (node from to (binary operator a b)) type)
         → Tells (TakesMemory (node from to (binary operator a b))) (OperatorGives operator (TypedHere scene (node from to (binary operator a b))) (l typed.left) (MeansHere scene b)) (told type))
         → AnswersAtPlace scene place told
-    of_left l told first goes = record {
+    of_left other l told first goes = record {
       of_tree = λ stop tree type stands typed.
           by_kind scene place (NodeKind.Binary operator) here (λ stop tree. TypedHere scene tree type → Tells (TakesMemory tree) (MeansHere scene tree) (told type))
           (λ a b stop from to stands typed.
           let whole = node from to (binary operator a b) in
+          let m = stands.children.middle in
+          let alone = by_itself other (TypedHere scene b) a (place + 1) m stands.children.left in
+          let apart = by_itself other (TypedHere scene a) b m stands.children.right.middle stands.children.right.left in
           tells_there (told type) (TakesMemory whole) (TakesMemory whole) (OperatorGives operator (TypedHere scene whole) (l typed.left) (MeansHere scene b)) (MeansHere scene whole) (λ takes. takes)
-          (λ o gives_it. operator_means scene place stop from to a b operator here stands o (
-            gives (l typed.left),
-            (first.of_tree stands.children.middle a typed.left stands.children.left typed.left_typed, gives_it),
-          ))
+          (λ o given. inr (apart.0, inr (alone.0, (gives (l typed.left), (first.of_tree m a typed.left alone.1 typed.left_typed, given)))))
           (goes stop from to a b type stands typed))
           stop tree stands typed;
+      of_number = λ number stop tree type there. absurd (no_number_here number stop tree there);
     }
 
     module _ (right_place : ℕ) (is_right : IsRightOf scene.list place right_place) where
-      -- and after both answers what the operator says of them
-      pub of_sides : (l : ExprType → Val) (beside told : ExprType → Option Outcome)
-          → AnswersAtPlace scene (place + 1) (λ type. Some (gives (l type))) → AnswersAtPlace scene right_place beside
-          → ((stop : ℕ) (whole : Tree) (s t type : ExprType) (Right : Outcome → Type 0) → StandsHere scene place stop whole → TypedHere scene whole type
-          → Tells (TakesMemory whole) Right (beside t) → Tells (TakesMemory whole) (OperatorGives operator (TypedHere scene whole) (l s) Right) (told type))
-          → AnswersAtPlace scene place told
-      of_sides l beside told first second goes =
-          of_left l told first
-          (λ stop from to a b type stands typed.
-          goes stop (node from to (binary operator a b)) typed.left typed.right type (MeansHere scene b) stands typed
-          (tells_there (beside typed.right) (TakesMemory b) (TakesMemory (node from to (binary operator a b))) (MeansHere scene b) (MeansHere scene b)
-          (child_takes (node from to (binary operator a b)) b (second_child a b [])) (λ o is. is)
-          (second.of_tree stop b typed.right (right_stands scene place right_place stop from to operator a b is_right stands) typed.right_typed)))
+      -- and after both answers what the operator says of them; where one side is read, of its number
+      module _ (l : ExprType → Val) (beside told : ExprType → Option Outcome) (first : AnswersAtPlace scene (place + 1) (λ type. Some (gives (l type)))) (second : AnswersAtPlace scene right_place beside)
+          (goes : (stop : ℕ) (whole : Tree) (s t type : ExprType) (Right : Outcome → Type 0) → StandsHere scene place stop whole → TypedHere scene whole type
+          → Tells (TakesMemory whole) Right (beside t) → Tells (TakesMemory whole) (OperatorGives operator (TypedHere scene whole) (l s) Right) (told type)) where
+        sides_tell : (stop from to : ℕ) (a b : Tree) (type : ExprType) → StandsHere scene place stop (node from to (binary operator a b)) → TypedHere scene (node from to (binary operator a b)) type
+            → (m : ℕ) → BesideHere scene (OfEquality operator (TypedHere scene b)) a (place + 1) m → BesideHere scene (OfEquality operator (TypedHere scene a)) b right_place stop
+            → Tells (TakesMemory (node from to (binary operator a b))) (MeansHere scene (node from to (binary operator a b))) (told type)
+        sides_tell stop from to a b type stands typed m (inl read) (inl other) = absurd (not_both scene operator a b read.0 other.0 read.1 other.1)
+        sides_tell stop from to a b type stands typed m (inl read) (inr other) =
+            let whole = node from to (binary operator a b) in
+            let is : l typed.left ≡ val.member read.0 = number_is scene (place + 1) m a read.0 l read.2 first typed.left in
+            tells_there (told type) (TakesMemory whole) (TakesMemory whole) (OperatorGives operator (TypedHere scene whole) (l typed.left) (MeansHere scene b)) (MeansHere scene whole) (λ takes. takes)
+            (λ o given. inr (other.0, inl (read.0, read.1, (gives (l typed.left), (ap gives is, given)))))
+            (goes stop whole typed.left typed.right type (MeansHere scene b) stands typed
+            (tells_there (beside typed.right) (TakesMemory b) (TakesMemory whole) (MeansHere scene b) (MeansHere scene b)
+            (child_takes whole b (second_child a b [])) (λ o is. is) (second.of_tree stop b typed.right other.1 typed.right_typed)))
+        sides_tell stop from to a b type stands typed m (inr alone) (inl read) =
+            let whole = node from to (binary operator a b) in
+            tells_there (told type) (TakesMemory whole) (TakesMemory whole) (OperatorGives operator (TypedHere scene whole) (l typed.left) (GivesMember read.0)) (MeansHere scene whole) (λ takes. takes)
+            (λ o given. inl (read.0, read.1, (gives (l typed.left), (first.of_tree m a typed.left alone.1 typed.left_typed, given))))
+            (goes stop whole typed.left typed.right type (GivesMember read.0) stands typed
+            (subst (Tells (TakesMemory whole) (GivesMember read.0)) (sym (second.of_number read.0 stop b typed.right read.2)) refl))
+        sides_tell stop from to a b type stands typed m (inr alone) (inr other) =
+            let whole = node from to (binary operator a b) in
+            tells_there (told type) (TakesMemory whole) (TakesMemory whole) (OperatorGives operator (TypedHere scene whole) (l typed.left) (MeansHere scene b)) (MeansHere scene whole) (λ takes. takes)
+            (λ o given. inr (other.0, inr (alone.0, (gives (l typed.left), (first.of_tree m a typed.left alone.1 typed.left_typed, given)))))
+            (goes stop whole typed.left typed.right type (MeansHere scene b) stands typed
+            (tells_there (beside typed.right) (TakesMemory b) (TakesMemory whole) (MeansHere scene b) (MeansHere scene b)
+            (child_takes whole b (second_child a b [])) (λ o is. is) (second.of_tree stop b typed.right other.1 typed.right_typed)))
+
+        pub of_sides : AnswersAtPlace scene place told
+        of_sides = record {
+          of_tree = λ stop tree type stands typed.
+              by_kind scene place (NodeKind.Binary operator) here (λ stop tree. TypedHere scene tree type → Tells (TakesMemory tree) (MeansHere scene tree) (told type))
+              (λ a b stop from to stands typed.
+              sides_tell stop from to a b type stands typed stands.children.middle stands.children.left (right_stands scene place right_place stop from to operator a b is_right stands))
+              stop tree stands typed;
+          of_number = λ number stop tree type there. absurd (no_number_here number stop tree there);
+        }
 
       -- an operator that takes both: the right side's fault, and what comes of both values, each by the type of its side
       pub both_faults : (l : ExprType → Val) (fault : EvalFault) → TakesBoth operator
@@ -164,33 +209,65 @@ module _ (scene : SceneModel) (place : ℕ) where
           of_sides l (λ type. fault_outcome fault) (λ type. fault_outcome fault) first second
           (λ stop whole s t type Right stands typed is. both_fault operator (TypedHere scene whole) (l s) (TakesMemory whole) Right fault both is)
 
-      -- the operator makes a type of those of its sides, and the values have these
-      pub sides_there : (l r : ExprType → Val) → AnswersAtPlace scene (place + 1) (λ type. Some (gives (l type)))
-          → AnswersAtPlace scene right_place (λ type. Some (gives (r type)))
-          → EndsOnceHere scene → (found : CheckedNode) → slice_get scene.list.nodes place ≡ Some found → PartStands scene place
-          → (left right : ExprType) × (OperatorByTypes operator left right (expr_type scene.row.schema found.edm_type)
-          × HasType (slots_of scene.row.schema) left (l left) × HasType (slots_of scene.row.schema) right (r right))
-      sides_there l r first second ends found at part =
-          let type = expr_type scene.row.schema found.edm_type in
-          by_kind scene place (NodeKind.Binary operator) here (λ stop tree. TypedHere scene tree type → (left right : ExprType) × (OperatorByTypes operator left right type
-          × HasType (slots_of scene.row.schema) left (l left) × HasType (slots_of scene.row.schema) right (r right)))
-          (λ a b stop from to stands typed. (
-            typed.left,
-            typed.right,
-            (
-              operator_plain scene place stop from to a b operator here stands type typed,
-              value_has scene ends a typed.left (l typed.left) typed.left_typed (first.of_tree stands.children.middle a typed.left stands.children.left typed.left_typed),
-              value_has scene ends b typed.right (r typed.right) typed.right_typed
-                  (second.of_tree stop b typed.right (right_stands scene place right_place stop from to operator a b is_right stands) typed.right_typed),
-            ),
-          ))
-          part.stop part.tree part.stands (type_there scene place found at part.stop part.tree part.stands)
+      -- the operator makes a type of those of its sides, and the values have these; a number is of the type beside it
+      module _ (l r : ExprType → Val) (first : AnswersAtPlace scene (place + 1) (λ type. Some (gives (l type)))) (second : AnswersAtPlace scene right_place (λ type. Some (gives (r type))))
+          (ends : EndsOnceHere scene) where
+        abbrev pub AreSides : ExprType → Type 0
+        AreSides type = (left right : ExprType) × (OperatorByTypes operator left right type
+            × HasType (slots_of scene.row.schema) left (l left) × HasType (slots_of scene.row.schema) right (r right))
+
+        sides_by : (stop from to : ℕ) (a b : Tree) (type : ExprType) → TypedHere scene (node from to (binary operator a b)) type
+            → (m : ℕ) → BesideHere scene (OfEquality operator (TypedHere scene b)) a (place + 1) m → BesideHere scene (OfEquality operator (TypedHere scene a)) b right_place stop → AreSides type
+        sides_by stop from to a b type typed m (inl read) (inl other) = absurd (not_both scene operator a b read.0 other.0 read.1 other.1)
+        sides_by stop from to a b type typed m (inl read) (inr other) =
+            let slots = slots_of scene.row.schema in
+            let s = read.1.type_of in
+            let number = read.1.number in
+            let truth : type ≡ boolean_type = equality_boolean slots operator (side_of a typed.left) (side_of b typed.right) type read.1.beside.0 typed.makes in (
+              s,
+              s,
+              (
+                equality_typed operator s s type read.1.beside.0 (number_comparable slots s (quoted_text a) read.0 number) truth,
+                subst (λ (v : Val). HasType slots s v) (sym (number_is scene (place + 1) m a read.0 l read.2 first s)) (read_has slots s (quoted_text a) read.0 number),
+                value_has scene ends b s (r s) read.1.beside.1 (second.of_tree stop b s other.1 read.1.beside.1),
+              ),
+            )
+        sides_by stop from to a b type typed m (inr alone) (inl read) =
+            let slots = slots_of scene.row.schema in
+            let s = read.1.type_of in
+            let number = read.1.number in
+            let truth : type ≡ boolean_type = equality_boolean slots operator (side_of a typed.left) (side_of b typed.right) type read.1.beside.0 typed.makes in (
+              s,
+              s,
+              (
+                equality_typed operator s s type read.1.beside.0 (number_comparable slots s (quoted_text b) read.0 number) truth,
+                value_has scene ends a s (l s) read.1.beside.1 (first.of_tree m a s alone.1 read.1.beside.1),
+                subst (λ (v : Val). HasType slots s v) (sym (number_is scene right_place stop b read.0 r read.2 second s)) (read_has slots s (quoted_text b) read.0 number),
+              ),
+            )
+        sides_by stop from to a b type typed m (inr alone) (inr other) = (
+          typed.left,
+          typed.right,
+          (
+            types_alone scene from to operator a b other.0 alone.0 type typed,
+            value_has scene ends a typed.left (l typed.left) typed.left_typed (first.of_tree m a typed.left alone.1 typed.left_typed),
+            value_has scene ends b typed.right (r typed.right) typed.right_typed (second.of_tree stop b typed.right other.1 typed.right_typed),
+          ),
+        )
+
+        pub sides_there : (found : CheckedNode) → slice_get scene.list.nodes place ≡ Some found → PartStands scene place → AreSides (expr_type scene.row.schema found.edm_type)
+        sides_there found at part =
+            let type = expr_type scene.row.schema found.edm_type in
+            by_kind scene place (NodeKind.Binary operator) here (λ stop tree. TypedHere scene tree type → AreSides type)
+            (λ a b stop from to stands typed.
+            sides_by stop from to a b type typed stands.children.middle stands.children.left (right_stands scene place right_place stop from to operator a b is_right stands))
+            part.stop part.tree part.stands (type_there scene place found at part.stop part.tree part.stands)
 
   -- a logical operator, whose left side may decide
   module _ (logical : LogicalOperator) (here : HasKind scene.list place (NodeKind.Binary (BinaryOperator.Logical logical))) (left : Option Bool) where
     pub decided_answers : IsDecided logical (truth_val left) → AnswersTruth scene (place + 1) (Ok left) → AnswersTruth scene place (Ok left)
     decided_answers decided first =
-        of_left (BinaryOperator.Logical logical) here (λ type. truth_val left) (λ type. Some (gives (truth_val left))) first
+        of_left (BinaryOperator.Logical logical) here (λ equality. equality) (λ type. truth_val left) (λ type. Some (gives (truth_val left))) first
         (λ stop from to a b type stands typed. decided_gives logical left (MeansHere scene b) decided)
 
     module _ (right_place : ℕ) (is_right : IsRightOf scene.list place right_place) (undecided : ¬ (IsDecided logical (truth_val left)))

@@ -1,5 +1,5 @@
 -- What the walk answers at a node, from what it found of the operands.
-use Rattle.std.proofs.Common.{◌≡◌, ℕ, Some, Ok, sym, subst}
+use Rattle.std.proofs.Common.{◌≡◌, ◌∙◌, ℕ, Some, Ok, ap, sym, subst}
 use Rattle.edm_values.specs.Val.{Val}
 use Rattle.edm_values.specs.declared.datum.Datum.{Datum}
 use Rattle.edm_values.specs.declared.value.Value.{Value}
@@ -31,6 +31,7 @@ module _ (scene : SceneModel) (place : ℕ) where
       → AnswersAtPlace scene place (λ type. Some (gives (v type))) → AnswersAtPlace scene place (λ type. Some (gives (w type)))
   same_values v w same answers = record {
     of_tree = λ stop tree type stands typed. subst (λ (u : Val). MeansHere scene tree (gives u)) (same type) (answers.of_tree stop tree type stands typed);
+    of_number = λ number stop tree type there. ap (λ (u : Val). Some (gives u)) (sym (same type)) ∙ answers.of_number number stop tree type there;
   }
 
   -- a stored value, as it is passed on

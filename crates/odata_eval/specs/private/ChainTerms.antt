@@ -4,6 +4,7 @@ use Rattle.edm_values.specs.MomentParts.{MomentParts}
 use Rattle.edm_values.specs.SieveMeaning.{Rejects}
 use Rattle.edm_values.specs.Val.{FieldVal, Val, fields}
 use Rattle.edm_values.specs.declared.sieve.Sieve.{Sieve}
+use Rattle.edm_values.specs.declared.value.Value.{Value}
 use Rattle.odata_functions.specs.Comparison.{ComparesTrue}
 use Rattle.odata_syntax.specs.Tree.{Tree}
 use Rattle.odata_syntax.specs.declared.binary_operator.BinaryOperator.{BinaryOperator}
@@ -54,6 +55,11 @@ pub record IsTermSieve (filter : Filter) (place slot : ℕ) (sieve : Sieve) : Ty
 -- the first nodes, so many, are `and`s
 abbrev pub AndsAbove : Filter → ℕ → Type 0
 AndsAbove filter count = (k : ℕ) → k < count → HasOperator filter.list k (BinaryOperator.Logical LogicalOperator.And)
+
+-- it is no number of an enumeration
+abbrev pub IsNoNumber : Value → Type 0
+IsNoNumber (Value.Enum n) = ⊥
+IsNoNumber _ = Unit {0}
 
 -- where the test rejects a value, the comparison of that with the other one is not true
 abbrev pub Refutes : ComparisonOperator → Val → Sieve → Type 0

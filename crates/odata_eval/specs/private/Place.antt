@@ -9,7 +9,7 @@ use Rattle.odata_signatures.specs.declared.function.Function.{Function}
 use Rattle.odata_signatures.specs.ExprTypes.{IsBooleanOrNull, IsNumberOrNull}
 use Rattle.odata_checked_filter.specs.FlatTree.{FlatTree}
 use Rattle.odata_eval.specs.declared.part.WalkClass.{WalkClass}
-use Rattle.odata_eval.specs.private.Scene.{StandsHere, TypedHere}
+use Rattle.odata_eval.specs.private.Scene.{OperandHere, StandsHere, TypedHere}
 use Rattle.odata_eval.specs.private.SceneModel.{SceneModel}
 use Rattle.odata_eval.specs.private.WalkClass.{walk_of_kind}
 
@@ -19,7 +19,13 @@ pub record PartStands (scene : SceneModel) (place : ℕ) : Type 0 where
   pub tree : Tree
   pub stands : StandsHere scene place stop tree
 
--- and it has a type that is allowed there
+-- that, or a String literal that has a number there
+pub record OperandStands (scene : SceneModel) (place : ℕ) : Type 0 where
+  pub stop : ℕ
+  pub tree : Tree
+  pub stands : OperandHere scene place stop tree
+
+-- a tree has a type that is allowed there
 pub record TypedStands (scene : SceneModel) (place : ℕ) (Allowed : ExprType → Type 0) : Type 0 where
   pub stop : ℕ
   pub tree : Tree

@@ -1,12 +1,12 @@
 -- For private clauses: what an expression is and evaluates to where a filter is evaluated.
-use Rattle.std.specs.Prelude.{◌≡◌, ℕ, Some, slice_get, Vec}
+use Rattle.std.specs.Prelude.{◌≡◌, ◌⊎◌, ℕ, ℤ, Some, slice_get, Vec}
 use Rattle.std.specs.declared.alloc.Global.{Global}
 use Rattle.edm_values.specs.declared.value.Value.{Value, Record}
 use Rattle.odata_syntax.specs.Tree.{Tree}
 use Rattle.csdl_schema.specs.ExprType.{ExprType}
 use Rattle.csdl_schema.specs.SchemaModel.{slots_of, type_name_at}
 use Rattle.edm_entities.specs.Row.{Row, value_of}
-use Rattle.odata_checked_filter.specs.Stands.{Stands}
+use Rattle.odata_checked_filter.specs.Stands.{NumberStands, Stands}
 use Rattle.odata_expression_types.specs.Typed.{Typed}
 use Rattle.odata_eval.specs.EndsOnce.{EndsOnce}
 use Rattle.odata_eval.specs.Environment.{scope_of}
@@ -17,6 +17,15 @@ use Rattle.odata_eval.specs.private.SceneModel.{SceneModel, environment_of}
 -- the nodes of the list from the index up to the stop stand for the tree
 abbrev pub StandsHere : SceneModel → ℕ → ℕ → Tree → Type 0
 StandsHere scene = Stands scene.row.schema scene.row.type_id (scope_of (environment_of scene)) scene.list
+
+-- the node at the index is that of a String literal, with the number as its value
+abbrev pub NumberHere : SceneModel → ℤ → ℕ → ℕ → Tree → Type 0
+NumberHere scene = NumberStands scene.row.schema scene.row.type_id (scope_of (environment_of scene)) scene.list
+
+-- either of them
+abbrev pub OperandHere : SceneModel → ℕ → ℕ → Tree → Type 0
+OperandHere scene place stop tree =
+    StandsHere scene place stop tree ⊎ ((number : ℤ) × NumberHere scene number place stop tree)
 
 -- the tree has the type
 abbrev pub TypedHere : SceneModel → Tree → ExprType → Type 0

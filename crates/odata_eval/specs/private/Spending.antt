@@ -1,5 +1,5 @@
 -- For private clauses: what an answer leaves of a budget.
-use Rattle.std.specs.Prelude.{◌≡◌, ◌<◌, ◌+◌, ℕ, List, Option, Some, None, Result, Ok, Err, Bool, true, false}
+use Rattle.std.specs.Prelude.{◌≡◌, ◌<◌, ◌+◌, ℕ, ℤ, List, Option, Some, None, Result, Ok, Err, Bool, true, false}
 use Rattle.edm_values.specs.declared.datum.Datum.{Datum}
 use Rattle.edm_values.specs.declared.value.Value.{Value}
 use Rattle.csdl_schema.specs.ExprType.{ExprType}
@@ -7,10 +7,6 @@ use Rattle.csdl_schema.specs.SchemaModel.{slots_of, type_name_at}
 use Rattle.edm_entities.specs.Row.{value_of}
 use Rattle.odata_syntax.specs.Tree.{Tree}
 use Rattle.odata_syntax.specs.declared.node.Quantifier.{Quantifier}
-use Rattle.odata_functions.specs.DatumVal.{datum_val}
-use Rattle.odata_filter_operations.specs.DatumView.{reading_at}
-use Rattle.odata_filter_operations.specs.FaultView.{fault_outcome}
-use Rattle.odata_filter_operations.specs.Outcome.{gives}
 use Rattle.odata_filter_operations.specs.declared.fault.EvalFault.{EvalFault}
 use Rattle.odata_eval.specs.Costs.{Costs, MembersCost}
 use Rattle.odata_eval.specs.CostsOnce.{CostsOnce}
@@ -18,9 +14,8 @@ use Rattle.odata_eval.specs.Environment.{bound_over}
 use Rattle.odata_eval.specs.declared.budget.Budget.{Budget}
 use Rattle.odata_eval.specs.declared.frames.RangeVariable.{RangeVariable}
 use Rattle.odata_eval.specs.declared.stop.EvalStop.{EvalStop}
-use Rattle.odata_eval.specs.private.ItemMarks.{AnswersItem, IsMarked}
 use Rattle.odata_eval.specs.private.Lambda.{AnswersMembers, BodyMeans, BodyStands, type_of_variable, vals_of}
-use Rattle.odata_eval.specs.private.Scene.{StandsHere, TypedHere}
+use Rattle.odata_eval.specs.private.Scene.{NumberHere, StandsHere, TypedHere}
 use Rattle.odata_eval.specs.private.SceneModel.{SceneModel, environment_of}
 use Rattle.odata_eval.specs.private.WalkAnswer.{AnswersDatum, AnswersTruth}
 
@@ -43,15 +38,6 @@ CountedMembers scene place quantifier variable members (Ok truth) =
 CountedMembers scene place quantifier variable members (Err (EvalStop.Fault fault)) =
     AnswersMembers scene place quantifier variable members (Err fault)
 CountedMembers scene place quantifier variable members (Err EvalStop.TooCostly) = Unit {0}
-
--- one that stands for an item of a list, for which a value may stand
-abbrev pub CountedItem : SceneModel → ℕ → Option ℕ → Result Datum EvalStop → Type 0
-CountedItem scene place mark (Ok datum) =
-    AnswersItem scene place mark
-    (λ type. Some (gives (datum_val (reading_at (slots_of scene.row.schema) type) datum)))
-CountedItem scene place mark (Err (EvalStop.Fault fault)) =
-    AnswersItem scene place mark (λ type. fault_outcome fault)
-CountedItem scene place mark (Err EvalStop.TooCostly) = Unit {0}
 
 -- an answer, its fault as a stop
 abbrev pub as_stop : {Held : Type 0} → Result Held EvalFault → Result Held EvalStop
@@ -110,19 +96,12 @@ CostsOnceHere scene =
     → CostsOnce (slots_of scene.row.schema) (type_name_at scene.row.schema scene.row.type_id) scene.moment
     (value_of scene.row) (environment_of scene) tree
 
--- what stands at the index was asked for, with a budget before and after
+-- what stands at the index was asked for, with a budget before and after; a literal that has a number costs nothing
 pub record SpendsAt (scene : SceneModel) (place : ℕ) (old new : Budget) (stop : Option EvalStop) : Type 0 where
   pub of_tree :
       (last : ℕ) (tree : Tree) (n : ℕ) → StandsHere scene place last tree → CostsHere scene tree n
       → Spent stop old new n
-
--- so did an item of a list, whatever the operand before it
-pub record SpendsItem
-    (scene : SceneModel) (place : ℕ) (mark : Option ℕ) (old new : Budget) (stop : Option EvalStop) : Type 0 where
-  pub of_item :
-      (left : Tree) (last : ℕ) (tree : Tree) (n : ℕ) → StandsHere scene place last tree
-      → IsMarked scene.list.values (slots_of scene.row.schema) (TypedHere scene left) mark tree
-      → CostsHere scene tree n → Spent stop old new n
+  pub of_number : (number : ℤ) (last : ℕ) (tree : Tree) → NumberHere scene number place last tree → Spent stop old new 0
 
 -- where its first operand was asked for since the walk had some budget, the rest of it is asked for now
 abbrev pub SpendsRest : SceneModel → ℕ → Budget → Option EvalStop → Budget → Option EvalStop → Type 0

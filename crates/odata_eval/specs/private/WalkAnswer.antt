@@ -1,5 +1,6 @@
 -- For private clauses: what the walk of a filter's list answers.
 use Rattle.std.specs.Prelude.{◌≡◌, ℕ, ℤ, List, [], ◌∷◌, Option, Some, Result, Ok, Bool}
+use Rattle.edm_values.specs.Val.{member}
 use Rattle.edm_values.specs.declared.datum.Datum.{Datum}
 use Rattle.edm_values.specs.declared.value.Value.{Value}
 use Rattle.csdl_schema.specs.ExprType.{ExprType}
@@ -17,14 +18,17 @@ use Rattle.odata_filter_operations.specs.TruthGives.{truth_val}
 use Rattle.odata_filter_operations.specs.DatumView.{answer_outcome, reading_at}
 use Rattle.odata_filter_operations.specs.Tells.{Tells}
 use Rattle.odata_eval.specs.private.Place.{IsClassAt, IsStopOf}
-use Rattle.odata_eval.specs.private.Scene.{MeansHere, StandsHere, TypedHere}
+use Rattle.odata_eval.specs.private.Scene.{MeansHere, NumberHere, StandsHere, TypedHere}
 use Rattle.odata_eval.specs.private.SceneModel.{SceneModel}
 
--- it is an outcome of what stands at the index, by the type of that
+-- it is an outcome of what stands at the index, by the type of that; where a literal has a number, it is that number
 pub record AnswersAtPlace (scene : SceneModel) (place : ℕ) (told : ExprType → Option Outcome) : Type 0 where
   pub of_tree :
       (stop : ℕ) (tree : Tree) (type : ExprType) → StandsHere scene place stop tree → TypedHere scene tree type
       → Tells (TakesMemory tree) (MeansHere scene tree) (told type)
+  pub of_number :
+      (number : ℤ) (stop : ℕ) (tree : Tree) (type : ExprType) → NumberHere scene number place stop tree
+      → told type ≡ Some (gives (member number))
 
 -- so is an answer that may be of any type
 abbrev pub AnswersDatum : SceneModel → ℕ → Result Datum EvalFault → Type 0

@@ -48,7 +48,7 @@ module _ (laws : LawsBelow) (setting : Setting) (judged : Judged) (old new : Wal
       let binds : BindsVariable scope variable (Typed (slots_in setting) (root_in setting) scope base) m = record { over = over_typed; fresh = over.fresh } in
       put_tree setting judged laws old old new (lambda quantifier base variable body) (NodeKind.Lambda quantifier) truth_type result ready (same_more old) ready.ready.fresh goes_on
       (subst (λ (t : List ℕ). new ≡ walk_put old judged (NodeKind.Lambda quantifier) truth_type t) same is)
-      tt refl
+      tt refl tt
       (record { member_type = m; body = expr_type schema over.body_stands.found.edm_type; binds = binds; body_typed = over.body_stands.typed; truth = truth; makes = refl })
       (record {
         middle = over.middle;

@@ -14,19 +14,18 @@ use Rattle.odata_checked_filter.specs.declared.checked_node.CheckedNode.{Checked
 use Rattle.odata_checked_filter.specs.declared.checked_node.NodeKind.{NodeKind}
 use Rattle.odata_checked_filter.specs.FlatTree.{FlatTree}
 use Rattle.odata_checked_filter.specs.ListChanges.{IsKeptOutside, node_put, with_value}
-use Rattle.odata_checked_filter.specs.Stands.{ChildrenStand, IsKindOf, text_of_shape}
+use Rattle.odata_checked_filter.specs.Stands.{ChildrenStand, HasOwnValue, IsKindOf, text_of_shape}
 use Rattle.odata_typing.specs.declared.setting.Judged.{Judged}
 use Rattle.odata_typing.specs.declared.setting.Setting.{Setting}
 use Rattle.odata_typing.specs.declared.walk.Walk.{Walk}
-use Rattle.odata_typing.specs.private.Items.{with_values}
 use Rattle.odata_typing.specs.private.Judging.{IsIdle, IsNodeJudged}
 use Rattle.odata_typing.specs.private.LawsBelow.{LawsBelow}
 use Rattle.odata_typing.specs.private.Settings.{IsNodeReady}
 use Rattle.odata_typing.specs.private.Variables.{scope_of}
 use Rattle.odata_typing.specs.private.Walks.{checked, walk_put, walk_refused}
-use Rattle.odata_typing.proofs.flat.Kept.{IsMore, kept_on, kept_wider}
+use Rattle.odata_typing.proofs.flat.Kept.{IsMore, IsOnward, kept_on, kept_wider}
 
-get_put : (xs : List CheckedNode) (k : ℕ) (x : CheckedNode) → k < length xs → slice_get (slice_set xs k x) k ≡ Some x
+pub get_put : (xs : List CheckedNode) (k : ℕ) (x : CheckedNode) → k < length xs → slice_get (slice_set xs k x) k ≡ Some x
 get_put [] k x within = let h : k < 0 = within in absurd (omega arith)
 get_put (y ∷ xs) zero x within = refl
 get_put (y ∷ xs) (suc k) x within = get_put xs k x (let h : suc k < suc (length xs) = within in omega arith)
@@ -40,12 +39,12 @@ get_last : (xs : List Value) (x : Value) → slice_get (xs ++ x ∷ []) (length 
 get_last [] x = refl
 get_last (y ∷ xs) x = get_last xs x
 
--- after values that are put all that stood in the list stands there still
-pub values_kept : (i j : ℕ) (list : FlatTree) (values : List Value) → IsKeptOutside i j list (with_values list values)
-values_kept i j list values = record {
+-- after a value that is put all that stood in the list stands there still
+pub value_kept : (i j : ℕ) (list : FlatTree) (value : Value) → IsKeptOutside i j list (with_value list value)
+value_kept i j list value = record {
   nodes = λ k outside. refl;
   texts = λ k outside. refl;
-  values = λ k value at. get_front list.values values k value at;
+  values = λ k held at. get_front list.values (value ∷ []) k held at;
   count = refl;
   beside = refl;
   source = refl;
@@ -57,7 +56,7 @@ value_put list value = get_last list.values value
 
 -- the walk with a value more
 pub valued_more : (old new : Walk) (value : Value) → new ≡ record old { list = with_value old.list value } → IsMore old new
-valued_more old new value is = rw is (record { kept = values_kept 0 0 old.list (value ∷ []); navigates = λ idle. idle })
+valued_more old new value is = rw is (record { kept = value_kept 0 0 old.list value; navigates = λ idle. idle })
 
 kept_anywhere : (i j : ℕ) (a b : FlatTree) → IsKeptOutside 0 0 a b → IsKeptOutside i j a b
 kept_anywhere i j a b kept = record {
@@ -68,6 +67,10 @@ kept_anywhere i j a b kept = record {
   beside = kept.beside;
   source = kept.source;
 }
+
+-- where only values were put, a change is within any places
+pub more_within : (i j : ℕ) (old new : Walk) → IsMore old new → IsOnward i j old new
+more_within i j old new more = record { kept = kept_anywhere i j old.list new.list more.kept; navigates = more.navigates }
 
 -- the tree of a node of that shape
 abbrev pub tree_over : Judged → Shape → Tree
@@ -81,27 +84,28 @@ abbrev pub root_in : Setting → List ℕ
 root_in setting = type_name_at setting.schema.now setting.filtered_type
 
 module _ (setting : Setting) (judged : Judged) where
-  pub put_tree :
+  pub put_changed :
       LawsBelow → (old mid new : Walk) (shape : Shape) (kind : NodeKind) (type : EdmType) (result : Bool)
       → IsNodeReady setting old judged
-      → IsMore old mid
+      → IsOnward judged.number judged.stop old mid
       → mid.fault ≡ None
       → result ≡ true
       → new ≡ walk_put mid judged kind type (text_of_shape shape)
       → IsTypeThere setting.schema.now type
-      → IsKindOf mid.list.values (slots_in setting) (root_in setting) (scope_of setting) shape kind
+      → IsKindOf (slots_in setting) (root_in setting) (scope_of setting) shape kind
+      → HasOwnValue mid.list.values (slots_in setting) shape kind
       → Typed (slots_in setting) (root_in setting) (scope_of setting) (tree_over judged shape) (expr_type setting.schema.now type)
       → ChildrenStand setting.schema.now setting.filtered_type (scope_of setting) mid.list (judged.number + 1) judged.stop shape
       → (mid.navigates ≡ false → IsIdle (slots_in setting) (root_in setting) (scope_of setting) (tree_over judged shape))
       → IsNodeJudged setting judged shape old new result
-  put_tree laws old mid new shape kind type result ready more fresh goes_on is there of_kind typed children idle =
+  put_changed laws old mid new shape kind type result ready onward fresh goes_on is there of_kind valued typed children idle =
       let put : CheckedNode = checked judged kind type in
-      let count : length mid.list.nodes ≡ length old.list.nodes = more.kept.count in
+      let count : length mid.list.nodes ≡ length old.list.nodes = onward.kept.count in
       let inside : judged.number < length mid.list.nodes = let a = ready.order in let b = ready.inside in omega arith in
-      let beside : length mid.list.texts ≡ length mid.list.nodes = more.kept.beside ∙ ready.ready.beside ∙ sym count in
+      let beside : length mid.list.texts ≡ length mid.list.nodes = onward.kept.beside ∙ ready.ready.beside ∙ sym count in
       rw (goes_on, is) (record {
         kept = kept_on judged.number judged.stop old.list mid.list (node_put mid.list judged.number put (text_of_shape shape))
-            (kept_anywhere judged.number judged.stop old.list mid.list more.kept)
+            onward.kept
             (kept_wider judged.number (judged.number + 1) judged.number judged.stop mid.list (node_put mid.list judged.number put (text_of_shape shape)) (omega arith) (let a = ready.order in omega arith)
             (laws.changes mid.list judged.number put (text_of_shape shape)));
         stands = record {
@@ -111,12 +115,30 @@ module _ (setting : Setting) (judged : Judged) where
           last = refl;
           there = there;
           typed = typed;
-          stands = laws.put setting.schema.now setting.filtered_type (scope_of setting) mid.list judged.number put shape inside beside of_kind typed children;
+          stands = laws.put setting.schema.now setting.filtered_type (scope_of setting) mid.list judged.number put shape inside beside of_kind valued typed children;
           idle = idle;
         };
-        navigates = more.navigates;
+        navigates = onward.navigates;
         fault = fresh;
       })
+
+  -- the same where only values were put before
+  pub put_tree :
+      (laws : LawsBelow) (old mid new : Walk) (shape : Shape) (kind : NodeKind) (type : EdmType) (result : Bool)
+      → IsNodeReady setting old judged
+      → IsMore old mid
+      → mid.fault ≡ None
+      → result ≡ true
+      → new ≡ walk_put mid judged kind type (text_of_shape shape)
+      → IsTypeThere setting.schema.now type
+      → IsKindOf (slots_in setting) (root_in setting) (scope_of setting) shape kind
+      → HasOwnValue mid.list.values (slots_in setting) shape kind
+      → Typed (slots_in setting) (root_in setting) (scope_of setting) (tree_over judged shape) (expr_type setting.schema.now type)
+      → ChildrenStand setting.schema.now setting.filtered_type (scope_of setting) mid.list (judged.number + 1) judged.stop shape
+      → (mid.navigates ≡ false → IsIdle (slots_in setting) (root_in setting) (scope_of setting) (tree_over judged shape))
+      → IsNodeJudged setting judged shape old new result
+  put_tree laws old mid new shape kind type result ready more =
+      put_changed laws old mid new shape kind type result ready (more_within judged.number judged.stop old mid more)
 
   -- the node has no type itself
   pub refused_tree :

@@ -1,13 +1,15 @@
 -- What holds of each form between two operands.
 use Rattle.std.proofs.Common.{◌≡◌, refl, ℕ, List, [], ◌∷◌, Option, Some, None, IfNone, IfSome}
+use Rattle.edm_values.specs.declared.value.Value.{Value}
 use Rattle.odata_syntax.specs.Tree.{Tree, node}
 use Rattle.csdl_schema.specs.ExprType.{ExprType}
-use Rattle.csdl_schema.specs.SchemaModel.{SchemaModel, Slots}
+use Rattle.csdl_schema.specs.SchemaModel.{SchemaModel, Slots, slots_of, type_name_at}
 use Rattle.odata_expression_types.specs.Considered.{IsConsideredBody, children_in_scope}
+use Rattle.odata_expression_types.specs.Reads.{OfEquality}
 use Rattle.odata_expression_types.specs.Sides.{Between}
 use Rattle.odata_expression_types.specs.Typed.{OperandsTyped, Scope, Typed}
 use Rattle.odata_checked_filter.specs.FlatTree.{FlatTree}
-use Rattle.odata_checked_filter.specs.Stands.{ChildrenStand, SideBySide, Stands, text_of_shape}
+use Rattle.odata_checked_filter.specs.Stands.{BesideStands, ChildrenStand, HasOwnValue, IsKindOf, Stands, text_of_shape}
 use Rattle.odata_checked_filter.specs.declared.checked_node.NodeKind.{NodeKind}
 use Rattle.odata_typing.specs.private.Forms.{InfixTyped, IsInfix, infix_shape}
 
@@ -52,18 +54,52 @@ infix_text NodeKind.Has left right is = refl
 infix_text NodeKind.InPath left right is = refl
 infix_text _ left right is = absurd is
 
-pub infix_stands :
-    (schema : SchemaModel) (n : ℕ) (scope : Scope) (list : FlatTree) (i j : ℕ) (form : NodeKind) (left right : Tree)
+-- each form is that of its kind, and has no value
+pub infix_kind :
+    (slots : Slots) (root : List ℕ) (scope : Scope) (form : NodeKind) (left right : Tree)
     → IsInfix form
-    → SideBySide (λ middle. Stands schema n scope list i middle left) (λ middle. Stands schema n scope list middle j right)
-    → ChildrenStand schema n scope list i j (infix_shape form left right)
-infix_stands schema n scope list i j (NodeKind.Binary operator) left right is stand =
-    record { middle = stand.middle; left = stand.left; right = record { middle = j; left = stand.right; right = refl } }
-infix_stands schema n scope list i j NodeKind.Has left right is stand =
-    record { middle = stand.middle; left = stand.left; right = record { middle = j; left = stand.right; right = refl } }
-infix_stands schema n scope list i j NodeKind.InPath left right is stand =
-    record { middle = stand.middle; left = stand.left; right = record { middle = j; left = stand.right; right = refl } }
-infix_stands schema n scope list i j _ left right is stand = absurd is
+    → IsKindOf slots root scope (infix_shape form left right) form
+infix_kind slots root scope (NodeKind.Binary operator) left right is = refl
+infix_kind slots root scope NodeKind.Has left right is = refl
+infix_kind slots root scope NodeKind.InPath left right is = refl
+infix_kind slots root scope _ left right is = absurd is
+
+pub infix_valued : (values : List Value) (slots : Slots) (form : NodeKind) (left right : Tree) → IsInfix form → HasOwnValue values slots (infix_shape form left right) form
+infix_valued values slots (NodeKind.Binary operator) left right is = tt
+infix_valued values slots NodeKind.Has left right is = tt
+infix_valued values slots NodeKind.InPath left right is = tt
+infix_valued values slots _ left right is = absurd is
+
+module _ (schema : SchemaModel) (n : ℕ) (scope : Scope) (list : FlatTree) where
+  abbrev Alone : Tree → ℕ → ℕ → Type 0
+  Alone tree i j = Stands schema n scope list i j tree
+
+  abbrev OfType : Tree → ExprType → Type 0
+  OfType = Typed (slots_of schema) (type_name_at schema n) scope
+
+  -- what stands for the left operand and for the right one
+  abbrev pub LeftStands : NodeKind → Tree → Tree → ℕ → ℕ → Type 0
+  LeftStands (NodeKind.Binary operator) left right i j = BesideStands schema n scope list (OfEquality operator (OfType right)) left (λ a b. Alone left a b) i j
+  LeftStands _ left right i j = Alone left i j
+
+  abbrev pub RightStands : NodeKind → Tree → Tree → ℕ → ℕ → Type 0
+  RightStands (NodeKind.Binary operator) left right i j = BesideStands schema n scope list (OfEquality operator (OfType left)) right (λ a b. Alone right a b) i j
+  RightStands NodeKind.Has left right i j = BesideStands schema n scope list (OfType left) right (λ a b. Alone right a b) i j
+  RightStands _ left right i j = Alone right i j
+
+  pub infix_stands :
+      (i m j : ℕ) (form : NodeKind) (left right : Tree)
+      → IsInfix form
+      → LeftStands form left right i m
+      → RightStands form left right m j
+      → ChildrenStand schema n scope list i j (infix_shape form left right)
+  infix_stands i m j (NodeKind.Binary operator) left right is first second =
+      record { middle = m; left = first; right = record { middle = j; left = second; right = refl } }
+  infix_stands i m j NodeKind.Has left right is first second =
+      record { middle = m; left = first; right = record { middle = j; left = second; right = refl } }
+  infix_stands i m j NodeKind.InPath left right is first second =
+      record { middle = m; left = first; right = record { middle = j; left = second; right = refl } }
+  infix_stands i m j _ left right is first second = absurd is
 
 -- what is reported of what there is, together
 pub both_some : {X : Type 0} (o : Option X) (P Q : X → Type 0) → IfSome o P → IfSome o Q → IfSome o (λ x. P x × Q x)

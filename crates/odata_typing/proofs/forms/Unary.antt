@@ -8,7 +8,7 @@ use Rattle.odata_expression_types.specs.Considered.{IsConsideredBody, children_i
 use Rattle.odata_expression_types.specs.FirstUntypable.{IsReason}
 use Rattle.odata_expression_types.specs.Typed.{OperandTyped, Scope, Typed}
 use Rattle.odata_checked_filter.specs.FlatTree.{FlatTree}
-use Rattle.odata_checked_filter.specs.Stands.{ChildrenStand, IsKindOf, Stands, text_of_shape}
+use Rattle.odata_checked_filter.specs.Stands.{ChildrenStand, HasOwnValue, IsKindOf, Stands, text_of_shape}
 use Rattle.odata_typing.specs.declared.unary_node.Unary.{Unary}
 use Rattle.odata_typing.specs.private.Forms.{UnaryTyped, unary_code, unary_kind, unary_shape}
 
@@ -59,12 +59,18 @@ unary_text Unary.Count operand = refl
 unary_text Unary.AnyItem operand = refl
 
 pub unary_of_kind :
-    (values : List Value) (slots : Slots) (root : List ℕ) (scope : Scope) (unary : Unary) (operand : Tree)
-    → IsKindOf values slots root scope (unary_shape unary operand) (unary_kind unary)
-unary_of_kind values slots root scope Unary.Negation operand = refl
-unary_of_kind values slots root scope Unary.Not operand = refl
-unary_of_kind values slots root scope Unary.Count operand = refl
-unary_of_kind values slots root scope Unary.AnyItem operand = refl
+    (slots : Slots) (root : List ℕ) (scope : Scope) (unary : Unary) (operand : Tree)
+    → IsKindOf slots root scope (unary_shape unary operand) (unary_kind unary)
+unary_of_kind slots root scope Unary.Negation operand = refl
+unary_of_kind slots root scope Unary.Not operand = refl
+unary_of_kind slots root scope Unary.Count operand = refl
+unary_of_kind slots root scope Unary.AnyItem operand = refl
+
+pub unary_valued : (values : List Value) (slots : Slots) (unary : Unary) (operand : Tree) → HasOwnValue values slots (unary_shape unary operand) (unary_kind unary)
+unary_valued values slots Unary.Negation operand = tt
+unary_valued values slots Unary.Not operand = tt
+unary_valued values slots Unary.Count operand = tt
+unary_valued values slots Unary.AnyItem operand = tt
 
 pub unary_stands :
     (schema : SchemaModel) (n : ℕ) (scope : Scope) (list : FlatTree) (i j : ℕ) (unary : Unary) (operand : Tree)

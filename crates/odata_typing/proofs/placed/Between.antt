@@ -1,13 +1,11 @@
 -- Nodes between two operands.
-use Rattle.std.proofs.Common.{◌≡◌, ◌∙◌, refl, sym, ap, subst, inr, ℕ, ℤ, ◌+◌, List, [], ◌∷◌, Bool, true, false, None, Some, Option, IfNone, IfSome, length, slice_get, arith}
-use Rattle.std.specs.Int.{cast_signed as to_z, cast_unsigned as of_z, w64}
+use Rattle.std.proofs.Common.{◌≡◌, ◌∙◌, refl, sym, ap, subst, inl, inr, ℕ, ℤ, ◌+◌, List, [], ◌∷◌, Bool, true, false, None, Some, Option, IfNone, IfSome, slice_get, arith}
 use Rattle.std.specs.Option.{option_map}
-use Rattle.edm_values.specs.declared.value.Value.{Value}
 use Rattle.odata_syntax.specs.Tree.{Tree}
 use Rattle.odata_syntax.specs.declared.binary_operator.BinaryOperator.{BinaryOperator}
 use Rattle.csdl_schema.specs.ExprType.{ExprType}
 use Rattle.csdl_schema.specs.SchemaModel.{SchemaModel}
-use Rattle.odata_signatures.specs.QuotedNumber.{IsReadBeside, LacksNumber}
+use Rattle.odata_signatures.specs.QuotedNumber.{IsReadBeside, LacksNumber, NumberBeside}
 use Rattle.odata_signatures.specs.Side.{Side, quoting}
 use Rattle.odata_signatures.specs.TypeThere.{IsTypeThere}
 use Rattle.odata_signatures.specs.TypeView.{expr_type}
@@ -17,28 +15,29 @@ use Rattle.odata_expression_types.specs.Sides.{Between, quoted_text, side_of}
 use Rattle.odata_expression_types.specs.Typed.{Scope}
 use Rattle.odata_expression_types.specs.declared.refusal.TypeFaultCode.{TypeFaultCode}
 use Rattle.odata_checked_filter.specs.declared.checked_node.NodeKind.{NodeKind}
-use Rattle.odata_checked_filter.specs.ListChanges.{with_value}
-use Rattle.odata_checked_filter.specs.Stands.{IsKindOf}
+use Rattle.odata_checked_filter.specs.FlatTree.{FlatTree}
+use Rattle.odata_checked_filter.specs.ListChanges.{number_put}
+use Rattle.odata_checked_filter.specs.Stands.{NumberStands, Stands}
 use Rattle.odata_typing.specs.declared.binary_node.OperandTypes.{OperandTypes}
-use Rattle.odata_typing.specs.declared.pairing.Paired.{Paired}
-use Rattle.odata_typing.specs.declared.pairing.Pairing.{Pairing}
+use Rattle.odata_typing.specs.declared.operand_text.OperandRead.{OperandRead}
 use Rattle.odata_typing.specs.declared.setting.Judged.{Judged}
 use Rattle.odata_typing.specs.declared.setting.Setting.{Setting}
 use Rattle.odata_typing.specs.declared.walk.Walk.{Walk}
 use Rattle.odata_typing.specs.private.Forms.{InfixByTypes, InfixReason, InfixTyped, IsInfix, infix_shape}
 use Rattle.odata_typing.specs.private.Judging.{AreChildren, IsNodeJudged, IsStanding}
 use Rattle.odata_typing.specs.private.LawsBelow.{LawsBelow}
-use Rattle.odata_typing.specs.private.Pairing.{IsPairedIn, IsPairing, OneIsRead, left_side, paired_kind, right_side}
+use Rattle.odata_typing.specs.private.OperandTexts.{IsLeftRead, IsOperandRead, IsRightRead, OneIsRead, left_side, right_side}
 use Rattle.odata_typing.specs.private.Rows.{quoted_in}
 use Rattle.odata_typing.specs.private.Settings.{IsNodeReady}
 use Rattle.odata_typing.specs.private.Variables.{scope_of}
-use Rattle.odata_typing.specs.private.Walks.{truth_type, walk_put, walk_refused}
-use Rattle.odata_typing.proofs.flat.Closing.{put_tree, refused_tree, root_in, slots_in, tree_over, valued_more, value_put}
+use Rattle.odata_typing.specs.private.Walks.{IsReadPut, truth_type, walk_put, walk_refused}
+use Rattle.odata_typing.proofs.flat.Closing.{more_within, put_changed, refused_tree, root_in, slots_in, tree_over, unjudged}
 use Rattle.odata_typing.proofs.flat.Idle.{idle_between}
-use Rattle.odata_typing.proofs.flat.Kept.{IsMore, same_more, standing_kept}
-use Rattle.odata_typing.proofs.forms.Infix.{infix_stands, infix_text, infix_typed}
-use Rattle.odata_typing.proofs.pairs.Held.{paired_held}
-use Rattle.odata_typing.proofs.pairs.Infixes.{paired_of_kind, paired_typed, typed_types, types_typed, unknown_reason, unknown_untyped, unread_kind, unread_reason}
+use Rattle.odata_typing.proofs.flat.Kept.{IsOnward, kept_wider, same_more}
+use Rattle.odata_typing.proofs.forms.Infix.{LeftStands, RightStands, infix_kind, infix_stands, infix_text, infix_typed, infix_valued}
+use Rattle.odata_typing.proofs.beside.Given.{number_changes, number_given}
+use Rattle.odata_typing.proofs.beside.Infixes.{flags_unread, left_alone, left_read_typed, left_unread, right_alone, right_read_typed, right_unread, typed_types, types_typed, unknown_reason, unknown_untyped, unread_reason}
+use Rattle.odata_typing.proofs.beside.Numbers.{is_read, reading}
 use Rattle.odata_typing.proofs.placed.Quoted.{quoted_standing}
 use Rattle.odata_typing.proofs.untypable.Operands.{refused_between}
 
@@ -73,31 +72,29 @@ module _ (laws : LawsBelow) (setting : Setting) (judged : Judged) (old new : Wal
   right_type = expr_type setting.schema.now two.right.found.edm_type
 
   put_between :
-      (mid : Walk) (kind : NodeKind) (type : EdmType)
-      → IsMore old mid
+      (mid : Walk) (type : EdmType)
+      → IsOnward judged.number judged.stop old mid
       → mid.fault ≡ None
       → result ≡ true
-      → new ≡ walk_put mid judged kind type []
+      → new ≡ walk_put mid judged form type []
       → IsTypeThere setting.schema.now type
-      → IsKindOf mid.list.values (slots_in setting) (root_in setting) (scope_of setting) (infix_shape form l r) kind
+      → LeftStands setting.schema.now setting.filtered_type (scope_of setting) mid.list form l r (judged.number + 1) two.middle
+      → RightStands setting.schema.now setting.filtered_type (scope_of setting) mid.list form l r two.middle judged.stop
       → Between (InfixTyped (slots_in setting) form) l r left_type right_type (expr_type setting.schema.now type)
       → IsNodeJudged setting judged (infix_shape form l r) old new result
-  put_between mid kind type more fresh goes_on is there of_kind makes =
+  put_between mid type onward fresh goes_on is there left right makes =
       let slots = slots_in setting in
       let root = root_in setting in
       let scope = scope_of setting in
       let schema = setting.schema.now in
-      let n = setting.filtered_type in
       let span = judged.node.now.span in
-      let a = standing_kept laws schema n scope 0 0 old mid more (judged.number + 1) two.middle l (inr (omega arith)) two.left in
-      let b = standing_kept laws schema n scope 0 0 old mid more two.middle judged.stop r (inr (omega arith)) two.right in
-      put_tree setting judged laws old mid new (infix_shape form l r) kind type result ready more fresh goes_on
-      (subst (λ (text : List ℕ). new ≡ walk_put mid judged kind type text) (sym (infix_text form l r between)) is)
-      there of_kind
+      put_changed setting judged laws old mid new (infix_shape form l r) form type result ready onward fresh goes_on
+      (subst (λ (text : List ℕ). new ≡ walk_put mid judged form type text) (sym (infix_text form l r between)) is)
+      there (infix_kind slots root scope form l r between) (infix_valued mid.list.values slots form l r between)
       (infix_typed slots root scope span.start span.stop form l r (expr_type schema type) between
       (record { left = left_type; right = right_type; left_typed = two.left.typed; right_typed = two.right.typed; makes = makes }))
-      (infix_stands schema n scope mid.list (judged.number + 1) judged.stop form l r between (record { middle = two.middle; left = a.stands; right = b.stands }))
-      (λ idle. idle_between slots root scope span.start span.stop form l r between (a.idle idle) (b.idle idle))
+      (infix_stands schema setting.filtered_type scope mid.list (judged.number + 1) two.middle judged.stop form l r between left right)
+      (λ idle. idle_between slots root scope span.start span.stop form l r between (two.left.idle (onward.navigates idle)) (two.right.idle (onward.navigates idle)))
 
   refuse_between :
       (mid : Walk) (code : TypeFaultCode)
@@ -109,6 +106,23 @@ module _ (laws : LawsBelow) (setting : Setting) (judged : Judged) (old new : Wal
   refuse_between mid code stops is none reason =
       refused_tree setting judged old mid new (infix_shape form l r) code result stops is
       (refused_between laws (slots_in setting) (root_in setting) (scope_of setting) judged.node.now.span form l r left_type right_type code between two.left.typed two.right.typed none reason)
+
+  -- what stands for an operand by itself, where neither is read
+  left_by_itself : (kind : NodeKind) → ¬ OneIsRead IsReadBeside kind (side_of l left_type) (side_of r right_type)
+      → Stands setting.schema.now setting.filtered_type (scope_of setting) old.list (judged.number + 1) two.middle l
+      → LeftStands setting.schema.now setting.filtered_type (scope_of setting) old.list kind l r (judged.number + 1) two.middle
+  left_by_itself (NodeKind.Binary operator) unread stands =
+      inr (left_unread laws (slots_in setting) (root_in setting) (scope_of setting) l r left_type right_type two.left.typed two.right.typed operator unread, stands)
+  left_by_itself _ unread stands = stands
+
+  right_by_itself : (kind : NodeKind) → ¬ OneIsRead IsReadBeside kind (side_of l left_type) (side_of r right_type)
+      → Stands setting.schema.now setting.filtered_type (scope_of setting) old.list two.middle judged.stop r
+      → RightStands setting.schema.now setting.filtered_type (scope_of setting) old.list kind l r two.middle judged.stop
+  right_by_itself (NodeKind.Binary operator) unread stands =
+      inr (right_unread laws (slots_in setting) (root_in setting) (scope_of setting) l r left_type right_type two.left.typed two.right.typed operator unread, stands)
+  right_by_itself NodeKind.Has unread stands =
+      inr (flags_unread laws (slots_in setting) (root_in setting) (scope_of setting) l r left_type right_type two.left.typed two.right.typed unread, stands)
+  right_by_itself _ unread stands = stands
 
   -- neither is read, so that the types alone count
   pub judged_between :
@@ -124,31 +138,105 @@ module _ (laws : LawsBelow) (setting : Setting) (judged : Judged) (old new : Wal
       → IfNone made (new ≡ walk_refused old judged.node.now.span code)
       → IsNodeJudged setting judged (infix_shape form l r) old new result
   judged_between (Some type) code unread reason typed there none goes_on put stops refused =
-      put_between old form type (same_more old) ready.ready.fresh goes_on put there
-      (unread_kind laws old.list.values (slots_in setting) (root_in setting) (scope_of setting) l r left_type right_type two.left.typed two.right.typed form between unread)
+      put_between old type (more_within judged.number judged.stop old old (same_more old)) ready.ready.fresh goes_on put there
+      (left_by_itself form unread two.left.stands) (right_by_itself form unread two.right.stands)
       (types_typed (slots_in setting) form l r left_type right_type (expr_type setting.schema.now type) typed)
   judged_between None code unread reason typed there none goes_on put stops refused =
       refuse_between old code stops refused
       (λ type makes. none type (typed_types laws (slots_in setting) form l r left_type right_type type unread makes))
       (unread_reason laws (slots_in setting) (root_in setting) (scope_of setting) l r left_type right_type two.left.typed two.right.typed judged.node.now.span.start judged.node.now.span.stop form code unread reason)
 
-  -- one is read as that number, which stands after the other values
-  pub paired_between :
-      (mid : Walk) (paired : Paired) (n : ℤ) (place : ℕ) (kind : NodeKind)
-      → IsPairedIn (slots_in setting) form paired (side_of l left_type) (side_of r right_type) n
-      → mid ≡ record old { list = with_value old.list (Value.Enum n) }
-      → place ≡ length old.list.values
-      → kind ≡ paired_kind paired place
+  -- one is read as that number, which is its value then
+  module _ (mid : Walk) (number : ℤ) where
+    right_onward : mid ≡ record old { list = number_put old.list two.middle two.right.found number } → IsOnward judged.number judged.stop old mid
+    right_onward is = rw is (record {
+      kept = kept_wider two.middle (two.middle + 1) judged.number judged.stop old.list (number_put old.list two.middle two.right.found number)
+          (let a = two.left.order in omega arith) (let b = two.right.order in omega arith) (number_changes old.list two.middle two.right.found number);
+      navigates = λ idle. idle;
+    })
+
+    left_onward : mid ≡ record old { list = number_put old.list (judged.number + 1) two.left.found number } → IsOnward judged.number judged.stop old mid
+    left_onward is = rw is (record {
+      kept = kept_wider (judged.number + 1) (judged.number + 1 + 1) judged.number judged.stop old.list (number_put old.list (judged.number + 1) two.left.found number)
+          (omega arith) (let a = two.left.order in let b = two.right.order in omega arith) (number_changes old.list (judged.number + 1) two.left.found number);
+      navigates = λ idle. idle;
+    })
+
+    right_beside : (operand : ExprType) → NumberBeside (slots_in setting) operand (quoted_text r) number
+        → NumberStands setting.schema.now setting.filtered_type (scope_of setting) (number_put old.list two.middle two.right.found number) number two.middle judged.stop r
+    right_beside operand beside =
+        let is = reading operand (quoted_text r) (is_read (slots_in setting) operand (quoted_text r) number beside) in
+        number_given setting.schema.now setting.filtered_type (scope_of setting) old.list two.middle judged.stop r two.right.found is.spelling number is.quotes two.right.at two.right.stands
+
+    left_beside : (operand : ExprType) → NumberBeside (slots_in setting) operand (quoted_text l) number
+        → NumberStands setting.schema.now setting.filtered_type (scope_of setting) (number_put old.list (judged.number + 1) two.left.found number) number (judged.number + 1) two.middle l
+    left_beside operand beside =
+        let is = reading operand (quoted_text l) (is_read (slots_in setting) operand (quoted_text l) number beside) in
+        number_given setting.schema.now setting.filtered_type (scope_of setting) old.list (judged.number + 1) two.middle l two.left.found is.spelling number is.quotes two.left.at two.left.stands
+
+    -- the other one stands as it did
+    left_stays : Stands setting.schema.now setting.filtered_type (scope_of setting) (number_put old.list two.middle two.right.found number) (judged.number + 1) two.middle l
+    left_stays = laws.kept setting.schema.now setting.filtered_type (scope_of setting) old.list (number_put old.list two.middle two.right.found number) two.middle (two.middle + 1) (judged.number + 1) two.middle l
+        (number_changes old.list two.middle two.right.found number) (inl (omega arith)) two.left.stands
+
+    right_stays : Stands setting.schema.now setting.filtered_type (scope_of setting) (number_put old.list (judged.number + 1) two.left.found number) two.middle judged.stop r
+    right_stays = laws.kept setting.schema.now setting.filtered_type (scope_of setting) old.list (number_put old.list (judged.number + 1) two.left.found number) (judged.number + 1) (judged.number + 1 + 1) two.middle judged.stop r
+        (number_changes old.list (judged.number + 1) two.left.found number) (inr (let a = two.left.order in omega arith)) two.right.stands
+
+  -- what stands for both then
+  right_given : (kind : NodeKind) (number : ℤ) → IsRightRead (slots_in setting) kind (side_of l left_type) (side_of r right_type) number
+      → LeftStands setting.schema.now setting.filtered_type (scope_of setting) (number_put old.list two.middle two.right.found number) kind l r (judged.number + 1) two.middle
+      × RightStands setting.schema.now setting.filtered_type (scope_of setting) (number_put old.list two.middle two.right.found number) kind l r two.middle judged.stop
+  right_given (NodeKind.Binary operator) number is = (
+    inr (left_alone laws (slots_in setting) (root_in setting) (scope_of setting) l r left_type right_type two.left.typed two.right.typed operator number is.1, left_stays old number),
+    inl (number, record { type_of = left_type; beside = (is.0, two.left.typed); number = is.1 }, right_beside old number left_type is.1),
+  )
+  right_given NodeKind.Has number is = (
+    left_stays old number,
+    inl (number, record { type_of = left_type; beside = two.left.typed; number = is }, right_beside old number left_type is),
+  )
+  right_given _ number is = absurd is
+
+  left_given : (kind : NodeKind) (number : ℤ) → IsLeftRead (slots_in setting) kind (side_of l left_type) (side_of r right_type) number
+      → LeftStands setting.schema.now setting.filtered_type (scope_of setting) (number_put old.list (judged.number + 1) two.left.found number) kind l r (judged.number + 1) two.middle
+      × RightStands setting.schema.now setting.filtered_type (scope_of setting) (number_put old.list (judged.number + 1) two.left.found number) kind l r two.middle judged.stop
+  left_given (NodeKind.Binary operator) number is = (
+    inl (number, record { type_of = right_type; beside = (is.0, two.right.typed); number = is.2 }, left_beside old number right_type is.2),
+    inr (right_alone laws (slots_in setting) (root_in setting) (scope_of setting) l r left_type right_type two.left.typed two.right.typed operator is.1, right_stays old number),
+  )
+  left_given _ number is = absurd is
+
+  pub right_read_between :
+      (mid : Walk) (number : ℤ)
+      → IsRightRead (slots_in setting) form (side_of l left_type) (side_of r right_type) number
+      → mid ≡ record old { list = number_put old.list two.middle two.right.found number }
       → result ≡ true
-      → new ≡ walk_put mid judged kind truth_type []
+      → new ≡ walk_put mid judged form truth_type []
       → IsNodeJudged setting judged (infix_shape form l r) old new result
-  paired_between mid paired n place kind is is_valued at kind_is goes_on put =
-      put_between mid (paired_kind paired place) truth_type (valued_more old mid (Value.Enum n) is_valued)
-      (ap (λ (w : Walk). w.fault) is_valued ∙ ready.ready.fresh) goes_on
-      (subst (λ (k : NodeKind). new ≡ walk_put mid judged k truth_type []) kind_is put) tt
-      (paired_of_kind laws mid.list.values (slots_in setting) (root_in setting) (scope_of setting) l r left_type right_type two.left.typed two.right.typed form paired n place
-      (ap (λ (w : Walk). slice_get w.list.values place) is_valued ∙ ap (slice_get (with_value old.list (Value.Enum n)).values) at ∙ value_put old.list (Value.Enum n)) is)
-      (paired_typed (slots_in setting) form paired n l r left_type right_type is)
+  right_read_between mid number read is goes_on put =
+      let given = right_given form number read in
+      let lists : number_put old.list two.middle two.right.found number ≡ mid.list = sym (ap (λ (w : Walk). w.list) is) in
+      let Left : FlatTree → Type 0 = λ (list : FlatTree). LeftStands setting.schema.now setting.filtered_type (scope_of setting) list form l r (judged.number + 1) two.middle in
+      let Right : FlatTree → Type 0 = λ (list : FlatTree). RightStands setting.schema.now setting.filtered_type (scope_of setting) list form l r two.middle judged.stop in
+      put_between mid truth_type (right_onward mid number is) (ap (λ (w : Walk). w.fault) is ∙ ready.ready.fresh) goes_on put tt
+      (subst Left lists given.0) (subst Right lists given.1)
+      (right_read_typed (slots_in setting) form number l r left_type right_type read)
+
+  pub left_read_between :
+      (mid : Walk) (number : ℤ)
+      → IsLeftRead (slots_in setting) form (side_of l left_type) (side_of r right_type) number
+      → mid ≡ record old { list = number_put old.list (judged.number + 1) two.left.found number }
+      → result ≡ true
+      → new ≡ walk_put mid judged form truth_type []
+      → IsNodeJudged setting judged (infix_shape form l r) old new result
+  left_read_between mid number read is goes_on put =
+      let given = left_given form number read in
+      let lists : number_put old.list (judged.number + 1) two.left.found number ≡ mid.list = sym (ap (λ (w : Walk). w.list) is) in
+      let Left : FlatTree → Type 0 = λ (list : FlatTree). LeftStands setting.schema.now setting.filtered_type (scope_of setting) list form l r (judged.number + 1) two.middle in
+      let Right : FlatTree → Type 0 = λ (list : FlatTree). RightStands setting.schema.now setting.filtered_type (scope_of setting) list form l r two.middle judged.stop in
+      put_between mid truth_type (left_onward mid number is) (ap (λ (w : Walk). w.fault) is ∙ ready.ready.fresh) goes_on put tt
+      (subst Left lists given.0) (subst Right lists given.1)
+      (left_read_typed (slots_in setting) form number l r left_type right_type read)
 
   -- one is read, and stands for no number
   pub unknown_between :
@@ -164,6 +252,20 @@ module _ (laws : LawsBelow) (setting : Setting) (judged : Judged) (old new : Wal
       (λ type. unknown_untyped laws slots root scope l r left_type right_type two.left.typed two.right.typed form type lacks)
       (unknown_reason laws slots root scope l r left_type right_type two.left.typed two.right.typed judged.node.now.span.start judged.node.now.span.stop form lacks)
 
+  -- as the code puts it, or an allocation failed
+  pub right_put : (place : ℕ) (number : ℤ) (done : Bool) → place ≡ two.middle → result ≡ done → IsReadPut old judged form place number new done
+      → IsRightRead (slots_in setting) form (side_of l left_type) (side_of r right_type) number → IsNodeJudged setting judged (infix_shape form l r) old new result
+  right_put place number true at goes_on put read =
+      right_read_between put.0 number read
+      (subst (λ (k : ℕ). put.0 ≡ record old { list = number_put old.list k two.right.found number }) at (put.1 two.right.found (ap (slice_get old.list.nodes) at ∙ two.right.at)))
+      goes_on put.2
+  right_put place number false at stops put read = unjudged setting judged old new (infix_shape form l r) result stops (ap (λ (w : Walk). w.fault) put ∙ ready.ready.fresh)
+
+  pub left_put : (number : ℤ) (done : Bool) → result ≡ done → IsReadPut old judged form (judged.number + 1) number new done
+      → IsLeftRead (slots_in setting) form (side_of l left_type) (side_of r right_type) number → IsNodeJudged setting judged (infix_shape form l r) old new result
+  left_put number true goes_on put read = left_read_between put.0 number read (put.1 two.left.found two.left.at) goes_on put.2
+  left_put number false stops put read = unjudged setting judged old new (infix_shape form l r) result stops (ap (λ (w : Walk). w.fault) put ∙ ready.ready.fresh)
+
 -- the same by the types of the code, and by what the operands quote there
 module _ (laws : LawsBelow) (setting : Setting) (judged : Judged) (old new : Walk) (form : NodeKind) (l r : Tree) (result : Bool)
     (between : IsInfix form) (ready : IsNodeReady setting old judged) (two : AreTwo setting old judged l r) (types : OperandTypes)
@@ -176,15 +278,15 @@ module _ (laws : LawsBelow) (setting : Setting) (judged : Judged) (old new : Wal
   right_is : right_side setting.schema.now types ≡ side_of r (expr_type setting.schema.now two.right.found.edm_type)
   right_is = same_side setting.schema.now setting.filtered_type (scope_of setting) old two.middle judged.stop r two.right types.right _ same_right quoted_right
 
-  pairing_is : (pairing : Pairing) → IsPairing (slots_in setting) form (left_side setting.schema.now types) (right_side setting.schema.now types) pairing
-      → IsPairing (slots_in setting) form (side_of l (expr_type setting.schema.now two.left.found.edm_type)) (side_of r (expr_type setting.schema.now two.right.found.edm_type)) pairing
-  pairing_is pairing is =
-      subst (λ (s : Side). IsPairing (slots_in setting) form (side_of l (expr_type setting.schema.now two.left.found.edm_type)) s pairing) right_is
-      (subst (λ (s : Side). IsPairing (slots_in setting) form s (right_side setting.schema.now types) pairing) left_is is)
+  read_is : (read : OperandRead) → IsOperandRead (slots_in setting) form (left_side setting.schema.now types) (right_side setting.schema.now types) read
+      → IsOperandRead (slots_in setting) form (side_of l (expr_type setting.schema.now two.left.found.edm_type)) (side_of r (expr_type setting.schema.now two.right.found.edm_type)) read
+  read_is read is =
+      subst (λ (s : Side). IsOperandRead (slots_in setting) form (side_of l (expr_type setting.schema.now two.left.found.edm_type)) s read) right_is
+      (subst (λ (s : Side). IsOperandRead (slots_in setting) form s (right_side setting.schema.now types) read) left_is is)
 
   pub infix_unread :
       (made : Option EdmType) (code : TypeFaultCode)
-      → IsPairing (slots_in setting) form (left_side setting.schema.now types) (right_side setting.schema.now types) Pairing.Unread
+      → IsOperandRead (slots_in setting) form (left_side setting.schema.now types) (right_side setting.schema.now types) OperandRead.Neither
       → InfixReason form (expr_type setting.schema.now types.right) code
       → IfSome made (λ type. InfixByTypes form (expr_type setting.schema.now types.left) (expr_type setting.schema.now types.right) (expr_type setting.schema.now type))
       → IfSome made (IsTypeThere setting.schema.now)
@@ -196,7 +298,7 @@ module _ (laws : LawsBelow) (setting : Setting) (judged : Judged) (old new : Wal
       → IsNodeJudged setting judged (infix_shape form l r) old new result
   infix_unread made code unread reason typed there none =
       let schema = setting.schema.now in
-      judged_between laws setting judged old new form l r result between ready two made code (pairing_is Pairing.Unread unread)
+      judged_between laws setting judged old new form l r result between ready two made code (read_is OperandRead.Neither unread)
       (subst (λ (t : EdmType). InfixReason form (expr_type schema t) code) same_right reason)
       (subst (λ (t : EdmType). IfSome made (λ type. InfixByTypes form (expr_type schema two.left.found.edm_type) (expr_type schema t) (expr_type schema type))) same_right
       (subst (λ (t : EdmType). IfSome made (λ type. InfixByTypes form (expr_type schema t) (expr_type schema types.right) (expr_type schema type))) same_left typed))
@@ -204,26 +306,28 @@ module _ (laws : LawsBelow) (setting : Setting) (judged : Judged) (old new : Wal
       (subst (λ (t : EdmType). IfNone made ((type : ExprType) → ¬ InfixByTypes form (expr_type schema two.left.found.edm_type) (expr_type schema t) type)) same_right
       (subst (λ (t : EdmType). IfNone made ((type : ExprType) → ¬ InfixByTypes form (expr_type schema t) (expr_type schema types.right) type)) same_left none))
 
-  pub infix_number :
-      (mid : Walk) (paired : Paired) (n : ℤ) (place : ℕ) (kind : NodeKind)
-      → IsPairing (slots_in setting) form (left_side setting.schema.now types) (right_side setting.schema.now types) (Pairing.Number paired n)
-      → mid ≡ record old { list = with_value old.list (Value.Enum (to_z w64 (of_z w64 n))) }
-      → place ≡ length old.list.values
-      → kind ≡ paired_kind paired place
-      → result ≡ true
-      → new ≡ walk_put mid judged kind truth_type []
+  pub infix_right :
+      (place : ℕ) (number : ℤ)
+      → place ≡ two.middle
+      → IsOperandRead (slots_in setting) form (left_side setting.schema.now types) (right_side setting.schema.now types) (OperandRead.Right number)
+      → IsReadPut old judged form place number new result
       → IsNodeJudged setting judged (infix_shape form l r) old new result
-  infix_number mid paired n place kind is =
-      paired_between laws setting judged old new form l r result between ready two mid paired (to_z w64 (of_z w64 n)) place kind
-      (paired_held (slots_in setting) form paired (side_of l (expr_type setting.schema.now two.left.found.edm_type)) (side_of r (expr_type setting.schema.now two.right.found.edm_type)) n
-      (pairing_is (Pairing.Number paired n) is))
+  infix_right place number at is put =
+      right_put laws setting judged old new form l r result between ready two place number result at refl put (read_is (OperandRead.Right number) is)
+
+  pub infix_left :
+      (number : ℤ)
+      → IsOperandRead (slots_in setting) form (left_side setting.schema.now types) (right_side setting.schema.now types) (OperandRead.Left number)
+      → IsReadPut old judged form (judged.number + 1) number new result
+      → IsNodeJudged setting judged (infix_shape form l r) old new result
+  infix_left number is put = left_put laws setting judged old new form l r result between ready two number result refl put (read_is (OperandRead.Left number) is)
 
   pub infix_unknown :
-      IsPairing (slots_in setting) form (left_side setting.schema.now types) (right_side setting.schema.now types) Pairing.Unknown
+      IsOperandRead (slots_in setting) form (left_side setting.schema.now types) (right_side setting.schema.now types) OperandRead.Unknown
       → result ≡ false
       → new ≡ walk_refused old judged.node.now.span TypeFaultCode.UnknownEnum
       → IsNodeJudged setting judged (infix_shape form l r) old new result
-  infix_unknown is = unknown_between laws setting judged old new form l r result between ready two (pairing_is Pairing.Unknown is)
+  infix_unknown is = unknown_between laws setting judged old new form l r result between ready two (read_is OperandRead.Unknown is)
 
 -- an operator between operands of which none may be read
 pub operator_unread :

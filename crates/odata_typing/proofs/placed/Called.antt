@@ -56,7 +56,7 @@ module _ (laws : LawsBelow) (setting : Setting) (judged : Judged) (old new : Wal
       let schema = setting.schema.now in
       let span = judged.node.now.span in
       let makes_first : FunctionTyped function (take 4 (types_of schema row)) (expr_type schema type) = subst (λ (ts : List ExprType). FunctionTyped function ts (expr_type schema type)) (first_of_row schema types row first) makes in
-      put_tree setting judged laws old old new (call asked (trees_of_list arguments)) kind type result ready (same_more old) ready.ready.fresh goes_on put there of_kind
+      put_tree setting judged laws old old new (call asked (trees_of_list arguments)) kind type result ready (same_more old) ready.ready.fresh goes_on put there of_kind tt
       (record {
         types = types_of schema row;
         arguments_typed = is.typed;

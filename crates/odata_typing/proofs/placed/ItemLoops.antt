@@ -1,24 +1,24 @@
 -- Loops over the items of a list.
-use Rattle.std.proofs.Common.{◌≡◌, ◌∙◌, refl, sym, ap, subst, ℕ, ◌<◌, ◌≤◌, List, [], ◌∷◌, ◌++◌, Option, append-nil, append_assoc}
+use Rattle.std.proofs.Common.{◌≡◌, ◌∙◌, refl, sym, ap, subst, inr, ℕ, ◌<◌, ◌≤◌, ◌+◌, List, [], ◌∷◌, ◌++◌, Option, Some, slice_get, arith}
 use Rattle.csdl_schema.specs.ExprType.{ExprType}
 use Rattle.csdl_schema.specs.SchemaModel.{SchemaModel, Slots}
-use Rattle.edm_values.specs.declared.value.Value.{Value}
 use Rattle.odata_signatures.specs.CollectionTyped.{IsItemBeside}
 use Rattle.odata_signatures.specs.ComparableTypes.{AreComparable}
 use Rattle.odata_signatures.specs.Side.{Side, quoting}
 use Rattle.odata_signatures.specs.TypeView.{expr_type}
 use Rattle.odata_checked_filter.specs.declared.checked_node.CheckedNode.{CheckedNode}
 use Rattle.odata_checked_filter.specs.FlatTree.{FlatTree}
-use Rattle.odata_checked_filter.specs.ListChanges.{with_value}
+use Rattle.odata_checked_filter.specs.ListChanges.{IsKeptOutside}
 use Rattle.odata_typing.specs.declared.in_list.ItemsFit.{ItemsFit}
 use Rattle.odata_typing.specs.declared.walk.Walk.{Walk}
-use Rattle.odata_typing.specs.private.Items.{AllBeside, AreItemsFit, AreItemsPut, IsUnreadLeft, IsValueIfFit, with_values, worse_fit}
-use Rattle.odata_typing.specs.private.Rows.{AreInRow, AreTypesThere, quoted_in, row_sides}
-use Rattle.odata_typing.proofs.pairs.Items.{AreValuesIfFit, fit_more, unread_fit, unread_refused, values_more, values_put}
+use Rattle.odata_typing.specs.private.Items.{AllBeside, AreItemsFit, AreItemsPut, IsItemPut, IsUnreadLeft, worse_fit}
+use Rattle.odata_typing.specs.private.Rows.{AreInRow, AreTypesThere, quoted_beside, quoted_in, row_sides}
+use Rattle.odata_typing.proofs.beside.Items.{fit_more, read_more, unread_fit, unread_refused}
+use Rattle.odata_typing.proofs.flat.Kept.{kept_on, kept_wider, same_kept}
 use Rattle.odata_typing.proofs.placed.Loops.{IsNext, IsSeen, next_of, seen_all, seen_more, sides_more, types_next}
-use Rattle.odata_typing.proofs.placed.Rows.{one_row}
+use Rattle.odata_typing.proofs.placed.Rows.{one_row, row_onward}
 
--- what has been found of the items seen, and put for them
+-- what has been found of the items seen, of which those that are read have been given their numbers
 pub record PutSoFar
     (slots : Slots) (schema : SchemaModel) (left : ExprType) (old new : Walk) (first place last : ℕ) (fit : ItemsFit) : Type 0 where
   pub seen : List CheckedNode
@@ -26,9 +26,9 @@ pub record PutSoFar
   pub is : IsSeen old.list.nodes seen rest first place last
   pub there : AreTypesThere schema rest
   pub fits : AreItemsFit slots left (row_sides schema old.list first seen) fit
-  pub values : List Value
-  pub are : AreValuesIfFit slots left (row_sides schema old.list first seen) values fit
-  pub put : new ≡ record old { list = with_values old.list values }
+  pub read : AreItemsPut slots schema left old.list first seen new.list fit
+  pub kept : IsKeptOutside first place old.list new.list
+  pub put : new ≡ record old { list = new.list }
 
 module _ (slots : Slots) (schema : SchemaModel) (left : ExprType) (old : Walk) (first last : ℕ) where
   pub put_none : (row : List CheckedNode) → AreInRow old.list.nodes row first last → AreTypesThere schema row → PutSoFar slots schema left old old first first last ItemsFit.All
@@ -38,36 +38,40 @@ module _ (slots : Slots) (schema : SchemaModel) (left : ExprType) (old : Walk) (
     is = record { before = refl; after = are };
     there = there;
     fits = (tt, λ lacks. lacks);
-    values = [];
-    are = tt;
-    put = ap (λ (all : List Value). record old { list = record old.list { values = all } }) (sym (append-nil old.list.values));
+    read = refl;
+    kept = same_kept first first old.list;
+    put = refl;
   }
 
-  -- the next item
+  -- the next item, which stands as it did
   pub put_next : (new : Walk) (place : ℕ) (fit : ItemsFit) (so_far : PutSoFar slots schema left old new first place last fit) → place < last → IsNext old.list.nodes so_far.rest place last
   put_next new place fit so_far inside = next_of old.list.nodes so_far.rest place last so_far.is.after inside
 
-  pub same_nodes : (new : Walk) (place : ℕ) (fit : ItemsFit) → (so_far : PutSoFar slots schema left old new first place last fit) → new.list.nodes ≡ old.list.nodes
-  same_nodes new place fit so_far = ap (λ (w : Walk). w.list.nodes) so_far.put
+  pub next_at : (new : Walk) (place : ℕ) (fit : ItemsFit) (so_far : PutSoFar slots schema left old new first place last fit) (next : IsNext old.list.nodes so_far.rest place last)
+      → slice_get new.list.nodes place ≡ Some next.found
+  next_at new place fit so_far next = so_far.kept.nodes place (inr (omega arith)) ∙ next.at
 
-  pub quoted_then : (new : Walk) (place : ℕ) (fit : ItemsFit) (found : CheckedNode) → (so_far : PutSoFar slots schema left old new first place last fit) → quoted_in new.list place found ≡ quoted_in old.list place found
-  quoted_then new place fit found so_far = ap (λ (w : Walk). quoted_in w.list place found) so_far.put
+  quoted_then : (new : Walk) (place : ℕ) (fit : ItemsFit) (found : CheckedNode) → (so_far : PutSoFar slots schema left old new first place last fit) → quoted_in new.list place found ≡ quoted_in old.list place found
+  quoted_then new place fit found so_far = ap (λ (text : Option (List ℕ)). quoted_beside found.kind text) (so_far.kept.texts place (inr (omega arith)))
 
-  -- its value has been put
+  -- it may have been given its number
   pub put_more :
-      (new then : Walk) (place : ℕ) (fit own : ItemsFit) (value : Value)
+      (new then : Walk) (place : ℕ) (fit own : ItemsFit)
       → (so_far : PutSoFar slots schema left old new first place last fit)
       → (next : IsNext old.list.nodes so_far.rest place last)
       → AreItemsFit slots left (quoting (quoted_in new.list place next.found) (expr_type schema next.found.edm_type) ∷ []) own
-      → IsValueIfFit slots left (quoting (quoted_in new.list place next.found) (expr_type schema next.found.edm_type)) value own
-      → then ≡ record new { list = with_value new.list value }
+      → IsItemPut slots left (quoting (quoted_in new.list place next.found) (expr_type schema next.found.edm_type)) new.list place next.found then.list own
+      → IsKeptOutside place (place + 1) new.list then.list
+      → then ≡ record new { list = then.list }
       → PutSoFar slots schema left old then first next.found.stop last (worse_fit fit own)
-  put_more new then place fit own value so_far next fits is_value is_then =
+  put_more new then place fit own so_far next fits is_put kept is_then =
       let side : Side = quoting (quoted_in old.list place next.found) (expr_type schema next.found.edm_type) in
       let same : quoting (quoted_in new.list place next.found) (expr_type schema next.found.edm_type) ≡ side =
       ap (λ (q : Option (List ℕ)). quoting q (expr_type schema next.found.edm_type)) (quoted_then new place fit next.found so_far) in
       let sides : row_sides schema old.list first (so_far.seen ++ next.found ∷ []) ≡ row_sides schema old.list first so_far.seen ++ side ∷ [] =
       sides_more schema old.list so_far.seen next.found first place so_far.is.before in
+      let order : place < next.found.stop = next.order in
+      let begun : first ≤ place = row_onward old.list.nodes so_far.seen first place so_far.is.before in
       record {
         seen = so_far.seen ++ next.found ∷ [];
         rest = next.more;
@@ -75,11 +79,11 @@ module _ (slots : Slots) (schema : SchemaModel) (left : ExprType) (old : Walk) (
         there = (types_next schema old.list.nodes so_far.rest place last next so_far.there).1;
         fits = subst (λ (all : List Side). AreItemsFit slots left all (worse_fit fit own)) (sym sides)
             (fit_more slots left (row_sides schema old.list first so_far.seen) side fit own so_far.fits (subst (λ (s : Side). AreItemsFit slots left (s ∷ []) own) same fits));
-        values = so_far.values ++ value ∷ [];
-        are = subst (λ (all : List Side). AreValuesIfFit slots left all (so_far.values ++ value ∷ []) (worse_fit fit own)) (sym sides)
-            (values_more slots left (row_sides schema old.list first so_far.seen) so_far.values side value fit own so_far.are (subst (λ (s : Side). IsValueIfFit slots left s value own) same is_value));
-        put = is_then ∙ ap (λ (w : Walk). record w { list = with_value w.list value }) so_far.put
-            ∙ ap (λ (all : List Value). record old { list = record old.list { values = all } }) (append_assoc old.list.values so_far.values (value ∷ []));
+        read = read_more slots schema left old.list.nodes so_far.seen next.found old.list new.list then.list first place fit own so_far.is.before so_far.read is_put;
+        kept = kept_on first next.found.stop old.list new.list then.list
+            (kept_wider first place first next.found.stop old.list new.list (omega arith) (omega arith) so_far.kept)
+            (kept_wider place (place + 1) first next.found.stop new.list then.list begun (omega arith) kept);
+        put = is_then ∙ ap (λ (w : Walk). record w { list = then.list }) so_far.put;
       }
 
   -- all items have been seen
@@ -98,14 +102,10 @@ module _ (slots : Slots) (schema : SchemaModel) (left : ExprType) (old : Walk) (
       → PutSoFar slots schema left old new first place last fit
       → last ≤ place
       → AreInRow old.list.nodes row first last
-      → AreItemsPut slots left (row_sides schema old.list first row) old.list new.list fit
+      → AreItemsPut slots schema left old.list first row new.list fit
   put_all new place fit row so_far past are =
-      subst (λ (seen : List CheckedNode). AreItemsPut slots left (row_sides schema old.list first seen) old.list new.list fit)
-      (seen_all old.list.nodes so_far.seen so_far.rest row first place last so_far.is past are)
-      (values_put slots left (row_sides schema old.list first so_far.seen) old.list new.list so_far.values fit so_far.are (ap (λ (w : Walk). w.list) so_far.put))
-
-  pub put_walk : (new : Walk) (place : ℕ) (fit : ItemsFit) → PutSoFar slots schema left old new first place last fit → new ≡ record old { list = new.list }
-  put_walk new place fit so_far = so_far.put ∙ ap (λ (list : FlatTree). record old { list = list }) (sym (ap (λ (w : Walk). w.list) so_far.put))
+      subst (λ (seen : List CheckedNode). AreItemsPut slots schema left old.list first seen new.list fit)
+      (seen_all old.list.nodes so_far.seen so_far.rest row first place last so_far.is past are) so_far.read
 
 -- ---- items that go by their types
 

@@ -57,7 +57,7 @@ module _ (laws : LawsBelow) (setting : Setting) (judged : Judged) (old new : Wal
       (ap (λ (w : Walk). w.fault) is_valued ∙ ready.ready.fresh) goes_on
       (subst (λ (t : List ℕ). new ≡ walk_put mid judged (NodeKind.Literal kind place) type t) same is)
       there
-      (refl, some_at _ (slice_get mid.list.values place) value (ap (λ (w : Walk). slice_get w.list.values place) is_valued ∙ ap (slice_get (with_value old.list value).values) at ∙ value_put old.list value) reading.value_of)
+      refl (some_at _ (slice_get mid.list.values place) value (ap (λ (w : Walk). slice_get w.list.values place) is_valued ∙ ap (slice_get (with_value old.list value).values) at ∙ value_put old.list value) reading.value_of)
       reading.typed (sym leaf) (λ idle paths path needed. needed)
 
   pub literal_refused :
@@ -79,7 +79,7 @@ module _ (laws : LawsBelow) (setting : Setting) (judged : Judged) (old new : Wal
       → IsNodeJudged setting judged it old new result
   it_put leaf goes_on is =
       put_tree setting judged laws old old new it NodeKind.It (EdmType.Single (ValueType.Structured setting.filtered_type)) result ready (same_more old) ready.ready.fresh goes_on is
-      tt refl refl (sym leaf) (λ idle paths path needed. needed)
+      tt refl tt refl (sym leaf) (λ idle paths path needed. needed)
 
   -- a name, of a variable or of a property
   pub name_put :
@@ -97,7 +97,7 @@ module _ (laws : LawsBelow) (setting : Setting) (judged : Judged) (old new : Wal
       → IsNodeJudged setting judged (name (name_of setting judged)) old new result
   name_put mid kind type text leaf more fresh named typed there idle goes_on same is =
       put_tree setting judged laws old mid new (name (name_of setting judged)) kind type result ready more fresh goes_on
-      (subst (λ (t : List ℕ). new ≡ walk_put mid judged kind type t) same is) there named typed (sym leaf) idle
+      (subst (λ (t : List ℕ). new ≡ walk_put mid judged kind type t) same is) there named tt typed (sym leaf) idle
 
 -- a fault with that reason and that span is the first of the name
 pub name_refused_so :
@@ -139,7 +139,7 @@ module _ (laws : LawsBelow) (setting : Setting) (judged : Judged) (old new : Wal
       let now = standing_kept laws schema setting.filtered_type (scope_of setting) 0 0 old mid more (judged.number + 1) judged.stop base (inr (omega arith)) stands in
       put_tree setting judged laws old mid new (member base asked) (NodeKind.Member slot) type result ready more fresh goes_on
       (subst (λ (t : List ℕ). new ≡ walk_put mid judged (NodeKind.Member slot) type t) same is) there
-      (owner_name, typed, slot_is)
+      (owner_name, typed, slot_is) tt
       (record { operand = single (structured owner_name); operand_typed = typed; makes = makes })
       (record { middle = judged.stop; left = now.stands; right = refl })
       (λ none. idle_step laws (slots_in setting) (root_in setting) (scope_of setting) judged.node.now.span.start judged.node.now.span.stop base asked owner_name typed (idle none) (now.idle none))

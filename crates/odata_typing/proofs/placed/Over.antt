@@ -20,7 +20,7 @@ use Rattle.odata_typing.specs.private.Walks.{walk_put, walk_refused}
 use Rattle.odata_typing.proofs.flat.Closing.{put_tree, refused_tree, root_in, slots_in}
 use Rattle.odata_typing.proofs.flat.Idle.{idle_over}
 use Rattle.odata_typing.proofs.flat.Kept.{same_more}
-use Rattle.odata_typing.proofs.forms.Unary.{unary_of_kind, unary_stands, unary_text, unary_typed}
+use Rattle.odata_typing.proofs.forms.Unary.{unary_of_kind, unary_stands, unary_text, unary_typed, unary_valued}
 use Rattle.odata_typing.proofs.untypable.Operands.{refused_over}
 
 -- the only child stands in all the places after the node
@@ -47,7 +47,7 @@ module _ (laws : LawsBelow) (setting : Setting) (judged : Judged) (old new : Wal
       put_tree setting judged laws old old new (unary_shape unary operand) (unary_kind unary) type result ready (same_more old) ready.ready.fresh goes_on
       (subst (λ (text : List ℕ). new ≡ walk_put old judged (unary_kind unary) type text) (sym (unary_text unary operand)) is)
       there
-      (unary_of_kind old.list.values slots root scope unary operand)
+      (unary_of_kind slots root scope unary operand) (unary_valued old.list.values slots unary operand)
       (unary_typed slots root scope span.start span.stop unary operand (expr_type setting.schema.now type)
       (record { operand = expr_type setting.schema.now stands.found.edm_type; operand_typed = stands.typed; makes = makes }))
       (unary_stands setting.schema.now setting.filtered_type scope old.list (judged.number + 1) judged.stop unary operand stands.stands)

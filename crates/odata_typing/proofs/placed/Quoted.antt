@@ -1,6 +1,5 @@
 -- A node quotes what its tree does.
-use Rattle.std.proofs.Common.{◌≡◌, ◌≢◌, ◌∙◌, refl, ap, inl, inr, ℕ, List, Option, Some, None, slice_get}
-use Rattle.edm_values.specs.declared.value.Value.{Value}
+use Rattle.std.proofs.Common.{◌≡◌, ◌≢◌, ◌∙◌, refl, ap, ℕ, List, Option, Some, None, slice_get}
 use Rattle.odata_syntax.specs.Tree.{Shape, Tree, any_item, binary, call, count, has, in_list, in_path, it, lambda, literal, logical_not, member, name, negation, node}
 use Rattle.odata_syntax.specs.declared.node.LiteralKind.{LiteralKind}
 use Rattle.csdl_schema.specs.SchemaModel.{SchemaModel, Slots, slots_of, type_name_at}
@@ -36,18 +35,18 @@ unquoted_else (NodeKind.Literal LiteralKind.Guid place) text other = refl
 unquoted_else (NodeKind.Literal LiteralKind.EnumLit place) text other = refl
 unquoted_else _ text other = refl
 
-module _ (values : List Value) (slots : Slots) (root : List ℕ) (scope : Scope) (start stop : ℕ) (text : Option (List ℕ)) where
-  literal_quoted : (kind : LiteralKind) (spelling : List ℕ) (k : NodeKind) → IsLiteralNode slots values kind spelling k → text ≡ Some spelling
+module _ (slots : Slots) (root : List ℕ) (scope : Scope) (start stop : ℕ) (text : Option (List ℕ)) where
+  literal_quoted : (kind : LiteralKind) (spelling : List ℕ) (k : NodeKind) → IsLiteralNode kind k → text ≡ Some spelling
       → quoted_beside k text ≡ quoted_text (node start stop (literal kind spelling))
   literal_quoted kind spelling (NodeKind.Literal l place) is at =
-      ap (λ (m : LiteralKind). quoted_beside (NodeKind.Literal m place) text) is.0 ∙ beside_literal kind place start stop spelling text at
+      ap (λ (m : LiteralKind). quoted_beside (NodeKind.Literal m place) text) is ∙ beside_literal kind place start stop spelling text at
   literal_quoted kind spelling _ is at = absurd is
 
   -- of another kind it quotes nothing
   unquoted : (k plain : NodeKind) → quoted_beside plain text ≡ None → k ≡ plain → quoted_beside k text ≡ None
   unquoted k plain none same = ap (λ (l : NodeKind). quoted_beside l text) same ∙ none
 
-  pub quoted_of_kind : (shape : Shape) (k : NodeKind) → IsKindOf values slots root scope shape k → text ≡ Some (text_of_shape shape)
+  pub quoted_of_kind : (shape : Shape) (k : NodeKind) → IsKindOf slots root scope shape k → text ≡ Some (text_of_shape shape)
       → quoted_beside k text ≡ quoted_text (node start stop shape)
   quoted_of_kind (literal kind spelling) k is at = literal_quoted kind spelling k is at
   quoted_of_kind it k is at = unquoted k NodeKind.It refl is
@@ -59,13 +58,9 @@ module _ (values : List Value) (slots : Slots) (root : List ℕ) (scope : Scope)
   quoted_of_kind (count base) k is at = unquoted k NodeKind.Count refl is
   quoted_of_kind (negation operand) k is at = unquoted k NodeKind.Neg refl is
   quoted_of_kind (logical_not operand) k is at = unquoted k NodeKind.Not refl is
-  quoted_of_kind (binary operator left right) k (inl is) at = unquoted k (NodeKind.Binary operator) refl is.kind_is
-  quoted_of_kind (binary operator left right) k (inr (inl is)) at = unquoted k (NodeKind.PairedRight operator is.place) refl is.kind_is
-  quoted_of_kind (binary operator left right) k (inr (inr is)) at = unquoted k (NodeKind.PairedLeft operator is.place) refl is.kind_is
-  quoted_of_kind (has left right) k (inl is) at = unquoted k NodeKind.Has refl is.kind_is
-  quoted_of_kind (has left right) k (inr is) at = unquoted k (NodeKind.PairedHas is.place) refl is.kind_is
-  quoted_of_kind (in_list left items) k (inl is) at = unquoted k NodeKind.InList refl is.kind_is
-  quoted_of_kind (in_list left items) k (inr is) at = unquoted k (NodeKind.PairedList is.place) refl is.kind_is
+  quoted_of_kind (binary operator left right) k is at = unquoted k (NodeKind.Binary operator) refl is
+  quoted_of_kind (has left right) k is at = unquoted k NodeKind.Has refl is
+  quoted_of_kind (in_list left items) k is at = unquoted k NodeKind.InList refl is
   quoted_of_kind (in_path left path) k is at = unquoted k NodeKind.InPath refl is
   quoted_of_kind (call asked arguments) NodeKind.Now is at = refl
   quoted_of_kind (call asked arguments) (NodeKind.Call function) is at = refl
@@ -81,4 +76,4 @@ pub quoted_standing : (schema : SchemaModel) (n : ℕ) (scope : Scope) (list : F
 quoted_standing schema n scope list i j (node start stop shape) found stands at =
     let same : found ≡ stands.top.found = same_node (slice_get list.nodes i) found stands.top.found at stands.top.stands_at in
     ap (λ (f : CheckedNode). quoted_in list i f) same
-    ∙ quoted_of_kind list.values (slots_of schema) (type_name_at schema n) scope start stop (slice_get list.texts i) shape stands.top.found.kind stands.top.kind stands.top.text_at
+    ∙ quoted_of_kind (slots_of schema) (type_name_at schema n) scope start stop (slice_get list.texts i) shape stands.top.found.kind stands.top.kind stands.top.text_at

@@ -1,34 +1,21 @@
 -- For private clauses: the items of a list, beside the operand before it.
-use Rattle.std.specs.Prelude.{◌≡◌, ◌⊎◌, ℕ, ℤ, List, [], ◌∷◌, ◌++◌, Option}
+use Rattle.std.specs.Prelude.{◌≡◌, ◌⊎◌, ℕ, ℤ, List, [], ◌∷◌, Option}
 use Rattle.std.specs.List.{AllByRecursion}
-use Rattle.edm_values.specs.declared.value.Value.{Value}
 use Rattle.csdl_schema.specs.ExprType.{ExprType}
-use Rattle.csdl_schema.specs.SchemaModel.{Slots}
+use Rattle.csdl_schema.specs.SchemaModel.{SchemaModel, Slots}
 use Rattle.odata_signatures.specs.CollectionTyped.{IsCollection, IsItemBeside}
 use Rattle.odata_signatures.specs.QuotedNumber.{IsReadBeside, LacksNumber, NumberBeside}
-use Rattle.odata_signatures.specs.Side.{Side}
+use Rattle.odata_signatures.specs.Side.{Side, quoting}
+use Rattle.odata_signatures.specs.TypeView.{expr_type}
+use Rattle.odata_checked_filter.specs.declared.checked_node.CheckedNode.{CheckedNode}
 use Rattle.odata_checked_filter.specs.FlatTree.{FlatTree}
+use Rattle.odata_checked_filter.specs.ListChanges.{number_put}
 use Rattle.odata_typing.specs.declared.in_list.ItemsFit.{ItemsFit}
+use Rattle.odata_typing.specs.private.Rows.{quoted_in}
 
 -- nothing is read beside a value of the type
 abbrev pub IsUnreadLeft : ExprType → Type 0
 IsUnreadLeft left = (quoted : Option (List ℕ)) → ¬ IsReadBeside left quoted
-
--- the value that is put for an item: its number, or null where it is not read
-abbrev pub IsItemValue : Slots → ExprType → Side → Value → Type 0
-IsItemValue slots left item value =
-    ((n : ℤ) × NumberBeside slots left item.quoted n × (value ≡ Value.Enum n))
-    ⊎ ((¬ IsReadBeside left item.quoted) × (value ≡ Value.Null))
-
-abbrev pub AreItemValues : Slots → ExprType → List Side → List Value → Type 0
-AreItemValues slots left [] [] = Unit {0}
-AreItemValues slots left (item ∷ items) (value ∷ values) =
-    IsItemValue slots left item value × AreItemValues slots left items values
-AreItemValues slots left _ _ = ⊥
-
--- these values have been put after the others, and nothing else has changed
-abbrev pub with_values : FlatTree → List Value → FlatTree
-with_values list values = record list { values = list.values ++ values }
 
 -- one of the items is read and stands for no number
 abbrev pub OneLacks : Slots → ExprType → List Side → Type 0
@@ -45,16 +32,29 @@ AreItemsFit slots left items ItemsFit.Refused = (¬ AllBeside slots left items) 
 AreItemsFit slots left items ItemsFit.Unknown = OneLacks slots left items
 AreItemsFit slots left items ItemsFit.OutOfMemory = Unit {0}
 
--- and put for them where each may stand there
-abbrev pub AreItemsPut : Slots → ExprType → List Side → FlatTree → FlatTree → ItemsFit → Type 0
-AreItemsPut slots left items old new ItemsFit.All =
-    (values : List Value) × AreItemValues slots left items values × (new ≡ with_values old values)
-AreItemsPut slots left items old new fit = Unit {0}
+-- an item that is read has its number as its value then; nothing else has changed
+abbrev pub IsItemRead : Slots → ExprType → Side → FlatTree → ℕ → CheckedNode → FlatTree → Type 0
+IsItemRead slots left item old place found new =
+    ((n : ℤ) × NumberBeside slots left item.quoted n × (new ≡ number_put old place found n))
+    ⊎ ((¬ IsReadBeside left item.quoted) × (new ≡ old))
 
--- the value of one item, if it may stand there
-abbrev pub IsValueIfFit : Slots → ExprType → Side → Value → ItemsFit → Type 0
-IsValueIfFit slots left item value ItemsFit.All = IsItemValue slots left item value
-IsValueIfFit slots left item value fit = Unit {0}
+-- so it is where the item may stand there
+abbrev pub IsItemPut : Slots → ExprType → Side → FlatTree → ℕ → CheckedNode → FlatTree → ItemsFit → Type 0
+IsItemPut slots left item old place found new ItemsFit.All = IsItemRead slots left item old place found new
+IsItemPut slots left item old place found new fit = Unit {0}
+
+-- the same of items one after another, from the first on
+abbrev pub AreItemsRead : Slots → SchemaModel → ExprType → FlatTree → ℕ → List CheckedNode → FlatTree → Type 0
+AreItemsRead slots schema left old place [] new = new ≡ old
+AreItemsRead slots schema left old place (found ∷ row) new =
+    (mid : FlatTree)
+    × IsItemRead slots left (quoting (quoted_in old place found) (expr_type schema found.edm_type)) old place found mid
+    × AreItemsRead slots schema left mid found.stop row new
+
+abbrev pub AreItemsPut :
+    Slots → SchemaModel → ExprType → FlatTree → ℕ → List CheckedNode → FlatTree → ItemsFit → Type 0
+AreItemsPut slots schema left old place row new ItemsFit.All = AreItemsRead slots schema left old place row new
+AreItemsPut slots schema left old place row new fit = Unit {0}
 
 -- the same of items of which none is read, with the operand, which may be no collection
 abbrev pub AreListFit : Slots → ExprType → List Side → ItemsFit → Type 0

@@ -1,5 +1,5 @@
 -- For private clauses: what a walk stores of a node.
-use Rattle.std.specs.Prelude.{◌≡◌, List, [], ℕ, Bool, true, false, None, Some}
+use Rattle.std.specs.Prelude.{◌≡◌, List, [], ℕ, ℤ, Bool, true, false, None, Some, slice_get}
 use Rattle.edm_values.specs.declared.primitive.PrimitiveType.{PrimitiveType}
 use Rattle.edm_values.specs.declared.value.Value.{Value}
 use Rattle.odata_text.specs.declared.span.Span.{Span}
@@ -9,7 +9,7 @@ use Rattle.odata_expression_types.specs.declared.refusal.TypeFaultCode.{TypeFaul
 use Rattle.odata_checked_filter.specs.declared.checked_node.CheckedNode.{CheckedNode}
 use Rattle.odata_checked_filter.specs.declared.checked_node.NodeKind.{NodeKind}
 use Rattle.odata_checked_filter.specs.FlatTree.{FlatTree}
-use Rattle.odata_checked_filter.specs.ListChanges.{node_put, with_value}
+use Rattle.odata_checked_filter.specs.ListChanges.{node_put, number_put, with_value}
 use Rattle.odata_typing.specs.declared.in_list.ItemsFit.{ItemsFit}
 use Rattle.odata_typing.specs.declared.setting.Judged.{Judged}
 use Rattle.odata_typing.specs.declared.walk.Walk.{Walk}
@@ -37,11 +37,24 @@ abbrev pub truth_type : EdmType
 truth_type = EdmType.Single (ValueType.Prim PrimitiveType.Bool)
 
 -- with the node of a list whose items fit, or with the fault that one does not
-abbrev pub list_put : Walk → Judged → NodeKind → ItemsFit → Walk
-list_put walk judged kind ItemsFit.All = walk_put walk judged kind truth_type []
-list_put walk judged kind ItemsFit.Refused = walk_refused walk judged.node.now.span TypeFaultCode.OperandTypes
-list_put walk judged kind ItemsFit.Unknown = walk_refused walk judged.node.now.span TypeFaultCode.UnknownEnum
-list_put walk judged kind ItemsFit.OutOfMemory = walk
+abbrev pub list_put : Walk → Judged → ItemsFit → Walk
+list_put walk judged ItemsFit.All = walk_put walk judged NodeKind.InList truth_type []
+list_put walk judged ItemsFit.Refused = walk_refused walk judged.node.now.span TypeFaultCode.OperandTypes
+list_put walk judged ItemsFit.Unknown = walk_refused walk judged.node.now.span TypeFaultCode.UnknownEnum
+list_put walk judged ItemsFit.OutOfMemory = walk
+
+-- with a number as the value of the String literal whose node stands at that index, unless an allocation failed
+abbrev pub IsNumberPut : Walk → ℕ → ℤ → Walk → Bool → Type 0
+IsNumberPut old place number new true =
+    (found : CheckedNode) → slice_get old.list.nodes place ≡ Some found
+    → new ≡ record old { list = number_put old.list place found number }
+IsNumberPut old place number new false = new ≡ old
+
+-- and then with the node of that kind, of a truth value
+abbrev pub IsReadPut : Walk → Judged → NodeKind → ℕ → ℤ → Walk → Bool → Type 0
+IsReadPut old judged kind place number new true =
+    (mid : Walk) × IsNumberPut old place number mid true × (new ≡ walk_put mid judged kind truth_type [])
+IsReadPut old judged kind place number new false = new ≡ old
 
 -- with a value after the others, unless an allocation failed
 abbrev pub IsPutIn : Walk → Value → Walk → Bool → Type 0

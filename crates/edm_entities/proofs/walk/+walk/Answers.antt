@@ -242,21 +242,21 @@ read_value-returns-in-Enum-clause-fault t c nullable =
     (λ path flaw. IsValueFault (slots_in c.args.scene.now c.args.node) nullable path type (view c.args.json.now) flaw)
     c.leaf_read-in-Enum.ensures.fault (c.read_member.ensures.flaw (view c.args.json.now) c.scalar_of-in-Enum.ensures))
 
-pub read_value-returns-in-Complex-clause-fits : goal.read_value-returns-in-Complex-clause-fits
-read_value-returns-in-Complex-clause-fits t c nullable =
+pub read_value-returns-in_ok-values-in-Complex-clause-fits : goal.read_value-returns-in_ok-values-in-Complex-clause-fits
+read_value-returns-in_ok-values-in-Complex-clause-fits t c nullable =
     value_as (slots_in c.args.scene.now c.args.node) nullable (view c.args.json.now) (wanted_single c.args.scene.now.schema.now c.args.wanted.now) (structured (type_name_at c.args.scene.now.schema.now c.in-Complex.id))
-    (Record c.in_ok-values.values) (ap (wanted_single c.args.scene.now.schema.now) c.in-Complex.is)
-    (slots_fit (slots_in c.args.scene.now c.args.node) (type_name_at c.args.scene.now.schema.now c.in-Complex.id) nullable (view c.args.json.now) c.in_ok-values.values c.in_ok-values.ensures.distinct c.in_ok-values.ensures.object c.in_ok-values.ensures.fits)
+    (Record c.in_ok-values-in-Complex.values) (ap (wanted_single c.args.scene.now.schema.now) c.in-Complex.is)
+    (slots_fit (slots_in c.args.scene.now c.args.node) (type_name_at c.args.scene.now.schema.now c.in-Complex.id) nullable (view c.args.json.now) c.in_ok-values-in-Complex.values c.in_ok-values-in-Complex.ensures.distinct c.in_ok-values-in-Complex.ensures.object c.in_ok-values-in-Complex.ensures.fits)
 
-pub read_value-returns-in-Complex-clause-holds : goal.read_value-returns-in-Complex-clause-holds
-read_value-returns-in-Complex-clause-holds t c =
-    holds_as (slots_in c.args.scene.now c.args.node) (wanted_single c.args.scene.now.schema.now c.args.wanted.now) (structured (type_name_at c.args.scene.now.schema.now c.in-Complex.id)) (Record c.in_ok-values.values)
-    (ap (wanted_single c.args.scene.now.schema.now) c.in-Complex.is) (slots_held (slots_in c.args.scene.now c.args.node) (type_name_at c.args.scene.now.schema.now c.in-Complex.id) (λ name. get name (view c.args.json.now)) c.in_ok-values.values c.in_ok-values.ensures.fits)
+pub read_value-returns-in_ok-values-in-Complex-clause-holds : goal.read_value-returns-in_ok-values-in-Complex-clause-holds
+read_value-returns-in_ok-values-in-Complex-clause-holds t c =
+    holds_as (slots_in c.args.scene.now c.args.node) (wanted_single c.args.scene.now.schema.now c.args.wanted.now) (structured (type_name_at c.args.scene.now.schema.now c.in-Complex.id)) (Record c.in_ok-values-in-Complex.values)
+    (ap (wanted_single c.args.scene.now.schema.now) c.in-Complex.is) (slots_held (slots_in c.args.scene.now c.args.node) (type_name_at c.args.scene.now.schema.now c.in-Complex.id) (λ name. get name (view c.args.json.now)) c.in_ok-values-in-Complex.values c.in_ok-values-in-Complex.ensures.fits)
 
-pub read_value-returns-in_err-values-clause-fault : goal.read_value-returns-in_err-values-clause-fault
-read_value-returns-in_err-values-clause-fault t c nullable =
+pub read_value-returns-in_err-values-in-Complex-clause-fault : goal.read_value-returns-in_err-values-in-Complex-clause-fault
+read_value-returns-in_err-values-in-Complex-clause-fault t c nullable =
     let exit = err_from_is_err_and c.from_residual.result c.from_residual.ensures.1 in
-    rw (exit.1 ∙ ap Err exit.2) (rw c.in-Complex.is (record_fault (slots_in c.args.scene.now c.args.node) false nullable (type_name_at c.args.scene.now.schema.now c.in-Complex.id) (view c.args.json.now) c.in_err-values.field-0.0 c.in_err-values.ensures.fault))
+    rw (exit.1 ∙ ap Err exit.2) (rw c.in-Complex.is (record_fault (slots_in c.args.scene.now c.args.node) false nullable (type_name_at c.args.scene.now.schema.now c.in-Complex.id) (view c.args.json.now) c.in_err-values-in-Complex.field-0.0 c.in_err-values-in-Complex.ensures.fault))
 
 pub read_items-returns-clause-fits : goal.read_items-returns-clause-fits
 read_items-returns-clause-fits t c =

@@ -9,4 +9,4 @@ invariant-loop-slot l =
     × ((k : ℕ) → get_or l.passed.items k false ≡ true → get_or l.initial.passed.items k false ≡ true)
     × ((k : ℕ) → k < l.slot → get_or l.passed.items k false ≡ true → slice_get (map (λ p. p.name) (properties_at l.schema l.type_id)) k ≢ Some l.name)
     × ((k : ℕ) → slice_get (map (λ p. p.name) (properties_at l.schema l.type_id)) k ≢ Some l.name
-        → get_or l.initial.passed.items k false ≡ true → get_or l.passed.items k false ≡ true)
+    → get_or l.initial.passed.items k false ≡ true → get_or l.passed.items k false ≡ true)

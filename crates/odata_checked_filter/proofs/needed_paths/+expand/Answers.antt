@@ -5,7 +5,7 @@ use Rattle.odata_expression_types.specs.NeededPaths.{path_of}
 use Rattle.odata_expression_types.specs.Typed.{with_variable}
 use Rattle.odata_checked_filter.specs.private.NeededWalk.{LambdaNeeds, LeadThere, NeedsAmong, Puts, nodes_in}
 use Rattle.odata_checked_filter.proofs.flat.Places.{found_before}
-use Rattle.odata_checked_filter.proofs.flat.Standing.{stands_nonempty}
+use Rattle.odata_checked_filter.proofs.flat.Standing.{lies_nonempty}
 use Rattle.odata_checked_filter.proofs.needed.Bodies.{lambda_puts}
 use Rattle.odata_checked_filter.proofs.needed.Heads.{head_of, lambda_tree, last_there, way_there}
 use Rattle.odata_checked_filter.proofs.needed.Kinds.{typed_there}
@@ -195,8 +195,8 @@ expand_lambda-expand-requires t c =
     let scene = c.args.scene.now in
     let r = c.requires in
     let is = r.is in
-    let base = stands_nonempty scene.schema.now scene.filtered_type r.scope scene.list.now c.args.places.now.base c.args.places.now.body r.base is.base_stands in
-    let body = stands_nonempty scene.schema.now scene.filtered_type _ scene.list.now c.args.places.now.body c.args.places.now.stop r.body is.body_stands.body in (
+    let base = lies_nonempty scene.schema.now scene.filtered_type r.scope scene.list.now c.args.places.now.base c.args.places.now.body r.base is.base_stands in
+    let body = lies_nonempty scene.schema.now scene.filtered_type _ scene.list.now c.args.places.now.body c.args.places.now.stop r.body is.body_stands.body in (
       omega (arith, base, body),
       record {
         scope = r.scope;
@@ -233,8 +233,8 @@ expand_lambda-expand-requires-2 t c =
     let r = c.requires in
     let is = r.is in
     let inner = with_variable r.scope r.variable (single is.body_stands.member_type) in
-    let base = stands_nonempty schema n r.scope list places.base places.body r.base is.base_stands in
-    let body = stands_nonempty schema n inner list places.body places.stop r.body is.body_stands.body in
+    let base = lies_nonempty schema n r.scope list places.base places.body r.base is.base_stands in
+    let body = lies_nonempty schema n inner list places.body places.stop r.body is.body_stands.body in
     let line = one_line schema n r.scope list places.base places.body r.base is.base_stands in
     let first = c.in_ok-expand.ensures r.scope r.paths (r.base ∷ []) line r.lead in
     let mid = lead_still c.args.expansion.now c.expand.new.expansion r.scope r.paths nodes first.leads r.lead in

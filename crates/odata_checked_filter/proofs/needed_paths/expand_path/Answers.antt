@@ -2,7 +2,7 @@ use Rattle.std.proofs.Common.{◌≡◌, ◌+◌, ◌-◌, ◌<◌, ◌≤◌, �
 use Rattle.csdl_schema.specs.ExpansionView.{LeadsTo}
 use Rattle.csdl_schema.specs.SchemaModel.{slots_of, type_name_at}
 use Rattle.odata_expression_types.specs.NeededPaths.{path_of}
-use Rattle.odata_checked_filter.specs.Stands.{Stands}
+use Rattle.odata_checked_filter.specs.private.Layout.{Lies}
 use Rattle.odata_signatures.specs.declared.edm_type.EdmType.{EdmType}
 use Rattle.odata_signatures.specs.declared.edm_type.ValueType.{ValueType}
 use Rattle.odata_checked_filter.specs.declared.checked_node.NodeKind.{NodeKind}
@@ -67,7 +67,7 @@ loop-at-preserved c =
       ends = λ scope paths stop tree stands lead.
           let step = step_found list at (c.path_base-bottom.ensures.steps at b.1.0 b.1.1) in
           let there = step_there schema n scope list at stop step.slot tree step.found stands step.stands_at step.kind_is in
-          let base_stands = subst (λ (k : ℕ). Stands schema n scope list k stop there.base) b.0 there.base_stands in
+          let base_stands = subst (λ (k : ℕ). Lies schema n scope list k stop there.base) b.0 there.base_stands in
           let before = c.loop-at.invariant.ends scope paths stop there.base base_stands lead in
           let path = path_of scope paths there.base in
           let named : c.text.result.now ≡ there.asked = same_text (slice_get list.texts at) c.text.result.now there.asked c.text.ensures there.text_at in
@@ -89,5 +89,5 @@ pub returns : goal.returns
 returns c =
     let above : c.loop-at.at ≡ c.args.place = (let past = c.loop-at-test.false in let since = c.loop-at.invariant.above in omega (arith, past, since)) in
     λ scope paths stop tree stands lead.
-    let ended = c.loop-at.invariant.ends scope paths stop tree (subst (λ (k : ℕ). Stands c.args.scene.now.schema.now c.args.scene.now.filtered_type scope c.args.scene.now.list.now k stop tree) (sym above) stands) lead in
+    let ended = c.loop-at.invariant.ends scope paths stop tree (subst (λ (k : ℕ). Lies c.args.scene.now.schema.now c.args.scene.now.filtered_type scope c.args.scene.now.list.now k stop tree) (sym above) stands) lead in
     subst (λ (k : ℕ). IsPathEnd (slots_of c.args.scene.now.schema.now) (type_name_at c.args.scene.now.schema.now c.args.scene.now.filtered_type) scope paths c.args.expansion.now c.loop-at.expansion k tree c.loop-at.end) above ended

@@ -5,6 +5,7 @@ use Rattle.odata_checked_filter.specs.FlatTree.{FlatTree, tree_of_nodes}
 use Rattle.odata_checked_filter.specs.Stands.{Stands}
 use Rattle.odata_checked_filter.specs.declared.checked_node.CheckedNode.{CheckedNode}
 use Rattle.odata_checked_filter.specs.private.NeededWalk.{LeadThere, StandInLine}
+use Rattle.odata_checked_filter.proofs.flat.Lying.{stands_lie}
 use Rattle.odata_checked_filter.proofs.needed.Bodies.{only_needed}
 use Rattle.odata_checked_filter.proofs.needed.Levels.{nodes_in-Empty}
 use Rattle.odata_checked_filter.proofs.needed.Lines.{one_line}
@@ -15,7 +16,7 @@ whole_line : (schema : SchemaModel) (n : ℕ) (list : FlatTree) (nodes : List Ch
     → StandInLine schema n [] list 0 (length nodes) (tree_of_nodes list ∷ [])
 whole_line schema n list nodes same stands =
     subst (λ (ns : List CheckedNode). StandInLine schema n [] list 0 (length ns) (tree_of_nodes list ∷ [])) (sym same)
-    (one_line schema n [] list 0 (length list.nodes) (tree_of_nodes list) stands)
+    (one_line schema n [] list 0 (length list.nodes) (tree_of_nodes list) (stands_lie schema n [] list 0 (length list.nodes) (tree_of_nodes list) stands))
 
 -- with no variables around it
 pub expand-requires : goal.expand-requires

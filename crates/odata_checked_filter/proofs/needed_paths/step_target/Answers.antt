@@ -7,7 +7,7 @@ use Rattle.odata_checked_filter.specs.declared.checked_node.CheckedNode.{Checked
 use Rattle.odata_checked_filter.specs.declared.checked_node.NodeKind.{NodeKind}
 use Rattle.odata_checked_filter.specs.private.NeededWalk.{IsTargetAt}
 use Rattle.odata_checked_filter.proofs.flat.Places.{found_before, same_found}
-use Rattle.odata_checked_filter.proofs.flat.Standing.{stands_nonempty}
+use Rattle.odata_checked_filter.proofs.flat.Standing.{lies_nonempty}
 use Rattle.odata_checked_filter.proofs.needed.Heads.{last_there}
 use Rattle.odata_checked_filter.proofs.needed.Kinds.{step_there, typed_there}
 use Rattle.odata_checked_filter.proofs.needed.Paths.{owner_there}
@@ -32,7 +32,7 @@ overflow_add-place c =
     let n = c.args.scene.now.filtered_type in
     let list = c.args.scene.now.list.now in
     let there = step_there schema n r.scope list c.args.place r.stop c.in-Member.slot r.tree c.node.result r.stands c.node.ensures c.in-Member.is in
-    let before : c.args.place + 1 < r.stop = stands_nonempty schema n r.scope list (c.args.place + 1) r.stop there.base there.base_stands in
+    let before : c.args.place + 1 < r.stop = lies_nonempty schema n r.scope list (c.args.place + 1) r.stop there.base there.base_stands in
     let last = last_there schema n r.scope list c.args.place r.stop r.tree c.node.result r.stands c.node.ensures in
     place_fits c.args.place r.stop c.node.result before last (search (rules, c.node.type_inv))
 

@@ -69,12 +69,12 @@ loop-at-preserved c =
     record {
       within = omega arith;
       answers = subst (λ (r : Option Bool). AnswersTruth c.args.scene.now (l.at - 1) (Ok r)) (sym c.join-left.ensures)
-          (next_answers c.args.scene.now c.args.rest.ands c.requires.rest.ands c.requires.stands l.at above l.invariant.within c.right_of-right_place.result c.right_of-right_place.ensures l.left (told_not c.decides.result (IsDecided LogicalOperator.And (truth_val l.left)) c.decides.ensures c.if-decides.false) l.invariant.answers c.in_ok-right.right c.in_ok-right.ensures);
+          (next_answers c.args.scene.now c.args.rest.ands c.requires.rest.ands c.requires.stands l.at above l.invariant.within c.right_of-right_place.result c.right_of-right_place.ensures l.left (told_not c.decides.result (IsDecided LogicalOperator.And (truth_val l.left)) c.decides.ensures c.if-decides.false) l.invariant.answers c.in_ok-right-in-None.right c.in_ok-right-in-None.ensures);
     }
 
-pub returns-in_err-right : goal.returns-in_err-right
-returns-in_err-right c =
+pub returns-in_err-right-in-None : goal.returns-in_err-right-in-None
+returns-in_err-right-in-None c =
     let l = c.loop-at in
     let above : 0 < l.at = omega arith in
-    let exit = err_from_is_err_and c.from_residual-in_err-right.result c.from_residual-in_err-right.ensures.1 in
-    rw (exit.1 ∙ ap Err exit.2) (fault_answers c.args.scene.now c.args.rest.ands c.requires.rest.ands c.requires.stands l.at above l.invariant.within c.right_of-right_place.result c.right_of-right_place.ensures l.left (told_not c.decides.result (IsDecided LogicalOperator.And (truth_val l.left)) c.decides.ensures c.if-decides.false) l.invariant.answers c.in_err-right.field-0.0 c.in_err-right.ensures)
+    let exit = err_from_is_err_and c.from_residual-in_err-right-in-None.result c.from_residual-in_err-right-in-None.ensures.1 in
+    rw (exit.1 ∙ ap Err exit.2) (fault_answers c.args.scene.now c.args.rest.ands c.requires.rest.ands c.requires.stands l.at above l.invariant.within c.right_of-right_place.result c.right_of-right_place.ensures l.left (told_not c.decides.result (IsDecided LogicalOperator.And (truth_val l.left)) c.decides.ensures c.if-decides.false) l.invariant.answers c.in_err-right-in-None.field-0.0 c.in_err-right-in-None.ensures)

@@ -1,4 +1,4 @@
-use Rattle.std.proofs.Common.{◌≡◌, ◌≤◌, Ok}
+use Rattle.std.proofs.Common.{◌≤◌, Ok}
 use Rattle.odata_eval.specs.private.WalkAnswer.{AnswersTruth}
 use Rattle.odata_eval.proofs.and_chain.truth_of_rest.Given as goal
 

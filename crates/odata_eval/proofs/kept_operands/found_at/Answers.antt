@@ -3,12 +3,13 @@ use Rattle.odata_checked_filter.specs.declared.checked_node.CheckedNode.{Checked
 use Rattle.odata_checked_filter.specs.declared.checked_node.NodeKind.{NodeKind}
 use Rattle.odata_eval.specs.declared.part.WalkClass.{WalkClass}
 use Rattle.odata_eval.proofs.walking.Leaves.{literal_answers, literal_within, property_answers, property_within, variable_answers, variable_within}
-use Rattle.odata_eval.proofs.walking.Parts.{part_inside, there_found}
+use Rattle.odata_eval.proofs.walking.Parts.{there_found}
 use Rattle.odata_eval.proofs.walking.Spines.{kind_walks}
+use Rattle.odata_eval.proofs.walking.Operands.{operand_inside}
 use Rattle.odata_eval.proofs.kept_operands.found_at.Goals as goal
 
 pub node-requires : goal.node-requires
-node-requires c = part_inside c.args.scene.now c.args.place c.requires.stands
+node-requires c = operand_inside c.args.scene.now c.args.place c.requires.stands
 
 pub property-requires : goal.property-requires
 property-requires c = property_within c.args.scene.now c.args.place c.in-Property.slot (there_found (λ (f : CheckedNode). f.kind ≡ NodeKind.Property c.in-Property.slot) (slice_get c.args.scene.now.list.nodes c.args.place) c.node.result.now c.node.ensures c.in-Property.is) c.requires.stands

@@ -1,17 +1,17 @@
 use Rattle.std.proofs.Common.{◌≡◌, inl, inr, slice_get}
 use Rattle.odata_checked_filter.specs.declared.checked_node.CheckedNode.{CheckedNode}
 use Rattle.odata_checked_filter.specs.declared.checked_node.NodeKind.{NodeKind}
-use Rattle.odata_eval.proofs.walking.Parts.{part_inside, some_weaker, there_found}
+use Rattle.odata_eval.proofs.walking.Parts.{some_weaker, there_found}
+use Rattle.odata_eval.proofs.walking.Operands.{operand_inside, tree_of_kind}
 use Rattle.odata_eval.proofs.kept_operands.kept_at.Goals as goal
 
 pub node-requires : goal.node-requires
-node-requires c = part_inside c.args.scene.now c.args.place c.requires
+node-requires c = operand_inside c.args.scene.now c.args.place c.requires
 
 pub step_at-requires : goal.step_at-requires
-step_at-requires c = record {
-  stands = c.requires;
-  here = there_found (λ (f : CheckedNode). f.kind ≡ NodeKind.Member c.in-Member.slot) (slice_get c.args.scene.now.list.nodes c.args.place) c.node.result.now c.node.ensures c.in-Member.is;
-}
+step_at-requires c =
+    let here = there_found (λ (f : CheckedNode). f.kind ≡ NodeKind.Member c.in-Member.slot) (slice_get c.args.scene.now.list.nodes c.args.place) c.node.result.now c.node.ensures c.in-Member.is in
+    record { stands = tree_of_kind c.args.scene.now c.args.place (NodeKind.Member c.in-Member.slot) tt here c.requires; here = here }
 
 pub returns-in-Member-clause-answers : goal.returns-in-Member-clause-answers
 returns-in-Member-clause-answers c = c.step_at.ensures.answers

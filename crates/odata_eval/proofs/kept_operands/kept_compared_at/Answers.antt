@@ -4,6 +4,7 @@ use Rattle.odata_checked_filter.specs.declared.checked_node.NodeKind.{NodeKind}
 use Rattle.odata_syntax.specs.declared.binary_operator.BinaryOperator.{BinaryOperator}
 use Rattle.odata_eval.proofs.walking.AndChains.{left_side}
 use Rattle.odata_eval.proofs.walking.Parts.{part_inside, there_found}
+use Rattle.odata_eval.proofs.walking.Operands.{operand_inside}
 use Rattle.odata_eval.proofs.kept_operands.kept_compared_at.Goals as goal
 
 pub overflow_add-place : goal.overflow_add-place
@@ -13,7 +14,7 @@ overflow_add-place c =
     search rules
 
 pub node-requires : goal.node-requires
-node-requires c = part_inside c.args.scene.now (c.args.place + 1) (left_side c.args.scene.now c.args.place (BinaryOperator.Comparison c.args.comparison) c.requires.here c.requires.stands)
+node-requires c = operand_inside c.args.scene.now (c.args.place + 1) (left_side c.args.scene.now c.args.place (BinaryOperator.Comparison c.args.comparison) c.requires.here c.requires.stands)
 
 pub step_compared_at-requires : goal.step_compared_at-requires
 step_compared_at-requires c = record {

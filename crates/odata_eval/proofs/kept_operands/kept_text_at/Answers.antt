@@ -1,7 +1,11 @@
 use Rattle.std.proofs.Common.{subst, sym}
 use Rattle.odata_eval.specs.private.KeptOperands.{AnswersText}
 use Rattle.odata_eval.proofs.walking.TextArguments.{kept_text}
+use Rattle.odata_eval.proofs.walking.Operands.{tree_operand}
 use Rattle.odata_eval.proofs.kept_operands.kept_text_at.Goals as goal
+
+pub kept_at-requires : goal.kept_at-requires
+kept_at-requires c = tree_operand c.args.scene.now c.args.place c.requires
 
 pub returns-in-Text : goal.returns-in-Text
 returns-in-Text c =

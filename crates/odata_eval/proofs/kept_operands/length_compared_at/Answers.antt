@@ -6,7 +6,9 @@ use Rattle.odata_eval.proofs.spending.Rests.{free_spends}
 use Rattle.odata_eval.proofs.spending.Wholes.{both_free}
 use Rattle.odata_eval.proofs.walking.AndChains.{left_side}
 use Rattle.odata_eval.proofs.walking.Compared.{numbers_compared}
-use Rattle.odata_eval.proofs.walking.Spines.{right_further, right_part, right_there}
+use Rattle.odata_eval.proofs.walking.Extents.{right_further, right_part, right_there}
+use Rattle.odata_eval.proofs.walking.Operands.{tree_of_kind}
+use Rattle.odata_checked_filter.specs.declared.checked_node.NodeKind.{NodeKind}
 use Rattle.odata_eval.proofs.kept_operands.length_compared_at.Goals as goal
 
 pub right_of-right_place-requires : goal.right_of-right_place-requires
@@ -19,7 +21,8 @@ overflow_add-place c =
 
 pub length_at-requires : goal.length_at-requires
 length_at-requires c = record {
-  stands = left_side c.args.scene.now c.args.place (BinaryOperator.Comparison c.args.comparison) c.requires.here c.requires.stands;
+  stands = tree_of_kind c.args.scene.now (c.args.place + 1) (NodeKind.Call c.args.function) tt c.requires.call
+      (left_side c.args.scene.now c.args.place (BinaryOperator.Comparison c.args.comparison) c.requires.here c.requires.stands);
   here = c.requires.call;
 }
 

@@ -6,7 +6,9 @@ use Rattle.odata_eval.proofs.spending.Rests.{free_spends}
 use Rattle.odata_eval.proofs.spending.Wholes.{both_free}
 use Rattle.odata_eval.proofs.walking.AndChains.{left_side}
 use Rattle.odata_eval.proofs.walking.Compared.{kept_compared, may_compare_kept}
-use Rattle.odata_eval.proofs.walking.Spines.{right_further, right_part, right_there}
+use Rattle.odata_eval.proofs.walking.Extents.{right_further, right_part, right_there}
+use Rattle.odata_eval.proofs.walking.Operands.{tree_of_kind}
+use Rattle.odata_checked_filter.specs.declared.checked_node.NodeKind.{NodeKind}
 use Rattle.odata_eval.proofs.kept_operands.step_compared_at.Goals as goal
 
 pub right_of-right_place-requires : goal.right_of-right_place-requires
@@ -19,7 +21,8 @@ overflow_add-place c =
 
 pub step_at-requires : goal.step_at-requires
 step_at-requires c = record {
-  stands = left_side c.args.scene.now c.args.place (BinaryOperator.Comparison c.args.comparison) c.requires.here c.requires.stands;
+  stands = tree_of_kind c.args.scene.now (c.args.place + 1) (NodeKind.Member c.args.slot) tt c.requires.step
+      (left_side c.args.scene.now c.args.place (BinaryOperator.Comparison c.args.comparison) c.requires.here c.requires.stands);
   here = c.requires.step;
 }
 

@@ -13,6 +13,7 @@ use Rattle.odata_eval.proofs.walking.Leaves.{property_answers, property_within}
 use Rattle.odata_eval.proofs.walking.Parts.{part_inside, some_always, there_found}
 use Rattle.odata_eval.proofs.walking.Readings.{truth_values}
 use Rattle.odata_eval.proofs.walking.Spines.{kind_walks, typed_part}
+use Rattle.odata_eval.proofs.walking.Operands.{tree_operand}
 use Rattle.odata_eval.proofs.kept_terms.kept_truth_at.Goals as goal
 
 pub node-requires : goal.node-requires
@@ -22,7 +23,7 @@ pub property-requires : goal.property-requires
 property-requires c =
     property_within c.args.scene.now c.args.place c.in-Property.slot
     (there_found (λ (f : CheckedNode). f.kind ≡ NodeKind.Property c.in-Property.slot) (slice_get c.args.scene.now.list.nodes c.args.place) c.node.result.now c.node.ensures c.in-Property.is)
-    (typed_part c.args.scene.now c.args.place IsBooleanOrNull c.requires.stands)
+    (tree_operand c.args.scene.now c.args.place (typed_part c.args.scene.now c.args.place IsBooleanOrNull c.requires.stands))
 
 pub kept_truth-requires : goal.kept_truth-requires
 kept_truth-requires c =

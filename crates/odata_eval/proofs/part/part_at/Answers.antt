@@ -2,9 +2,10 @@ use Rattle.std.proofs.Common.{◌≡◌, refl}
 use Rattle.odata_checked_filter.specs.declared.checked_node.CheckedNode.{CheckedNode}
 use Rattle.odata_checked_filter.specs.declared.checked_node.NodeKind.{NodeKind}
 use Rattle.odata_eval.proofs.walking.Leaves.{literal_answers, literal_within, property_answers, property_within, variable_answers, variable_within}
-use Rattle.odata_eval.proofs.walking.Parts.{part_inside, there_found}
+use Rattle.odata_eval.proofs.walking.Parts.{there_found}
 use Rattle.odata_eval.specs.declared.part.WalkClass.{WalkClass}
 use Rattle.odata_eval.proofs.walking.Spines.{kind_walks}
+use Rattle.odata_eval.proofs.walking.Operands.{operand_inside}
 use Rattle.odata_eval.proofs.part.part_at.Goals as goal
 
 pub returns-in-Property : goal.returns-in-Property
@@ -31,7 +32,7 @@ returns-in-Literal c =
     )
 
 pub node-requires : goal.node-requires
-node-requires c = part_inside c.args.scene.now c.args.place c.requires.stands
+node-requires c = operand_inside c.args.scene.now c.args.place c.requires.stands
 
 pub property-requires : goal.property-requires
 property-requires c =

@@ -5,9 +5,10 @@ use Rattle.odata_eval.specs.declared.stop.EvalStop.{EvalStop}
 use Rattle.odata_eval.specs.private.Spending.{SpendsAt}
 use Rattle.odata_eval.proofs.spending.Bound.{never_costly}
 use Rattle.odata_eval.proofs.walking.Spines.{typed_part}
+use Rattle.odata_eval.proofs.walking.Operands.{tree_operand}
 use Rattle.odata_eval.proofs.walk.term_at.Goals as goal
 
 pub fault_of-requires : goal.fault_of-requires
 fault_of-requires c = λ same.
-    never_costly c.args.scene.now c.args.place (typed_part c.args.scene.now c.args.place IsBooleanOrNull c.requires.stands) c.costs_once.ensures Budget.Unbounded
+    never_costly c.args.scene.now c.args.place (tree_operand c.args.scene.now c.args.place (typed_part c.args.scene.now c.args.place IsBooleanOrNull c.requires.stands)) c.costs_once.ensures Budget.Unbounded
     (subst (λ (s : EvalStop). SpendsAt c.args.scene.now c.args.place Budget.Unbounded Budget.Unbounded (Some s)) same c.in-Err.ensures.spent)

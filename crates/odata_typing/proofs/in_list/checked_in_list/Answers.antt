@@ -1,6 +1,4 @@
-use Rattle.std.proofs.Common.{◌≡◌, ◌∙◌, ap, List, length, arith, true, false}
-use Rattle.edm_values.specs.declared.value.Value.{Value}
-use Rattle.odata_checked_filter.specs.declared.checked_node.CheckedNode.{CheckedNode}
+use Rattle.std.proofs.Common.{◌≡◌, ◌∙◌, length, arith, true, false}
 use Rattle.odata_typing.proofs.placed.Listed.{listed, not_true, numbered_code, row_there, unnumbered_code}
 use Rattle.odata_typing.proofs.in_list.checked_in_list.Goals as goal
 
@@ -18,7 +16,7 @@ fit_of-fit-requires-clause-items c =
 
 pub put_list-requires : goal.put_list-requires
 put_list-requires c =
-    let same : length c.put_items-fit.new.walk.list.nodes ≡ length c.args.walk.now.list.nodes = ap (λ (nodes : List CheckedNode). length nodes) c.put_items-fit.ensures.nodes in
+    let same : length c.put_items-fit.new.walk.list.nodes ≡ length c.args.walk.now.list.nodes = c.put_items-fit.ensures.count in
     let order = c.requires.ready.order in
     let inside = c.requires.ready.inside in
     omega arith
@@ -31,11 +29,10 @@ returns-then-is_enumeration c = λ l items over.
     let old = c.args.walk.now in
     let list = listed setting old judged l items over in
     numbered_code c.laws_below.ensures setting judged old c.put_list.new.walk l items c.put_list.result c.requires.ready list
-    c.type_at.result.now c.stop_at-items.result c.put_items-fit.new.walk c.put_items-fit.result (length c.values-numbers.result.now)
+    c.type_at.result.now c.stop_at-items.result c.put_items-fit.new.walk c.put_items-fit.result
     (c.type_at.ensures list.left.found list.left.at) (c.stop_at-items.ensures list.left.found list.left.at ∙ list.left.last)
     (c.is_enumeration.ensures.single schema c.if-is_enumeration.true)
     c.put_items-fit.ensures.fit c.put_items-fit.ensures.put c.put_items-fit.ensures.walk
-    (ap (λ (values : List Value). length values) c.values-numbers.ensures)
     c.put_list.ensures.goes_on c.put_list.ensures.put
 
 pub returns-else-is_enumeration : goal.returns-else-is_enumeration

@@ -1,10 +1,8 @@
-use Rattle.std.proofs.Common.{◌∙◌, ◌<◌, ◌≤◌, ap, arith, List, slice_get}
+use Rattle.std.proofs.Common.{◌<◌, ◌≤◌, arith}
 use Rattle.std.proofs.lemmas.Option.{slice_get_within}
 use Rattle.csdl_schema.specs.SchemaModel.{slots_of}
 use Rattle.odata_signatures.specs.TypeView.{expr_type}
-use Rattle.odata_checked_filter.specs.declared.checked_node.CheckedNode.{CheckedNode}
-use Rattle.odata_typing.specs.declared.walk.Walk.{Walk}
-use Rattle.odata_typing.proofs.placed.ItemLoops.{put_all, put_all_fit, put_more, put_next, put_none, put_walk, same_nodes}
+use Rattle.odata_typing.proofs.placed.ItemLoops.{next_at, put_all, put_all_fit, put_more, put_next, put_none}
 use Rattle.odata_typing.proofs.placed.Loops.{types_next}
 use Rattle.odata_typing.proofs.in_list.put_items.Goals as goal
 
@@ -13,28 +11,27 @@ loop-item-init c =
     let schema = c.args.schema.now in
     put_none (slots_of schema) schema (expr_type schema c.args.left.now) c.args.walk.now c.args.items c.args.stop c.requires.items.0 c.requires.items.1 c.requires.items.2
 
-pub item_value-value-requires-clause-item : goal.item_value-value-requires-clause-item
-item_value-value-requires-clause-item c =
+pub put_item-requires-clause-item : goal.put_item-requires-clause-item
+put_item-requires-clause-item c =
     let schema = c.args.schema.now in
     let left = expr_type schema c.args.left.now in
     let old = c.args.walk.now in
     let so_far = c.loop-item.invariant in
     let next = put_next (slots_of schema) schema left old c.args.items c.args.stop c.loop-item.walk c.loop-item.item c.loop-item.fit so_far c.loop-item-test.true in (
       next.found,
-      ap (λ (nodes : List CheckedNode). slice_get nodes c.loop-item.item) (same_nodes (slots_of schema) schema left old c.args.items c.args.stop c.loop-item.walk c.loop-item.item c.loop-item.fit so_far) ∙ next.at,
+      next_at (slots_of schema) schema left old c.args.items c.args.stop c.loop-item.walk c.loop-item.item c.loop-item.fit so_far next,
       (types_next schema old.list.nodes so_far.rest c.loop-item.item c.args.stop next so_far.there).0,
     )
 
-pub stop_at-item-requires : goal.stop_at-item-requires
-stop_at-item-requires c =
+pub stop_at-next-requires : goal.stop_at-next-requires
+stop_at-next-requires c =
     let schema = c.args.schema.now in
     let left = expr_type schema c.args.left.now in
     let old = c.args.walk.now in
     let so_far = c.loop-item.invariant in
     let next = put_next (slots_of schema) schema left old c.args.items c.args.stop c.loop-item.walk c.loop-item.item c.loop-item.fit so_far c.loop-item-test.true in
-    slice_get_within c.push_value.new.self.list.nodes c.loop-item.item next.found
-    (ap (λ (w : Walk). slice_get w.list.nodes c.loop-item.item) c.if-not-push_value.ensures
-    ∙ ap (λ (nodes : List CheckedNode). slice_get nodes c.loop-item.item) (same_nodes (slots_of schema) schema left old c.args.items c.args.stop c.loop-item.walk c.loop-item.item c.loop-item.fit so_far) ∙ next.at)
+    slice_get_within c.loop-item.walk.list.nodes c.loop-item.item next.found
+    (next_at (slots_of schema) schema left old c.args.items c.args.stop c.loop-item.walk c.loop-item.item c.loop-item.fit so_far next)
 
 pub loop-item-smaller : goal.loop-item-smaller
 loop-item-smaller c =
@@ -43,9 +40,8 @@ loop-item-smaller c =
     let old = c.args.walk.now in
     let so_far = c.loop-item.invariant in
     let next = put_next (slots_of schema) schema left old c.args.items c.args.stop c.loop-item.walk c.loop-item.item c.loop-item.fit so_far c.loop-item-test.true in
-    let same = c.stop_at-item.ensures next.found
-    (ap (λ (w : Walk). slice_get w.list.nodes c.loop-item.item) c.if-not-push_value.ensures
-    ∙ ap (λ (nodes : List CheckedNode). slice_get nodes c.loop-item.item) (same_nodes (slots_of schema) schema left old c.args.items c.args.stop c.loop-item.walk c.loop-item.item c.loop-item.fit so_far) ∙ next.at) in
+    let same = c.stop_at-next.ensures next.found
+    (next_at (slots_of schema) schema left old c.args.items c.args.stop c.loop-item.walk c.loop-item.item c.loop-item.fit so_far next) in
     let order : c.loop-item.item < next.found.stop = next.order in
     let inside : next.found.stop ≤ c.args.stop = next.inside in
     omega arith
@@ -57,11 +53,10 @@ loop-item-preserved c =
     let old = c.args.walk.now in
     let so_far = c.loop-item.invariant in
     let next = put_next (slots_of schema) schema left old c.args.items c.args.stop c.loop-item.walk c.loop-item.item c.loop-item.fit so_far c.loop-item-test.true in
-    let at = ap (λ (nodes : List CheckedNode). slice_get nodes c.loop-item.item) (same_nodes (slots_of schema) schema left old c.args.items c.args.stop c.loop-item.walk c.loop-item.item c.loop-item.fit so_far) ∙ next.at in
-    let stops = c.stop_at-item.ensures next.found (ap (λ (w : Walk). slice_get w.list.nodes c.loop-item.item) c.if-not-push_value.ensures ∙ at) in
-    rw (stops, c.worse-fit.ensures)
-    (put_more (slots_of schema) schema left old c.args.items c.args.stop c.loop-item.walk c.push_value.new.self c.loop-item.item c.loop-item.fit c.item_value-value.result.1 c.item_value-value.result.0 so_far next
-    (c.item_value-value.ensures.fit next.found at) (c.item_value-value.ensures.value next.found at) c.if-not-push_value.ensures)
+    let at = next_at (slots_of schema) schema left old c.args.items c.args.stop c.loop-item.walk c.loop-item.item c.loop-item.fit so_far next in
+    rw (c.stop_at-next.ensures next.found at, c.worse-fit.ensures)
+    (put_more (slots_of schema) schema left old c.args.items c.args.stop c.loop-item.walk c.put_item.new.walk c.loop-item.item c.loop-item.fit c.put_item.result so_far next
+    (c.put_item.ensures.fit next.found at) (c.put_item.ensures.put next.found at) c.put_item.ensures.kept c.put_item.ensures.walk)
 
 pub returns-clause-fit : goal.returns-clause-fit
 returns-clause-fit c = λ row are.
@@ -74,11 +69,7 @@ returns-clause-put c = λ row are.
     put_all (slots_of schema) schema (expr_type schema c.args.left.now) c.args.walk.now c.args.items c.args.stop c.loop-item.walk c.loop-item.item c.loop-item.fit row c.loop-item.invariant c.loop-item-test.false are
 
 pub returns-clause-walk : goal.returns-clause-walk
-returns-clause-walk c =
-    let schema = c.args.schema.now in
-    put_walk (slots_of schema) schema (expr_type schema c.args.left.now) c.args.walk.now c.args.items c.args.stop c.loop-item.walk c.loop-item.item c.loop-item.fit c.loop-item.invariant
+returns-clause-walk c = c.loop-item.invariant.put
 
-pub returns-clause-nodes : goal.returns-clause-nodes
-returns-clause-nodes c =
-    let schema = c.args.schema.now in
-    same_nodes (slots_of schema) schema (expr_type schema c.args.left.now) c.args.walk.now c.args.items c.args.stop c.loop-item.walk c.loop-item.item c.loop-item.fit c.loop-item.invariant
+pub returns-clause-count : goal.returns-clause-count
+returns-clause-count c = c.loop-item.invariant.kept.count

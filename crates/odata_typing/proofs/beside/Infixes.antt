@@ -1,6 +1,5 @@
 -- Nodes between two operands, one of which may be read beside the other.
-use Rattle.std.proofs.Common.{◌≡◌, refl, ap, subst, inl, inr, ℕ, ℤ, List, Option, Some, slice_get}
-use Rattle.edm_values.specs.declared.value.Value.{Value}
+use Rattle.std.proofs.Common.{◌≡◌, refl, subst, inl, inr, ℕ, ℤ, List, Option}
 use Rattle.odata_syntax.specs.Tree.{Tree, node}
 use Rattle.odata_syntax.specs.declared.binary_operator.BinaryOperator.{BinaryOperator}
 use Rattle.csdl_schema.specs.ExprType.{ExprType, single, enumeration}
@@ -9,23 +8,21 @@ use Rattle.odata_syntax.specs.declared.binary_operator.ComparisonOperator.{Compa
 use Rattle.odata_signatures.specs.ExprTypes.{boolean_type, string_type}
 use Rattle.odata_signatures.specs.HasTyped.{AreFlags}
 use Rattle.odata_signatures.specs.OperatorTyped.{OperatorByTypes, IsEquality, OperatorTyped}
-use Rattle.odata_signatures.specs.QuotedNumber.{HasNumber, IsReadBeside, LacksNumber}
+use Rattle.odata_signatures.specs.QuotedNumber.{HasNumber, IsReadBeside, LacksNumber, NumberBeside}
 use Rattle.odata_expression_types.specs.FirstUntypable.{IsReason}
-use Rattle.odata_expression_types.specs.Reads.{OfEquality}
+use Rattle.odata_expression_types.specs.Reads.{OfEquality, ReadsNone}
 use Rattle.odata_expression_types.specs.Sides.{Between, quoted_text, side_of}
 use Rattle.odata_expression_types.specs.Typed.{Scope, Typed}
 use Rattle.odata_expression_types.specs.declared.refusal.TypeFaultCode.{TypeFaultCode}
-use Rattle.odata_checked_filter.specs.Stands.{IsKindOf}
 use Rattle.odata_checked_filter.specs.declared.checked_node.NodeKind.{NodeKind}
-use Rattle.odata_typing.specs.declared.pairing.Paired.{Paired}
-use Rattle.odata_typing.specs.private.Forms.{InfixByTypes, InfixReason, InfixTyped, IsInfix, infix_shape}
+use Rattle.odata_typing.specs.private.Forms.{InfixByTypes, InfixReason, InfixTyped, infix_shape}
 use Rattle.odata_typing.specs.private.LawsBelow.{LawsBelow}
-use Rattle.odata_typing.specs.private.Pairing.{IsPairedIn, OneIsRead, paired_kind}
-use Rattle.odata_typing.proofs.pairs.Numbers.{is_read, reading, reads_none, string_unread}
+use Rattle.odata_typing.specs.private.OperandTexts.{IsLeftRead, IsRightRead, OneIsRead}
+use Rattle.odata_typing.proofs.beside.Numbers.{is_read, reading, reads_none, string_unread}
 
--- ---- the kinds
+-- ---- which operands are read
 
-module _ (laws : LawsBelow) (values : List Value) (slots : Slots) (root : List ℕ) (scope : Scope) (l r : Tree) (left right : ExprType)
+module _ (laws : LawsBelow) (slots : Slots) (root : List ℕ) (scope : Scope) (l r : Tree) (left right : ExprType)
     (left_typed : Typed slots root scope l left) (right_typed : Typed slots root scope r right) where
   one_left : (t : ExprType) → Typed slots root scope l t → t ≡ left
   one_left t typed = laws.one_type slots root scope l t left typed left_typed
@@ -33,67 +30,43 @@ module _ (laws : LawsBelow) (values : List Value) (slots : Slots) (root : List �
   one_right : (t : ExprType) → Typed slots root scope r t → t ≡ right
   one_right t typed = laws.one_type slots root scope r t right typed right_typed
 
-  -- where none is read
-  pub unread_kind : (form : NodeKind) → IsInfix form → ¬ OneIsRead IsReadBeside form (side_of l left) (side_of r right)
-      → IsKindOf values slots root scope (infix_shape form l r) form
-  unread_kind (NodeKind.Binary operator) is unread = inl (record {
-    kind_is = refl;
-    none = (
-      λ n reads. reads_none slots (OfEquality operator (Typed slots root scope l)) left r (λ t of_l. one_left t of_l.1) (λ read. unread (reads.beside.0, inl read)) n reads,
-      λ n reads. reads_none slots (OfEquality operator (Typed slots root scope r)) right l (λ t of_r. one_right t of_r.1) (λ read. unread (reads.beside.0, inr read)) n reads,
-    );
-  })
-  unread_kind NodeKind.Has is unread = inl (record {
-    kind_is = refl;
-    none = reads_none slots (Typed slots root scope l) left r one_left unread;
-  })
-  unread_kind NodeKind.InPath is unread = refl
-  unread_kind _ is unread = absurd is
+  -- where none is
+  pub left_unread : (operator : BinaryOperator) → ¬ OneIsRead IsReadBeside (NodeKind.Binary operator) (side_of l left) (side_of r right)
+      → ReadsNone slots (OfEquality operator (Typed slots root scope r)) l
+  left_unread operator unread n reads =
+      reads_none slots (OfEquality operator (Typed slots root scope r)) right l (λ t of_r. one_right t of_r.1) (λ read. unread (reads.beside.0, inr read)) n reads
 
-  -- where one is
-  pub paired_of_kind : (form : NodeKind) (paired : Paired) (n : ℤ) (place : ℕ) → slice_get values place ≡ Some (Value.Enum n)
-      → IsPairedIn slots form paired (side_of l left) (side_of r right) n
-      → IsKindOf values slots root scope (infix_shape form l r) (paired_kind paired place)
-  paired_of_kind (NodeKind.Binary operator) (Paired.Right read) n place at is = inr (inl (record {
-    place = place;
-    number = n;
-    kind_is = ap (λ (o : BinaryOperator). paired_kind (Paired.Right o) place) is.0;
-    number_at = at;
-    reads = record { type_of = left; beside = (is.1, left_typed); number = is.2 };
-  }))
-  paired_of_kind (NodeKind.Binary operator) (Paired.Left read) n place at is = inr (inr (record {
-    place = place;
-    number = n;
-    kind_is = ap (λ (o : BinaryOperator). paired_kind (Paired.Left o) place) is.0;
-    number_at = at;
-    reads = (
-      reads_none slots (OfEquality operator (Typed slots root scope l)) left r (λ t of_l. one_left t of_l.1) is.2,
-      record { type_of = right; beside = (is.1, right_typed); number = is.3 },
-    );
-  }))
-  paired_of_kind (NodeKind.Binary operator) Paired.Has n place at is = absurd is
-  paired_of_kind NodeKind.Has Paired.Has n place at is = inr (record {
-    place = place;
-    number = n;
-    kind_is = refl;
-    number_at = at;
-    reads = record { type_of = left; beside = left_typed; number = is };
-  })
-  paired_of_kind NodeKind.Has (Paired.Right read) n place at is = absurd is
-  paired_of_kind NodeKind.Has (Paired.Left read) n place at is = absurd is
-  paired_of_kind _ paired n place at is = absurd is
+  pub right_unread : (operator : BinaryOperator) → ¬ OneIsRead IsReadBeside (NodeKind.Binary operator) (side_of l left) (side_of r right)
+      → ReadsNone slots (OfEquality operator (Typed slots root scope l)) r
+  right_unread operator unread n reads =
+      reads_none slots (OfEquality operator (Typed slots root scope l)) left r (λ t of_l. one_left t of_l.1) (λ read. unread (reads.beside.0, inl read)) n reads
+
+  pub flags_unread : ¬ OneIsRead IsReadBeside NodeKind.Has (side_of l left) (side_of r right) → ReadsNone slots (Typed slots root scope l) r
+  flags_unread unread = reads_none slots (Typed slots root scope l) left r one_left unread
+
+  -- where one is, the other one is not
+  pub right_alone : (operator : BinaryOperator) → ¬ IsReadBeside left (quoted_text r) → ReadsNone slots (OfEquality operator (Typed slots root scope l)) r
+  right_alone operator unread = reads_none slots (OfEquality operator (Typed slots root scope l)) left r (λ t of_l. one_left t of_l.1) unread
+
+  pub left_alone : (operator : BinaryOperator) (n : ℤ) → NumberBeside slots left (quoted_text r) n → ReadsNone slots (OfEquality operator (Typed slots root scope r)) l
+  left_alone operator n number =
+      let is = reading left (quoted_text r) (is_read slots left (quoted_text r) n number) in
+      let same : right ≡ string_type = laws.quotes slots root scope r is.spelling right is.quotes right_typed in
+      reads_none slots (OfEquality operator (Typed slots root scope r)) right l (λ t of_r. one_right t of_r.1)
+      (λ read. string_unread (quoted_text l) (subst (λ (t : ExprType). IsReadBeside t (quoted_text l)) same read))
 
 -- ---- the types
 
-pub paired_typed : (slots : Slots) (form : NodeKind) (paired : Paired) (n : ℤ) (l r : Tree) (left right : ExprType)
-    → IsPairedIn slots form paired (side_of l left) (side_of r right) n → Between (InfixTyped slots form) l r left right boolean_type
-paired_typed slots (NodeKind.Binary operator) (Paired.Right read) n l r left right is = inr ((is.1, inl (n, is.2)), refl)
-paired_typed slots (NodeKind.Binary operator) (Paired.Left read) n l r left right is = inr ((is.1, inr (n, is.3)), refl)
-paired_typed slots (NodeKind.Binary operator) Paired.Has n l r left right is = absurd is
-paired_typed slots NodeKind.Has Paired.Has n l r left right is = (inr (n, is), refl)
-paired_typed slots NodeKind.Has (Paired.Right read) n l r left right is = absurd is
-paired_typed slots NodeKind.Has (Paired.Left read) n l r left right is = absurd is
-paired_typed slots _ paired n l r left right is = absurd is
+pub right_read_typed : (slots : Slots) (form : NodeKind) (n : ℤ) (l r : Tree) (left right : ExprType)
+    → IsRightRead slots form (side_of l left) (side_of r right) n → Between (InfixTyped slots form) l r left right boolean_type
+right_read_typed slots (NodeKind.Binary operator) n l r left right is = inr ((is.0, inl (n, is.1)), refl)
+right_read_typed slots NodeKind.Has n l r left right is = (inr (n, is), refl)
+right_read_typed slots _ n l r left right is = absurd is
+
+pub left_read_typed : (slots : Slots) (form : NodeKind) (n : ℤ) (l r : Tree) (left right : ExprType)
+    → IsLeftRead slots form (side_of l left) (side_of r right) n → Between (InfixTyped slots form) l r left right boolean_type
+left_read_typed slots (NodeKind.Binary operator) n l r left right is = inr ((is.0, inr (n, is.2)), refl)
+left_read_typed slots _ n l r left right is = absurd is
 
 -- by their types alone where none is read
 pub types_typed : (slots : Slots) (form : NodeKind) (l r : Tree) (left right type : ExprType) → InfixByTypes form left right type

@@ -1,5 +1,5 @@
 -- Operands and items that are read beside an enumeration.
-pub mod Held
+pub mod Given
 pub mod Infixes
 pub mod Items
 pub mod Numbers

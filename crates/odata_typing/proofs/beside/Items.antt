@@ -1,32 +1,29 @@
 -- The items of a list after an operand of an enumeration.
-use Rattle.std.proofs.Common.{◌≡◌, ◌∙◌, refl, ap, subst, inl, inr, ◌⊎◌, ℕ, ℤ, ◌+◌, List, [], ◌∷◌, ◌++◌, Some, slice_get, length, length-append, append_assoc}
-use Rattle.edm_values.specs.declared.value.Value.{Value}
+use Rattle.std.proofs.Common.{◌≡◌, refl, sym, subst, inl, inr, ◌⊎◌, ℕ, List, [], ◌∷◌, ◌++◌}
 use Rattle.odata_syntax.specs.Tree.{Tree, trees_of_list}
 use Rattle.csdl_schema.specs.ExprType.{ExprType, single, enumeration}
 use Rattle.odata_syntax.specs.declared.binary_operator.ComparisonOperator.{ComparisonOperator}
-use Rattle.csdl_schema.specs.SchemaModel.{Slots}
+use Rattle.csdl_schema.specs.SchemaModel.{SchemaModel, Slots}
 use Rattle.odata_signatures.specs.CollectionTyped.{InListTyped, IsCollection, IsItemBeside}
 use Rattle.odata_signatures.specs.ComparableTypes.{AreComparable}
 use Rattle.odata_signatures.specs.ExprTypes.{boolean_type, string_type}
-use Rattle.odata_signatures.specs.QuotedNumber.{IsReadBeside, LacksNumber, NumberBeside}
+use Rattle.odata_signatures.specs.QuotedNumber.{IsReadBeside, LacksNumber}
 use Rattle.odata_signatures.specs.Side.{Side, quoting}
-use Rattle.odata_expression_types.specs.Reads.{OneLacksNumber, ReadNone}
+use Rattle.odata_signatures.specs.TypeView.{expr_type}
+use Rattle.odata_expression_types.specs.Reads.{OneLacksNumber}
 use Rattle.odata_expression_types.specs.Sides.{BeforeList, quoted_text, sides_of}
 use Rattle.odata_expression_types.specs.Typed.{AreTyped, Scope, Typed}
 use Rattle.odata_checked_filter.specs.FlatTree.{FlatTree}
-use Rattle.odata_checked_filter.specs.Stands.{AreItemNumbers, IsItemNumber}
+use Rattle.odata_checked_filter.specs.declared.checked_node.CheckedNode.{CheckedNode}
 use Rattle.odata_typing.specs.declared.in_list.ItemsFit.{ItemsFit}
-use Rattle.odata_typing.specs.private.Items.{AllBeside, AreItemValues, AreItemsFit, AreItemsPut, IsItemValue, IsUnreadLeft, IsValueIfFit, OneLacks, with_values, worse_fit}
+use Rattle.odata_typing.specs.private.Items.{AllBeside, AreItemsFit, AreItemsPut, AreItemsRead, IsItemPut, IsItemRead, IsUnreadLeft, OneLacks, worse_fit}
 use Rattle.odata_typing.specs.private.LawsBelow.{LawsBelow}
-use Rattle.odata_typing.proofs.pairs.Numbers.{is_read, reading, reads_none}
+use Rattle.odata_typing.specs.private.Rows.{AreInRow, quoted_in}
+use Rattle.odata_typing.proofs.beside.Numbers.{is_read, reading}
 
 -- ---- one item
 
--- a number stands for the item
-pub number_fit : (slots : Slots) (left : ExprType) (item : Side) (n : ℤ) → NumberBeside slots left item.quoted n → AreItemsFit slots left (item ∷ []) ItemsFit.All
-number_fit slots left item n number =
-    ((inr (n, number), tt), (λ lacks. elim lacks [ inl one ↦ one.none (n, number) | inr none ↦ none ]))
-
+-- one that goes by its type
 pub unread_fit : (slots : Slots) (left : ExprType) (item : Side) → ¬ IsReadBeside left item.quoted → AreComparable left item.type_of → AreItemsFit slots left (item ∷ []) ItemsFit.All
 unread_fit slots left item unread comparable =
     ((inl comparable, tt), (λ lacks. elim lacks [ inl one ↦ unread one.read | inr none ↦ none ]))
@@ -78,73 +75,40 @@ fit_more slots left items item ItemsFit.Refused ItemsFit.OutOfMemory a b = tt
 fit_more slots left items item ItemsFit.Unknown own a b = front_lacks slots left items item a
 fit_more slots left items item ItemsFit.OutOfMemory own a b = tt
 
--- where each may stand there, these are their values
-abbrev pub AreValuesIfFit : Slots → ExprType → List Side → List Value → ItemsFit → Type 0
-AreValuesIfFit slots left items values ItemsFit.All = AreItemValues slots left items values
-AreValuesIfFit slots left items values fit = Unit {0}
+-- ---- items that are read, and one more
 
-values_front : (slots : Slots) (left : ExprType) (items : List Side) (values : List Value) (item : Side) (value : Value) → AreItemValues slots left items values → IsItemValue slots left item value
-    → AreItemValues slots left (items ++ item ∷ []) (values ++ value ∷ [])
-values_front slots left [] [] item value are is = (is, tt)
-values_front slots left [] (v ∷ values) item value are is = absurd are
-values_front slots left (x ∷ items) [] item value are is = absurd are
-values_front slots left (x ∷ items) (v ∷ values) item value are is = (are.0, values_front slots left items values item value are.1 is)
+item_moved : (slots : Slots) (schema : SchemaModel) (left : ExprType) (found : CheckedNode) (old new then : FlatTree) (from place : ℕ) → from ≡ place → new ≡ old
+    → IsItemRead slots left (quoting (quoted_in new place found) (expr_type schema found.edm_type)) new place found then
+    → IsItemRead slots left (quoting (quoted_in old from found) (expr_type schema found.edm_type)) old from found then
+item_moved slots schema left found old new then from place at same read =
+    subst (λ (k : ℕ). IsItemRead slots left (quoting (quoted_in old k found) (expr_type schema found.edm_type)) old k found then) (sym at)
+    (subst (λ (list : FlatTree). IsItemRead slots left (quoting (quoted_in list place found) (expr_type schema found.edm_type)) list place found then) same read)
 
-pub values_more : (slots : Slots) (left : ExprType) (items : List Side) (values : List Value) (item : Side) (value : Value) (fit own : ItemsFit) → AreValuesIfFit slots left items values fit → IsValueIfFit slots left item value own
-    → AreValuesIfFit slots left (items ++ item ∷ []) (values ++ value ∷ []) (worse_fit fit own)
-values_more slots left items values item value ItemsFit.All ItemsFit.All are is = values_front slots left items values item value are is
-values_more slots left items values item value ItemsFit.All ItemsFit.Refused are is = tt
-values_more slots left items values item value ItemsFit.All ItemsFit.Unknown are is = tt
-values_more slots left items values item value ItemsFit.All ItemsFit.OutOfMemory are is = tt
-values_more slots left items values item value ItemsFit.Refused ItemsFit.All are is = tt
-values_more slots left items values item value ItemsFit.Refused ItemsFit.Refused are is = tt
-values_more slots left items values item value ItemsFit.Refused ItemsFit.Unknown are is = tt
-values_more slots left items values item value ItemsFit.Refused ItemsFit.OutOfMemory are is = tt
-values_more slots left items values item value ItemsFit.Unknown own are is = tt
-values_more slots left items values item value ItemsFit.OutOfMemory own are is = tt
+read_front : (slots : Slots) (schema : SchemaModel) (left : ExprType) (nodes seen : List CheckedNode) (found : CheckedNode) (old new then : FlatTree) (from place : ℕ)
+    → AreInRow nodes seen from place
+    → AreItemsRead slots schema left old from seen new
+    → IsItemRead slots left (quoting (quoted_in new place found) (expr_type schema found.edm_type)) new place found then
+    → AreItemsRead slots schema left old from (seen ++ found ∷ []) then
+read_front slots schema left nodes [] found old new then from place at same read =
+    (then, item_moved slots schema left found old new then from place at same read, refl)
+read_front slots schema left nodes (s ∷ seen) found old new then from place row are read =
+    (are.0, are.1, read_front slots schema left nodes seen found are.0 new then s.stop place row.2 are.2 read)
 
-pub values_put : (slots : Slots) (left : ExprType) (items : List Side) (old new : FlatTree) (values : List Value) (fit : ItemsFit) → AreValuesIfFit slots left items values fit → new ≡ with_values old values
-    → AreItemsPut slots left items old new fit
-values_put slots left items old new values ItemsFit.All are is = (values, are, is)
-values_put slots left items old new values ItemsFit.Refused are is = tt
-values_put slots left items old new values ItemsFit.Unknown are is = tt
-values_put slots left items old new values ItemsFit.OutOfMemory are is = tt
-
--- ---- of trees
-
-get_second : (front : List Value) (x : Value) (back : List Value) → slice_get (front ++ x ∷ back) (length front) ≡ Some x
-get_second [] x back = refl
-get_second (y ∷ front) x back = get_second front x back
-
-module _ (laws : LawsBelow) (slots : Slots) (root : List ℕ) (scope : Scope) (l : Tree) (left : ExprType) (left_typed : Typed slots root scope l left) where
-  one_left : (t : ExprType) → Typed slots root scope l t → t ≡ left
-  one_left t typed = laws.one_type slots root scope l t left typed left_typed
-
-  item_number : (tree : Tree) (type : ExprType) (value : Value) (all : List Value) (place : ℕ) → IsItemValue slots left (quoting (quoted_text tree) type) value
-      → slice_get all place ≡ Some value → IsItemNumber all slots (Typed slots root scope l) tree place
-  item_number tree type value all place (inl is) at =
-      inl (is.0, record { type_of = left; beside = left_typed; number = is.1 }, at ∙ ap Some is.2)
-  item_number tree type value all place (inr is) at =
-      inr (reads_none slots (Typed slots root scope l) left tree one_left is.0, at ∙ ap Some is.1)
-
-  pub item_numbers : (trees : List Tree) (types : List ExprType) (values front : List Value) → AreTyped slots root scope (trees_of_list trees) types
-      → AreItemValues slots left (sides_of (trees_of_list trees) types) values
-      → AreItemNumbers (front ++ values) slots (Typed slots root scope l) (trees_of_list trees) (length front)
-  item_numbers [] types values front typed are = tt
-  item_numbers (tree ∷ trees) [] values front typed are = absurd typed
-  item_numbers (tree ∷ trees) (type ∷ types) [] front typed are = absurd are
-  item_numbers (tree ∷ trees) (type ∷ types) (value ∷ values) front typed are =
-      let longer : length (front ++ value ∷ []) ≡ length front + 1 = length-append front (value ∷ []) in
-      let whole : (front ++ value ∷ []) ++ values ≡ front ++ value ∷ values = append_assoc front (value ∷ []) values in
-      let P : List Value → Type 0 = λ (all : List Value). AreItemNumbers all slots (Typed slots root scope l) (trees_of_list trees) (length front + 1) in
-      let Q : ℕ → Type 0 = λ (k : ℕ). AreItemNumbers ((front ++ value ∷ []) ++ values) slots (Typed slots root scope l) (trees_of_list trees) k in (
-        item_number tree type value (front ++ value ∷ values) (length front) are.0 (get_second front value values),
-        subst P whole (subst Q longer (item_numbers trees types values (front ++ value ∷ []) typed.1 are.1)),
-      )
-
-  pub none_read : (trees : List Tree) → IsUnreadLeft left → ReadNone slots (Typed slots root scope l) (trees_of_list trees)
-  none_read [] unread = tt
-  none_read (tree ∷ trees) unread = (reads_none slots (Typed slots root scope l) left tree one_left (unread (quoted_text tree)), none_read trees unread)
+pub read_more : (slots : Slots) (schema : SchemaModel) (left : ExprType) (nodes seen : List CheckedNode) (found : CheckedNode) (old new then : FlatTree) (from place : ℕ) (fit own : ItemsFit)
+    → AreInRow nodes seen from place
+    → AreItemsPut slots schema left old from seen new fit
+    → IsItemPut slots left (quoting (quoted_in new place found) (expr_type schema found.edm_type)) new place found then own
+    → AreItemsPut slots schema left old from (seen ++ found ∷ []) then (worse_fit fit own)
+read_more slots schema left nodes seen found old new then from place ItemsFit.All ItemsFit.All row are is = read_front slots schema left nodes seen found old new then from place row are is
+read_more slots schema left nodes seen found old new then from place ItemsFit.All ItemsFit.Refused row are is = tt
+read_more slots schema left nodes seen found old new then from place ItemsFit.All ItemsFit.Unknown row are is = tt
+read_more slots schema left nodes seen found old new then from place ItemsFit.All ItemsFit.OutOfMemory row are is = tt
+read_more slots schema left nodes seen found old new then from place ItemsFit.Refused ItemsFit.All row are is = tt
+read_more slots schema left nodes seen found old new then from place ItemsFit.Refused ItemsFit.Refused row are is = tt
+read_more slots schema left nodes seen found old new then from place ItemsFit.Refused ItemsFit.Unknown row are is = tt
+read_more slots schema left nodes seen found old new then from place ItemsFit.Refused ItemsFit.OutOfMemory row are is = tt
+read_more slots schema left nodes seen found old new then from place ItemsFit.Unknown own row are is = tt
+read_more slots schema left nodes seen found old new then from place ItemsFit.OutOfMemory own row are is = tt
 
 -- ---- what is lacking
 

@@ -1,0 +1,72 @@
+//! Which of two operands is a String literal that is read beside an enumeration.
+ghost use Rattle.csdl_schema.specs.SchemaModel.{slots_of};
+ghost use Rattle.odata_signatures.specs.OperatorTyped.{IsEquality};
+ghost use Rattle.odata_typing.specs.private.OperandTexts.{IsOperandRead, left_side, right_side};
+
+use super::binary_node::OperandTypes;
+use csdl_schema::Schema;
+use odata_checked_filter::NodeKind;
+use odata_signatures::{Beside, number_beside};
+use odata_syntax::{BinaryOperator, ComparisonOperator};
+
+/// What is read of two operands.
+#[derive(Clone, Copy)]
+pub(crate) enum OperandRead {
+    /// Neither of them.
+    Neither,
+    /// The left one, as that number.
+    Left(i64),
+    /// The right one, as that number.
+    Right(i64),
+    /// One of them, which stands for no number.
+    Unknown,
+}
+
+/// What is read of the operands.
+pub(crate) fn operand_read(
+    schema: &Schema,
+    kind: NodeKind,
+    operands: &OperandTypes<'_>,
+) -> OperandRead
+    ensures { IsOperandRead (slots_of schema.now) kind (left_side schema.now operands.now)
+        (right_side schema.now operands.now) result }
+{
+    match kind {
+        NodeKind::Binary { operator } => match operator {
+            BinaryOperator::Comparison(comparison) => match comparison {
+                ComparisonOperator::Eq => equality_read(schema, operator, operands),
+                ComparisonOperator::Ne => equality_read(schema, operator, operands),
+                ComparisonOperator::Gt | ComparisonOperator::Ge => OperandRead::Neither,
+                ComparisonOperator::Lt | ComparisonOperator::Le => OperandRead::Neither,
+            },
+            BinaryOperator::Logical(_) | BinaryOperator::Arithmetic(_) => OperandRead::Neither,
+        },
+        NodeKind::Has => match number_beside(schema, &operands.left, operands.right_quoted) {
+            Beside::Unread => OperandRead::Neither,
+            Beside::Number(number) => OperandRead::Right(number),
+            Beside::Unknown => OperandRead::Unknown,
+        },
+        _ => OperandRead::Neither,
+    }
+}
+
+/// The same, of `eq` or `ne`: the right one beside the left one, or else the left one beside the right one.
+fn equality_read(
+    schema: &Schema,
+    operator: BinaryOperator,
+    operands: &OperandTypes<'_>,
+) -> OperandRead
+    requires { IsEquality operator }
+    ensures { IsOperandRead (slots_of schema.now) (NodeKind.Binary operator) (left_side schema.now operands.now)
+        (right_side schema.now operands.now) result }
+{
+    match number_beside(schema, &operands.left, operands.right_quoted) {
+        Beside::Number(number) => OperandRead::Right(number),
+        Beside::Unknown => OperandRead::Unknown,
+        Beside::Unread => match number_beside(schema, &operands.right, operands.left_quoted) {
+            Beside::Unread => OperandRead::Neither,
+            Beside::Number(number) => OperandRead::Left(number),
+            Beside::Unknown => OperandRead::Unknown,
+        },
+    }
+}
