@@ -10,10 +10,10 @@ ghost use Rattle.edm_rows.specs.private.RowSlots.{HasPrimitive, name_at};
 
 use super::known_texts::Cache;
 use super::literals::literal_of;
-use super::passed_value::{Scene, text_there, typed_number_at};
+use super::passed_value::{Scene, typed_number_at};
 use super::row_types::{RowSlot, Task};
 use edm_values::{Prim, Value};
-use json_room::{RoomyLine, text_at, truth_end, whole_at};
+use json_room::{RoomyLine, any_text_at, text_at, truth_end, whole_at};
 use spare_values::{put_number, put_truth};
 use std::alloc::Global;
 
@@ -25,12 +25,12 @@ const TEXT_ROOM: usize = 4096;
 pub(crate) enum Taken {
     /// It was not read.
     Nothing,
-    /// It was not read, and what stands in its slot is half written.
-    Broken,
     /// It stands up to that place, and was put into its slot.
     Put(usize),
     /// It stands up to that place, and its slot's sieve rejects it.
     Rejected(usize),
+    /// It was not read, and what stands in its slot is half written.
+    Broken,
 }
 
 /// Takes a number of few digits, unless the slot's sieve rejects it.
@@ -195,7 +195,7 @@ pub(crate) fn take_any_text(
     ensures depth { cache.new.depth ≡ cache.old.depth }
 {
     let alloc = cache.alloc;
-    let Some((text, end)) = text_there(&mut cache.scratch, line, place) else {
+    let Some((text, end)) = any_text_at(line, place, &mut cache.decoded) else {
         return None;
     };
     if write_text(alloc, text, value) {
@@ -217,7 +217,7 @@ pub(crate) fn take_literal(
     ensures taken { IfSome result (PutsLeaf line.now (primitive slot.now.prim) value.new place) }
     ensures depth { cache.new.depth ≡ cache.old.depth }
 {
-    let Some((text, end)) = text_there(&mut cache.scratch, line, place) else {
+    let Some((text, end)) = any_text_at(line, place, &mut cache.decoded) else {
         return None;
     };
     match literal_of(slot.prim, text) {
@@ -245,7 +245,7 @@ pub(crate) fn take_member(
     let Some(id) = slot.member_of else {
         return None;
     };
-    let Some((text, end)) = text_there(&mut cache.scratch, &scene.line, place) else {
+    let Some((text, end)) = any_text_at(&scene.line, place, &mut cache.decoded) else {
         return None;
     };
     match scene.schema.enum_value(id, text) {

@@ -155,7 +155,7 @@ fn fill_unseen(
     ensures depth { cache.new.depth ≡ cache.old.depth }
 {
     cache.spares.put_null(slot.spare(), value);
-    any_end(line, place, cache.depth, &mut cache.scratch)
+    any_end(line, place, cache.depth, &mut cache.decoded)
 }
 
 /// Puts null into the place of a single value, where it stands in the line and may be.

@@ -50,12 +50,16 @@ fn take_sure(line: &RoomyLine<'_>, slot: &RowSlot, place: usize, value: &mut Val
         → GoesOn scene slot.now value.old value.new }
     ensures none { result ≡ Taken.Nothing → value.new ≡ value.old }
 {
-    match slot.task {
-        Task::Number => take_digits(line, slot, place, value),
-        Task::Truth => take_truth(line, slot, place, value),
-        Task::Text => take_text(line, slot, place, value),
-        _ => Taken::Nothing,
+    if let Task::Number = slot.task {
+        return take_digits(line, slot, place, value);
     }
+    if let Task::Text = slot.task {
+        return take_text(line, slot, place, value);
+    }
+    if let Task::Truth = slot.task {
+        return take_truth(line, slot, place, value);
+    }
+    Taken::Nothing
 }
 
 /// The same of a value after white space, and of what is seldom.
@@ -145,7 +149,8 @@ pub(crate) fn take_members(
     requires depth { cache.old.depth ≡ 126 }
     requires conforms { RowConforms (root_slots scene.now) (root_properties scene.now) values.old }
     ensures read { TakesRow scene.now plan.now values.new from result }
-    ensures conforms { result ≢ Taken.Broken → RowConforms (root_slots scene.now) (root_properties scene.now) values.new }
+    ensures conforms { result ≢ Taken.Broken
+        → RowConforms (root_slots scene.now) (root_properties scene.now) values.new }
 {
     let mut so_far = Progress {
         place: from,
@@ -216,9 +221,6 @@ fn take_found(
             Some(read) => Step::Read(read),
             None => Step::Nothing,
         };
-    }
-    if so_far.seen & slot.bit != 0 {
-        return Step::Nothing;
     }
     match take_value(cache, scene, slot, found.place, &mut values[slot.index]) {
         Taken::Put(end) => Step::Read(Progress {
@@ -321,14 +323,11 @@ fn pass_next(
     pass_found(cache, scene, slot, found.place, so_far.seen)
 }
 
-/// Whether the slot is kept and was seen before.
+/// Whether the slot was seen before.
 #[inline(always)]
 fn comes_again(slot: &RowSlot, seen: u64) -> bool
-    ensures { result ≡ false → slot.now.is_kept ≡ true → bit_and seen slot.now.bit ≡ 0 }
+    ensures { result ≡ false → bit_and seen slot.now.bit ≡ 0 }
 {
-    if !slot.is_kept {
-        return false;
-    }
     seen & slot.bit != 0
 }
 

@@ -10,8 +10,7 @@ ghost use Rattle.edm_rows.specs.private.RowSlots.{name_at};
 
 use super::row_types::PLACES;
 use csdl_schema::{EnumId, Schema};
-use json_room::{RoomyLine, text_at};
-use json_tokens::Scratch;
+use json_room::{DecodeBuffer, RoomyLine, text_at};
 use spare_values::Spares;
 use std::alloc::Global;
 use std::simd::prelude::*;
@@ -21,14 +20,14 @@ const KNOWN: usize = 32;
 /// A text of so many bytes or more is not kept.
 const TOO_LONG: usize = 16;
 
-/// What is kept from row to row and says nothing of one: in which order members came, and which text of an enumeration was
-/// looked up last.
+/// What is kept from row to row and says nothing of one: in which order members came, and which text of an enumeration
+/// was looked up last.
 #[derive(Drop)]
 pub(crate) struct Cache {
     pub(crate) alloc: Global,
-    pub(crate) scratch: Scratch,
+    pub(crate) decoded: DecodeBuffer,
     /// After each member, the slot that came next the last time.
-    pub(crate) next: [usize; PLACES],
+    pub(crate) next: [u8; PLACES],
     pub(crate) noted: Option<Noted>,
     /// What values with parts are filled again from.
     pub(crate) spares: Spares,
@@ -70,7 +69,7 @@ impl Cache {
     pub(crate) fn new(alloc: Global) -> Cache {
         Cache {
             alloc,
-            scratch: Scratch::new(alloc),
+            decoded: DecodeBuffer::new(alloc),
             next: [0; PLACES],
             noted: None,
             spares: Spares::new(alloc),

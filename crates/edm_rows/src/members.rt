@@ -7,11 +7,10 @@ ghost use Rattle.edm_rows.specs.private.Scenes.{FindsMember, IsScene, PassesMemb
 
 use super::known_texts::Cache;
 use super::passed_any::any_end;
-use super::passed_value::{Scene, text_there, value_end};
+use super::passed_value::{Scene, value_end};
 use super::row_types::{RowSlot, RowType};
 use csdl_schema::Schema;
-use json_room::{RoomyLine, past_blanks};
-use json_tokens::Scratch;
+use json_room::{DecodeBuffer, RoomyLine, any_text_at, past_blanks};
 
 /// A member: its slot and the place of its value; or one without a slot, and the place after its value.
 #[derive(Clone, Copy, Drop)]
@@ -59,7 +58,18 @@ fn after_blanks(line: &RoomyLine<'_>, end: usize) -> Option<After>
 fn likely_slot(cache: &Cache, order: usize) -> usize
     requires { order < 1024 }
 {
-    cache.next[order]
+    cache.next[order] as usize
+}
+
+/// Notes that the slot that was found comes next there.
+fn note_next(cache: &mut Cache, order: usize)
+    requires { order < 1024 }
+    ensures depth { cache.new.depth ≡ cache.old.depth }
+    ensures slot { cache.new.slot ≡ cache.old.slot }
+{
+    if let Ok(slot) = u8::try_from(cache.slot) {
+        cache.next[order] = slot;
+    }
 }
 
 /// The next member. Mostly it is the one that came next the last time.
@@ -133,14 +143,14 @@ fn other_member(
         return None;
     };
     if cache.slot < plan.slots.len() {
-        cache.next[order] = cache.slot;
+        note_next(cache, order);
         return Some(value);
     }
     any_end(
         line,
         past_blanks(line, value),
         cache.depth,
-        &mut cache.scratch,
+        &mut cache.decoded,
     )
 }
 
@@ -159,7 +169,7 @@ fn named_member(cache: &mut Cache, scene: &Scene<'_>, plan: &RowType, place: usi
             return Some(end);
         }
     }
-    let Some((slot, end)) = slot_at(&mut cache.scratch, scene.schema, plan, line, place) else {
+    let Some((slot, end)) = slot_at(&mut cache.decoded, scene.schema, plan, line, place) else {
         return None;
     };
     cache.slot = slot;
@@ -168,7 +178,7 @@ fn named_member(cache: &mut Cache, scene: &Scene<'_>, plan: &RowType, place: usi
 
 /// The slot of the name that stands there, and the place after its colon.
 fn slot_at(
-    scratch: &mut Scratch,
+    buffer: &mut DecodeBuffer,
     schema: &Schema,
     plan: &RowType,
     line: &RoomyLine<'_>,
@@ -179,7 +189,7 @@ fn slot_at(
     ensures { IfSome result (λ found.
         FindsName line.now (properties_at schema.now plan.now.type_id) found.0 place found.1) }
 {
-    let Some((name, end)) = text_there(scratch, line, place) else {
+    let Some((name, end)) = any_text_at(line, place, buffer) else {
         return None;
     };
     let colon = past_blanks(line, end);

@@ -11,62 +11,10 @@ ghost use Rattle.edm_rows.specs.private.Held.{PassesTo, ReadsTo};
 ghost use Rattle.edm_rows.specs.private.Members.{PassesAnyMember};
 
 use json_room::{
-    RoomyLine, null_end, number_at, past_blanks, short_number_end, text_end, truth_end,
+    DecodeBuffer, RoomyLine, any_text_end, null_end, number_at, past_blanks, short_number_end,
+    truth_end,
 };
-use json_tokens::{Scratch, escaped_at, number_of_text};
-
-/// The place after the text whose quote stands there.
-#[inline(always)]
-pub(crate) fn any_text_end(
-    line: &RoomyLine<'_>,
-    place: usize,
-    scratch: &mut Scratch,
-) -> Option<usize>
-    requires { place ≤ length line.now }
-    ensures further { IfSome result (λ to. place < to) }
-    ensures text { IfSome result (λ to. (s : List ℕ) × IsTextAt line.now place s to × IsUtf8 s) }
-{
-    match text_end(line, place) {
-        Some(end) => Some(end),
-        None => escaped_text_end(line, place, scratch),
-    }
-}
-
-/// The same of a text that may have escapes.
-#[inline(never)]
-pub(crate) fn escaped_text_end(
-    line: &RoomyLine<'_>,
-    place: usize,
-    scratch: &mut Scratch,
-) -> Option<usize>
-    requires { place ≤ length line.now }
-    ensures further { IfSome result (λ to. place < to) }
-    ensures text { IfSome result (λ to. (s : List ℕ) × IsTextAt line.now place s to × IsUtf8 s) }
-{
-    match escaped_text_at(line, place, scratch) {
-        Some((_, end)) => Some(end),
-        None => None,
-    }
-}
-
-/// The text whose quote stands there, which may have escapes, and the place after it.
-pub(crate) fn escaped_text_at<'t>(
-    line: &'t RoomyLine<'_>,
-    place: usize,
-    scratch: &'t mut Scratch,
-) -> Option<(&'t str, usize)>
-    requires { place ≤ length line.now }
-    ensures further { IfSome result (λ found. place < found.1) }
-    ensures text { IfSome result (λ found. IsTextAt line.now place found.0.now found.1) }
-{
-    if line.byte(place) != b'"' {
-        return None;
-    }
-    match escaped_at(line.text(), place, scratch) {
-        Some((text, end)) => if end > place { Some((text, end)) } else { None },
-        None => None,
-    }
-}
+use json_tokens::number_of_text;
 
 /// The place after a number that has a value.
 #[inline(always)]
@@ -95,13 +43,13 @@ pub(crate) fn any_end(
     line: &RoomyLine<'_>,
     place: usize,
     depth: usize,
-    scratch: &mut Scratch,
+    buffer: &mut DecodeBuffer,
 ) -> Option<usize>
     requires { place ≤ length line.now }
     ensures { IfSome result (λ to. ReadsTo depth line.now place to (λ json. Unit {0})) }
 {
     match line.byte(place) {
-        b'"' => any_text_end(line, place, scratch),
+        b'"' => any_text_end(line, place, buffer),
         b't' | b'f' => match truth_end(line, place) {
             Some((_, end)) => Some(end),
             None => None,
@@ -110,12 +58,12 @@ pub(crate) fn any_end(
         b'[' => if depth == 0 {
             None
         } else {
-            items_end(line, place + 1, depth - 1, scratch)
+            items_end(line, place + 1, depth - 1, buffer)
         },
         b'{' => if depth == 0 {
             None
         } else {
-            members_end(line, place + 1, depth - 1, scratch)
+            members_end(line, place + 1, depth - 1, buffer)
         },
         _ => any_number_end(line, place),
     }
@@ -128,7 +76,7 @@ fn items_end(
     line: &RoomyLine<'_>,
     from: usize,
     depth: usize,
-    scratch: &mut Scratch,
+    buffer: &mut DecodeBuffer,
 ) -> Option<usize>
     requires { from ≤ length line.now }
     ensures { IfSome result (λ to. PassesTo line.now from to
@@ -139,7 +87,7 @@ fn items_end(
         return Some(place + 1);
     }
     'items: loop {
-        match any_end(line, place, depth, scratch) {
+        match any_end(line, place, depth, buffer) {
             Some(end) => place = past_blanks(line, end),
             None => return None,
         }
@@ -158,7 +106,7 @@ fn members_end(
     line: &RoomyLine<'_>,
     from: usize,
     depth: usize,
-    scratch: &mut Scratch,
+    buffer: &mut DecodeBuffer,
 ) -> Option<usize>
     requires { from ≤ length line.now }
     ensures { IfSome result (λ to. PassesTo line.now from to
@@ -169,7 +117,7 @@ fn members_end(
         return Some(place + 1);
     }
     'members: loop {
-        match member_end(line, place, depth, scratch) {
+        match member_end(line, place, depth, buffer) {
             Some(end) => place = past_blanks(line, end),
             None => return None,
         }
@@ -188,17 +136,17 @@ fn member_end(
     line: &RoomyLine<'_>,
     place: usize,
     depth: usize,
-    scratch: &mut Scratch,
+    buffer: &mut DecodeBuffer,
 ) -> Option<usize>
     requires { place ≤ length line.now }
     ensures { IfSome result (PassesAnyMember depth line.now place) }
 {
-    let Some(end) = any_text_end(line, place, scratch) else {
+    let Some(end) = any_text_end(line, place, buffer) else {
         return None;
     };
     let colon = past_blanks(line, end);
     if line.byte(colon) != b':' {
         return None;
     }
-    any_end(line, past_blanks(line, colon + 1), depth, scratch)
+    any_end(line, past_blanks(line, colon + 1), depth, buffer)
 }

@@ -13,15 +13,15 @@ ghost use Rattle.edm_rows.specs.private.Scenes.{IsScene, PassesItems, PassesValu
 use super::known_texts::{Cache, KnownTexts, Noted};
 use super::literals::is_literal;
 use super::members::pass_members;
-use super::passed_any::{any_end, escaped_text_at, escaped_text_end};
+use super::passed_any::any_end;
 use super::row_types::{RowSlot, RowType, Task};
 use csdl_schema::{EnumId, Schema};
 use edm_row_plans::RowPlan;
 use json_room::{
-    RoomyLine, digits_up_to, null_end, number_at, past_blanks, short_number_end, text_at, text_end,
-    truth_end,
+    DecodeBuffer, RoomyLine, any_text_at, digits_up_to, escaped_text_end, null_end, number_at,
+    past_blanks, short_number_end, text_end, truth_end,
 };
-use json_tokens::{Scratch, number_of_text};
+use json_tokens::number_of_text;
 use room_literals::{day_end, guid_end, moment_end};
 
 /// What a walk over a line looks at.
@@ -178,7 +178,7 @@ fn seldom_end(
 {
     let line = &scene.line;
     match task {
-        Task::Any => any_end(line, place, cache.depth, &mut cache.scratch),
+        Task::Any => any_end(line, place, cache.depth, &mut cache.decoded),
         Task::Items => None,
         _ => if line.byte(place) == b'n' {
             nullable_end(line, slot.is_nullable, place)
@@ -201,8 +201,8 @@ fn nullable_end(line: &RoomyLine<'_>, is_nullable: bool, place: usize) -> Option
     }
 }
 
-/// The place after a text with escapes, a number with a sign or of many digits, or a literal or a member's text that was
-/// not seen at once to be one.
+/// The place after a text with escapes, a number with a sign or of many digits, or a literal or a member's text that
+/// was not seen at once to be one.
 fn written_end(
     cache: &mut Cache,
     scene: &Scene<'_>,
@@ -218,11 +218,11 @@ fn written_end(
 {
     let line = &scene.line;
     match task {
-        Task::Text => escaped_text_end(line, place, &mut cache.scratch),
+        Task::Text => escaped_text_end(line, place, &mut cache.decoded),
         Task::Number => number_end(line, slot, place),
-        Task::Date => literal_end(&mut cache.scratch, line, slot, place),
-        Task::Moment => literal_end(&mut cache.scratch, line, slot, place),
-        Task::Guid => literal_end(&mut cache.scratch, line, slot, place),
+        Task::Date => literal_end(&mut cache.decoded, line, slot, place),
+        Task::Moment => literal_end(&mut cache.decoded, line, slot, place),
+        Task::Guid => literal_end(&mut cache.decoded, line, slot, place),
         Task::Member => member_text_end(cache, scene, slot, place),
         _ => None,
     }
@@ -266,26 +266,10 @@ fn number_end(line: &RoomyLine<'_>, slot: &RowSlot, place: usize) -> Option<usiz
     }
 }
 
-/// The text whose quote stands there, and the place after it.
-pub(crate) fn text_there<'t>(
-    scratch: &'t mut Scratch,
-    line: &'t RoomyLine<'_>,
-    place: usize,
-) -> Option<(&'t str, usize)>
-    requires { place ≤ length line.now }
-    ensures further { IfSome result (λ found. place < found.1) }
-    ensures text { IfSome result (λ found. IsTextAt line.now place found.0.now found.1) }
-{
-    if let Some(found) = text_at(line, place) {
-        return Some(found);
-    }
-    escaped_text_at(line, place, scratch)
-}
-
 /// The place after a text that is a literal of the slot's type.
 #[inline(never)]
 fn literal_end(
-    scratch: &mut Scratch,
+    buffer: &mut DecodeBuffer,
     line: &RoomyLine<'_>,
     slot: &RowSlot,
     place: usize,
@@ -294,7 +278,7 @@ fn literal_end(
     ensures { (slots : Slots) (depth : ℕ) → IfSome result (λ to. ReadsTo depth line.now place to
         (FitsSomeHowever slots (single (primitive slot.now.prim)))) }
 {
-    let Some((text, end)) = text_there(scratch, line, place) else {
+    let Some((text, end)) = any_text_at(line, place, buffer) else {
         return None;
     };
     if is_literal(slot.prim, text) {
@@ -320,7 +304,7 @@ fn member_text_end(
     let Some(id) = slot.member_of else {
         return None;
     };
-    match text_of_end(&mut cache.scratch, scene.schema, &scene.line, id, place) {
+    match text_of_end(&mut cache.decoded, scene.schema, &scene.line, id, place) {
         Some(end) => {
             cache.noted = Noted::of(id, &scene.line, place);
             Some(end)
@@ -331,7 +315,7 @@ fn member_text_end(
 
 /// The place after a text of an enumeration.
 fn text_of_end(
-    scratch: &mut Scratch,
+    buffer: &mut DecodeBuffer,
     schema: &Schema,
     line: &RoomyLine<'_>,
     id: EnumId,
@@ -341,7 +325,7 @@ fn text_of_end(
     ensures { (depth : ℕ) → IfSome result (λ to. ReadsTo depth line.now place to (FitsSomeHowever
         (slots_of schema.now) (single (enumeration (type_name_at schema.now id))))) }
 {
-    let Some((text, end)) = text_there(scratch, line, place) else {
+    let Some((text, end)) = any_text_at(line, place, buffer) else {
         return None;
     };
     match schema.enum_value(id, text) {

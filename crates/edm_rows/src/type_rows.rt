@@ -68,8 +68,8 @@ impl<'s> Model for TypeRows<'s> {
 }
 
 impl<'s> TypeRows<'s> {
-    /// The reader of rows by that plan, which keeps no slot; it has no row to fill yet. It is made in place: a copy would
-    /// take as much stack again.
+    /// The reader of rows by that plan, which keeps no slot; it has no row to fill yet. It is made in place: a copy
+    /// would take as much stack again.
     #[inline(always)]
     pub fn new(alloc: Global, schema: &'s Schema, plan: RowPlan) -> TypeRows<'s>
         requires { IsPlanOf schema.now plan }

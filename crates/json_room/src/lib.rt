@@ -2,6 +2,7 @@
 #![tactic(auto)]
 
 mod blanks;
+mod escaped_texts;
 mod numbers;
 mod roomy_line;
 mod spelled_key;
@@ -10,6 +11,7 @@ mod utf8;
 mod words;
 
 pub use blanks::past_blanks;
+pub use escaped_texts::{DecodeBuffer, any_text_at, any_text_end, escaped_text_end};
 pub use numbers::{digits_up_to, number_at, short_number_end, whole_at};
 pub use roomy_line::{ROOM, RoomyLine, front_text, has_room};
 pub use spelled_key::SpelledKey;

@@ -21,7 +21,7 @@ returns-clause-read c from values long so_far =
     let slot = c.in-Some.slot.now in
     let f = slot_in scene plan a.so_far.place a.found c.in-Some.slot c.in-Some.is c.requires.plan c.requires.found in
     let e = c.pass_found.ensures in
-    passed_later scene plan from a.so_far.place a.found.place a.so_far.seen slot f values long c.pass_found.result (c.comes_again.ensures c.if-comes_again.false) so_far e.passed e.seen
+    passed_later scene plan from a.so_far.place a.found.place a.so_far.seen slot f values long c.pass_found.result (λ _. c.comes_again.ensures c.if-comes_again.false) so_far e.passed e.seen
 
 pub returns-in_default-clause-further : goal.returns-in_default-clause-further
 returns-in_default-clause-further c =

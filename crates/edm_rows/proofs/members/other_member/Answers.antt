@@ -1,4 +1,4 @@
-use Rattle.std.proofs.Common.{◌≡◌, inl, length, IfSome, Some, slice_get, refl, subst, arith}
+use Rattle.std.proofs.Common.{◌≡◌, ℕ, inl, length, IfSome, Some, slice_get, refl, subst, sym, arith}
 use Rattle.std.proofs.lemmas.Option.{slice_get_read}
 use Rattle.csdl_schema.specs.SchemaModel.{properties_at}
 use Rattle.edm_rows.specs.private.Held.{ReadsTo}
@@ -30,7 +30,8 @@ returns-then-cache-len-clause-found c =
     let type = c.args.plan.now in
     let ps = properties_at scene.schema.now type.type_id in
     let count = as_many scene.schema.now scene.plan.now.expansion scene.plan.now.plans.items c.requires.plan.0 type c.requires.plan.1 in
-    name_next c.args.cache.now.depth scene.line ps c.named_member.new.cache.slot c.args.from c.past_blanks-place.result c.in-Some-named_member.value c.past_blanks-place.ensures (omega (arith, count)) c.in-Some-named_member.ensures.name
+    subst (λ (k : ℕ). NextMember c.args.cache.now.depth scene.line ps k c.args.from c.in-Some-named_member.value) (sym c.note_next.ensures.slot)
+    (name_next c.args.cache.now.depth scene.line ps c.named_member.new.cache.slot c.args.from c.past_blanks-place.result c.in-Some-named_member.value c.past_blanks-place.ensures (omega (arith, count)) c.in-Some-named_member.ensures.name)
 
 pub returns-clause-found : goal.returns-clause-found
 returns-clause-found c =
