@@ -9,6 +9,7 @@ use Rattle.edm_entities.specs.ValuesRead.{IsRowValue}
 use Rattle.edm_rows.specs.declared.known_texts.Cache.{Cache}
 use Rattle.edm_rows.specs.declared.known_texts.KnownTexts.{KnownTexts}
 use Rattle.edm_rows.specs.private.KnownTexts.{AreKnown}
+use Rattle.edm_rows.specs.HeldSchema.{schema_in}
 use Rattle.edm_rows.specs.RowsOfType.{IsSameButKept, IsSameReader, RowsOfType, names_unkept, sifted}
 use Rattle.edm_rows.specs.declared.row_types.RowSlot.{RowSlot}
 use Rattle.edm_rows.specs.declared.row_types.RowType.{RowType}
@@ -44,18 +45,18 @@ module _ (types : List RowType) (fresh : (place : ℕ) → IfSome (slice_get typ
 -- ---- another first type
 
 module _ (rows : Inside) (is : IsRowsOfType rows) (old new : RowType) (at : slice_get rows.types.items 0 ≡ Some old) where
-  are : AreTypesOf rows.schema.now rows.plan rows.types.items
-  are = types_some rows.schema.now rows.plan rows.types.items old at is.types
+  are : AreTypesOf (schema_in rows.schema) rows.plan rows.types.items
+  are = types_some (schema_in rows.schema) rows.plan rows.types.items old at is.types
 
-  pub old_distinct : HasDistinctNames (properties_at rows.schema.now old.type_id)
-  old_distinct = subst (λ (i : ℕ). HasDistinctNames (properties_at rows.schema.now i)) (sym (first_id rows.schema.now rows.plan rows.types.items old at are)) (first_distinct rows.schema.now rows.plan rows.types.items are)
+  pub old_distinct : HasDistinctNames (properties_at (schema_in rows.schema) old.type_id)
+  old_distinct = subst (λ (i : ℕ). HasDistinctNames (properties_at (schema_in rows.schema) i)) (sym (first_id (schema_in rows.schema) rows.plan rows.types.items old at are)) (first_distinct (schema_in rows.schema) rows.plan rows.types.items are)
 
   pub old_id : old.type_id ≡ rows.plan.type_id
-  old_id = first_id rows.schema.now rows.plan rows.types.items old at are
+  old_id = first_id (schema_in rows.schema) rows.plan rows.types.items old at are
 
   pub rows_stay : IsSameType old new → (types : Vec RowType Global) → types.items ≡ slice_set rows.types.items 0 new → IsRowsOfType (record rows { types = types })
   rows_stay same types put =
-      let now = subst (λ (l : List RowType). AreTypesOf rows.schema.now rows.plan l) (sym put) (first_changed rows.schema.now rows.plan old new same rows.types.items at are) in
+      let now = subst (λ (l : List RowType). AreTypesOf (schema_in rows.schema) rows.plan l) (sym put) (first_changed (schema_in rows.schema) rows.plan old new same rows.types.items at are) in
       record { is_plan = is.is_plan; types = inr now; known = is.known; ready = λ e. (now, (is.ready e).1) }
 
   pub slots_before : first_slots rows.types.items ≡ old.slots.items
@@ -77,21 +78,21 @@ module _ (rows : Inside) (is : IsRowsOfType rows) (old new : RowType) (at : slic
   }
 
   -- what is not kept before and after, by the types
-  pub before : (name : List ℕ) → names_unkept (rows_seen rows) name → names_unkept_in (properties_at rows.schema.now old.type_id) old.slots.items name
+  pub before : (name : List ℕ) → names_unkept (rows_seen rows) name → names_unkept_in (properties_at (schema_in rows.schema) old.type_id) old.slots.items name
   before name un =
-      (un.0, subst (λ (l : List RowSlot). slice_get (map (λ s. s.is_kept) l) un.0 ≡ Some false) slots_before un.1, subst (λ (i : ℕ). slice_get (map (λ p. p.name) (properties_at rows.schema.now i)) un.0 ≡ Some name) (sym old_id) un.2)
+      (un.0, subst (λ (l : List RowSlot). slice_get (map (λ s. s.is_kept) l) un.0 ≡ Some false) slots_before un.1, subst (λ (i : ℕ). slice_get (map (λ p. p.name) (properties_at (schema_in rows.schema) i)) un.0 ≡ Some name) (sym old_id) un.2)
 
-  pub before_again : (name : List ℕ) → names_unkept_in (properties_at rows.schema.now old.type_id) old.slots.items name → names_unkept (rows_seen rows) name
+  pub before_again : (name : List ℕ) → names_unkept_in (properties_at (schema_in rows.schema) old.type_id) old.slots.items name → names_unkept (rows_seen rows) name
   before_again name un =
-      (un.0, subst (λ (l : List RowSlot). slice_get (map (λ s. s.is_kept) l) un.0 ≡ Some false) (sym slots_before) un.1, subst (λ (i : ℕ). slice_get (map (λ p. p.name) (properties_at rows.schema.now i)) un.0 ≡ Some name) old_id un.2)
+      (un.0, subst (λ (l : List RowSlot). slice_get (map (λ s. s.is_kept) l) un.0 ≡ Some false) (sym slots_before) un.1, subst (λ (i : ℕ). slice_get (map (λ p. p.name) (properties_at (schema_in rows.schema) i)) un.0 ≡ Some name) old_id un.2)
 
-  pub now : (types : Vec RowType Global) → types.items ≡ slice_set rows.types.items 0 new → (name : List ℕ) → names_unkept (rows_seen (record rows { types = types })) name → names_unkept_in (properties_at rows.schema.now old.type_id) new.slots.items name
+  pub now : (types : Vec RowType Global) → types.items ≡ slice_set rows.types.items 0 new → (name : List ℕ) → names_unkept (rows_seen (record rows { types = types })) name → names_unkept_in (properties_at (schema_in rows.schema) old.type_id) new.slots.items name
   now types put name un =
-      (un.0, subst (λ (l : List RowSlot). slice_get (map (λ s. s.is_kept) l) un.0 ≡ Some false) (slots_now types put) un.1, subst (λ (i : ℕ). slice_get (map (λ p. p.name) (properties_at rows.schema.now i)) un.0 ≡ Some name) (sym old_id) un.2)
+      (un.0, subst (λ (l : List RowSlot). slice_get (map (λ s. s.is_kept) l) un.0 ≡ Some false) (slots_now types put) un.1, subst (λ (i : ℕ). slice_get (map (λ p. p.name) (properties_at (schema_in rows.schema) i)) un.0 ≡ Some name) (sym old_id) un.2)
 
-  pub now_again : (types : Vec RowType Global) → types.items ≡ slice_set rows.types.items 0 new → (name : List ℕ) → names_unkept_in (properties_at rows.schema.now old.type_id) new.slots.items name → names_unkept (rows_seen (record rows { types = types })) name
+  pub now_again : (types : Vec RowType Global) → types.items ≡ slice_set rows.types.items 0 new → (name : List ℕ) → names_unkept_in (properties_at (schema_in rows.schema) old.type_id) new.slots.items name → names_unkept (rows_seen (record rows { types = types })) name
   now_again types put name un =
-      (un.0, subst (λ (l : List RowSlot). slice_get (map (λ s. s.is_kept) l) un.0 ≡ Some false) (sym (slots_now types put)) un.1, subst (λ (i : ℕ). slice_get (map (λ p. p.name) (properties_at rows.schema.now i)) un.0 ≡ Some name) old_id un.2)
+      (un.0, subst (λ (l : List RowSlot). slice_get (map (λ s. s.is_kept) l) un.0 ≡ Some false) (sym (slots_now types put)) un.1, subst (λ (i : ℕ). slice_get (map (λ p. p.name) (properties_at (schema_in rows.schema) i)) un.0 ≡ Some name) old_id un.2)
 
   pub rows_sifted : (types : Vec RowType Global) → types.items ≡ slice_set rows.types.items 0 new → (slot : ℕ) (sieve : Sieve) → keeps_of new ≡ keeps_of old → sieves_of new ≡ sifted (sieves_of old) slot sieve
       → rows_seen (record rows { types = types }) ≡ record (rows_seen rows) { sieves = sifted (rows_seen rows).sieves slot sieve }
@@ -123,9 +124,9 @@ same_reader rows = record { schema = refl; type_id = refl; expansion = refl; is_
 
 -- ---- another row
 
-module _ (rows : Inside) (is : IsRowsOfType rows) (cache : Cache) (known : KnownTexts) (row : Value) (are_known : AreKnown rows.schema.now known) where
+module _ (rows : Inside) (is : IsRowsOfType rows) (cache : Cache) (known : KnownTexts) (row : Value) (are_known : AreKnown (schema_in rows.schema) known) where
   -- where it goes on to be ready the row is one of the type
-  pub reader_stays : (is_ready : Bool) → AreTypesOf rows.schema.now rows.plan rows.types.items → (is_ready ≡ true → IsRowValue (slots_at rows.schema.now rows.plan.expansion (Some 0)) (properties_at rows.schema.now rows.plan.type_id) row)
+  pub reader_stays : (is_ready : Bool) → AreTypesOf (schema_in rows.schema) rows.plan rows.types.items → (is_ready ≡ true → IsRowValue (slots_at (schema_in rows.schema) rows.plan.expansion (Some 0)) (properties_at (schema_in rows.schema) rows.plan.type_id) row)
       → IsRowsOfType (record rows { cache = cache; known = known; row = row; is_ready = is_ready })
   reader_stays is_ready are of_row = record { is_plan = is.is_plan; types = is.types; known = are_known; ready = λ e. (are, of_row e) }
 

@@ -1,4 +1,5 @@
 pub use Rattle.edm_entities.specs.RowReading
 pub use Rattle.edm_row_plans.specs.Plans
+pub mod HeldSchema
 pub mod RowsOfType
 pub mod private

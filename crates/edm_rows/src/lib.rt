@@ -2,6 +2,7 @@
 //! that a filter names become values.
 #![tactic(auto)]
 
+mod held_schema;
 mod kept_leaf;
 mod kept_tree;
 mod kept_value;
@@ -14,4 +15,5 @@ mod row_types;
 mod slot_marks;
 mod type_rows;
 
+pub use held_schema::HeldSchema;
 pub use type_rows::{Reading, TypeRows};

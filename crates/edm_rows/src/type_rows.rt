@@ -11,8 +11,10 @@ ghost use Rattle.edm_rows.specs.private.KnownTexts.{AreKnown};
 ghost use Rattle.edm_rows.specs.private.KeptRows.{RowConforms, root_properties, root_slots};
 ghost use Rattle.edm_rows.specs.private.RowSlots.{IsFreshType};
 ghost use Rattle.edm_rows.specs.private.Scenes.{IsScene};
+ghost use Rattle.edm_rows.specs.HeldSchema.{schema_in};
 ghost use Rattle.edm_rows.specs.RowsOfType.{IsLeftOut, IsSameButKept, IsSameReader, names_unkept, row_held, sifted};
 
+use super::held_schema::HeldSchema;
 use super::kept_leaf::Taken;
 use super::kept_value::take_members;
 use super::known_texts::{Cache, KnownTexts};
@@ -41,7 +43,7 @@ pub enum Reading {
 /// Reads lines as rows of a plan's type. It is kept from line to line.
 #[derive(Drop)]
 pub struct TypeRows<'s> {
-    schema: &'s Schema,
+    schema: HeldSchema<'s>,
     plan: RowPlan,
     /// Those of the plan; none where rows are not read so.
     types: Vec<RowType>,
@@ -71,9 +73,9 @@ impl<'s> TypeRows<'s> {
     /// The reader of rows by that plan, which keeps no slot; it has no row to fill yet. It is made in place: a copy
     /// would take as much stack again.
     #[inline(always)]
-    pub fn new(alloc: Global, schema: &'s Schema, plan: RowPlan) -> TypeRows<'s>
-        requires { IsPlanOf schema.now plan }
-        ensures schema { result.schema ≡ schema.now }
+    pub fn new(alloc: Global, schema: HeldSchema<'s>, plan: RowPlan) -> TypeRows<'s>
+        requires { IsPlanOf (schema_in schema) plan }
+        ensures schema { result.schema ≡ schema_in schema.entry }
         ensures type_id { result.type_id ≡ plan.type_id }
         ensures expansion { result.expansion ≡ plan.expansion }
         ensures whole { result.is_whole ≡ plan.is_whole }
@@ -81,9 +83,10 @@ impl<'s> TypeRows<'s> {
         ensures all_pass { All (λ sieve. sieve ≡ Sieve.All) result.sieves }
         ensures no_row { result.is_ready ≡ false }
     {
+        let types = types_of(alloc, schema.schema(), &plan);
         TypeRows {
             schema,
-            types: types_of(alloc, schema, &plan),
+            types,
             plan,
             cache: Cache::new(alloc),
             known: KnownTexts::new(),
@@ -100,7 +103,7 @@ impl<'s> TypeRows<'s> {
             → names_unkept self.new other ↔ names_unkept self.old other }
     {
         if self.types.len() > 0 {
-            keep_name(&mut self.types[0], self.schema, name);
+            keep_name(&mut self.types[0], self.schema.schema(), name);
         }
     }
 
@@ -123,15 +126,16 @@ impl<'s> TypeRows<'s> {
         }
     }
 
-    /// Whether it wants a row to fill.
+    /// Whether it has a row to fill.
     #[inline(always)]
-    pub fn wants_row(&self) -> bool
-        ensures { IsTrue result → self.now.is_ready ≡ false }
+    pub fn has_row(&self) -> bool
+        ensures { result ≡ self.now.is_ready }
     {
-        !self.is_ready && self.types.len() > 0
+        self.is_ready
     }
 
-    /// Fills the row of that line from here on, if the reader finds it to be one.
+    /// Fills the row of that line from here on, if the reader finds it to be one. Where rows are not read so, it stays
+    /// without one.
     #[inline(never)]
     pub fn begin(&mut self, reader: &mut RowReader, line: &[u8])
         ensures { IsSameReader self.old self.new }
@@ -139,7 +143,7 @@ impl<'s> TypeRows<'s> {
         if self.types.len() == 0 {
             return;
         }
-        match reader.read_value(self.schema, &self.plan, line) {
+        match reader.read_value(self.schema.schema(), &self.plan, line) {
             Some(row) => {
                 self.row = row;
                 self.is_ready = true;
@@ -174,7 +178,7 @@ impl<'s> TypeRows<'s> {
 
     /// Reads the line that is this text, at the front of the bytes, into the row.
     #[inline(always)]
-    fn read_text(&mut self, text: &str, bytes: &[u8]) -> Reading
+    fn read_text<'t>(&mut self, text: &'t str, bytes: &'t [u8]) -> Reading
         requires ready { self.old.is_ready ≡ true }
         requires front { take (length text.now) bytes.now ≡ text.now }
         requires line_feed { get_or bytes.now (length text.now) 0 ≡ 10 }
@@ -186,14 +190,14 @@ impl<'s> TypeRows<'s> {
         ensures left_out { result ≡ Reading.LeftOut → IsLeftOut text.now self.new }
     {
         let scene = Scene {
-            schema: self.schema,
+            schema: self.schema.schema(),
             plan: &self.plan,
             types: self.types.as_slice(),
             known: &self.known,
             line: RoomyLine::new(text, bytes),
         };
         let taken = take_row(&mut self.cache, &scene, &mut self.row);
-        keep_noted(&mut self.cache, &mut self.known, self.schema);
+        keep_noted(&mut self.cache, &mut self.known, self.schema.schema());
         self.is_ready = is_whole_row(taken);
         reading_of(taken)
     }
@@ -205,7 +209,7 @@ impl<'s> TypeRows<'s> {
         ensures { result ≡ row_held self.now }
     {
         Entity::borrowed(
-            self.schema,
+            self.schema.schema(),
             self.plan.type_id,
             &self.plan.expansion,
             &self.row,

@@ -47,6 +47,7 @@ pub mod DeviceFaults
 pub mod Collection
 pub mod RowsOnce
 pub mod RowAnswer
+pub mod FilterRows
 pub mod RowCosts
 pub mod FaultNumbers
 pub mod Headline

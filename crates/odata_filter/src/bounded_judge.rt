@@ -1,12 +1,15 @@
 //! Rows judged within a bound on what they cost.
-ghost use Rattle.std.specs.Prelude.{◌≡◌, IfSome};
+ghost use Rattle.std.specs.Prelude.{◌≡◌, ℕ, List, true, IfSome};
 ghost use Rattle.serde_json.specs.View.{view};
 ghost use Rattle.csdl_schema.specs.ExpansionView.{paths_in};
 ghost use Rattle.csdl_schema.specs.PathSet.{PropertyPath};
+ghost use Rattle.edm_entities.specs.RowReading.{IsLineBut};
+ghost use Rattle.edm_rows.specs.RowsOfType.{names_unkept, row_held};
 ghost use Rattle.odata_checked_filter.specs.Filter.{tree_of_filter};
 ghost use Rattle.odata_eval.specs.CostsOn.{KeepsBound};
 ghost use Rattle.odata_eval.specs.MeansOn.{IsTheOutcome};
 ghost use Rattle.odata_eval.specs.VerdictView.{outcome_told};
+ghost use Rattle.odata_filter.specs.FilterRows.{KeepsNames};
 ghost use Rattle.odata_filter.specs.RowAnswer.{IsPlanOfFilter};
 ghost use Rattle.odata_filter.specs.RowCosts.{ReportsRowWithin};
 ghost use Rattle.odata_filter.specs.private.ValueCosts.{ReportsValueWithin, stop_reported};
@@ -15,6 +18,7 @@ use crate::bad_row::BadRow;
 use crate::no_verdict::NoVerdict;
 use crate::row_judge::told_fault;
 use edm_entities::{Entity, RowFault, RowPlan, RowReader};
+use edm_rows::TypeRows;
 use edm_values::Moment;
 use odata_eval::{EvalStop, Verdict, evaluate_within};
 use odata_typing::Checked;
@@ -77,6 +81,18 @@ impl BoundedJudge<'_, '_> {
         };
         let answer = self.judge_entity(alloc, &entity);
         Some(answer)
+    }
+
+    /// Judges the row that was read last where it stood.
+    pub(crate) fn judge_held(&self, alloc: Global, rows: &TypeRows<'_>) -> Result<Verdict, RowStop>
+        requires rows { KeepsNames self.now.checked.now rows.now }
+        requires ready { rows.now.is_ready ≡ true }
+        requires whole { rows.now.is_whole ≡ true }
+        ensures { (line : List ℕ) → IsLineBut line (names_unkept rows.now) (row_held rows.now)
+            → ReportsRowWithin self.now.checked.now self.now.moment.now line self.now.most result }
+    {
+        let entity = rows.entity();
+        reported(self.judge_entity(alloc, &entity))
     }
 
     /// Judges an entity of the filter's type, with what the filter needs.

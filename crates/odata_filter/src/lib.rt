@@ -17,6 +17,7 @@ mod collection;
 mod command;
 mod fault_number;
 mod filter;
+mod filter_rows;
 mod headline;
 mod laws;
 mod no_verdict;
@@ -36,6 +37,7 @@ pub use command::runner::run;
 pub use command::whole::{NotWhole, read_whole, read_whole_by};
 pub use fault_number::{FaultKind, Numbered, fault_name, refusal_span, row_fault_path};
 pub use filter::{filter_lines, filter_lines_by, filter_slice};
+pub use filter_rows::FilterRows;
 pub use headline::{canonical_texts_keep_rows, filters_keep_what_is_true};
 pub use laws::{
     collections_stop_once, rows_are_told_once, rows_stop_once, unfailing_devices_never_fail,

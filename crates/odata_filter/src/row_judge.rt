@@ -136,7 +136,7 @@ pub(crate) fn told_fault(fault: EvalFault) -> NoVerdict
 }
 
 /// What a filter's answer to an entity says of its row.
-fn told(answer: Result<Verdict, EvalFault>) -> Result<Verdict, NoVerdict>
+pub(crate) fn told(answer: Result<Verdict, EvalFault>) -> Result<Verdict, NoVerdict>
     ensures { result ≡ answer_told answer }
 {
     match answer {

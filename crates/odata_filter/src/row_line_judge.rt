@@ -1,15 +1,15 @@
-ghost use Rattle.std.specs.Prelude.{◌≡◌, ◌≤◌, length, take, IfSome, IsTrue};
+ghost use Rattle.std.specs.Prelude.{◌≡◌, ◌≤◌, length, take, IfSome};
 ghost use Rattle.line_filter.specs.LineItems.{judgment_where};
 ghost use Rattle.odata_filter.specs.RowJudgment.{JudgesRow};
 
 use crate::bad_row::BadRow;
 use crate::row_judge::{RowJudge, judged_by, judgment_of, told_fault};
 use crate::row_verdict::row_plan_of;
-use crate::rows_in_place::{begin_after, type_rows_of};
+use crate::rows_in_place::{begin_after, copy_with_room, type_rows_of};
 use edm_entities::{RowPlan, RowReader};
 use edm_rows::TypeRows;
 use edm_values::Moment;
-use json_room::{ROOM, has_room};
+use json_room::has_room;
 use line_filter::{Judge, Judgment};
 use odata_typing::Checked;
 use std::alloc::{AllocError, Global};
@@ -81,15 +81,6 @@ impl RowLineJudge<'_, '_> {
         self.rows
             .keeps_in_place(&mut self.type_rows, self.room.as_slice(), count, false)
     }
-}
-
-/// Copies a line to where it has room after it, unless out of memory.
-fn copy_with_room(line: &[u8], room: &mut Vec<u8>) -> bool
-    ensures within { IsTrue result → length line.now ≤ length room.new.items }
-    ensures copied { IsTrue result → take (length line.now) room.new.items ≡ line.now }
-{
-    room.clear();
-    room.extend_from_slice(line).is_ok() && room.extend_from_slice(&[b'\n'; ROOM]).is_ok()
 }
 
 impl Judge for RowLineJudge<'_, '_> {

@@ -5,16 +5,21 @@ ghost use Rattle.edm_entities.specs.RowReading.{IsLineBut};
 ghost use Rattle.edm_values.specs.declared.sieve.Sieve.{Sieve};
 ghost use Rattle.edm_rows.specs.RowsOfType.{IsLeftOut, IsSameButKept, IsSameReader, names_unkept, row_held};
 ghost use Rattle.line_filter.specs.LineItems.{judgment_where};
+ghost use Rattle.edm_rows.specs.HeldSchema.{schema_in};
+ghost use Rattle.odata_filter.specs.FilterRows.{KeepsNames};
+ghost use Rattle.odata_filter.specs.RowAnswer.{TellsRow};
 ghost use Rattle.odata_filter.specs.RowJudgment.{JudgesRow};
-ghost use Rattle.odata_filter.specs.private.RowsInPlace.{AreRowsOf, IsSameButSieves, IsTestAt, KeepsNames};
+ghost use Rattle.odata_filter.specs.private.RowsInPlace.{AreRowsOf, IsSameButSieves, IsTestAt};
 
 use crate::bad_row::BadRow;
-use crate::row_judge::{RowJudge, is_kept};
+use crate::no_verdict::NoVerdict;
+use crate::row_judge::{RowJudge, is_kept, told};
 use crate::row_verdict::{names_whole_row, plan_of};
 use edm_entities::{RowReader, what_fits_has_its_type};
-use edm_rows::{Reading, TypeRows};
+use edm_rows::{HeldSchema, Reading, TypeRows};
+use json_room::ROOM;
 use line_filter::Judgment;
-use odata_eval::{slot_sieves, typed_trees_end_once};
+use odata_eval::{Verdict, slot_sieves, typed_trees_end_once};
 use odata_typing::Checked;
 use std::alloc::{AllocError, Global};
 
@@ -26,18 +31,23 @@ pub(crate) fn type_rows_of<'s>(alloc: Global, checked: &Checked<'s>) -> TypeRows
 {
     // No two slots of a type have one name.
     let _ = checked.schema().slots(checked.filtered_type());
-    let mut rows = kept_rows_of(alloc, checked);
+    let mut rows = kept_rows_of(alloc, checked, HeldSchema::Borrowed(checked.schema()));
     sift_by_tests(&mut rows, alloc, checked);
     rows
 }
 
-/// The same before it leaves rows out.
+/// The same, which leaves no row out.
 #[inline(always)]
-fn kept_rows_of<'s>(alloc: Global, checked: &Checked<'s>) -> TypeRows<'s>
+pub(crate) fn kept_rows_of<'s>(
+    alloc: Global,
+    checked: &Checked<'_>,
+    schema: HeldSchema<'s>,
+) -> TypeRows<'s>
+    requires { schema_in schema ≡ checked.now.schema }
     ensures names { KeepsNames checked.now result }
     ensures all_pass { All (λ sieve. sieve ≡ Sieve.All) result.sieves }
 {
-    let mut rows = TypeRows::new(alloc, checked.schema(), plan_of(alloc, checked));
+    let mut rows = TypeRows::new(alloc, schema, plan_of(alloc, checked));
     if names_whole_row(checked) {
         rows.keep_all();
         return rows;
@@ -83,11 +93,36 @@ pub(crate) fn begin_after(
 {
     match judged {
         Ok(Judgment::Kept) | Ok(Judgment::LeftOut) => {
-            if rows.wants_row() {
+            if !rows.has_row() {
                 rows.begin(reader, line);
             }
         }
         _ => {}
+    }
+}
+
+/// Copies a line to where it has room after it, unless out of memory.
+pub(crate) fn copy_with_room(line: &[u8], room: &mut Vec<u8>) -> bool
+    ensures within { IsTrue result → length line.now ≤ length room.new.items }
+    ensures copied { IsTrue result → take (length line.now) room.new.items ≡ line.now }
+{
+    room.clear();
+    room.extend_from_slice(line).is_ok() && room.extend_from_slice(&[b'\n'; ROOM]).is_ok()
+}
+
+/// Whether a row is held once it was read in a copy that has room after it.
+pub(crate) fn reads_copy(rows: &mut TypeRows<'_>, room: &mut Vec<u8>, row: &[u8]) -> bool
+    ensures same { IsSameReader rows.old rows.new }
+    ensures whole { IsTrue result → rows.new.is_whole ≡ true }
+    ensures ready { IsTrue result → rows.new.is_ready ≡ true }
+    ensures row { IsTrue result → IsLineBut row.now (names_unkept rows.new) (row_held rows.new) }
+{
+    if !rows.has_row() || !copy_with_room(row, room) {
+        return false;
+    }
+    match rows.read(room.as_slice(), row.len(), false) {
+        Reading::Row => true,
+        Reading::LeftOut | Reading::Unread => false,
     }
 }
 
@@ -132,6 +167,19 @@ impl RowJudge<'_, '_> {
             Ok(verdict) => Some(is_kept(verdict)),
             Err(_) => None,
         }
+    }
+
+    /// Judges the row that was read last.
+    #[inline(always)]
+    pub(crate) fn judge_held(&self, rows: &TypeRows<'_>) -> Result<Verdict, NoVerdict>
+        requires rows { KeepsNames self.now.checked.now rows.now }
+        requires ready { rows.now.is_ready ≡ true }
+        requires whole { rows.now.is_whole ≡ true }
+        ensures { (line : List ℕ) → IsLineBut line (names_unkept rows.now) (row_held rows.now)
+            → TellsRow self.now.checked.now self.now.moment.now line result }
+    {
+        let entity = rows.entity();
+        told(self.judge_entity(&entity))
     }
 
     /// A law: the filter leaves out each line of which a slot's sieve rejects the value.

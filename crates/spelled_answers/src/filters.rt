@@ -3,6 +3,7 @@ ghost use Rattle.std.specs.Prelude.{◌≡◌};
 ghost use Rattle.csdl_schema.specs.ExpansionView.{paths_in};
 ghost use Rattle.csdl_schema.specs.PathSet.{Covers};
 ghost use Rattle.csdl_schema.specs.SchemaModel.{HoldsType};
+ghost use Rattle.odata_filter.specs.FilterRows.{AreRowsOfFilter};
 ghost use Rattle.odata_filter.specs.RowAnswer.{IsPlanOfFilter};
 
 use crate::nodes::{second_type, told_nodes};
@@ -14,8 +15,8 @@ use edm_values::{Moment, read_moment};
 use jiff::civil;
 use odata_eval::{EvalFault, Verdict, evaluate};
 use odata_filter::{
-    BadRow, BoundedJudge, FaultKind, NoVerdict, Numbered, RowStop, RunFault, Tally, fault_name,
-    filter_slice, judge_row, row_plan_of,
+    BadRow, BoundedJudge, FaultKind, FilterRows, NoVerdict, Numbered, RowStop, RunFault, Tally,
+    fault_name, filter_slice, judge_row, row_plan_of,
 };
 use odata_typing::{Checked, check_to_store};
 use serde_json::Value;
@@ -107,7 +108,8 @@ fn spelled_row(told: &Result<Verdict, NoVerdict>) -> &'static str {
     }
 }
 
-/// The one answer of a line that is judged by itself, once and so many times more.
+/// The one answer of a line that is judged by itself, by a reader of any filter's rows, by what is kept from row to row
+/// of this one, and by that so many times more.
 fn judged(
     alloc: Global,
     checked: &Checked<'_>,
@@ -118,12 +120,35 @@ fn judged(
     let plan = row_plan_of(alloc, checked);
     let mut reader = RowReader::new(alloc);
     let said = spelled_row(&judge_row(checked, now, &plan, &mut reader, line));
+    let mut rows = FilterRows::new(alloc, checked);
+    let first = spelled_row(&rows.judge(checked, now, line));
+    let last = again(&mut rows, checked, line, now, times);
+    if said == "memory" || first == "memory" || last == "memory" {
+        "memory"
+    } else if first == said && last == said {
+        said
+    } else {
+        "another answer"
+    }
+}
+
+/// The one answer of a line that is judged by itself once more, and so many times after that.
+fn again(
+    rows: &mut FilterRows<'_>,
+    checked: &Checked<'_>,
+    line: &[u8],
+    now: &Moment,
+    times: usize,
+) -> &'static str
+    requires { AreRowsOfFilter checked.now rows.old }
+{
+    let said = spelled_row(&rows.judge(checked, now, line));
     for _ in 0..times {
-        let again = spelled_row(&judge_row(checked, now, &plan, &mut reader, line));
-        if again == "memory" || said == "memory" {
+        let found = spelled_row(&rows.judge(checked, now, line));
+        if found == "memory" || said == "memory" {
             return "memory";
         }
-        if again != said {
+        if found != said {
             return "another answer";
         }
     }
@@ -259,10 +284,49 @@ fn agreed_outcome(
 fn within(by: &BoundedJudge<'_, '_>, reader: &mut RowReader, line: &[u8]) -> Option<&'static str>
     requires { IsPlanOfFilter by.now.checked.now by.now.plan.now }
 {
-    match by.judge(reader, line) {
+    spelled_within(by.judge(reader, line))
+}
+
+/// What is reported about a row within a bound, if that is enough.
+fn spelled_within(told: Result<Verdict, RowStop>) -> Option<&'static str> {
+    match told {
         Ok(verdict) => Some(spelled(Ok(verdict))),
         Err(RowStop::NoVerdict(why)) => Some(spelled_row(&Err(why))),
         Err(RowStop::TooCostly) => None,
+    }
+}
+
+/// The one answer within a bound of a line that is judged by what is kept from row to row of the filter, with none within
+/// a smaller bound.
+fn within_again(
+    alloc: Global,
+    checked: &Checked<'_>,
+    line: &[u8],
+    now: &Moment,
+    most: u64,
+) -> &'static str {
+    let mut rows = FilterRows::new(alloc, checked);
+    let first = spelled_within(rows.judge_within(checked, now, most, line));
+    let again = spelled_within(rows.judge_within(checked, now, most, line));
+    if most > 0 {
+        let below = spelled_within(rows.judge_within(checked, now, most - 1, line));
+        if let Some(found) = below {
+            return if found == "memory" {
+                "memory"
+            } else {
+                "an answer within less"
+            };
+        }
+    }
+    let (Some(first), Some(again)) = (first, again) else {
+        return "no answer";
+    };
+    if first == "memory" || again == "memory" {
+        "memory"
+    } else if first == again {
+        first
+    } else {
+        "another answer"
     }
 }
 
@@ -290,13 +354,14 @@ fn cost(
         let Some(said) = within(&by, &mut reader, line.as_bytes()) else {
             continue;
         };
-        if said == "memory" || told == "memory" {
+        let again = within_again(alloc, checked, line.as_bytes(), now, most);
+        if said == "memory" || told == "memory" || again == "memory" {
             return Err(Trouble::Memory);
         }
-        return if said == told {
+        return if said == told && again == said {
             Ok(format!(in alloc; "{most}")?)
         } else {
-            Ok(format!(in alloc; "{most}, but {said} within it, and {told} without")?)
+            Ok(format!(in alloc; "{most}, but {said} and {again} within it, and {told} without")?)
         };
     }
     Ok(String::from_str(alloc, "more than is tried")?)

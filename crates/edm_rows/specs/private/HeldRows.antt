@@ -11,6 +11,7 @@ use Rattle.edm_row_plans.specs.Plans.{IsPlanOf}
 use Rattle.edm_row_plans.specs.declared.row_plan.RowPlan.{RowPlan}
 use Rattle.edm_row_plans.specs.declared.type_plan.TypePlan.{TypePlan}
 use Rattle.edm_entities.specs.private.Passed.{IsRowValue}
+use Rattle.edm_rows.specs.HeldSchema.{schema_in}
 use Rattle.edm_rows.specs.RowsOfType.{RowsOfType}
 use Rattle.edm_values.specs.declared.sieve.Sieve.{Sieve}
 use Rattle.edm_values.specs.declared.value.Value.{Value, Record}
@@ -45,7 +46,7 @@ pub record IsSameType (old new : RowType) : Type 0 where
 
 abbrev pub rows_seen : Inside → RowsOfType
 rows_seen rows = record {
-  schema = rows.schema.now;
+  schema = schema_in rows.schema;
   type_id = rows.plan.type_id;
   expansion = rows.plan.expansion;
   is_whole = rows.plan.is_whole;
@@ -70,13 +71,13 @@ pub record AreTypesOf (schema : SchemaModel) (plan : RowPlan) (types : List RowT
 
 -- the types, if there are some, are those of the plan; once the reader is ready there are some, and the row is one
 pub record IsRowsOfType (rows : Inside) : Type 0 where
-  pub is_plan : IsPlanOf rows.schema.now rows.plan
-  pub types : (rows.types.items ≡ []) ⊎ AreTypesOf rows.schema.now rows.plan rows.types.items
-  pub known : AreKnown rows.schema.now rows.known
+  pub is_plan : IsPlanOf (schema_in rows.schema) rows.plan
+  pub types : (rows.types.items ≡ []) ⊎ AreTypesOf (schema_in rows.schema) rows.plan rows.types.items
+  pub known : AreKnown (schema_in rows.schema) rows.known
   pub ready : rows.is_ready ≡ true
-      → AreTypesOf rows.schema.now rows.plan rows.types.items
-      × IsRowValue (slots_at rows.schema.now rows.plan.expansion (Some 0))
-      (properties_at rows.schema.now rows.plan.type_id) rows.row
+      → AreTypesOf (schema_in rows.schema) rows.plan rows.types.items
+      × IsRowValue (slots_at (schema_in rows.schema) rows.plan.expansion (Some 0))
+      (properties_at (schema_in rows.schema) rows.plan.type_id) rows.row
 
 -- the line is the text of an object, of which a value is rejected, or which the values of these slots fit but for those
 -- that are not kept

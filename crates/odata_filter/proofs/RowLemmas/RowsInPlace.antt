@@ -1,5 +1,5 @@
 -- From what a reader of rows in place says of a line to what is said of it by the filter.
-use Rattle.std.proofs.Common.{◌≡◌, ◌≢◌, inl, inr, ℕ, Bool, true, false, List, [], Option, Some, None, Ok, slice_get, map, refl, sym, ap, ◌∙◌, subst, IfSome}
+use Rattle.std.proofs.Common.{◌≡◌, ◌≢◌, inl, inr, ℕ, Bool, true, false, List, [], Option, Some, None, Result, Ok, slice_get, map, refl, sym, ap, ◌∙◌, subst, IfSome}
 use Rattle.std.specs.Prelude.{◌↔◌, All}
 use Rattle.serde_json.specs.Data.{Data}
 use Rattle.edm_values.specs.MomentParts.{IsMoment, MomentParts}
@@ -18,12 +18,21 @@ use Rattle.line_filter.specs.Lines.{IsBlank}
 use Rattle.odata_checked_filter.specs.Filter.{Filter, IsFilter, slots_for_filter, tree_of_filter}
 use Rattle.odata_eval.specs.EndsOnce.{TypedEndsOnce}
 use Rattle.odata_eval.specs.MeansOn.{IsTheOutcome}
-use Rattle.odata_eval.specs.VerdictView.{verdict_val}
+use Rattle.odata_eval.specs.CostsOn.{KeepsBound}
+use Rattle.odata_eval.specs.VerdictView.{outcome_told, told_outcome, verdict_val}
+use Rattle.odata_eval.specs.declared.stop.EvalStop.{EvalStop}
 use Rattle.odata_eval.specs.declared.verdict.Verdict.{Verdict}
 use Rattle.odata_filter_operations.specs.Outcome.{Outcome, gives}
-use Rattle.odata_filter.specs.RowAnswer.{PassesNone, judgment_told}
+use Rattle.odata_filter_operations.specs.declared.fault.EvalFault.{EvalFault}
+use Rattle.odata_filter.specs.RowAnswer.{PassesNone, TellsRow, judgment_told}
+use Rattle.odata_filter.specs.RowCosts.{ReportsRowWithin}
 use Rattle.odata_filter.specs.RowJudgment.{FilterMeans, JudgesRow}
-use Rattle.odata_filter.specs.private.RowsInPlace.{AreRowsOf, IsSameButSieves, IsTestAt, KeepsNames}
+use Rattle.odata_filter.specs.FilterRows.{KeepsNames}
+use Rattle.odata_filter.specs.private.RowsInPlace.{AreRowsOf, IsSameButSieves, IsTestAt}
+use Rattle.odata_filter.specs.private.ValueAnswer.{answer_told}
+use Rattle.odata_filter.specs.private.ValueCosts.{stop_reported}
+use Rattle.odata_filter.proofs.RowLemmas.CostsBut.{kept_costs}
+use Rattle.odata_filter.proofs.RowLemmas.RowBounds.{answer_within_row, row_within}
 use Rattle.odata_filter.proofs.RowLemmas.BlankLines.{json_not_blank}
 use Rattle.odata_filter.proofs.RowLemmas.RowJudges.{row_judged, row_told}
 use Rattle.odata_filter.proofs.RowLemmas.RowsBut.{answer_but, row_but}
@@ -90,6 +99,10 @@ module _ (filter : Filter) where
     keeps = passes_less filter (names_unkept old) (names_unkept new) (same_unkept old new schema_is type_is kept_is) names.keeps;
   }
 
+  -- once it has read a line, the reader keeps what the filter names as before
+  pub kept_again : (old new : RowsOfType) → IsSameReader old new → KeepsNames filter old → KeepsNames filter new
+  kept_again old new same = names_again old new same.schema same.type_id same.expansion same.is_whole same.kept
+
   -- a reader that leaves no row out
   pub new_tests : (sieves : List Sieve) → All (λ sieve. sieve ≡ Sieve.All) sieves → (slot : ℕ) → IfSome (slice_get sieves slot) (IsTestAt filter slot)
   new_tests sieves all = each_sieve (IsTestAt filter) sieves all (λ slot word named now held value o has rejected. absurd rejected)
@@ -97,7 +110,7 @@ module _ (filter : Filter) where
   -- once it has read a line, the reader is one of the filter's rows as before
   pub rows_again : (old new : RowsOfType) → IsSameReader old new → AreRowsOf filter old → AreRowsOf filter new
   rows_again old new same rows = record {
-    names = names_again old new same.schema same.type_id same.expansion same.is_whole same.kept rows.names;
+    names = kept_again old new same rows.names;
     tests = λ slot. subst (λ (sieves : List Sieve). IfSome (slice_get sieves slot) (IsTestAt filter slot)) (sym same.sieves) (rows.tests slot);
     distinct = rows.distinct;
   }
@@ -117,19 +130,32 @@ module _ (filter : Filter) where
     decided_not_blank line (Some kept) said = said_not_blank line kept said
     decided_not_blank line None said = tt
 
-    module _ (rows : RowsOfType) (of : AreRowsOf filter rows) (whole : rows.is_whole ≡ true) where
-      paths_same : (path : PropertyPath) → paths_in rows.expansion path ≡ paths_in filter.expansion path
-      paths_same path = ap (λ (steps : List StepModel). paths_in steps path) (of.names.whole whole)
+    -- ---- a row that is held
 
-      -- ---- a row that is held
+    module _ (rows : RowsOfType) (names : KeepsNames filter rows) (whole : rows.is_whole ≡ true) where
+      paths_same : (path : PropertyPath) → paths_in rows.expansion path ≡ paths_in filter.expansion path
+      paths_same path = ap (λ (steps : List StepModel). paths_in steps path) (names.whole whole)
+
+      -- what a filter's answer to the held row reports of its line
+      pub held_told : (line : List ℕ) (answer : Result Verdict EvalFault) → IsLineBut line (names_unkept rows) (row_held rows) → IfSome (told_outcome answer) (IsTheOutcome (row_held rows) now (tree_of_filter filter))
+          → TellsRow filter now line (answer_told answer)
+      held_told line answer read outcome =
+          let but = row_but filter now line (names_unkept rows) (row_held rows) names.schema names.type_id paths_same names.keeps read in
+          row_told filter now line read.json (answer_told answer) read.is_json (answer_but filter now read.json (row_held rows) answer but outcome)
+
+      -- and within a bound
+      pub held_within : (line : List ℕ) (most : ℕ) (answer : Result Verdict EvalStop) → IsLineBut line (names_unkept rows) (row_held rows) → IfSome (outcome_told answer) (IsTheOutcome (row_held rows) now (tree_of_filter filter))
+          → KeepsBound (row_held rows) now (tree_of_filter filter) most answer → ReportsRowWithin filter now line most (stop_reported answer)
+      held_within line most answer read outcome bound =
+          let costs = kept_costs filter now line (names_unkept rows) (row_held rows) names.schema names.type_id paths_same names.keeps read in
+          row_within filter now line read.json most (stop_reported answer) read.is_json (answer_within_row filter now read.json (row_held rows) most answer costs outcome bound)
 
       -- by the verdict on the held row its line is kept or left out
       pub held_said : (line : List ℕ) (verdict : Verdict) (kept : Bool) → IsLineBut line (names_unkept rows) (row_held rows) → IsTheOutcome (row_held rows) now (tree_of_filter filter) (gives (verdict_val verdict))
           → judgment_told (Ok verdict) ≡ Some (judgment_where kept) → Says line kept
-      held_said line verdict kept read outcome is =
-          let but = row_but filter now line (names_unkept rows) (row_held rows) of.names.schema of.names.type_id paths_same of.names.keeps read in
-          row_judged filter now line (Ok verdict) (judgment_where kept) (row_told filter now line read.json (Ok verdict) read.is_json (answer_but filter now read.json (row_held rows) (Ok verdict) but outcome)) is
+      held_said line verdict kept read outcome is = row_judged filter now line (Ok verdict) (judgment_where kept) (held_told line (Ok verdict) read outcome) is
 
+    module _ (rows : RowsOfType) (of : AreRowsOf filter rows) (whole : rows.is_whole ≡ true) where
       -- ---- a row that is left out
 
       fits_there : (json : Data) (value : Val) → Fits (slots_for (row_held rows)) (type_name_at rows.schema rows.type_id) json value → Fits (slots_for_filter filter) (type_name_at filter.schema filter.filtered) json value

@@ -1,25 +1,17 @@
 -- For private clauses: the reader by which a filter's rows are read where they stand.
-use Rattle.std.specs.Prelude.{◌≡◌, ℕ, true, slice_get, IfSome}
-use Rattle.edm_rows.specs.RowsOfType.{RowsOfType, names_unkept}
+use Rattle.std.specs.Prelude.{◌≡◌, ℕ, slice_get, IfSome}
+use Rattle.edm_rows.specs.RowsOfType.{RowsOfType}
 use Rattle.edm_values.specs.declared.sieve.Sieve.{Sieve}
 use Rattle.csdl_schema.specs.SchemaModel.{HasDistinctNames, properties_at}
 use Rattle.odata_checked_filter.specs.Filter.{Filter}
 use Rattle.odata_eval.specs.FalseWhere.{IsSieveOf}
-use Rattle.odata_filter.specs.RowAnswer.{PassesNone}
+use Rattle.odata_filter.specs.FilterRows.{KeepsNames}
 
 -- where the sieve rejects the slot's value, the filter is false
 abbrev pub IsTestAt : Filter → ℕ → Sieve → Type 0
 IsTestAt filter slot sieve = IsSieveOf filter (record { slot = slot; sieve = sieve })
 
--- the reader is of the filter's schema and type, and a whole one has that expanded which the filter needs; it keeps what
--- the filter names
-pub record KeepsNames (filter : Filter) (rows : RowsOfType) : Type 0 where
-  pub schema : rows.schema ≡ filter.schema
-  pub type_id : rows.type_id ≡ filter.filtered
-  pub whole : rows.is_whole ≡ true → rows.expansion ≡ filter.expansion
-  pub keeps : PassesNone filter (names_unkept rows)
-
--- and it leaves rows out only where the filter is false
+-- the reader keeps what the filter names, and leaves rows out only where the filter is false
 pub record AreRowsOf (filter : Filter) (rows : RowsOfType) : Type 0 where
   pub names : KeepsNames filter rows
   pub tests : (slot : ℕ) → IfSome (slice_get rows.sieves slot) (IsTestAt filter slot)

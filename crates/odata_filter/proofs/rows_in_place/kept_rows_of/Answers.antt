@@ -3,14 +3,14 @@ use Rattle.edm_row_plans.specs.Plans.{IsPlanOf}
 use Rattle.odata_filter.proofs.rows_in_place.kept_rows_of.Goals as goal
 
 pub new-rows-requires : goal.new-rows-requires
-new-rows-requires c = subst (λ schema. IsPlanOf schema c.plan_of.result) (sym c.schema.ensures) c.plan_of.ensures.schema
+new-rows-requires c = subst (λ schema. IsPlanOf schema c.plan_of.result) (sym c.requires) c.plan_of.ensures.schema
 
 pub returns-then-names_whole_row-clause-names : goal.returns-then-names_whole_row-clause-names
 returns-then-names_whole_row-clause-names c =
     let new = c.new-rows.ensures in
     let same = c.keep_all.ensures.same in
     record {
-      schema = same.schema ∙ new.schema ∙ c.schema.ensures;
+      schema = same.schema ∙ new.schema ∙ c.requires;
       type_id = same.type_id ∙ new.type_id ∙ c.plan_of.ensures.type_id;
       whole = λ whole. same.expansion ∙ new.expansion ∙ c.plan_of.ensures.whole (sym new.whole ∙ sym same.is_whole ∙ whole);
       keeps = record {
@@ -26,7 +26,7 @@ returns-clause-names c =
     let first = c.keep_named.ensures.same in
     let same = c.keep_names.ensures.same in
     record {
-      schema = same.schema ∙ first.schema ∙ new.schema ∙ c.schema.ensures;
+      schema = same.schema ∙ first.schema ∙ new.schema ∙ c.requires;
       type_id = same.type_id ∙ first.type_id ∙ new.type_id ∙ c.plan_of.ensures.type_id;
       whole = λ whole. same.expansion ∙ first.expansion ∙ new.expansion ∙ c.plan_of.ensures.whole (sym new.whole ∙ sym first.is_whole ∙ sym same.is_whole ∙ whole);
       keeps = record {

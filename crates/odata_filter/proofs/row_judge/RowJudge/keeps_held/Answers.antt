@@ -24,5 +24,5 @@ returns-in-Ok c line read =
     let held = c.entity-entity.result in
     let verdict = c.in-Ok.verdict in
     let told = subst (λ o. IfSome (told_outcome o) (IsTheOutcome held now (tree_of_filter filter))) c.in-Ok.is c.judge_entity.ensures.outcome in
-    held_said filter now c.args.rows.now c.requires.rows c.requires.whole line verdict c.is_kept.result read
+    held_said filter now c.args.rows.now c.requires.rows.names c.requires.whole line verdict c.is_kept.result read
     (subst (λ (r : Row). IsTheOutcome r now (tree_of_filter filter) (gives (verdict_val verdict))) c.entity-entity.ensures told) c.is_kept.ensures
