@@ -28,7 +28,7 @@ use Rattle.edm_rows.specs.private.KeptRows.{IsRejectedIn, IsRowRejected, names_u
 use Rattle.edm_rows.specs.private.KeptSoFar.{FillsAbsent, KeptRead, KeptUpTo, RejectedSoFar, SameMarks, SoFar}
 use Rattle.edm_rows.specs.private.Members.{EndsMember, NamesTo, PassesOther}
 use Rattle.edm_rows.proofs.KeptSlots.{kept_over, passed_more, slot_stays}
-use Rattle.edm_rows.proofs.Places.{MembersRead, MembersUpTo, brace_then, comma_then, member_then, members_begin}
+use Rattle.edm_rows.proofs.Places.{MembersRead, MembersUpTo, brace_then, comma_then, member_then, members_begin, no_members_read}
 
 -- ---- names and marks
 
@@ -269,24 +269,23 @@ module _ (scene : Scene) (rows : List RowSlot) where
   past_end P (x ∷ xs) zero past = absurd (omega (arith, past))
   past_end P (x ∷ xs) (suc k) past = past_end P xs k (omega (arith, past))
 
-  pub kept_brace : (from end next seen : ℕ) (is_left_out : Bool) (old new : List Value) → length rows ≡ length (root_properties scene) → FillsAbsent scene rows seen old new → KeptRead scene rows from end seen is_left_out old → EndsMember scene.line end (After.Brace next)
-      → ReadsMembers 126 (tokens_at Fresh scene.line from) (tokens_at AfterValue scene.line next)
-      (λ found. MatchBool is_left_out (IsRowRejected scene rows found) (FitSlotsBut (root_slots scene) (names_unkept_in (root_properties scene) rows) (object found) (root_properties scene) new))
-  kept_brace from end next seen is_left_out old new as_many fills read ends =
-      brace_then 126 scene.line from end next (SoFar scene rows is_left_out seen read.filled old) (Last is_left_out) (λ found holds. last is_left_out found holds) read.members ends
+  -- what the members that were found are, once the slots that were not seen are null
+  abbrev Last : Bool → List Value → Members → Type 0
+  Last b new found = MatchBool b (IsRowRejected scene rows found) (FitSlotsBut (root_slots scene) (names_unkept_in (root_properties scene) rows) (object found) (root_properties scene) new)
+
+  last_found : (seen : ℕ) (filled : List Bool) (is_left_out : Bool) (old new : List Value) → length rows ≡ length (root_properties scene) → FillsAbsent scene rows seen old new → length filled ≡ length (root_properties scene) → SameMarks seen filled
+      → (found : Members) → SoFar scene rows is_left_out seen filled old found → Last is_left_out new found
+  last_found seen filled is_left_out old new as_many fills long marks found holds = last is_left_out found holds
     where
-      Last : Bool → Members → Type 0
-      Last b found = MatchBool b (IsRowRejected scene rows found) (FitSlotsBut (root_slots scene) (names_unkept_in (root_properties scene) rows) (object found) (root_properties scene) new)
+      bit_of : (k : ℕ) → k < length ps → get_or filled k false ≡ true → bit_at seen k ≡ 1
+      bit_of k inside is = ⊎_elim (λ none. absurd (true≢false (sym is ∙ marks.not_set k none))) (λ one. one) (two_bits seen k)
 
-      bit_of : (k : ℕ) → k < length ps → get_or read.filled k false ≡ true → bit_at seen k ≡ 1
-      bit_of k inside is = ⊎_elim (λ none. absurd (true≢false (sym is ∙ read.marks.not_set k none))) (λ one. one) (two_bits seen k)
+      no_bit : (k : ℕ) → k < length ps → get_or filled k false ≡ false → bit_at seen k ≡ 0
+      no_bit k inside is = ⊎_elim (λ none. none) (λ one. absurd (true≢false (sym (marks.set k one (omega (arith, inside, long))) ∙ is))) (two_bits seen k)
 
-      no_bit : (k : ℕ) → k < length ps → get_or read.filled k false ≡ false → bit_at seen k ≡ 0
-      no_bit k inside is = ⊎_elim (λ none. none) (λ one. absurd (true≢false (sym (read.marks.set k one (omega (arith, inside, read.long))) ∙ is))) (two_bits seen k)
-
-      settled : (k : ℕ) → (get_or read.filled k false ≡ true) ⊎ IfSome (slice_get ps k) (MayBeAbsent slots)
+      settled : (k : ℕ) → (get_or filled k false ≡ true) ⊎ IfSome (slice_get ps k) (MayBeAbsent slots)
       settled k =
-          ⊎_elim (λ inside. ⊎_elim (λ none. inr (fills.may k inside none)) (λ one. inl (read.marks.set k one (omega (arith, inside, read.long)))) (two_bits seen k))
+          ⊎_elim (λ inside. ⊎_elim (λ none. inr (fills.may k inside none)) (λ one. inl (marks.set k one (omega (arith, inside, long)))) (two_bits seen k))
           (λ past. inr (past_end (MayBeAbsent slots) ps k past)) (cases_lt k (length ps))
 
       kept_or_not : (k : ℕ) → k < length rows → (slice_get (map (λ s. s.is_kept) rows) k ≡ Some true) ⊎ (slice_get (map (λ s. s.is_kept) rows) k ≡ Some false)
@@ -301,7 +300,7 @@ module _ (scene : Scene) (rows : List RowSlot) where
               bool false = inr refl
           go (r ∷ rs) (suc n) less = go rs n (omega (arith, less))
 
-      absent_at : (k : ℕ) → get_or read.filled k false ≡ false → IfSome (slice_get ps k) (λ p. MayBeAbsent slots p × (Unkept p.name ⊎ (slice_get new k ≡ Some Null)))
+      absent_at : (k : ℕ) → get_or filled k false ≡ false → IfSome (slice_get ps k) (λ p. MayBeAbsent slots p × (Unkept p.name ⊎ (slice_get new k ≡ Some Null)))
       absent_at k is =
           ⊎_elim (λ inside.
           let none = no_bit k inside is in
@@ -324,10 +323,10 @@ module _ (scene : Scene) (rows : List RowSlot) where
               go None at may_absent = tt
               go (Some p) at may_absent = (may_absent, inl (k, unkept, name_of ps k p at))
 
-      last : (b : Bool) (found : Members) → SoFar scene rows b seen read.filled old found → Last b found
+      last : (b : Bool) (found : Members) → SoFar scene rows b seen filled old found → Last b new found
       last true found (passed, before) =
           record {
-            fits = (passed.0, all_passed slots every_name (found_in found) ps read.filled passed.0 (λ _. tt) settled passed.1);
+            fits = (passed.0, all_passed slots every_name (found_in found) ps filled passed.0 (λ _. tt) settled passed.1);
             slot = before.slot;
             is_slot = before.is_slot;
             name = before.name;
@@ -336,7 +335,25 @@ module _ (scene : Scene) (rows : List RowSlot) where
             is_found = before.is_found;
             rejected = before.rejected;
           }
-      last false found hold = kept_over slots Unkept (found_in found) ps read.filled old new fills.long (λ k is. same_slot k is) absent_at hold
+      last false found hold = kept_over slots Unkept (found_in found) ps filled old new fills.long (λ k is. same_slot k is) absent_at hold
         where
-          same_slot : (k : ℕ) → get_or read.filled k false ≡ true → slice_get new k ≡ slice_get old k
-          same_slot k is = fills.seen_stay k (⊎_elim (λ none. absurd (true≢false (sym is ∙ read.marks.not_set k none))) (λ one. one) (two_bits seen k))
+          same_slot : (k : ℕ) → get_or filled k false ≡ true → slice_get new k ≡ slice_get old k
+          same_slot k is = fills.seen_stay k (⊎_elim (λ none. absurd (true≢false (sym is ∙ marks.not_set k none))) (λ one. one) (two_bits seen k))
+
+  pub kept_brace : (from end next seen : ℕ) (is_left_out : Bool) (old new : List Value) → length rows ≡ length (root_properties scene) → FillsAbsent scene rows seen old new → KeptRead scene rows from end seen is_left_out old → EndsMember scene.line end (After.Brace next)
+      → ReadsMembers 126 (tokens_at Fresh scene.line from) (tokens_at AfterValue scene.line next)
+      (λ found. MatchBool is_left_out (IsRowRejected scene rows found) (FitSlotsBut (root_slots scene) (names_unkept_in (root_properties scene) rows) (object found) (root_properties scene) new))
+  kept_brace from end next seen is_left_out old new as_many fills read ends =
+      brace_then 126 scene.line from end next (SoFar scene rows is_left_out seen read.filled old) (Last is_left_out new)
+      (λ found holds. last_found seen read.filled is_left_out old new as_many fills read.long read.marks found holds) read.members ends
+
+  -- a brace where no member stands
+  pub kept_empty : (from brace : ℕ) (old new : List Value) → length rows ≡ length (root_properties scene) → FillsAbsent scene rows 0 old new → length old ≡ length (root_properties scene) → PassesSpaces scene.line from brace
+      → brace < length scene.line → get_or scene.line brace 32 ≡ 125 → ReadsMembers 126 (tokens_at Fresh scene.line from) (tokens_at AfterValue scene.line (brace + 1))
+      (λ found. MatchBool false (IsRowRejected scene rows found) (FitSlotsBut (root_slots scene) (names_unkept_in (root_properties scene) rows) (object found) (root_properties scene) new))
+  kept_empty from brace old new as_many fills long passed within closes =
+      let n = length (root_properties scene) in
+      let filled = replicate n false in
+      no_members_read 126 scene.line from brace (SoFar scene rows false 0 filled old) (Last false new) passed within closes
+      (λ found holds. last_found 0 filled false old new as_many fills (none_long n) (no_marks n) found holds)
+      (passed_start slots Unkept ps n filled old refl (omega arith) long)

@@ -1,10 +1,11 @@
 -- One member more of a row, by what its slot is.
-use Rattle.std.proofs.Common.{◌≡◌, ◌≢◌, ◌⊎◌, ◌^◌, ◌<◌, ◌≤◌, ℕ, zero, suc, List, [], ◌∷◌, inl, inr, length, map, Bool, true, false, Option, None, Some, IfSome, Result, Ok, Err, IfOk, Bor, slice_get, slice_set, bit_and, bit_or, refl, sym, ap, ◌∙◌, subst, arith}
+use Rattle.std.proofs.Common.{◌≡◌, ◌≢◌, ◌⊎◌, ◌+◌, ◌^◌, ◌<◌, ◌≤◌, ℕ, zero, suc, List, [], ◌∷◌, inl, inr, length, get_or, map, Bool, true, false, Option, None, Some, IfSome, Result, Ok, Err, IfOk, Bor, slice_get, slice_set, bit_and, bit_or, refl, sym, ap, ◌∙◌, subst, arith}
 use Rattle.std.proofs.lemmas.Bool.{true≢false}
 use Rattle.std.specs.Int.{bit_at}
 use Rattle.std.specs.Prelude.{option_map}
 use Rattle.serde_json.specs.Data.{Data}
 use Rattle.csdl_schema.specs.SchemaModel.{HasDistinctNames, PropertyModel, SchemaModel, properties_at, slots_behind}
+use Rattle.json_tokens.specs.private.Lexemes.{PassesSpaces}
 use Rattle.edm_values.specs.declared.value.Value.{Value}
 use Rattle.edm_row_plans.specs.Plans.{IsPlanOf, IsSlotPlan}
 use Rattle.edm_row_plans.specs.declared.row_plan.RowPlan.{RowPlan}
@@ -25,7 +26,7 @@ use Rattle.edm_rows.specs.private.Members.{EndsMember, NamesSlot, NamesTo, Passe
 use Rattle.edm_rows.specs.private.RowSlots.{AreRowTypes, IsRowSlot, IsRowType, kinds_of}
 use Rattle.edm_rows.specs.private.Scenes.{FindsMember, FindsSlot, IsScene, PassesValue, slots_behind_node}
 use Rattle.edm_rows.specs.private.KeptSoFar.{FillsAbsent, IsReadTo, KeptRead, KeptUpTo}
-use Rattle.edm_rows.proofs.KeptMembers.{bit_none, kept_brace, other_taken, passed_left_out, passed_unkept, rejected_now, taken}
+use Rattle.edm_rows.proofs.KeptMembers.{bit_none, kept_brace, kept_empty, other_taken, passed_left_out, passed_unkept, rejected_now, taken}
 use Rattle.edm_rows.proofs.AbsentCleared.{rows_long}
 use Rattle.edm_rows.proofs.KeptSlots.{conforms_set, slot_stays}
 use Rattle.edm_rows.proofs.NextMembers.{at_within, slot_there}
@@ -215,6 +216,12 @@ module _ (scene : Scene) (type : RowType) (from place value seen : ℕ) (slot : 
   rejected_on old v end there kept so_far takes =
       subst (λ (vs : List Value). KeptRead scene type.slots.items from end (bit_or seen slot.bit) true vs) (sym (slot_stays values slot.index v (there ∙ ap Some (sym takes.1))))
       (rejected_read scene type.slots.items from place value end seen slot found values kept so_far takes.0)
+
+-- a row without members
+pub row_empty : (scene : Scene) (type : RowType) (from brace : ℕ) (old new : List Value) → IsRootType scene type → FillsAbsent scene type.slots.items 0 old new → length old ≡ length (root_properties scene)
+    → PassesSpaces scene.line from brace → brace < length scene.line → get_or scene.line brace 32 ≡ 125 → ReadsRow scene type false new from (brace + 1)
+row_empty scene type from brace old new root fills long passed within closes =
+    ((omega (arith, passed.bounds.0), omega (arith, within)), kept_empty scene type.slots.items from brace old new (rows_long scene type root) fills long passed within closes)
 
 -- a brace ends the row
 pub row_ends : (scene : Scene) (type : RowType) (b : Bool) (from next : ℕ) (read : Progress) (old new : List Value) → IsRootType scene type → IsReadTo scene type b from old read → FillsAbsent scene type.slots.items read.seen old new

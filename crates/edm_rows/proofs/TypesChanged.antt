@@ -64,7 +64,7 @@ module _ (schema : SchemaModel) (steps : List StepModel) (plans : List TypePlan)
         is_plan = is.is_plan;
         of_type = (id ∙ is.of_type.0, node ∙ is.of_type.1);
         count = long ∙ is.count;
-        few = subst (λ k. k ≤ 63) (sym long) is.few;
+        few = subst (λ k. k ≤ 64) (sym long) is.few;
         order = subst (λ k. k < 1024) (sym order) is.order;
         each = λ k. subst (λ xs. IfSome (slice_get xs k) (λ s. IfSome (slice_get p.slots.items k) (λ q. IsRowSlot schema steps plans k q s))) (sym same) (each_stays type.slots.items p.slots.items n slot kept sieve at is.each k);
         all = all ∙ is.all ∙ ap (λ k. 2 ^ k - 1) (sym long);

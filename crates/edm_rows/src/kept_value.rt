@@ -159,7 +159,7 @@ pub(crate) fn take_members(
     };
     'members: loop {
         let Some(found) = next_member(cache, scene, plan, so_far.order, so_far.place) else {
-            return Taken::Nothing;
+            return take_empty(scene, plan, from, values);
         };
         let read = match take_found(cache, scene, plan, found, so_far, values) {
             Step::Read(read) => read,
@@ -184,6 +184,26 @@ pub(crate) fn take_members(
             None => return Taken::Nothing,
         }
     }
+}
+
+/// Takes the brace of a row without members.
+#[inline(never)]
+fn take_empty(scene: &Scene<'_>, plan: &RowType, from: usize, values: &mut [Value]) -> Taken
+    requires plan { IsRootType scene.now plan.now }
+    requires within { from ≤ length scene.now.line }
+    requires conforms { RowConforms (root_slots scene.now) (root_properties scene.now) values.old }
+    ensures read { TakesRow scene.now plan.now values.new from result }
+    ensures conforms { RowConforms (root_slots scene.now) (root_properties scene.now) values.new }
+{
+    let line = &scene.line;
+    let brace = past_blanks(line, from);
+    if line.byte(brace) != b'}' {
+        return Taken::Nothing;
+    }
+    if !ends_row(plan, 0, values) {
+        return Taken::Nothing;
+    }
+    Taken::Put(brace + 1)
 }
 
 /// Takes the value of the member that was found.

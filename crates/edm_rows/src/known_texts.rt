@@ -10,7 +10,7 @@ ghost use Rattle.edm_rows.specs.private.RowSlots.{name_at};
 
 use super::row_types::PLACES;
 use csdl_schema::{EnumId, Schema};
-use json_room::{DecodeBuffer, RoomyLine, text_at};
+use json_room::{DecodeBuffer, RoomyLine, are_front, text_at};
 use spare_values::Spares;
 use std::alloc::Global;
 use std::simd::prelude::*;
@@ -114,21 +114,6 @@ fn before_quote(lanes: u8x16) -> usize
         .simd_eq(u8x16::splat(b'"'))
         .to_bitmask()
         .trailing_zeros() as usize
-}
-
-/// Whether sixteen bytes are these, where the mask has all bits.
-#[inline(always)]
-fn are_front(lanes: u8x16, mask: u8x16, front: u8x16) -> bool
-    ensures { IsTrue result → (k : ℕ) → k < 16 → get_or mask k 0 ≡ 255 → get_or lanes k 0 ≡ get_or front k 0 }
-{
-    are_equal_16(lanes & mask, front)
-}
-
-#[inline(always)]
-fn are_equal_16(lanes: u8x16, others: u8x16) -> bool
-    ensures { IsTrue result → lanes ≡ others }
-{
-    lanes.simd_eq(others).to_bitmask() == 0xffff
 }
 
 impl KnownTexts {

@@ -1,8 +1,7 @@
 //! Values that are written as texts.
-ghost use Rattle.std.specs.Prelude.{IfSome, IsTrue};
+ghost use Rattle.std.specs.Prelude.{IfSome};
 ghost use Rattle.csdl_schema.specs.ExprType.{ExprType};
 ghost use Rattle.csdl_schema.specs.SchemaModel.{Slots};
-ghost use Rattle.edm_values.specs.Val.{Val};
 ghost use Rattle.edm_entities.specs.FitsPrimitive.{IsTextValue};
 ghost use Rattle.edm_entities.specs.Row.{val_of};
 
@@ -28,11 +27,4 @@ pub(crate) fn literal_of(prim: Prim, text: &str) -> Option<Value>
         },
         _ => None,
     }
-}
-
-/// Whether a text is a literal of a type.
-pub(crate) fn is_literal(prim: Prim, text: &str) -> bool
-    ensures { IsTrue result → (value : Val) × IsTextValue prim text.now value }
-{
-    literal_of(prim, text).is_some()
 }

@@ -11,15 +11,15 @@ ghost use Rattle.edm_rows.specs.private.RowSlots.{IsSlotOf, IsTaskOf, name_at};
 ghost use Rattle.edm_rows.specs.private.Scenes.{IsScene, PassesItems, PassesValue};
 
 use super::known_texts::{Cache, KnownTexts, Noted};
-use super::literals::is_literal;
+use super::literals::literal_of;
 use super::members::pass_members;
-use super::passed_any::any_end;
+use super::passed_any::{any_end, any_number_end};
 use super::row_types::{RowSlot, RowType, Task};
 use csdl_schema::{EnumId, Schema};
 use edm_row_plans::RowPlan;
 use json_room::{
     DecodeBuffer, RoomyLine, any_text_at, digits_up_to, escaped_text_end, null_end, number_at,
-    past_blanks, short_number_end, text_end, truth_end,
+    past_blanks, text_end, truth_end,
 };
 use json_tokens::number_of_text;
 use room_literals::{day_end, guid_end, moment_end};
@@ -88,7 +88,7 @@ fn sure_end(
         Task::Member => scene.known.text_end(slot.member_of, line, place),
         Task::Record => record_end(cache, scene, slot, place),
         Task::Items => array_end(cache, scene, slot, place),
-        Task::Any => short_number_end(line, place),
+        Task::Any => any_number_end(line, place),
     }
 }
 
@@ -281,10 +281,9 @@ fn literal_end(
     let Some((text, end)) = any_text_at(line, place, buffer) else {
         return None;
     };
-    if is_literal(slot.prim, text) {
-        Some(end)
-    } else {
-        None
+    match literal_of(slot.prim, text) {
+        Some(_value) => Some(end),
+        None => None,
     }
 }
 

@@ -1,5 +1,5 @@
 //! The types that a row may hold, of which each slot says in one word how its values are passed.
-ghost use Rattle.std.specs.Prelude.{◌≡◌, ◌^◌, ◌<◌, ℕ, pos, [], length, map, slice_get, None, IfSome, IsTrue, false};
+ghost use Rattle.std.specs.Prelude.{◌≡◌, ◌-◌, ◌^◌, ◌<◌, ◌≤◌, ℕ, pos, [], length, map, slice_get, None, IfSome, IsTrue, false};
 ghost use Rattle.std.specs.Int.{bit_at};
 ghost use Rattle.csdl_schema.specs.PropertyView.{property_type, target_of};
 ghost use Rattle.csdl_schema.specs.SchemaModel.{SchemaModel, Slots};
@@ -26,7 +26,7 @@ use std::alloc::Global;
 pub(crate) const DEPTH: usize = 127;
 
 /// How many slots a type may have, each with a bit of a word.
-const SLOTS: usize = 63;
+const SLOTS: usize = 64;
 
 /// How many places there are to keep the order of members.
 pub(crate) const PLACES: usize = 1024;
@@ -277,6 +277,17 @@ fn has_record(plans: &[TypePlan], plan: &SlotPlan) -> bool
     }
 }
 
+/// The bits of so many slots.
+fn all_bits(count: usize) -> u64
+    requires { count ≤ 64 }
+    ensures { result ≡ 2 ^ count - 1 }
+{
+    if count == 64 {
+        return u64::MAX;
+    }
+    (1 << count) - 1
+}
+
 /// The type of the plan at a place; the order of the members of its objects is kept from another place on.
 fn row_type(
     alloc: Global,
@@ -317,7 +328,7 @@ fn row_type(
         type_id: of.type_id,
         node: of.node,
         slots,
-        all: (1 << of.slots.len()) - 1,
+        all: all_bits(of.slots.len()),
         optional,
         order,
     })

@@ -145,6 +145,8 @@ impl<'s> TypeRows<'s> {
         }
         match reader.read_value(self.schema.schema(), &self.plan, line) {
             Some(row) => {
+                let held = self.schema.schema();
+                refill(reader, &self.row, held, &self.plan, line);
                 self.row = row;
                 self.is_ready = true;
             }
@@ -214,6 +216,15 @@ impl<'s> TypeRows<'s> {
             &self.plan.expansion,
             &self.row,
         )
+    }
+}
+
+/// Has a reader hold the memory of a row again, after it gave that of the first one away.
+fn refill(reader: &mut RowReader, before: &Value, schema: &Schema, plan: &RowPlan, line: &[u8])
+    requires { IsPlanOf schema.now plan.now }
+{
+    if let Value::Null = before {
+        let _ = reader.read(schema, plan, line);
     }
 }
 

@@ -118,9 +118,9 @@ passed_value::sure_end-returns-in-Any-clause-passed t c =
     let d = c.args.scene.now.line in
     let i = c.args.place in
     let depth = c.args.cache.now.depth in
-    subst (λ k. IfSome c.short_number_end.result (PassesValue c.args.scene.now c.args.slot.now k depth i)) (sym c.in-Any.is)
-    (some_by c.short_number_end.result (λ to. (s : List ℕ) × StandsTo d i (Token.number s) to × IsSome (number_of s)) (λ to. ReadsTo depth d i to any_json)
-    (λ to stands. token_to depth d i to (Token.number stands.0) any_json stands.1 (any_number stands.0 stands.2)) c.short_number_end.ensures)
+    subst (λ k. IfSome c.any_number_end.result (PassesValue c.args.scene.now c.args.slot.now k depth i)) (sym c.in-Any.is)
+    (some_by c.any_number_end.result (λ to. (s : List ℕ) × StandsTo d i (Token.number s) to × IsSome (number_of s)) (λ to. ReadsTo depth d i to any_json)
+    (λ to stands. token_to depth d i to (Token.number stands.0) any_json stands.1 (any_number stands.0 stands.2)) c.any_number_end.ensures)
 
 -- ---- objects and arrays
 

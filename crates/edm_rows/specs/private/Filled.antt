@@ -27,31 +27,35 @@ IsFilledIn scene slot task value json =
     FilledAs (slots_behind_node scene slot.node) (kinds_of scene.schema.now scene.plan.now.plans.items slot)
     slot.is_nullable slot.item task value json
 
--- a slot's value, or an item of it, stands from one place to the other, nested no deeper than that, and is the value; which
--- is that of some JSON, whether or not it may end there
+-- a slot's value, or an item of it, stands from one place to the other, nested no deeper than that, and is the value;
+-- which is that of some JSON, whether or not it may end there
 abbrev pub FillsValue : Scene → RowSlot → Task → ℕ → Value → ℕ → ℕ → Type 0
 FillsValue scene slot task depth value from to =
-    ReadsTo depth scene.line from to (IsFilledIn scene slot task value) × ((json : Data) × IsFilledIn scene slot task value json)
+    ReadsTo depth scene.line from to (IsFilledIn scene slot task value)
+    × ((json : Data) × IsFilledIn scene slot task value json)
 
 -- values of that type that are read of the items of an array
 abbrev pub AreFilled : Slots → Bool → SingleType → List Value → Items → Type 0
 AreFilled slots nullable type values jsons =
     FitList slots nullable type jsons values × HoldInItems slots type values
 
--- after an opening bracket the items of a slot's array stand from one place to the other, with the closing one, and are the
--- values
+-- after an opening bracket the items of a slot's array stand from one place to the other, with the closing one, and are
+-- the values
 abbrev pub FillsItems : Scene → RowSlot → ℕ → List Value → ℕ → ℕ → Type 0
 FillsItems scene slot depth values from to =
-    PassesTo scene.line from to × ReadsItems depth (tokens_at Fresh scene.line from) (tokens_at AfterValue scene.line to)
+    PassesTo scene.line from to
+    × ReadsItems depth (tokens_at Fresh scene.line from) (tokens_at AfterValue scene.line to)
     (AreFilled (slots_behind_node scene slot.node) slot.is_nullable
     (type_of (kinds_of scene.schema.now scene.plan.now.plans.items slot) slot.item) values)
 
--- after an opening brace the members of an object of a type stand from one place to the other, with the closing one, and
--- the values fit them
+-- after an opening brace the members of an object of a type stand from one place to the other, with the closing one,
+-- and the values fit them
 abbrev pub FillsMembers : Scene → RowType → ℕ → List Value → ℕ → ℕ → Type 0
 FillsMembers scene type depth values from to =
-    PassesTo scene.line from to × ReadsMembers depth (tokens_at Fresh scene.line from) (tokens_at AfterValue scene.line to)
-    (λ found. FitSlots (slots_behind_node scene type.node) (object found) (properties_at scene.schema.now type.type_id) values)
+    PassesTo scene.line from to
+    × ReadsMembers depth (tokens_at Fresh scene.line from) (tokens_at AfterValue scene.line to)
+    (λ found. FitSlots (slots_behind_node scene type.node) (object found)
+    (properties_at scene.schema.now type.type_id) values)
 
 -- ---- while the members are read
 
@@ -61,14 +65,16 @@ pub record FilledUpTo (scene : Scene) (type : RowType) (depth from place seen : 
   pub long : length filled ≡ length (properties_at scene.schema.now type.type_id)
   pub marks : SameMarks seen filled
   pub members : MembersUpTo depth scene.line from place
-      (λ found. SlotsSoFar (slots_behind_node scene type.node) (properties_at scene.schema.now type.type_id) found filled values)
+      (λ found. SlotsSoFar (slots_behind_node scene type.node) (properties_at scene.schema.now type.type_id)
+      found filled values)
 
 pub record FilledRead (scene : Scene) (type : RowType) (depth from end seen : ℕ) (values : List Value) : Type 0 where
   pub filled : List Bool
   pub long : length filled ≡ length (properties_at scene.schema.now type.type_id)
   pub marks : SameMarks seen filled
   pub members : MembersRead depth scene.line from end
-      (λ found. SlotsSoFar (slots_behind_node scene type.node) (properties_at scene.schema.now type.type_id) found filled values)
+      (λ found. SlotsSoFar (slots_behind_node scene type.node) (properties_at scene.schema.now type.type_id)
+      found filled values)
 
 -- the same of how far it was read
 abbrev pub IsFilledUpTo : Scene → RowType → ℕ → ℕ → List Value → Progress → Type 0

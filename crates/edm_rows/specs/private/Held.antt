@@ -19,8 +19,8 @@ use Rattle.edm_entities.specs.private.RowTokens.{FitsNullable, Reads}
 use Rattle.edm_rows.specs.declared.row_types.Task.{Task}
 use Rattle.edm_rows.specs.declared.row_types.Task.TheVariants.{Text, Number, Truth, Date, Moment, Guid, Member, Record, Items, Any}
 
--- what a slot says of its values beside its task: the type of its numbers and literals, the name of its enumeration, and the
--- name of its records' type
+-- what a slot says of its values beside its task: the type of its numbers and literals, the name of its enumeration,
+-- and the name of its records' type
 pub record Kinds : Type 0 where
   pub primitive : PrimitiveType
   pub enumeration : List ℕ
@@ -39,14 +39,15 @@ type_of kinds Record = structured kinds.record_type
 type_of kinds Items = primitive prim.String
 type_of kinds Any = primitive prim.String
 
--- JSON that a task holds to: some value fits it, or the value of an array, or nothing is asked of it. A single value, or an
--- item, may be null if that is so of the slot
+-- JSON that a task holds to: some value fits it, or the value of an array, or nothing is asked of it. A single value,
+-- or an item, may be null if that is so of the slot
 abbrev pub IsHeldTo : Slots → Kinds → Bool → Task → Task → Data → Type 0
 IsHeldTo slots kinds nullable inner Any json = Unit {0}
 IsHeldTo slots kinds nullable inner Items json = FitsSome slots false nullable (collection (type_of kinds inner)) json
 IsHeldTo slots kinds nullable inner task json = FitsSome slots nullable nullable (single (type_of kinds task)) json
 
--- a value of that type that is read of JSON, which may be null if `takes`; each record in it holds one value for each slot
+-- a value of that type that is read of JSON, which may be null if `takes`; each record in it holds one value for each
+-- slot
 abbrev pub IsFilled : Slots → Bool → Bool → ExprType → Value → Data → Type 0
 IsFilled slots takes nullable type value json =
     FitsNullable slots takes nullable type value json × HoldsEachSlot value slots type
@@ -59,8 +60,8 @@ FilledAs slots kinds nullable inner Items value json =
 FilledAs slots kinds nullable inner task value json =
     IsFilled slots nullable nullable (single (type_of kinds task)) value json
 
--- a value stands in a line from one place, where one may begin, to the other, if it may end there, nested no deeper than
--- that, and P holds of it
+-- a value stands in a line from one place, where one may begin, to the other, if it may end there, nested no deeper
+-- than that, and P holds of it
 pub record ReadsTo (depth : ℕ) (line : List ℕ) (from to : ℕ) (P : Data → Type 0) : Type 0 where
   pub bounds : (from < to) × (to ≤ length line)
   pub reads : (turn : Turn) → may_begin_at turn ≡ true → EndsHere line to

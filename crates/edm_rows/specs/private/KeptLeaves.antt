@@ -36,7 +36,8 @@ abbrev pub IsLeafRejected : Slots → SingleType → Sieve → Data → Type 0
 IsLeafRejected slots type sieve json =
     FitsSomeHowever slots (single type) json
     × ((nullable : Bool) (value : Val)
-    → FitsFound (Some json) nullable value (λ found. FitsType slots nullable (single type) found value) → Rejects sieve value)
+    → FitsFound (Some json) nullable value (λ found. FitsType slots nullable (single type) found value)
+    → Rejects sieve value)
 
 -- what became of a value: where it was not read the old one stays, or is half written; one of that type stands from one
 -- place to another, and is the new one; or it is rejected, and the old one stays

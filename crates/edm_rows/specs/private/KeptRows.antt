@@ -82,15 +82,17 @@ GoesOn scene slot old new = (new ≡ old) ⊎ ConformsInSlot scene slot new
 abbrev pub IsRejectedIn : Scene → RowSlot → Sieve → Data → Type 0
 IsRejectedIn scene slot sieve json =
     ((seen : ValAtType) × FitsSlotAs scene slot seen json)
-    × ((held : FieldVal) → OfSlotProperty scene slot (λ slots p. FitsProperty slots p.nullable p.type_of (Some json) held
+    × ((held : FieldVal)
+    → OfSlotProperty scene slot (λ slots p. FitsProperty slots p.nullable p.type_of (Some json) held
     → (value : Val) × (held ≡ present value) × Rejects sieve value))
 
--- what became of a slot's value: it stands from one place to another, and is the new one; or it is rejected, and the old
--- one stays
+-- what became of a slot's value: it stands from one place to another, and is the new one; or it is rejected, and the
+-- old one stays
 abbrev pub TakesValue : Scene → RowSlot → ℕ → Value → Value → ℕ → Taken → Type 0
 TakesValue scene slot depth old new from Nothing = Unit {0}
 TakesValue scene slot depth old new from Broken = Unit {0}
-TakesValue scene slot depth old new from (Put to) = ReadsTo depth scene.line from to (FitsSlotAs scene slot (val_of new))
+TakesValue scene slot depth old new from (Put to) = ReadsTo depth scene.line from to (FitsSlotAs scene slot
+    (val_of new))
 TakesValue scene slot depth old new from (Rejected to) =
     ReadsTo depth scene.line from to (IsRejectedIn scene slot slot.sieve) × (new ≡ old)
 
@@ -106,8 +108,8 @@ names_unkept_in properties slots name =
 abbrev pub RowConforms : Slots → List PropertyModel → List Value → Type 0
 RowConforms slots properties values = (kept : Members) × FitSlots slots (object kept) properties values
 
--- the slots that were seen stay, and those below a place that are kept and were not are null; if each that was not may be
--- absent, the values go on to conform
+-- the slots that were seen stay, and those below a place that are kept and were not are null; if each that was not may
+-- be absent, the values go on to conform
 pub record ClearsAbsent (rows : List RowSlot) (seen place : ℕ) (old new : List Value) : Type 0 where
   pub long : length new ≡ length old
   pub stay : (k : ℕ) → bit_at seen k ≡ 1 → slice_get new k ≡ slice_get old k

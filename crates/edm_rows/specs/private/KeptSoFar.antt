@@ -1,4 +1,5 @@
--- For private clauses: the members of a row that were read so far, of which those that are kept were put into its slots.
+-- For private clauses: the members of a row that were read so far, of which those that are kept were put into its
+-- slots.
 use Rattle.std.specs.Prelude.{◌≡◌, ℕ, ◌<◌, List, length, map, slice_get, get_or, Bool, true, false, Some, IfSome, MatchBool}
 use Rattle.std.specs.Int.{bit_at}
 use Rattle.serde_json.specs.Data.{Data, Members}
@@ -35,12 +36,15 @@ pub record RejectedSoFar
 -- what was found fits, and a value was rejected; or the values are it, but for those that are not kept
 abbrev pub SoFar : Scene → List RowSlot → Bool → ℕ → List Bool → List Value → Members → Type 0
 SoFar scene rows is_left_out seen filled values found =
-    MatchBool is_left_out (PassedSoFar (root_slots scene) (root_properties scene) found filled × RejectedSoFar scene rows seen found)
-    (SlotsSoFarBut (root_slots scene) (names_unkept_in (root_properties scene) rows) (root_properties scene) found filled values)
+    MatchBool is_left_out (PassedSoFar (root_slots scene) (root_properties scene) found filled
+    × RejectedSoFar scene rows seen found)
+    (SlotsSoFarBut (root_slots scene) (names_unkept_in (root_properties scene) rows)
+    (root_properties scene) found filled values)
 
 -- the members before a place, of which these slots were seen; and up to where the value of one ends
 pub record KeptUpTo
-    (scene : Scene) (rows : List RowSlot) (from place seen : ℕ) (is_left_out : Bool) (values : List Value) : Type 0 where
+    (scene : Scene) (rows : List RowSlot) (from place seen : ℕ) (is_left_out : Bool)
+    (values : List Value) : Type 0 where
   pub filled : List Bool
   pub long : length filled ≡ length (root_properties scene)
   pub marks : SameMarks seen filled

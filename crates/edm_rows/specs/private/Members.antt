@@ -13,7 +13,8 @@ use Rattle.edm_rows.specs.private.Held.{ReadsTo}
 -- from one place to the other, where a member may begin, stand a name and its colon
 pub record NamesTo (line : List ℕ) (from : ℕ) (name : List ℕ) (to : ℕ) : Type 0 where
   pub bounds : (from < to) × (to ≤ length line)
-  pub reads : (turn : Turn) → may_begin_at turn ≡ true → read_key (tokens_at turn line from) ≡ Some (Some name, tokens_at Fresh line to)
+  pub reads : (turn : Turn) → may_begin_at turn ≡ true
+      → read_key (tokens_at turn line from) ≡ Some (Some name, tokens_at Fresh line to)
 
 -- the name of the property at a slot
 abbrev pub NamesSlot : List ℕ → List PropertyModel → ℕ → ℕ → ℕ → Type 0
@@ -51,7 +52,8 @@ FindsName line properties slot from to =
 -- where a member's value ends at a place, a comma or a brace is passed up to the other
 abbrev pub EndsMember : List ℕ → ℕ → After → Type 0
 EndsMember line end (After.Comma next) =
-    (end < next) × (next ≤ length line) × EndsHere line end × (tokens_at AfterComma line next ≡ tokens_at AfterValue line end)
+    (end < next) × (next ≤ length line) × EndsHere line end
+    × (tokens_at AfterComma line next ≡ tokens_at AfterValue line end)
 EndsMember line end (After.Brace next) =
     (end < next) × (next ≤ length line) × EndsHere line end
     × (read_key (tokens_at AfterValue line end) ≡ Some (None, tokens_at AfterValue line next))

@@ -70,10 +70,11 @@ pub record IsSlotOf (plans : List TypePlan) (slot : RowSlot) : Type 0 where
 abbrev pub IsTaskOf : RowSlot → Task → Type 0
 IsTaskOf slot task = ((task ≢ Items) × (task ≡ slot.item)) ⊎ ((task ≡ Items) × IsSingle slot.item)
 
--- it is the slot of that index of a plan: what its task holds to fits the property, and a single value without parts is of
--- the task's type
+-- it is the slot of that index of a plan: what its task holds to fits the property, and a single value without parts is
+-- of the task's type
 pub record IsRowSlot
-    (schema : SchemaModel) (steps : List StepModel) (plans : List TypePlan) (index : ℕ) (plan : SlotPlan) (slot : RowSlot) : Type 0 where
+    (schema : SchemaModel) (steps : List StepModel) (plans : List TypePlan) (index : ℕ) (plan : SlotPlan)
+    (slot : RowSlot) : Type 0 where
   pub named : slot.key ≡ plan.key
   pub behind : slot.node ≡ plan.node
   pub index_is : slot.index ≡ index
@@ -82,10 +83,13 @@ pub record IsRowSlot
   pub agrees : IsSlotOf plans slot
   pub task : IsTaskOf slot slot.task
   pub fits : (json : Data) → IsSlotHeld schema steps plans slot json
-      → FitsSomeProperty (slots_at schema steps plan.node) plan.property.nullable (property_type schema plan.property) (Some json)
+      → FitsSomeProperty (slots_at schema steps plan.node) plan.property.nullable
+      (property_type schema plan.property) (Some json)
   pub fills : (value : Value) (json : Data)
-      → FilledAs (slots_at schema steps slot.node) (kinds_of schema plans slot) slot.is_nullable slot.item slot.task value json
-      → FitsSeen (slots_at schema steps plan.node) plan.property.nullable (property_type schema plan.property) (Some json)
+      → FilledAs (slots_at schema steps slot.node) (kinds_of schema plans slot) slot.is_nullable slot.item
+      slot.task value json
+      → FitsSeen (slots_at schema steps plan.node) plan.property.nullable
+      (property_type schema plan.property) (Some json)
       (val_of value) × HoldsInSlot (slots_at schema steps plan.node) (property_type schema plan.property) value
   pub typed : IsLeaf slot.task → slot.task ≢ Any
       → (property_type schema plan.property ≡ declared (single (type_of (kinds_of schema plans slot) slot.task)))
@@ -99,13 +103,14 @@ IsFresh slot = (slot.is_kept ≡ false) × (slot.sieve ≡ All)
 abbrev pub IsFreshType : RowType → Type 0
 IsFreshType type = (index : ℕ) → IfSome (slice_get type.slots.items index) IsFresh
 
--- it is the type of a plan, of 63 slots at most; those that it says may be absent may
+-- it is the type of a plan, of 64 slots at most; those that it says may be absent may
 pub record IsRowType
-    (schema : SchemaModel) (steps : List StepModel) (plans : List TypePlan) (plan : TypePlan) (type : RowType) : Type 0 where
+    (schema : SchemaModel) (steps : List StepModel) (plans : List TypePlan) (plan : TypePlan)
+    (type : RowType) : Type 0 where
   pub is_plan : IsPlan schema steps plan
   pub of_type : (type.type_id ≡ plan.type_id) × (type.node ≡ plan.node)
   pub count : length type.slots.items ≡ length plan.slots.items
-  pub few : length type.slots.items ≤ 63
+  pub few : length type.slots.items ≤ 64
   pub order : type.order < 1024
   pub each : (index : ℕ) → IfSome (slice_get type.slots.items index)
       (λ slot. IfSome (slice_get plan.slots.items index) (λ p. IsRowSlot schema steps plans index p slot))
@@ -118,6 +123,8 @@ abbrev pub IsTypeOf : SchemaModel → List StepModel → List TypePlan → RowTy
 IsTypeOf schema steps plans type = (plan : TypePlan) × IsRowType schema steps plans plan type
 
 -- each of these types is that of the plan at its place
-pub record AreRowTypes (schema : SchemaModel) (steps : List StepModel) (plans : List TypePlan) (types : List RowType) : Type 0 where
+pub record AreRowTypes (schema : SchemaModel) (steps : List StepModel) (plans : List TypePlan)
+    (types : List RowType) : Type 0 where
   pub count : length types ≡ length plans
-  pub each : (place : ℕ) → IfSome (slice_get types place) (λ t. IfSome (slice_get plans place) (λ p. IsRowType schema steps plans p t))
+  pub each : (place : ℕ)
+      → IfSome (slice_get types place) (λ t. IfSome (slice_get plans place) (λ p. IsRowType schema steps plans p t))

@@ -20,13 +20,15 @@ use Rattle.edm_rows.specs.private.RowSlots.{AreRowTypes, kinds_of}
 -- the types are those of a plan, and the texts are of their enumerations
 abbrev pub IsScene : Scene → Type 0
 IsScene scene =
-    AreRowTypes scene.schema.now scene.plan.now.expansion scene.plan.now.plans.items scene.types.now × AreKnown scene.schema.now scene.known.now
+    AreRowTypes scene.schema.now scene.plan.now.expansion scene.plan.now.plans.items scene.types.now
+    × AreKnown scene.schema.now scene.known.now
 
 -- the types of the schema, where what stands after a node is expanded
 abbrev pub slots_behind_node : Scene → Option ℕ → Slots
 slots_behind_node scene node = slots_at scene.schema.now scene.plan.now.expansion node
 
--- a slot's value, or an item of it, stands from one place to the other, nested no deeper than that, and is held to the task
+-- a slot's value, or an item of it, stands from one place to the other, nested no deeper than that, and is held to the
+-- task
 abbrev pub PassesValue : Scene → RowSlot → Task → ℕ → ℕ → ℕ → Type 0
 PassesValue scene slot task depth from to =
     ReadsTo depth scene.line from to (IsHeldTo (slots_behind_node scene slot.node)
@@ -35,18 +37,21 @@ PassesValue scene slot task depth from to =
 -- after an opening bracket the items of a slot's array stand from one place to the other, with the closing one
 abbrev pub PassesItems : Scene → RowSlot → ℕ → ℕ → ℕ → Type 0
 PassesItems scene slot depth from to =
-    PassesTo scene.line from to × ReadsItems depth (tokens_at Fresh scene.line from) (tokens_at AfterValue scene.line to)
+    PassesTo scene.line from to
+    × ReadsItems depth (tokens_at Fresh scene.line from) (tokens_at AfterValue scene.line to)
     (FitSomeItems (slots_behind_node scene slot.node) slot.is_nullable
     (type_of (kinds_of scene.schema.now scene.plan.now.plans.items slot) slot.item))
 
 -- after an opening brace the members of an object of a type stand from one place to the other, with the closing one
 abbrev pub PassesMembers : Scene → RowType → ℕ → ℕ → ℕ → Type 0
 PassesMembers scene type depth from to =
-    PassesTo scene.line from to × ReadsMembers depth (tokens_at Fresh scene.line from) (tokens_at AfterValue scene.line to)
-    (λ found. FitSomeSlots (slots_behind_node scene type.node) (properties_at scene.schema.now type.type_id) (object found))
+    PassesTo scene.line from to
+    × ReadsMembers depth (tokens_at Fresh scene.line from) (tokens_at AfterValue scene.line to)
+    (λ found. FitSomeSlots (slots_behind_node scene type.node) (properties_at scene.schema.now type.type_id)
+    (object found))
 
--- the next member of an object of a type: the slot of its name, which is one of the type's, and the place of its value; or
--- a name that no slot has, and the place after the value
+-- the next member of an object of a type: the slot of its name, which is one of the type's, and the place of its value;
+-- or a name that no slot has, and the place after the value
 abbrev pub FindsSlot : Scene → RowType → ℕ → ℕ → Option RowSlot → ℕ → Type 0
 FindsSlot scene type depth from (Some slot) to =
     (index : ℕ) × (slice_get type.slots.items index ≡ Some slot)
@@ -55,4 +60,5 @@ FindsSlot scene type depth from None to =
     PassesOther depth scene.line (properties_at scene.schema.now type.type_id) from to
 
 abbrev pub FindsMember : Scene → RowType → ℕ → ℕ → Found → Type 0
-FindsMember scene type depth from found = FindsSlot scene type depth from (option_map (λ s. s.now) found.slot) found.place
+FindsMember scene type depth from found = FindsSlot scene type depth from (option_map
+    (λ s. s.now) found.slot) found.place

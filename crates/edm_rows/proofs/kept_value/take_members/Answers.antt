@@ -21,6 +21,9 @@ members-init c =
       c.requires.conforms,
     )
 
+pub take_empty-requires-clause-conforms : goal.take_empty-requires-clause-conforms
+take_empty-requires-clause-conforms c = c.members.invariant.4
+
 pub take_found-requires-clause-long : goal.take_found-requires-clause-long
 take_found-requires-clause-long c = held_long _ (root_properties c.args.scene.now) c.members.values c.members.invariant.4.1
 

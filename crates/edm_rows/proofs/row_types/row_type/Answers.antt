@@ -1,6 +1,5 @@
-use Rattle.std.proofs.Common.{◌≡◌, ℕ, ◌-◌, ◌*◌, ◌%◌, ◌^◌, [], ◌∷◌, ◌++◌, length, None, Some, IfSome, slice_get, refl, sym, ap, ◌∙◌, subst, arith}
+use Rattle.std.proofs.Common.{◌≡◌, ℕ, ◌-◌, ◌^◌, [], ◌∷◌, ◌++◌, length, None, Some, IfSome, slice_get, refl, sym, ap, ◌∙◌, subst, arith}
 use Rattle.std.proofs.lemmas.Grind.{common_steps}
-use Rattle.std.proofs.lemmas.Nat.{one_shl}
 use Rattle.std.proofs.lemmas.Nat.Bits.{bit_at-zero}
 use Rattle.std.proofs.lemmas.Option.{slice_get_read}
 use Rattle.csdl_schema.specs.SchemaModel.{properties_at}
@@ -81,12 +80,11 @@ returns-clause-planned c =
     let is : IsPlan schema steps of = each_at (λ _. IsPlan schema steps) plans c.args.place of c.requires.plans at_of in
     let all_long : length l.slots.items ≡ length of.slots.items = omega (arith, l.invariant.0) in
     let many : c.len-2.result ≡ length of.slots.items = omega (arith, c.len-2.ensures, of.slots.ok.0) in
-    let bits : 1 * 2 ^ length of.slots.items % 2 ^ 64 ≡ 2 ^ length of.slots.items = one_shl (length of.slots.items) 64 (omega arith) in
     let type : RowType = record {
       type_id = of.type_id;
       node = of.node;
       slots = l.slots;
-      all = 1 * 2 ^ c.len-2.result % 2 ^ 64 - 1;
+      all = c.all_bits.result;
       optional = l.optional;
       order = c.args.order;
     } in
@@ -97,7 +95,7 @@ returns-clause-planned c =
       few = omega (arith, all_long);
       order = c.requires.order;
       each = l.invariant.1;
-      all = ap (λ n. 1 * 2 ^ n % 2 ^ 64 - 1) many ∙ ap (λ m. m - 1) bits ∙ ap (λ n. 2 ^ n - 1) (sym all_long);
+      all = c.all_bits.ensures ∙ ap (λ n. 2 ^ n - 1) many ∙ ap (λ n. 2 ^ n - 1) (sym all_long);
       optional = l.invariant.2;
     })
 

@@ -11,6 +11,9 @@ use Rattle.edm_rows.proofs.type_rows.TypeRows.begin.Goals as goal
 pub read_value-requires : goal.read_value-requires
 read_value-requires c = subst (λ s. IsPlanOf s c.self.inside.plan) (sym c.schema.ensures) c.self.invariant.is_plan
 
+pub refill-requires : goal.refill-requires
+refill-requires c = subst (λ s. IsPlanOf s c.self.inside.plan) (sym c.schema-held.ensures) c.self.invariant.is_plan
+
 pub invariant_of-self : goal.invariant_of-self
 invariant_of-self c =
     let rows = c.self.inside in

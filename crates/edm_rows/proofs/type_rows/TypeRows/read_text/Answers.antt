@@ -1,4 +1,4 @@
-use Rattle.std.proofs.Common.{◌≡◌, ◌×◌, List, Some, ap, sym, ◌∙◌, subst}
+use Rattle.std.proofs.Common.{◌≡◌, List, Some, ap, sym, ◌∙◌, subst}
 use Rattle.csdl_schema.specs.SchemaModel.{SchemaModel, properties_at}
 use Rattle.edm_entities.specs.RowReading.{IsLineBut}
 use Rattle.edm_entities.specs.private.Passed.{IsRowValue}

@@ -1,5 +1,0 @@
-use Rattle.json_room.proofs.KeysStand.{masked_lane}
-use Rattle.edm_rows.proofs.known_texts.are_front.Goals as goal
-
-pub returns : goal.returns
-returns c done k few bits = masked_lane c.args.lanes c.args.mask c.args.front c.fits-lanes.0 c.fits-lanes.1 c.fits-mask.0 (c.are_equal_16.ensures done) k few bits
