@@ -1,6 +1,6 @@
-"""The built program, by both compilers, and the ways to run it: for tests/program, tests/great_texts, tests/drawn_lines
-and tests/drawn_rows. A group of checks takes a folder of its own and gives names, whether all is well, and what was
-said.
+"""The built program, by both compilers, and the ways to run it: for tests/program, tests/great_texts,
+tests/drawn_lines, tests/drawn_rows and tests/damaged_rows. A group of checks takes a folder of its own and gives names,
+whether all is well, and what was said.
 """
 import itertools
 import os
