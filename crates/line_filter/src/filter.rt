@@ -1,8 +1,8 @@
 ghost use Rattle.std.specs.Prelude.{IfOk, IfErr, IfSome, MatchResult, OnOk};
 ghost use Rattle.std.specs.Io.KnownBytes.{Keeps};
 ghost use Rattle.line_filter.specs.DeviceCalls.{StaysWell, FlushesLast};
-ghost use Rattle.line_filter.specs.Growth.{Grows, Writes};
-ghost use Rattle.line_filter.specs.Kept.{Filters, IsOfItem, StopsHeld, StopsWith};
+ghost use Rattle.line_filter.specs.Growth.{Writes};
+ghost use Rattle.line_filter.specs.Kept.{Filters, StopsHeld, StopsWith};
 ghost use Rattle.line_filter.specs.LineItems.{lines, SaysTheSame};
 ghost use Rattle.line_filter.specs.LineSource.{left_of, IsOver};
 ghost use Rattle.line_filter.specs.LineStreams.{LacksLine, ReadsUntil, WritesUntil};
@@ -16,27 +16,19 @@ use super::places::write_kept_places;
 use super::stop::Stop;
 use super::stream::write_kept_stream;
 use super::tally::Tally;
-use super::walk::{Progress, keep_lines};
 use std::alloc::Global;
 use std::io::{Read, Write};
 
-/// What a run returns once its lines have been judged.
+/// What a run returns once its items have been judged.
 fn finish<F: Drop, W: Write, T: Writes<W>>(
-    progress: Progress<F>,
+    outcome: Result<Tally, Stop<F>>,
     out: &mut W,
 ) -> Result<Tally, Stop<F>>
-    ensures answer { Ends progress result }
+    ensures answer { Ends outcome result }
     ensures kept { Keeps (W.contents out.old) (W.contents out.new) }
-    ensures calls { Closes progress result (T.calls out.old) (T.calls out.new) }
+    ensures calls { Closes outcome result (T.calls out.old) (T.calls out.new) }
 {
-    let Progress {
-        lines: _,
-        tally,
-        stop,
-    } = progress;
-    if let Some(stop) = stop {
-        return Err(stop);
-    }
+    let tally = outcome?;
     match T::flush(out) {
         Ok(()) => Ok(tally),
         Err(_) => Err(Stop::Write),
@@ -73,36 +65,8 @@ pub fn filter_reader<R: Read, S: Reads<R>, J: Judge, W: Write, T: Writes<W>>(
     ensures same { SaysTheSame (J.says judge.old) (J.says judge.new) }
 {
     match write_kept_stream::<R, S, J, W, T>(alloc, judge, reader, out) {
-        Ok(progress) => finish::<J::Fault, W, T>(progress, out),
+        Ok(outcome) => finish::<J::Fault, W, T>(outcome, out),
         Err(_) => Err(Stop::Write),
-    }
-}
-
-/// Judges the lines of bytes in memory, and appends those that are kept to a vector. They are unchanged and each
-/// followed by LF.
-///
-/// Lines are judged as by [`filter_reader`]. No device is called, so the result is neither `Read` nor `Write`. If an
-/// allocation for a kept line fails it is `Memory`, and the vector has the kept lines before it.
-pub fn filter_bytes<J: Judge>(
-    judge: &mut J,
-    bytes: &[u8],
-    out: &mut Vec<u8>,
-) -> Result<Tally, Stop<J::Fault>>
-    ensures filters { IfOk result (λ tally. Grows out.old.items out.new.items
-        (λ text. Filters (lines (J.says judge.old) bytes.now) text tally)) }
-    ensures stops { IfErr result (λ stop. Grows out.old.items out.new.items
-        (λ text. StopsHeld (lines (J.says judge.old) bytes.now) text stop)) }
-    ensures of_item { IfErr result IsOfItem }
-    ensures same { SaysTheSame (J.says judge.old) (J.says judge.new) }
-{
-    let Progress {
-        lines: _,
-        tally,
-        stop,
-    } = keep_lines(judge, bytes, out);
-    match stop {
-        Some(stop) => Err(stop),
-        None => Ok(tally),
     }
 }
 
@@ -125,7 +89,7 @@ pub fn filter_places<J: JudgeItem, W: Write, T: Writes<W>>(
         (λ stop. WritesUntil (T.calls out.old) (T.calls out.new) stop) }
 {
     match write_kept_places::<J, W, T>(alloc, judge, items, out) {
-        Ok(progress) => finish::<J::Fault, W, T>(progress, out),
+        Ok(outcome) => finish::<J::Fault, W, T>(outcome, out),
         Err(_) => Err(Stop::Write),
     }
 }

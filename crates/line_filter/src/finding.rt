@@ -1,6 +1,7 @@
 ghost use Rattle.std.specs.Prelude.{IfOk, IsTrue, length, take, ◌↔◌, ◌≡◌};
 ghost use Rattle.line_filter.specs.LineItems.{IsFoundOf, SaysTheSame};
 ghost use Rattle.line_filter.specs.Lines.{IsBlank, is_space};
+ghost use Rattle.line_filter.specs.private.Walk.{is_kept_by};
 
 use super::judge::{Judge, Judgment};
 use std::alloc::AllocError;
@@ -14,6 +15,13 @@ pub enum Finding<F> {
     TooLong,
     PassedOver,
     Judged(Judgment<F>),
+}
+
+/// Whether the item is kept of which that was found.
+pub(crate) fn is_kept<F>(found: &Result<Finding<F>, AllocError>) -> bool
+    ensures { result ≡ is_kept_by found.now }
+{
+    matches!(found, Ok(Finding::Judged(Judgment::Kept)))
 }
 
 fn is_space(byte: u8) -> bool

@@ -32,7 +32,7 @@ mod walk;
 
 pub use calls::Calls;
 pub use device::{NotRead, NotWritten, Reads, Writes};
-pub use filter::{filter_bytes, filter_places, filter_reader};
+pub use filter::{filter_places, filter_reader};
 pub use finding::Finding;
 pub use judge::{Judge, JudgeItem, Judgment, SaysOfItems};
 pub use laws::{items_stop_once, lines_stop_once, slices_tell_their_bytes};
@@ -42,3 +42,4 @@ pub use recorded::Recorded;
 pub use stop::Stop;
 pub use strategies::{ByRecord, Unfailing, Untold};
 pub use tally::Tally;
+pub use walk::filter_bytes;

@@ -1,4 +1,4 @@
-ghost use Rattle.std.specs.Prelude.{◌≡◌, ℕ, List, [], decimal, IfOk, IfSome, OnErr, OnOk};
+ghost use Rattle.std.specs.Prelude.{◌≡◌, ℕ, List, [], decimal, IfErr, IfOk, OnErr, OnOk};
 ghost use Rattle.line_filter.specs.DeviceCalls.{StaysWell, FailsLast};
 ghost use Rattle.line_filter.specs.Growth.{Writes};
 ghost use Rattle.line_filter.specs.Kept.{StopsWithin, IsOfItem};
@@ -10,9 +10,9 @@ use super::device::{NotWritten, Writes};
 use super::finding::Finding;
 use super::judge::JudgeItem;
 use super::output::release;
-use super::step::{Step, settle};
+use super::step::settle;
+use super::stop::Stop;
 use super::tally::Tally;
-use super::walk::Progress;
 use itoa::Buffer;
 use std::alloc::{AllocError, Global};
 use std::io::Write;
@@ -31,12 +31,12 @@ fn judge_items<J: JudgeItem, W: Write, T: Writes<W>>(
     items: &[J::Item],
     out: &mut W,
     held: &mut Vec<u8>,
-) -> Result<Progress<J::Fault>, NotWritten>
+) -> Result<Result<Tally, Stop<J::Fault>>, NotWritten>
     requires { held.old.items ≡ [] }
-    ensures ok { IfOk result (λ progress. (text : List ℕ)
+    ensures ok { IfOk result (λ outcome. (text : List ℕ)
         × WritesBut (W.contents out.old) (W.contents out.new) held.new.items text
-        × GoesOver (places (J.says judge.now) items.now) text progress) }
-    ensures of_item { IfOk result (λ progress. IfSome progress.stop IsOfItem) }
+        × GoesOver (places (J.says judge.now) items.now) text outcome) }
+    ensures of_item { IfOk result (λ outcome. IfErr outcome IsOfItem) }
     ensures err { OnErr result
         (Writes (W.contents out.old) (W.contents out.new) (StopsWithin (places (J.says judge.now) items.now))) }
     ensures well { OnOk result (StaysWell (T.calls out.old) (T.calls out.new)) }
@@ -49,27 +49,15 @@ fn judge_items<J: JudgeItem, W: Write, T: Writes<W>>(
         let mut buffer = Buffer::new();
         let text = buffer.format(place);
         match settle::<J::Fault, W, T>(found, text.as_bytes(), place + 1, out, held)? {
-            Step::Passed(one) => {
+            Ok(one) => {
                 place += 1;
                 tally.rows += one.rows;
                 tally.kept += one.kept;
             }
-            Step::Stopped(stop) => {
-                let stop = Some(stop);
-                return Ok(Progress {
-                    lines: place,
-                    tally,
-                    stop,
-                });
-            }
+            Err(stop) => return Ok(Err(stop)),
         }
     }
-    let stop = None;
-    Ok(Progress {
-        lines: place,
-        tally,
-        stop,
-    })
+    Ok(Ok(tally))
 }
 
 /// Judges the items up to the first fault, and writes the indexes of the kept ones.
@@ -78,17 +66,17 @@ pub fn write_kept_places<J: JudgeItem, W: Write, T: Writes<W>>(
     judge: &J,
     items: &[J::Item],
     out: &mut W,
-) -> Result<Progress<J::Fault>, NotWritten>
-    ensures ok { IfOk result (λ progress. Writes (W.contents out.old) (W.contents out.new)
-        (λ text. GoesOver (places (J.says judge.now) items.now) text progress)) }
-    ensures of_item { IfOk result (λ progress. IfSome progress.stop IsOfItem) }
+) -> Result<Result<Tally, Stop<J::Fault>>, NotWritten>
+    ensures ok { IfOk result (λ outcome. Writes (W.contents out.old) (W.contents out.new)
+        (λ text. GoesOver (places (J.says judge.now) items.now) text outcome)) }
+    ensures of_item { IfOk result (λ outcome. IfErr outcome IsOfItem) }
     ensures err { OnErr result
         (Writes (W.contents out.old) (W.contents out.new) (StopsWithin (places (J.says judge.now) items.now))) }
     ensures well { OnOk result (StaysWell (T.calls out.old) (T.calls out.new)) }
     ensures failed { OnErr result (FailsLast (T.calls out.old) (T.calls out.new)) }
 {
     let mut held = Vec::new(alloc);
-    let progress = judge_items::<J, W, T>(judge, items, out, &mut held)?;
+    let outcome = judge_items::<J, W, T>(judge, items, out, &mut held)?;
     release::<W, T>(out, &mut held)?;
-    Ok(progress)
+    Ok(outcome)
 }

@@ -5,23 +5,16 @@ ghost use Rattle.line_filter.specs.DeviceCalls.{StaysWell, FailsLast};
 ghost use Rattle.line_filter.specs.Lines.{text_of_line};
 ghost use Rattle.line_filter.specs.Growth.{WritesFront};
 ghost use Rattle.line_filter.specs.private.HeldBack.{WritesBut};
-ghost use Rattle.line_filter.specs.private.Walk.{count_where, step_of, text_where, text_where_kept};
+ghost use Rattle.line_filter.specs.private.Walk.{count_where, outcome_of, text_where, text_where_kept};
 
 use super::device::{NotWritten, Writes};
-use super::finding::Finding;
+use super::finding::{Finding, is_kept};
 use super::judge::Judgment;
 use super::output::hold;
 use super::stop::Stop;
 use super::tally::Tally;
 use std::alloc::AllocError;
 use std::io::Write;
-
-/// What became of one item.
-#[derive(Drop)]
-pub enum Step<F> {
-    Passed(Tally),
-    Stopped(Stop<F>),
-}
 
 /// Writes the text and then LF.
 fn keep<W: Write, T: Writes<W>>(
@@ -71,60 +64,45 @@ pub fn count_where(is_kept: bool) -> u64
     if is_kept { 1 } else { 0 }
 }
 
-/// What becomes of the item of this number, of which that was found. Where it is kept, the text is written and then LF:
-/// of a line that is the line itself.
+/// What the item of this number counts, of which that was found, or why the run stops at it. Where it is kept, the text
+/// is written and then LF: of a line that is the line itself.
 pub fn settle<F: Drop, W: Write, T: Writes<W>>(
     found: Result<Finding<F>, AllocError>,
     text: &[u8],
     number: u64,
     out: &mut W,
     held: &mut Vec<u8>,
-) -> Result<Step<F>, NotWritten>
+) -> Result<Result<Tally, Stop<F>>, NotWritten>
     ensures ok { OnOk result (WritesBut (W.contents out.old) (W.contents out.new) held.new.items
         (held.old.items ++ text_where_kept found (text_of_line text.now))) }
-    ensures step { IfOk result (λ step. step ≡ step_of number found) }
+    ensures outcome { IfOk result (λ outcome. outcome ≡ outcome_of number found) }
     ensures kept { OnErr result (found ≡ Ok (FindingModel.Judged JudgmentModel.Kept)) }
     ensures err { OnErr result
         (WritesFront (W.contents out.old) (W.contents out.new) (held.old.items ++ text_of_line text.now)) }
     ensures well { OnOk result (StaysWell (T.calls out.old) (T.calls out.new)) }
     ensures failed { OnErr result (FailsLast (T.calls out.old) (T.calls out.new)) }
 {
-    let judgment = match found {
-        Ok(Finding::TooLong) => return Ok(Step::Stopped(Stop::TooLong { line: number })),
-        Ok(Finding::PassedOver) => return Ok(Step::Passed(Tally { rows: 0, kept: 0 })),
-        Ok(Finding::Judged(judgment)) => judgment,
-        Err(_) => return Ok(Step::Stopped(Stop::Memory { line: number })),
-    };
-    match judgment {
-        Judgment::Kept => {
-            keep::<W, T>(out, held, text)?;
-            Ok(Step::Passed(Tally { rows: 1, kept: 1 }))
-        }
-        Judgment::LeftOut => Ok(Step::Passed(Tally { rows: 1, kept: 0 })),
-        Judgment::Fault(fault) => {
-            let stop = Stop::Fault {
-                line: number,
-                fault,
-            };
-            Ok(Step::Stopped(stop))
-        }
-    }
+    keep_where::<W, T>(is_kept(&found), text, out, held)?;
+    Ok(outcome_of(found, number))
 }
 
-/// What becomes of the item of this number, of which that was found.
-pub fn step_at<F: Drop>(found: Result<Finding<F>, AllocError>, number: u64) -> Step<F>
-    ensures { result ≡ step_of number found }
+/// What the item of this number counts, of which that was found, or why the run stops at it.
+pub fn outcome_of<F: Drop>(
+    found: Result<Finding<F>, AllocError>,
+    number: u64,
+) -> Result<Tally, Stop<F>>
+    ensures { result ≡ outcome_of number found }
 {
     let judgment = match found {
-        Ok(Finding::TooLong) => return Step::Stopped(Stop::TooLong { line: number }),
-        Ok(Finding::PassedOver) => return Step::Passed(Tally { rows: 0, kept: 0 }),
+        Ok(Finding::TooLong) => return Err(Stop::TooLong { line: number }),
+        Ok(Finding::PassedOver) => return Ok(Tally { rows: 0, kept: 0 }),
         Ok(Finding::Judged(judgment)) => judgment,
-        Err(_) => return Step::Stopped(Stop::Memory { line: number }),
+        Err(_) => return Err(Stop::Memory { line: number }),
     };
     match judgment {
-        Judgment::Kept => Step::Passed(Tally { rows: 1, kept: 1 }),
-        Judgment::LeftOut => Step::Passed(Tally { rows: 1, kept: 0 }),
-        Judgment::Fault(fault) => Step::Stopped(Stop::Fault {
+        Judgment::Kept => Ok(Tally { rows: 1, kept: 1 }),
+        Judgment::LeftOut => Ok(Tally { rows: 1, kept: 0 }),
+        Judgment::Fault(fault) => Err(Stop::Fault {
             line: number,
             fault,
         }),

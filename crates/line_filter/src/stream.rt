@@ -1,4 +1,4 @@
-ghost use Rattle.std.specs.Prelude.{◌≡◌, ℕ, ◌+◌, ◌-◌, ◌<◌, ◌^◌, List, [], IfOk, IfSome, IfNone, MatchOption, OnOk, OnErr};
+ghost use Rattle.std.specs.Prelude.{◌≡◌, ℕ, ◌+◌, ◌-◌, ◌<◌, ◌^◌, List, [], IfErr, IfOk, IfSome, MatchResult, OnOk, OnErr};
 ghost use Rattle.line_filter.specs.DeviceCalls.{StaysWell, FailsLast};
 ghost use Rattle.line_filter.specs.Growth.{Writes, WritesFront};
 ghost use Rattle.line_filter.specs.Kept.{StopsWithin};
@@ -15,10 +15,9 @@ use super::finding::find;
 use super::judge::Judge;
 use super::line_reader::{LineFault, LineReader, Next};
 use super::output::release;
-use super::step::{Step, count_where, keep_where, settle};
+use super::step::{count_where, keep_where, settle};
 use super::stop::Stop;
 use super::tally::Tally;
-use super::walk::Progress;
 use std::alloc::Global;
 use std::io::{Read, Write};
 
@@ -67,23 +66,23 @@ fn judge_stream<R: Read, S: Reads<R>, J: Judge, W: Write, T: Writes<W>>(
     reader: &mut LineReader<R>,
     out: &mut W,
     held: &mut Vec<u8>,
-) -> Result<Progress<J::Fault>, NotWritten>
+) -> Result<Result<Tally, Stop<J::Fault>>, NotWritten>
     requires none_held { held.old.items ≡ [] }
     requires few { bytes_to_come reader.old < 2 ^ 64 - 1 }
-    ensures ok { IfOk result (λ progress. IfSome (left_of R.remaining reader.old) (λ bytes. (text : List ℕ)
+    ensures ok { IfOk result (λ outcome. IfSome (left_of R.remaining reader.old) (λ bytes. (text : List ℕ)
         × WritesBut (W.contents out.old) (W.contents out.new) held.new.items text
-        × GoesOn (J.says judge.old) bytes reader.new.waiting (R.remaining reader.new.reader) text progress)) }
-    ensures ended { IfOk result (λ progress. IfNone progress.stop (IsOver reader.new)) }
+        × GoesOn (J.says judge.old) bytes reader.new.waiting (R.remaining reader.new.reader) text outcome)) }
+    ensures ended { IfOk result (λ outcome. OnOk outcome (IsOver reader.new)) }
     ensures err { OnErr result (IfSome (left_of R.remaining reader.old) (λ bytes.
         Writes (W.contents out.old) (W.contents out.new) (StopsWithin (lines (J.says judge.old) bytes)))) }
-    ensures reads { IfOk result (λ progress. MatchOption progress.stop
-        (StaysWell (S.calls reader.old.reader) (S.calls reader.new.reader))
+    ensures reads { IfOk result (λ outcome. MatchResult outcome
+        (λ tally. StaysWell (S.calls reader.old.reader) (S.calls reader.new.reader))
         (λ stop. ReadsUntil S.calls R.remaining reader.old reader.new stop)) }
     ensures read_well { OnErr result (StaysWell (S.calls reader.old.reader) (S.calls reader.new.reader)) }
     ensures none_failed { OnOk result (¬ IsUnread reader.new
         → StaysWell (S.calls reader.old.reader) (S.calls reader.new.reader)) }
     ensures none_held { OnOk result (IsUnread reader.new → held.new.items ≡ []) }
-    ensures unwritten { IfOk result (λ progress. IfSome progress.stop IsUnwritten) }
+    ensures unwritten { IfOk result (λ outcome. IfErr outcome IsUnwritten) }
     ensures well { OnOk result (StaysWell (T.calls out.old) (T.calls out.new)) }
     ensures failed { OnErr result (FailsLast (T.calls out.old) (T.calls out.new)) }
     ensures same { SaysTheSame (J.says judge.old) (J.says judge.new) }
@@ -93,14 +92,8 @@ fn judge_stream<R: Read, S: Reads<R>, J: Judge, W: Write, T: Writes<W>>(
     loop {
         match next_line::<R, S, W, T>(reader, out, held)? {
             Next::Line => {}
-            Next::End => {
-                let stop = None;
-                return Ok(Progress { lines, tally, stop });
-            }
-            Next::Fault(fault) => {
-                let stop = Some(fault_stop(fault, lines + 1));
-                return Ok(Progress { lines, tally, stop });
-            }
+            Next::End => return Ok(Ok(tally)),
+            Next::Fault(fault) => return Ok(Err(fault_stop(fault, lines + 1))),
         }
         let line = reader.line();
         match judge.keeps(reader.front(), line.len(), reader.is_line_ascii()) {
@@ -115,15 +108,12 @@ fn judge_stream<R: Read, S: Reads<R>, J: Judge, W: Write, T: Writes<W>>(
         }
         let found = find(judge, line);
         match settle::<J::Fault, W, T>(found, line, lines + 1, out, held)? {
-            Step::Passed(one) => {
+            Ok(one) => {
                 lines += 1;
                 tally.rows += one.rows;
                 tally.kept += one.kept;
             }
-            Step::Stopped(stop) => {
-                let stop = Some(stop);
-                return Ok(Progress { lines, tally, stop });
-            }
+            Err(stop) => return Ok(Err(stop)),
         }
     }
 }
@@ -134,25 +124,25 @@ pub fn write_kept_stream<R: Read, S: Reads<R>, J: Judge, W: Write, T: Writes<W>>
     judge: &mut J,
     reader: &mut LineReader<R>,
     out: &mut W,
-) -> Result<Progress<J::Fault>, NotWritten>
-    ensures ok { IfOk result (λ progress. IfSome (left_of R.remaining reader.old) (λ bytes.
+) -> Result<Result<Tally, Stop<J::Fault>>, NotWritten>
+    ensures ok { IfOk result (λ outcome. IfSome (left_of R.remaining reader.old) (λ bytes.
         Writes (W.contents out.old) (W.contents out.new)
-        (λ text. GoesOn (J.says judge.old) bytes reader.new.waiting (R.remaining reader.new.reader) text progress))) }
-    ensures ended { IfOk result (λ progress. IfNone progress.stop (IsOver reader.new)) }
+        (λ text. GoesOn (J.says judge.old) bytes reader.new.waiting (R.remaining reader.new.reader) text outcome))) }
+    ensures ended { IfOk result (λ outcome. OnOk outcome (IsOver reader.new)) }
     ensures err { OnErr result (IfSome (left_of R.remaining reader.old) (λ bytes.
         Writes (W.contents out.old) (W.contents out.new) (StopsWithin (lines (J.says judge.old) bytes)))) }
-    ensures reads { IfOk result (λ progress. MatchOption progress.stop
-        (StaysWell (S.calls reader.old.reader) (S.calls reader.new.reader))
+    ensures reads { IfOk result (λ outcome. MatchResult outcome
+        (λ tally. StaysWell (S.calls reader.old.reader) (S.calls reader.new.reader))
         (λ stop. ReadsUntil S.calls R.remaining reader.old reader.new stop)) }
     ensures read_well { OnErr result (StaysWell (S.calls reader.old.reader) (S.calls reader.new.reader)) }
-    ensures unwritten { IfOk result (λ progress. IfSome progress.stop IsUnwritten) }
+    ensures unwritten { IfOk result (λ outcome. IfErr outcome IsUnwritten) }
     ensures well { OnOk result (StaysWell (T.calls out.old) (T.calls out.new)) }
     ensures failed { OnErr result (FailsLast (T.calls out.old) (T.calls out.new)) }
     ensures same { SaysTheSame (J.says judge.old) (J.says judge.new) }
 {
     let _ = reader.to_come();
     let mut held = Vec::new(alloc);
-    let progress = judge_stream::<R, S, J, W, T>(judge, reader, out, &mut held)?;
+    let outcome = judge_stream::<R, S, J, W, T>(judge, reader, out, &mut held)?;
     release::<W, T>(out, &mut held)?;
-    Ok(progress)
+    Ok(outcome)
 }

@@ -1,25 +1,17 @@
-ghost use Rattle.std.specs.Prelude.{◌≡◌, ◌++◌, ◌≤◌, Ok, length, IfOk, IfSome, OnErr, OnOk};
+ghost use Rattle.std.specs.Prelude.{◌≡◌, ◌++◌, Ok, IfErr, IfOk, OnErr, OnOk};
 ghost use Rattle.line_filter.specs.Growth.{Grows};
-ghost use Rattle.line_filter.specs.Kept.{IsOfItem};
-ghost use Rattle.line_filter.specs.LineItems.{SaysTheSame};
+ghost use Rattle.line_filter.specs.Kept.{Filters, IsOfItem, StopsHeld};
+ghost use Rattle.line_filter.specs.LineItems.{SaysTheSame, lines};
 ghost use Rattle.line_filter.specs.Lines.{text_of_line};
-ghost use Rattle.line_filter.specs.private.Walk.{Goes, text_where_kept};
+ghost use Rattle.line_filter.specs.private.Walk.{text_where_kept};
 
-use super::finding::{Finding, find_at_front};
-use super::judge::{Judge, Judgment};
+use super::finding::{Finding, find_at_front, is_kept};
+use super::judge::Judge;
 use super::split::first_line;
-use super::step::{Step, step_at};
+use super::step::outcome_of;
 use super::stop::Stop;
 use super::tally::Tally;
 use std::alloc::AllocError;
-
-/// How many lines passed, what they counted, and the stop after them.
-#[derive(Drop)]
-pub struct Progress<F> {
-    pub lines: u64,
-    pub tally: Tally,
-    pub stop: Option<Stop<F>>,
-}
 
 /// Puts a line and LF after what a vector holds, or nothing where an allocation fails.
 fn put_line(line: &[u8], out: &mut Vec<u8>) -> Result<(), AllocError>
@@ -47,26 +39,27 @@ fn put_kept<F: Drop>(
     ensures put { out.new.items ≡ out.old.items ++ text_where_kept result (text_of_line line.now) }
     ensures same { IfOk result (λ finding. found ≡ Ok finding) }
 {
-    let judgment = match found? {
-        Finding::TooLong => return Ok(Finding::TooLong),
-        Finding::PassedOver => return Ok(Finding::PassedOver),
-        Finding::Judged(judgment) => judgment,
-    };
-    match judgment {
-        Judgment::Kept => {
-            put_line(line, out)?;
-            Ok(Finding::Judged(Judgment::Kept))
-        }
-        Judgment::LeftOut => Ok(Finding::Judged(Judgment::LeftOut)),
-        Judgment::Fault(fault) => Ok(Finding::Judged(Judgment::Fault(fault))),
+    if is_kept(&found) {
+        put_line(line, out)?;
     }
+    found
 }
 
-/// Judges the lines of the bytes one by one up to the first fault, and puts the kept ones after what a vector holds.
-pub fn keep_lines<J: Judge>(judge: &mut J, bytes: &[u8], out: &mut Vec<u8>) -> Progress<J::Fault>
-    ensures goes { Grows out.old.items out.new.items (λ text. Goes (J.says judge.old) bytes.now text result) }
-    ensures counted { result.lines ≤ length bytes.now }
-    ensures of_item { IfSome result.stop IsOfItem }
+/// Judges the lines of bytes in memory, and appends those that are kept to a vector. They are unchanged and each
+/// followed by LF.
+///
+/// Lines are judged as by [`filter_reader`](crate::filter_reader). No device is called, so the result is neither `Read`
+/// nor `Write`. If an allocation for a kept line fails it is `Memory`, and the vector has the kept lines before it.
+pub fn filter_bytes<J: Judge>(
+    judge: &mut J,
+    bytes: &[u8],
+    out: &mut Vec<u8>,
+) -> Result<Tally, Stop<J::Fault>>
+    ensures filters { IfOk result (λ tally. Grows out.old.items out.new.items
+        (λ text. Filters (lines (J.says judge.old) bytes.now) text tally)) }
+    ensures stops { IfErr result (λ stop. Grows out.old.items out.new.items
+        (λ text. StopsHeld (lines (J.says judge.old) bytes.now) text stop)) }
+    ensures of_item { IfErr result IsOfItem }
     ensures same { SaysTheSame (J.says judge.old) (J.says judge.new) }
 {
     let mut rest = bytes;
@@ -75,19 +68,15 @@ pub fn keep_lines<J: Judge>(judge: &mut J, bytes: &[u8], out: &mut Vec<u8>) -> P
     while !rest.is_empty() {
         let (line, after) = first_line(rest);
         let found = put_kept(find_at_front(judge, rest, line), line, out);
-        match step_at(found, lines + 1) {
-            Step::Passed(one) => {
+        match outcome_of(found, lines + 1) {
+            Ok(one) => {
                 lines += 1;
                 tally.rows += one.rows;
                 tally.kept += one.kept;
             }
-            Step::Stopped(stop) => {
-                let stop = Some(stop);
-                return Progress { lines, tally, stop };
-            }
+            Err(stop) => return Err(stop),
         }
         rest = after;
     }
-    let stop = None;
-    Progress { lines, tally, stop }
+    Ok(tally)
 }

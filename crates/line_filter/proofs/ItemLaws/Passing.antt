@@ -6,10 +6,9 @@ use Rattle.std.proofs.lemmas.List.Elements.{All-append, filter-append}
 use Rattle.std.proofs.lemmas.List.Sums.{sum_by-append}
 use Rattle.std.proofs.lemmas.Grind.{flat_map-append}
 use Rattle.line_filter.specs.Kept.{IsFaultless, is_kept, is_row, Sieve, SiftedItem, kept_text, Passes}
-use Rattle.line_filter.specs.private.Walk.{sum_of, step_of, text_where_kept}
+use Rattle.line_filter.specs.private.Walk.{sum_of, outcome_of, text_where_kept}
 use Rattle.line_filter.specs.declared.judge.Judgment.{Judgment}
 use Rattle.line_filter.specs.declared.finding.Finding.{Finding}
-use Rattle.line_filter.specs.declared.step.Step.{Step}
 use Rattle.line_filter.specs.declared.tally.Tally.{Tally}
 
 All-none : {X : Type 0} (P : X → Type 0) → All P []
@@ -76,7 +75,7 @@ module _ {X F : Type 0} (sieve : Sieve X F) where
 
   -- an item whose step is to pass
   pub Passes-one : {E : Type 0} (item : X) (number : ℕ) (found : Result (Finding F) E) (one : Tally) → IfOk found (sieve.finds item)
-      → step_of number found ≡ Step.Passed one → Passes sieve (item ∷ []) (text_where_kept found (sieve.text_of item)) one
+      → outcome_of number found ≡ Ok one → Passes sieve (item ∷ []) (text_where_kept found (sieve.text_of item)) one
   Passes-one item number (Ok Finding.TooLong) one finds step = absurd cc
   Passes-one item number (Ok Finding.PassedOver) one finds step =
       let same : record { rows = 0; kept = 0 } ≡ one = cc in subst (Passes sieve (item ∷ []) []) same (passed_over item finds)
@@ -103,13 +102,13 @@ module _ {X F : Type 0} (sieve : Sieve X F) where
   }
 
 -- an item counts as one row at most
-pub step_counts : {F E : Type 0} (number : ℕ) (found : Result (Finding F) E) (one : Tally) → step_of number found ≡ Step.Passed one → (one.rows ≤ 1) × (one.kept ≤ 1)
-step_counts number (Ok Finding.TooLong) one step = absurd cc
-step_counts number (Ok Finding.PassedOver) one step =
+pub outcome_counts : {F E : Type 0} (number : ℕ) (found : Result (Finding F) E) (one : Tally) → outcome_of number found ≡ Ok one → (one.rows ≤ 1) × (one.kept ≤ 1)
+outcome_counts number (Ok Finding.TooLong) one step = absurd cc
+outcome_counts number (Ok Finding.PassedOver) one step =
     let same : record { rows = 0; kept = 0 } ≡ one = cc in subst (λ (t : Tally). (t.rows ≤ 1) × (t.kept ≤ 1)) same (omega arith, omega arith)
-step_counts number (Ok (Finding.Judged Judgment.Kept)) one step =
+outcome_counts number (Ok (Finding.Judged Judgment.Kept)) one step =
     let same : record { rows = 1; kept = 1 } ≡ one = cc in subst (λ (t : Tally). (t.rows ≤ 1) × (t.kept ≤ 1)) same (omega arith, omega arith)
-step_counts number (Ok (Finding.Judged Judgment.LeftOut)) one step =
+outcome_counts number (Ok (Finding.Judged Judgment.LeftOut)) one step =
     let same : record { rows = 1; kept = 0 } ≡ one = cc in subst (λ (t : Tally). (t.rows ≤ 1) × (t.kept ≤ 1)) same (omega arith, omega arith)
-step_counts number (Ok (Finding.Judged (Judgment.Fault fault))) one step = absurd cc
-step_counts number (Err e) one step = absurd cc
+outcome_counts number (Ok (Finding.Judged (Judgment.Fault fault))) one step = absurd cc
+outcome_counts number (Err e) one step = absurd cc

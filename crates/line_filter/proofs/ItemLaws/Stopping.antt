@@ -2,34 +2,33 @@
 use Rattle.std.proofs.Common.{◌≡◌, ℕ, ◌+◌, List, [], ◌∷◌, ◌++◌, length, inl, inr, refl, subst, append_assoc, Result, Ok, Err}
 use Rattle.std.specs.Prelude.{IfOk}
 use Rattle.line_filter.specs.Kept.{Items, Passes, StopsAt, StopsOn, StopsWithin, StopsWith, IsOfItem}
-use Rattle.line_filter.specs.private.Walk.{step_of, text_where_kept}
+use Rattle.line_filter.specs.private.Walk.{outcome_of, text_where_kept}
 use Rattle.line_filter.specs.declared.judge.Judgment.{Judgment}
 use Rattle.line_filter.specs.declared.finding.Finding.{Finding}
-use Rattle.line_filter.specs.declared.step.Step.{Step}
 use Rattle.line_filter.specs.declared.stop.Stop.{Stop}
 use Rattle.line_filter.specs.declared.tally.Tally.{Tally}
 
 -- ---- the step of one item
 
-pub step_of-of_item : {F E : Type 0} (number : ℕ) (found : Result (Finding F) E) (stop : Stop F) → step_of number found ≡ Step.Stopped stop → IsOfItem stop
-step_of-of_item number found (Stop.Fault line fault) step = tt
-step_of-of_item number found (Stop.TooLong line) step = tt
-step_of-of_item number found (Stop.Memory line) step = tt
-step_of-of_item number (Ok Finding.TooLong) (Stop.Read line) step = absurd cc
-step_of-of_item number (Ok Finding.PassedOver) (Stop.Read line) step = absurd cc
-step_of-of_item number (Ok (Finding.Judged Judgment.Kept)) (Stop.Read line) step = absurd cc
-step_of-of_item number (Ok (Finding.Judged Judgment.LeftOut)) (Stop.Read line) step = absurd cc
-step_of-of_item number (Ok (Finding.Judged (Judgment.Fault fault))) (Stop.Read line) step = absurd cc
-step_of-of_item number (Err e) (Stop.Read line) step = absurd cc
-step_of-of_item number (Ok Finding.TooLong) Stop.Write step = absurd cc
-step_of-of_item number (Ok Finding.PassedOver) Stop.Write step = absurd cc
-step_of-of_item number (Ok (Finding.Judged Judgment.Kept)) Stop.Write step = absurd cc
-step_of-of_item number (Ok (Finding.Judged Judgment.LeftOut)) Stop.Write step = absurd cc
-step_of-of_item number (Ok (Finding.Judged (Judgment.Fault fault))) Stop.Write step = absurd cc
-step_of-of_item number (Err e) Stop.Write step = absurd cc
+pub outcome_of-of_item : {F E : Type 0} (number : ℕ) (found : Result (Finding F) E) (stop : Stop F) → outcome_of number found ≡ Err stop → IsOfItem stop
+outcome_of-of_item number found (Stop.Fault line fault) step = tt
+outcome_of-of_item number found (Stop.TooLong line) step = tt
+outcome_of-of_item number found (Stop.Memory line) step = tt
+outcome_of-of_item number (Ok Finding.TooLong) (Stop.Read line) step = absurd cc
+outcome_of-of_item number (Ok Finding.PassedOver) (Stop.Read line) step = absurd cc
+outcome_of-of_item number (Ok (Finding.Judged Judgment.Kept)) (Stop.Read line) step = absurd cc
+outcome_of-of_item number (Ok (Finding.Judged Judgment.LeftOut)) (Stop.Read line) step = absurd cc
+outcome_of-of_item number (Ok (Finding.Judged (Judgment.Fault fault))) (Stop.Read line) step = absurd cc
+outcome_of-of_item number (Err e) (Stop.Read line) step = absurd cc
+outcome_of-of_item number (Ok Finding.TooLong) Stop.Write step = absurd cc
+outcome_of-of_item number (Ok Finding.PassedOver) Stop.Write step = absurd cc
+outcome_of-of_item number (Ok (Finding.Judged Judgment.Kept)) Stop.Write step = absurd cc
+outcome_of-of_item number (Ok (Finding.Judged Judgment.LeftOut)) Stop.Write step = absurd cc
+outcome_of-of_item number (Ok (Finding.Judged (Judgment.Fault fault))) Stop.Write step = absurd cc
+outcome_of-of_item number (Err e) Stop.Write step = absurd cc
 
 -- nothing is written of an item where a run stops
-pub text_where_stopped : {F E : Type 0} (number : ℕ) (found : Result (Finding F) E) (stop : Stop F) (text : List ℕ) → step_of number found ≡ Step.Stopped stop → text_where_kept found text ≡ []
+pub text_where_stopped : {F E : Type 0} (number : ℕ) (found : Result (Finding F) E) (stop : Stop F) (text : List ℕ) → outcome_of number found ≡ Err stop → text_where_kept found text ≡ []
 text_where_stopped number (Ok Finding.TooLong) stop text step = refl
 text_where_stopped number (Ok Finding.PassedOver) stop text step = refl
 text_where_stopped number (Ok (Finding.Judged Judgment.Kept)) stop text step = absurd cc
@@ -41,7 +40,7 @@ module _ {X F : Type 0} (items : Items X F) (Lacks : List ℕ → ℕ → Type 0
   -- the items before this one are those that passed
   pub Stops-one : {E : Type 0} (before after : List X) (item : X) (text : List ℕ) (tally : Tally) (number : ℕ) (found : Result (Finding F) E) (stop : Stop F)
       → items.all ≡ before ++ item ∷ after → items.CameWhole before → Passes items.sieve before text tally → number ≡ length before + 1
-      → IfOk found (items.sieve.finds item) → step_of number found ≡ Step.Stopped stop → StopsWith items Lacks text stop
+      → IfOk found (items.sieve.finds item) → outcome_of number found ≡ Err stop → StopsWith items Lacks text stop
   Stops-one before after item text tally number (Ok Finding.TooLong) stop whole came passes counted finds step =
       let same : Stop.TooLong number ≡ stop = cc in
       subst (StopsWith items Lacks text) same (record {

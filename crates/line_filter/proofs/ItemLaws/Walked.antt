@@ -1,14 +1,13 @@
 -- The walk over items, one after the other.
-use Rattle.std.proofs.Common.{◌≡◌, ℕ, ◌+◌, List, [], ◌∷◌, ◌++◌, length, refl, sym, ap, ◌∙◌, subst, append_assoc, append-nil, length-append, Result, Ok}
+use Rattle.std.proofs.Common.{◌≡◌, ℕ, ◌+◌, List, [], ◌∷◌, ◌++◌, length, refl, sym, ap, ◌∙◌, subst, append_assoc, append-nil, length-append, Result, Ok, Err}
 use Rattle.std.specs.Prelude.{Option, IfOk}
 use Rattle.std.proofs.KnownBytes.{Appends-nil, Appends-trans}
 use Rattle.line_filter.specs.Growth.{Writes, WritesFront}
 use Rattle.line_filter.specs.Kept.{Items, Filters, Passes, StopsWithin, StopsWith}
 use Rattle.line_filter.specs.private.HeldBack.{WritesBut}
-use Rattle.line_filter.specs.private.Walk.{sum_of, step_of, text_where_kept}
+use Rattle.line_filter.specs.private.Walk.{sum_of, outcome_of, text_where_kept}
 use Rattle.line_filter.specs.declared.judge.Judgment.{Judgment}
 use Rattle.line_filter.specs.declared.finding.Finding.{Finding}
-use Rattle.line_filter.specs.declared.step.Step.{Step}
 use Rattle.line_filter.specs.declared.stop.Stop.{Stop}
 use Rattle.line_filter.specs.declared.tally.Tally.{Tally}
 use Rattle.line_filter.proofs.ItemLaws.Passing.{Passes-none, Passes-kept, Passes-one, Passes-append}
@@ -37,11 +36,11 @@ module _ {X F : Type 0} (items : Items X F) where
 
   -- no item is left
   pub HasWalked-end : (rest : List X) (a b : Option (List ℕ)) (held : List ℕ) (passed : ℕ) (tally : Tally) → HasWalked items rest a b held passed tally → rest ≡ []
-      → (text : List ℕ) × WritesBut a b held text × (Filters items text tally × (passed ≡ length items.all))
+      → (text : List ℕ) × WritesBut a b held text × Filters items text tally
   HasWalked-end rest a b held passed tally so_far none =
       let all : items.all ≡ so_far.before = so_far.whole ∙ ap (λ l. so_far.before ++ l) none ∙ append-nil so_far.before in
       let passes = subst (λ l. Passes items.sieve l so_far.text tally) (sym all) so_far.passes in
-      (so_far.text, so_far.holds, (passes, so_far.counted ∙ ap length (sym all)))
+      (so_far.text, so_far.holds, passes)
 
 module _ {X F E : Type 0} (items : Items X F) (item : X) (rest after : List X) (a b c : Option (List ℕ)) (h₁ h₂ : List ℕ) (passed : ℕ) (tally : Tally) (found : Result (Finding F) E)
     (first : rest ≡ item ∷ after) (finds : IfOk found (items.sieve.finds item)) (so_far : HasWalked items rest a b h₁ passed tally) where
@@ -52,7 +51,7 @@ module _ {X F E : Type 0} (items : Items X F) (item : X) (rest after : List X) (
   whole_more = whole ∙ sym (append_assoc so_far.before (item ∷ []) after)
 
   -- the item after those that passed passes too
-  unfoldable pub HasWalked-more : (one : Tally) → WritesBut b c h₂ (h₁ ++ text_where_kept found (items.sieve.text_of item)) → step_of (passed + 1) found ≡ Step.Passed one
+  unfoldable pub HasWalked-more : (one : Tally) → WritesBut b c h₂ (h₁ ++ text_where_kept found (items.sieve.text_of item)) → outcome_of (passed + 1) found ≡ Ok one
       → HasWalked items after a c h₂ (passed + 1) (sum_of tally one)
   HasWalked-more one more step =
       let text = text_where_kept found (items.sieve.text_of item) in
@@ -84,7 +83,7 @@ module _ {X F E : Type 0} (items : Items X F) (item : X) (rest after : List X) (
       (first_text ++ second_text, Appends-trans a b c first_text second_text wrote more, stop)
 
   -- the run stops at it
-  pub HasWalked-stopped : (Lacks : List ℕ → ℕ → Type 0) (stop : Stop F) → items.CameWhole so_far.before → WritesBut b c h₂ (h₁ ++ text_where_kept found (items.sieve.text_of item)) → step_of (passed + 1) found ≡ Step.Stopped stop
+  pub HasWalked-stopped : (Lacks : List ℕ → ℕ → Type 0) (stop : Stop F) → items.CameWhole so_far.before → WritesBut b c h₂ (h₁ ++ text_where_kept found (items.sieve.text_of item)) → outcome_of (passed + 1) found ≡ Err stop
       → (text : List ℕ) × WritesBut a c h₂ text × StopsWith items Lacks text stop
   HasWalked-stopped Lacks stop came more step =
       let text = text_where_kept found (items.sieve.text_of item) in

@@ -1,5 +1,5 @@
 -- The walk over the lines, one after the other.
-use Rattle.std.proofs.Common.{◌≡◌, ℕ, ◌+◌, List, [], ◌∷◌, ◌++◌, refl, sym, ap, ◌∙◌, append_assoc, append-nil, Result, Ok}
+use Rattle.std.proofs.Common.{◌≡◌, ℕ, ◌+◌, List, [], ◌∷◌, ◌++◌, refl, sym, ap, ◌∙◌, append_assoc, append-nil, Result, Ok, Err}
 use Rattle.std.specs.Prelude.{Option, IfOk}
 use Rattle.std.proofs.lemmas.Grind.{flat_map-append}
 use Rattle.line_filter.specs.Growth.{Writes, WritesFront}
@@ -7,10 +7,9 @@ use Rattle.line_filter.specs.Kept.{StopsWithin, StopsWith}
 use Rattle.line_filter.specs.LineItems.{LineJudge, IsFoundOf, lines}
 use Rattle.line_filter.specs.Lines.{lines_of, text_of_line, text_of_lines}
 use Rattle.line_filter.specs.private.HeldBack.{WritesBut}
-use Rattle.line_filter.specs.private.Walk.{sum_of, step_of, text_where_kept}
+use Rattle.line_filter.specs.private.Walk.{sum_of, outcome_of, text_where_kept}
 use Rattle.line_filter.specs.declared.judge.Judgment.{Judgment}
 use Rattle.line_filter.specs.declared.finding.Finding.{Finding}
-use Rattle.line_filter.specs.declared.step.Step.{Step}
 use Rattle.line_filter.specs.declared.stop.Stop.{Stop}
 use Rattle.line_filter.specs.declared.tally.Tally.{Tally}
 use Rattle.line_filter.proofs.ItemLaws.Walked.{HasWalked, HasWalked-none, HasWalked-more, HasWalked-failed, HasWalked-stopped}
@@ -34,7 +33,7 @@ module _ {F E : Type 0} (judge : LineJudge F) (bytes line rest after : List ℕ)
     (first : lines_of rest ≡ line ∷ lines_of after) (finds : IfOk found (IsFoundOf judge line)) (so_far : HasPassed judge bytes rest goes_on a b h₁ passed tally) where
   -- the line after those that passed passes too
   pub HasPassed-more : (one : Tally) (goes_further : Type 0) → (goes_further → rest ≡ line ++ 10 ∷ after) → goes_on → WritesBut b c h₂ (h₁ ++ text_where_kept found (line ++ 10 ∷ []))
-      → step_of (passed + 1) found ≡ Step.Passed one → HasPassed judge bytes after goes_further a c h₂ (passed + 1) (sum_of tally one)
+      → outcome_of (passed + 1) found ≡ Ok one → HasPassed judge bytes after goes_further a c h₂ (passed + 1) (sum_of tally one)
   unfolding HasWalked-more
   HasPassed-more one goes_further behind some more step = record {
     walked = HasWalked-more (lines judge bytes) line (lines_of rest) (lines_of after) a b c h₁ h₂ passed tally found first finds so_far.walked one more step;
@@ -47,7 +46,7 @@ module _ {F E : Type 0} (judge : LineJudge F) (bytes line rest after : List ℕ)
   HasPassed-failed = HasWalked-failed (lines judge bytes) line (lines_of rest) (lines_of after) a b c h₁ h₂ passed tally found first finds so_far.walked
 
   -- the run stops at it
-  pub HasPassed-stopped : (Lacks : List ℕ → ℕ → Type 0) (stop : Stop F) → goes_on → WritesBut b c h₂ (h₁ ++ text_where_kept found (line ++ 10 ∷ [])) → step_of (passed + 1) found ≡ Step.Stopped stop
+  pub HasPassed-stopped : (Lacks : List ℕ → ℕ → Type 0) (stop : Stop F) → goes_on → WritesBut b c h₂ (h₁ ++ text_where_kept found (line ++ 10 ∷ [])) → outcome_of (passed + 1) found ≡ Err stop
       → (text : List ℕ) × WritesBut a c h₂ text × StopsWith (lines judge bytes) Lacks text stop
   HasPassed-stopped Lacks stop some =
       HasWalked-stopped (lines judge bytes) line (lines_of rest) (lines_of after) a b c h₁ h₂ passed tally found first finds so_far.walked Lacks stop (rest, so_far.complete some)

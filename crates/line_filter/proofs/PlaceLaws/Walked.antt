@@ -1,15 +1,14 @@
 -- The walk over the items of a list, one index after the other.
-use Rattle.std.proofs.Common.{◌≡◌, ℕ, ◌+◌, ◌<◌, List, ◌++◌, get_or, drop, length, decimal, ap, ◌∙◌, subst, Result, Ok}
+use Rattle.std.proofs.Common.{◌≡◌, ℕ, ◌+◌, ◌<◌, List, ◌++◌, get_or, drop, length, decimal, ap, ◌∙◌, subst, Result, Ok, Err}
 use Rattle.std.specs.Prelude.{Option, IfOk}
 use Rattle.line_filter.specs.Growth.{Writes, WritesFront}
 use Rattle.line_filter.specs.Kept.{StopsWithin, StopsHeld}
 use Rattle.line_filter.specs.Lines.{text_of_line}
 use Rattle.line_filter.specs.Places.{ItemJudge, IsJudged, Placed, placed_from, places}
 use Rattle.line_filter.specs.private.HeldBack.{WritesBut}
-use Rattle.line_filter.specs.private.Walk.{sum_of, step_of, text_where_kept}
+use Rattle.line_filter.specs.private.Walk.{sum_of, outcome_of, text_where_kept}
 use Rattle.line_filter.specs.declared.judge.Judgment.{Judgment}
 use Rattle.line_filter.specs.declared.finding.Finding.{Finding}
-use Rattle.line_filter.specs.declared.step.Step.{Step}
 use Rattle.line_filter.specs.declared.stop.Stop.{Stop}
 use Rattle.line_filter.specs.declared.tally.Tally.{Tally}
 use Rattle.line_filter.proofs.ItemLaws.Walked.{HasWalked, HasWalked-more, HasWalked-failed, HasWalked-stopped}
@@ -28,7 +27,7 @@ module _ {X F E : Type 0} (judge : ItemJudge X F) (items : List X) (index place 
   told : text ≡ decimal index
   told = written ∙ ap decimal counted
 
-  pub HasPlaced-more : (one : Tally) → WritesBut b c h₂ (h₁ ++ text_where_kept found (text_of_line text)) → step_of (place + 1) found ≡ Step.Passed one
+  pub HasPlaced-more : (one : Tally) → WritesBut b c h₂ (h₁ ++ text_where_kept found (text_of_line text)) → outcome_of (place + 1) found ≡ Ok one
       → HasWalked (places judge items) (left (index + 1)) a c h₂ (place + 1) (sum_of tally one)
   HasPlaced-more one more step =
       HasWalked-more (places judge items) here (left index) (left (index + 1)) a b c h₁ h₂ place tally found (placed_next items index item within is) finds so_far one
@@ -39,7 +38,7 @@ module _ {X F E : Type 0} (judge : ItemJudge X F) (items : List X) (index place 
       HasWalked-failed (places judge items) here (left index) (left (index + 1)) a b c h₁ h₂ place tally found (placed_next items index item within is) finds so_far is_kept
       (subst (λ t. WritesFront b c (h₁ ++ text_of_line t)) told more)
 
-  pub HasPlaced-stopped : (stop : Stop F) → WritesBut b c h₂ (h₁ ++ text_where_kept found (text_of_line text)) → step_of (place + 1) found ≡ Step.Stopped stop
+  pub HasPlaced-stopped : (stop : Stop F) → WritesBut b c h₂ (h₁ ++ text_where_kept found (text_of_line text)) → outcome_of (place + 1) found ≡ Err stop
       → (kept : List ℕ) × WritesBut a c h₂ kept × StopsHeld (places judge items) kept stop
   HasPlaced-stopped stop more step =
       HasWalked-stopped (places judge items) here (left index) (left (index + 1)) a b c h₁ h₂ place tally found (placed_next items index item within is) finds so_far (λ text line. ⊥) stop tt

@@ -1,5 +1,5 @@
 -- The walk over the lines of a reader, where what it had is known.
-use Rattle.std.proofs.Common.{◌≡◌, ◌≢◌, ℕ, ◌+◌, List, [], ◌∷◌, ◌++◌, length, Option, None, Some, Result, Ok, inl, inr, ◌⊎◌, refl, sym, ap, ◌∙◌, subst, append_assoc}
+use Rattle.std.proofs.Common.{◌≡◌, ◌≢◌, ℕ, ◌+◌, List, [], ◌∷◌, ◌++◌, Option, None, Some, Result, Ok, inl, inr, ◌⊎◌, refl, sym, ap, ◌∙◌, subst, append_assoc, Err}
 use Rattle.std.specs.Prelude.{IfOk, IfSome}
 use Rattle.std.specs.Io.KnownBytes.{IsAtEnd, Appends, Keeps, prepend_known}
 use Rattle.std.proofs.KnownBytes.{Appends-trans}
@@ -10,17 +10,15 @@ use Rattle.line_filter.specs.Lines.{lines_of, text_of_lines}
 use Rattle.line_filter.specs.LineStreams.{LacksLine}
 use Rattle.line_filter.specs.LineSource.{IsFirstLine, BeginsTooLong, IsNoWholeLine, WhereKnown}
 use Rattle.line_filter.specs.private.HeldBack.{WritesBut}
-use Rattle.line_filter.specs.private.Walk.{sum_of, step_of, text_where_kept, fault_stop, GoesOn}
+use Rattle.line_filter.specs.private.Walk.{sum_of, outcome_of, text_where_kept, fault_stop, GoesOn}
 use Rattle.line_filter.specs.declared.judge.Judgment.{Judgment}
 use Rattle.line_filter.specs.declared.finding.Finding.{Finding}
 use Rattle.line_filter.specs.declared.line_reader.LineFault.{LineFault}
-use Rattle.line_filter.specs.declared.step.Step.{Step}
 use Rattle.line_filter.specs.declared.stop.Stop.{Stop}
 use Rattle.line_filter.specs.declared.tally.Tally.{Tally}
 use Rattle.line_filter.proofs.ItemLaws.Stopping.{Passes-within}
 use Rattle.line_filter.proofs.ItemLaws.Walked.{HasWalked, HasWalked-end}
 use Rattle.line_filter.proofs.LineLaws.Walked.{HasPassed, HasPassed-none, HasPassed-more, HasPassed-failed, HasPassed-stopped}
-use Rattle.line_filter.specs.declared.walk.Progress.{Progress}
 use Rattle.line_filter.proofs.RunLaws.Answers.{GoesWith-failed}
 use Rattle.line_filter.proofs.RunLaws.Lacking.{LacksLine-within}
 use Rattle.line_filter.proofs.WriteLaws.HeldBack.{WritesBut-written}
@@ -83,13 +81,13 @@ module _ {F : Type 0} (judge : LineJudge F) where
   -- nothing is left
   HasPassed-end : (bytes rest : List ℕ) (goes_on : Type 0) (u v : Option (List ℕ)) (held : List ℕ) (passed : ℕ) (tally : Tally)
       → HasPassed judge bytes rest goes_on u v held passed tally → rest ≡ []
-      → (text : List ℕ) × WritesBut u v held text × (Filters (lines judge bytes) text tally × (passed ≡ length (lines_of bytes)))
+      → (text : List ℕ) × WritesBut u v held text × Filters (lines judge bytes) text tally
   HasPassed-end bytes rest goes_on u v held passed tally so_far none =
       HasWalked-end (lines judge bytes) (lines_of rest) u v held passed tally so_far.walked (ap lines_of none)
 
   pub HasCome-end : (a r : Option (List ℕ)) (goes_on : Type 0) (u v : Option (List ℕ)) (held : List ℕ) (passed : ℕ) (tally : Tally)
       → HasCome a r goes_on u v held passed tally → IsAtEnd r
-      → IfSome a (λ bytes. (text : List ℕ) × WritesBut u v held text × (Filters (lines judge bytes) text tally × (passed ≡ length (lines_of bytes))))
+      → IfSome a (λ bytes. (text : List ℕ) × WritesBut u v held text × Filters (lines judge bytes) text tally)
   HasCome-end None r goes_on u v held passed tally so_far none = tt
   HasCome-end (Some bytes) None goes_on u v held passed tally so_far none = absurd so_far
   HasCome-end (Some bytes) (Some rest) goes_on u v held passed tally so_far none = HasPassed-end bytes rest goes_on u v held passed tally so_far none
@@ -157,7 +155,7 @@ module _ {F E : Type 0} (judge : LineJudge F) (line : List ℕ) (goes_on : Type 
 
   -- it passes
   pub HasCome-more : (a r s : Option (List ℕ)) (Over : Type 0) (one : Tally) → HasCome judge a r goes_on u v h₁ passed tally → WhereKnown r s (λ rest after. IsFirstLine rest line after)
-      → Over ⊎ WhereKnown r s (λ rest after. rest ≡ line ++ 10 ∷ after) → WritesBut v w h₂ (h₁ ++ text_where_kept found (line ++ 10 ∷ [])) → step_of (passed + 1) found ≡ Step.Passed one
+      → Over ⊎ WhereKnown r s (λ rest after. rest ≡ line ++ 10 ∷ after) → WritesBut v w h₂ (h₁ ++ text_where_kept found (line ++ 10 ∷ [])) → outcome_of (passed + 1) found ≡ Ok one
       → HasCome judge a s (Over → ⊥) u w h₂ (passed + 1) (sum_of tally one)
   HasCome-more None r s Over one so_far first whole wrote step = tt
   HasCome-more (Some bytes) None s Over one so_far first whole wrote step = absurd so_far
@@ -167,7 +165,7 @@ module _ {F E : Type 0} (judge : LineJudge F) (line : List ℕ) (goes_on : Type 
 
   -- the run stops at it
   pub HasCome-stopped : (waiting : List ℕ) (known a r s : Option (List ℕ)) (stop : Stop F) → HasCome judge a r goes_on u v h₁ passed tally → WhereKnown r s (λ rest after. IsFirstLine rest line after)
-      → WritesBut v w h₂ (h₁ ++ text_where_kept found (line ++ 10 ∷ [])) → step_of (passed + 1) found ≡ Step.Stopped stop
+      → WritesBut v w h₂ (h₁ ++ text_where_kept found (line ++ 10 ∷ [])) → outcome_of (passed + 1) found ≡ Err stop
       → IfSome a (λ bytes. (text : List ℕ) × WritesBut u w h₂ text × StopsWith (lines judge bytes) (LacksLine judge bytes waiting known) text stop)
   HasCome-stopped waiting known None r s stop so_far first wrote step = tt
   HasCome-stopped waiting known (Some bytes) None s stop so_far first wrote step = absurd so_far
@@ -187,13 +185,13 @@ module _ {F E : Type 0} (judge : LineJudge F) (line : List ℕ) (goes_on : Type 
 -- ---- what is held back at the end could not be written
 
 module _ {F : Type 0} (judge : LineJudge F) (waiting : List ℕ) (known : Option (List ℕ)) where
-  pub left_unwritten : (a u v w : Option (List ℕ)) (held : List ℕ) (progress : Progress F) → IfSome a (λ bytes. (text : List ℕ) × WritesBut u v held text × GoesOn judge bytes waiting known text progress)
+  pub left_unwritten : (a u v w : Option (List ℕ)) (held : List ℕ) (outcome : Result Tally (Stop F)) → IfSome a (λ bytes. (text : List ℕ) × WritesBut u v held text × GoesOn judge bytes waiting known text outcome)
       → WritesFront v w held → IfSome a (λ bytes. Writes u w (StopsWithin (lines judge bytes)))
-  left_unwritten None u v w held progress goes failed = tt
-  left_unwritten (Some bytes) u v w held progress (text, holds, goes) failed =
-      GoesWith-failed (lines judge bytes) (LacksLine judge bytes waiting known) (LacksLine-within judge bytes waiting known) progress u v w held text holds goes failed
+  left_unwritten None u v w held outcome goes failed = tt
+  left_unwritten (Some bytes) u v w held outcome (text, holds, goes) failed =
+      GoesWith-failed (lines judge bytes) (LacksLine judge bytes waiting known) (LacksLine-within judge bytes waiting known) outcome u v w held text holds goes failed
 
-  pub left_written : (a u v w : Option (List ℕ)) (held : List ℕ) (progress : Progress F) → IfSome a (λ bytes. (text : List ℕ) × WritesBut u v held text × GoesOn judge bytes waiting known text progress)
-      → Appends v w held → IfSome a (λ bytes. Writes u w (λ text. GoesOn judge bytes waiting known text progress))
-  left_written None u v w held progress goes wrote = tt
-  left_written (Some bytes) u v w held progress (text, holds, goes) wrote = (text, WritesBut-written u v w held text holds wrote, goes)
+  pub left_written : (a u v w : Option (List ℕ)) (held : List ℕ) (outcome : Result Tally (Stop F)) → IfSome a (λ bytes. (text : List ℕ) × WritesBut u v held text × GoesOn judge bytes waiting known text outcome)
+      → Appends v w held → IfSome a (λ bytes. Writes u w (λ text. GoesOn judge bytes waiting known text outcome))
+  left_written None u v w held outcome goes wrote = tt
+  left_written (Some bytes) u v w held outcome (text, holds, goes) wrote = (text, WritesBut-written u v w held text holds wrote, goes)

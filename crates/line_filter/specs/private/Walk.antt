@@ -1,15 +1,13 @@
--- What the walk over the lines keeps from line to line. Private clauses alone cite these.
-use Rattle.std.specs.Prelude.{◌≡◌, ℕ, ◌+◌, List, [], length, Bool, true, false, Option, MatchOption, MatchResult, Result, Ok, Err}
+-- What a run over items gives, item by item. Private clauses alone cite these.
+use Rattle.std.specs.Prelude.{◌≡◌, ℕ, ◌+◌, List, [], Bool, true, false, Option, MatchResult, Result, Ok, Err}
 use Rattle.line_filter.specs.declared.judge.Judgment.{Judgment}
 use Rattle.line_filter.specs.declared.finding.Finding.{Finding}
 use Rattle.line_filter.specs.declared.line_reader.LineFault.{LineFault}
-use Rattle.line_filter.specs.declared.step.Step.{Step}
-use Rattle.line_filter.specs.declared.walk.Progress.{Progress}
 use Rattle.line_filter.specs.declared.stop.Stop.{Stop}
 use Rattle.line_filter.specs.declared.tally.Tally.{Tally}
 use Rattle.line_filter.specs.declared.calls.Calls.{Calls}
 use Rattle.line_filter.specs.DeviceCalls.{StaysWell, FlushesLast, FailsLast}
-use Rattle.line_filter.specs.Kept.{Items, Filters, StopsWith}
+use Rattle.line_filter.specs.Kept.{Items, Filters, StopsWith, is_kept}
 use Rattle.line_filter.specs.LineItems.{LineJudge, lines}
 use Rattle.line_filter.specs.LineStreams.{LacksLine}
 
@@ -17,14 +15,14 @@ use Rattle.line_filter.specs.LineStreams.{LacksLine}
 abbrev pub sum_of : Tally → Tally → Tally
 sum_of a b = record { rows = a.rows + b.rows; kept = a.kept + b.kept }
 
--- what becomes of the item of this number, of which this is found
-abbrev pub step_of : {F E : Type 0} → ℕ → Result (Finding F) E → Step F
-step_of number (Ok Finding.TooLong) = Step.Stopped (Stop.TooLong number)
-step_of number (Ok Finding.PassedOver) = Step.Passed (record { rows = 0; kept = 0 })
-step_of number (Ok (Finding.Judged Judgment.Kept)) = Step.Passed (record { rows = 1; kept = 1 })
-step_of number (Ok (Finding.Judged Judgment.LeftOut)) = Step.Passed (record { rows = 1; kept = 0 })
-step_of number (Ok (Finding.Judged (Judgment.Fault fault))) = Step.Stopped (Stop.Fault number fault)
-step_of number (Err _) = Step.Stopped (Stop.Memory number)
+-- what the item of this number counts, of which this is found, or why the run stops at it
+abbrev pub outcome_of : {F E : Type 0} → ℕ → Result (Finding F) E → Result Tally (Stop F)
+outcome_of number (Ok Finding.TooLong) = Err (Stop.TooLong number)
+outcome_of number (Ok Finding.PassedOver) = Ok (record { rows = 0; kept = 0 })
+outcome_of number (Ok (Finding.Judged Judgment.Kept)) = Ok (record { rows = 1; kept = 1 })
+outcome_of number (Ok (Finding.Judged Judgment.LeftOut)) = Ok (record { rows = 1; kept = 0 })
+outcome_of number (Ok (Finding.Judged (Judgment.Fault fault))) = Err (Stop.Fault number fault)
+outcome_of number (Err _) = Err (Stop.Memory number)
 
 -- what a run answers where the line of this number does not come
 abbrev pub fault_stop : {F : Type 0} → LineFault → ℕ → Stop F
@@ -32,15 +30,19 @@ fault_stop LineFault.TooLong number = Stop.TooLong number
 fault_stop LineFault.Read number = Stop.Read number
 fault_stop LineFault.Memory number = Stop.Memory number
 
--- the text of an item of which this is found: nothing where it is not kept
-abbrev pub text_where_kept : {F E : Type 0} → Result (Finding F) E → List ℕ → List ℕ
-text_where_kept (Ok (Finding.Judged Judgment.Kept)) text = text
-text_where_kept _ text = []
+-- the item is kept, of which this is found
+abbrev pub is_kept_by : {F E : Type 0} → Result (Finding F) E → Bool
+is_kept_by (Ok finding) = is_kept finding
+is_kept_by (Err _) = false
 
 -- the text of an item that is kept, and nothing of one that is left out
 abbrev pub text_where : Bool → List ℕ → List ℕ
 text_where true text = text
 text_where false text = []
+
+-- the text of an item of which this is found: nothing where it is not kept
+abbrev pub text_where_kept : {F E : Type 0} → Result (Finding F) E → List ℕ → List ℕ
+text_where_kept found text = text_where (is_kept_by found) text
 
 -- how many items that is
 abbrev pub count_where : Bool → ℕ
@@ -52,29 +54,26 @@ abbrev pub IsUnwritten : {F : Type 0} → Stop F → Type 0
 IsUnwritten Stop.Write = ⊥
 IsUnwritten _ = Unit {0}
 
--- how far the items went, and the text that they gave; `Lacks` is said where an item did not come
-abbrev pub GoesWith : {X F : Type 0} → Items X F → (List ℕ → ℕ → Type 0) → List ℕ → Progress F → Type 0
-GoesWith items Lacks text progress = MatchOption progress.stop
-    (Filters items text progress.tally × (progress.lines ≡ length items.all)) (λ stop. StopsWith items Lacks text stop)
+-- what a run over the items gives, and the text of the kept ones; `Lacks` is said where an item did not come
+abbrev pub GoesWith : {X F : Type 0} → Items X F → (List ℕ → ℕ → Type 0) → List ℕ → Result Tally (Stop F) → Type 0
+GoesWith items Lacks text outcome =
+    MatchResult outcome (λ tally. Filters items text tally) (λ stop. StopsWith items Lacks text stop)
 
 -- that, of items that stand in memory
-abbrev pub GoesOver : {X F : Type 0} → Items X F → List ℕ → Progress F → Type 0
+abbrev pub GoesOver : {X F : Type 0} → Items X F → List ℕ → Result Tally (Stop F) → Type 0
 GoesOver items = GoesWith items (λ text line. ⊥)
 
--- that, of lines
-abbrev pub Goes : {F : Type 0} → LineJudge F → List ℕ → List ℕ → Progress F → Type 0
-Goes judge bytes = GoesOver (lines judge bytes)
-
 -- that, of the lines of a reader, of which this waits, and which has that left
-abbrev pub GoesOn : {F : Type 0} → LineJudge F → List ℕ → List ℕ → Option (List ℕ) → List ℕ → Progress F → Type 0
+abbrev pub GoesOn : {F : Type 0} →
+    LineJudge F → List ℕ → List ℕ → Option (List ℕ) → List ℕ → Result Tally (Stop F) → Type 0
 GoesOn judge bytes waiting known = GoesWith (lines judge bytes) (LacksLine judge bytes waiting known)
 
 -- which calls of its writer a run made by its end: one flush where it came to no stop, and none at a stop
-abbrev pub Closes : {F : Type 0} → Progress F → Result Tally (Stop F) → Calls → Calls → Type 0
-Closes progress answer old new = MatchOption progress.stop
-    (MatchResult answer (λ tally. FlushesLast old new) (λ stop. FailsLast old new)) (λ stop. StaysWell old new)
+abbrev pub Closes : {F : Type 0} → Result Tally (Stop F) → Result Tally (Stop F) → Calls → Calls → Type 0
+Closes outcome answer old new = MatchResult outcome
+    (λ tally. MatchResult answer (λ t. FlushesLast old new) (λ stop. FailsLast old new)) (λ stop. StaysWell old new)
 
--- what a run answers: the stop at a line, or else the tally, unless the last flush fails
-abbrev pub Ends : {F : Type 0} → Progress F → Result Tally (Stop F) → Type 0
-Ends progress answer = MatchOption progress.stop
-    (MatchResult answer (λ tally. tally ≡ progress.tally) (λ stop. stop ≡ Stop.Write)) (λ stop. answer ≡ Err stop)
+-- what a run answers: the stop at an item, or else the tally, unless the last flush fails
+abbrev pub Ends : {F : Type 0} → Result Tally (Stop F) → Result Tally (Stop F) → Type 0
+Ends outcome answer = MatchResult outcome
+    (λ tally. MatchResult answer (λ t. t ≡ tally) (λ stop. stop ≡ Stop.Write)) (λ stop. answer ≡ Err stop)

@@ -15,16 +15,16 @@ returns-in_err-one-clause-err g c =
     (HasPlaced-failed (g.J.JudgeItem.says c.args.judge.now) c.args.items.now c.loop-item.item-index c.loop-item.place c.item-item.result c.as_bytes.result.now _ _ _ c.loop-item.held.items c.settle.new.held.items c.loop-item.tally c.find_item-found.result
     c.loop-item.invariant.0 c.loop-item-test.true c.item-item.is (c.as_bytes.ensures.value ∙ c.format-text.ensures.text) c.find_item-found.ensures c.loop-item.invariant.1 c.in_err-one.ensures.kept c.in_err-one.ensures.err)
 
-pub returns-in-Stopped-clause-ok : goal.returns-in-Stopped-clause-ok
-returns-in-Stopped-clause-ok g c =
+pub returns-in-Err-clause-ok : goal.returns-in-Err-clause-ok
+returns-in-Err-clause-ok g c =
     HasPlaced-stopped (g.J.JudgeItem.says c.args.judge.now) c.args.items.now c.loop-item.item-index c.loop-item.place c.item-item.result c.as_bytes.result.now _ _ _ c.loop-item.held.items c.settle.new.held.items c.loop-item.tally c.find_item-found.result
-    c.loop-item.invariant.0 c.loop-item-test.true c.item-item.is (c.as_bytes.ensures.value ∙ c.format-text.ensures.text) c.find_item-found.ensures c.loop-item.invariant.1 c.in-Stopped.stop c.in_ok-one.ensures.ok (sym c.in_ok-one.ensures.step ∙ c.in-Stopped.is)
+    c.loop-item.invariant.0 c.loop-item-test.true c.item-item.is (c.as_bytes.ensures.value ∙ c.format-text.ensures.text) c.find_item-found.ensures c.loop-item.invariant.1 c.in-Err.stop c.in_ok-one.ensures.ok (sym c.in_ok-one.ensures.outcome ∙ c.in-Err.is)
 
 pub loop-item-preserved : goal.loop-item-preserved
 loop-item-preserved g c = (
   ap (λ k. k + 1) c.loop-item.invariant.0,
   HasPlaced-more (g.J.JudgeItem.says c.args.judge.now) c.args.items.now c.loop-item.item-index c.loop-item.place c.item-item.result c.as_bytes.result.now _ _ _ c.loop-item.held.items c.settle.new.held.items c.loop-item.tally c.find_item-found.result
-      c.loop-item.invariant.0 c.loop-item-test.true c.item-item.is (c.as_bytes.ensures.value ∙ c.format-text.ensures.text) c.find_item-found.ensures c.loop-item.invariant.1 c.in-Passed.one c.in_ok-one.ensures.ok (sym c.in_ok-one.ensures.step ∙ c.in-Passed.is),
+      c.loop-item.invariant.0 c.loop-item-test.true c.item-item.is (c.as_bytes.ensures.value ∙ c.format-text.ensures.text) c.find_item-found.ensures c.loop-item.invariant.1 c.in-Ok.one c.in_ok-one.ensures.ok (sym c.in_ok-one.ensures.outcome ∙ c.in-Ok.is),
   stays_well_trans _ _ _ c.loop-item.invariant.2 c.in_ok-one.ensures.well,
 )
 

@@ -10,8 +10,8 @@ use Rattle.line_filter.specs.private.HeldBack.{WritesBut}
 use Rattle.line_filter.specs.declared.stop.Stop.{Stop}
 use Rattle.line_filter.proofs.DeviceLaws.Called.{stays_well_refl, stays_well_trans}
 use Rattle.line_filter.proofs.DeviceLaws.Unread.{going_read, reads_well_refl, reads_well_more, reads_on}
-use Rattle.line_filter.proofs.ItemLaws.Passing.{step_counts}
-use Rattle.line_filter.proofs.ItemLaws.Stopping.{step_of-of_item}
+use Rattle.line_filter.proofs.ItemLaws.Passing.{outcome_counts}
+use Rattle.line_filter.proofs.ItemLaws.Stopping.{outcome_of-of_item}
 use Rattle.line_filter.proofs.LineLaws.Found.{SaysTheSame-refl, SaysTheSame-trans, found-same}
 use Rattle.line_filter.proofs.RunLaws.AtOnce.{found_at_once, HasCome-at_once, HasCome-failed_at_once}
 use Rattle.line_filter.proofs.RunLaws.Called.{reads_of_item, reads_told}
@@ -19,8 +19,8 @@ use Rattle.line_filter.proofs.RunLaws.Streams.{HasCome-none, HasCome-written, Ha
 use Rattle.line_filter.proofs.WriteLaws.HeldBack.{OnErr-from}
 use Rattle.line_filter.proofs.stream.judge_stream.Goals as goal
 
-pub loop-stop-init : goal.loop-stop-init
-loop-stop-init g c = (
+pub loop-fault-init : goal.loop-fault-init
+loop-fault-init g c = (
   omega arith,
   omega arith,
   omega arith,
@@ -33,118 +33,118 @@ loop-stop-init g c = (
 
 pub returns-in_err-next_line-clause-err : goal.returns-in_err-next_line-clause-err
 returns-in_err-next_line-clause-err g c =
-    let i = c.loop-stop.invariant in
+    let i = c.loop-fault.invariant in
     let u = g.W.Write.contents c.args.out.now in
-    let v = g.W.Write.contents c.loop-stop.out in
+    let v = g.W.Write.contents c.loop-fault.out in
     OnErr-from c.from_residual.result _
-    (HasCome-unwritten (g.J.Judge.says c.args.judge.now) (left_of g.R.Read.remaining c.args.reader.now) (left_of g.R.Read.remaining c.loop-stop.reader) (IsOver c.loop-stop.reader → ⊥)
-    u v (g.W.Write.contents c.next_line.new.out) c.loop-stop.held.items c.loop-stop.lines c.loop-stop.tally i.4 c.in_err-next_line.ensures.err)
+    (HasCome-unwritten (g.J.Judge.says c.args.judge.now) (left_of g.R.Read.remaining c.args.reader.now) (left_of g.R.Read.remaining c.loop-fault.reader) (IsOver c.loop-fault.reader → ⊥)
+    u v (g.W.Write.contents c.next_line.new.out) c.loop-fault.held.items c.loop-fault.lines c.loop-fault.tally i.4 c.in_err-next_line.ensures.err)
 
 pub returns-in-End-clause-ok : goal.returns-in-End-clause-ok
 returns-in-End-clause-ok g c =
-    let i = c.loop-stop.invariant in
+    let i = c.loop-fault.invariant in
     let says = g.J.Judge.says c.args.judge.now in
     let a = left_of g.R.Read.remaining c.args.reader.now in
-    let r = left_of g.R.Read.remaining c.loop-stop.reader in
+    let r = left_of g.R.Read.remaining c.loop-fault.reader in
     let u = g.W.Write.contents c.args.out.now in
-    let v = g.W.Write.contents c.loop-stop.out in
+    let v = g.W.Write.contents c.loop-fault.out in
     let w = g.W.Write.contents c.next_line.new.out in
-    let given = subst (Gives g.R.Read.remaining c.loop-stop.reader c.next_line.new.reader) c.in-End.is c.in_ok-next_line.ensures.given in
-    let came = HasCome-written says a r (IsOver c.loop-stop.reader → ⊥) u v w c.loop-stop.held.items c.next_line.new.held.items c.loop-stop.lines c.loop-stop.tally i.4 c.in_ok-next_line.ensures.ok in
-    HasCome-end says a r (IsOver c.loop-stop.reader → ⊥) u w c.next_line.new.held.items c.loop-stop.lines c.loop-stop.tally came given.none_left
+    let given = subst (Gives g.R.Read.remaining c.loop-fault.reader c.next_line.new.reader) c.in-End.is c.in_ok-next_line.ensures.given in
+    let came = HasCome-written says a r (IsOver c.loop-fault.reader → ⊥) u v w c.loop-fault.held.items c.next_line.new.held.items c.loop-fault.lines c.loop-fault.tally i.4 c.in_ok-next_line.ensures.ok in
+    HasCome-end says a r (IsOver c.loop-fault.reader → ⊥) u w c.next_line.new.held.items c.loop-fault.lines c.loop-fault.tally came given.none_left
 
 pub returns-in-End-clause-ended : goal.returns-in-End-clause-ended
 returns-in-End-clause-ended g c =
-    let given = subst (Gives g.R.Read.remaining c.loop-stop.reader c.next_line.new.reader) c.in-End.is c.in_ok-next_line.ensures.given in
+    let given = subst (Gives g.R.Read.remaining c.loop-fault.reader c.next_line.new.reader) c.in-End.is c.in_ok-next_line.ensures.given in
     given.over
 
 pub returns-in-Fault-clause-ok : goal.returns-in-Fault-clause-ok
 returns-in-Fault-clause-ok g c =
-    let i = c.loop-stop.invariant in
+    let i = c.loop-fault.invariant in
     let says = g.J.Judge.says c.args.judge.now in
     let a = left_of g.R.Read.remaining c.args.reader.now in
-    let r = left_of g.R.Read.remaining c.loop-stop.reader in
+    let r = left_of g.R.Read.remaining c.loop-fault.reader in
     let u = g.W.Write.contents c.args.out.now in
-    let v = g.W.Write.contents c.loop-stop.out in
+    let v = g.W.Write.contents c.loop-fault.out in
     let w = g.W.Write.contents c.next_line.new.out in
     let fault = c.in-Fault.fault in
-    let given = subst (Gives g.R.Read.remaining c.loop-stop.reader c.next_line.new.reader) c.in-Fault.is c.in_ok-next_line.ensures.given in
-    let not_over = λ (over : IsOver c.loop-stop.reader). let ends = c.in_ok-next_line.ensures.again.over over in absurd {A = ⊥} (cc) in
-    let came = HasCome-written says a r (IsOver c.loop-stop.reader → ⊥) u v w c.loop-stop.held.items c.next_line.new.held.items c.loop-stop.lines c.loop-stop.tally i.4 c.in_ok-next_line.ensures.ok in
+    let given = subst (Gives g.R.Read.remaining c.loop-fault.reader c.next_line.new.reader) c.in-Fault.is c.in_ok-next_line.ensures.given in
+    let not_over = λ (over : IsOver c.loop-fault.reader). let ends = c.in_ok-next_line.ensures.again.over over in absurd {A = ⊥} (cc) in
+    let came = HasCome-written says a r (IsOver c.loop-fault.reader → ⊥) u v w c.loop-fault.held.items c.next_line.new.held.items c.loop-fault.lines c.loop-fault.tally i.4 c.in_ok-next_line.ensures.ok in
     subst (λ (s : Stop g.row.J-Fault.Denot). IfSome a (λ bytes. (text : List ℕ) × WritesBut u w c.next_line.new.held.items text × StopsWith (lines says bytes) (LacksLine says bytes c.next_line.new.reader.waiting (g.R.Read.remaining c.next_line.new.reader.reader)) text s)) (sym c.fault_stop.ensures)
-    (HasCome-fault says c.next_line.new.reader.waiting a r (g.R.Read.remaining c.next_line.new.reader.reader) (IsOver c.loop-stop.reader → ⊥) u w c.next_line.new.held.items c.loop-stop.lines c.loop-stop.tally fault came
+    (HasCome-fault says c.next_line.new.reader.waiting a r (g.R.Read.remaining c.next_line.new.reader.reader) (IsOver c.loop-fault.reader → ⊥) u w c.next_line.new.held.items c.loop-fault.lines c.loop-fault.tally fault came
     not_over given.left given.unended given.long)
 
 pub returns-in_err-one-clause-err : goal.returns-in_err-one-clause-err
 returns-in_err-one-clause-err g c =
-    let i = c.loop-stop.invariant in
+    let i = c.loop-fault.invariant in
     let says = g.J.Judge.says c.args.judge.now in
     let a = left_of g.R.Read.remaining c.args.reader.now in
-    let r = left_of g.R.Read.remaining c.loop-stop.reader in
+    let r = left_of g.R.Read.remaining c.loop-fault.reader in
     let s = left_of g.R.Read.remaining c.next_line.new.reader in
     let u = g.W.Write.contents c.args.out.now in
     let v = g.W.Write.contents c.next_line.new.out in
     let line = c.line-line.result.now in
-    let given = subst (Gives g.R.Read.remaining c.loop-stop.reader c.next_line.new.reader) c.in-Line.is c.in_ok-next_line.ensures.given in
+    let given = subst (Gives g.R.Read.remaining c.loop-fault.reader c.next_line.new.reader) c.in-Line.is c.in_ok-next_line.ensures.given in
     let first = subst (λ (l : List ℕ). GivesLine r s l) (sym c.line-line.ensures) given.first in
-    let not_over = λ (over : IsOver c.loop-stop.reader). let ends = c.in_ok-next_line.ensures.again.over over in absurd {A = ⊥} (cc) in
-    let came = HasCome-written says a r (IsOver c.loop-stop.reader → ⊥) u (g.W.Write.contents c.loop-stop.out) v c.loop-stop.held.items c.next_line.new.held.items c.loop-stop.lines c.loop-stop.tally i.4 c.in_ok-next_line.ensures.ok in
-    let same = SaysTheSame-trans says (g.J.Judge.says c.loop-stop.judge) (g.J.Judge.says c.keeps.new.self) i.3 c.keeps.ensures.same in
+    let not_over = λ (over : IsOver c.loop-fault.reader). let ends = c.in_ok-next_line.ensures.again.over over in absurd {A = ⊥} (cc) in
+    let came = HasCome-written says a r (IsOver c.loop-fault.reader → ⊥) u (g.W.Write.contents c.loop-fault.out) v c.loop-fault.held.items c.next_line.new.held.items c.loop-fault.lines c.loop-fault.tally i.4 c.in_ok-next_line.ensures.ok in
+    let same = SaysTheSame-trans says (g.J.Judge.says c.loop-fault.judge) (g.J.Judge.says c.keeps.new.self) i.3 c.keeps.ensures.same in
     let finds = found-same _ _ line c.find-found.result same c.find-found.ensures.found in
     let failed = c.in_err-one.ensures in
     OnErr-from c.from_residual-in_err-one.result _
-    (HasCome-failed says line (IsOver c.loop-stop.reader → ⊥) u v (g.W.Write.contents c.settle.new.out) c.next_line.new.held.items c.settle.new.held.items c.loop-stop.lines c.loop-stop.tally c.find-found.result finds not_over
+    (HasCome-failed says line (IsOver c.loop-fault.reader → ⊥) u v (g.W.Write.contents c.settle.new.out) c.next_line.new.held.items c.settle.new.held.items c.loop-fault.lines c.loop-fault.tally c.find-found.result finds not_over
     a r s came first failed.kept failed.err)
 
 pub overflow_add-tally : goal.overflow_add-tally
-overflow_add-tally g c = let i = c.loop-stop.invariant in omega (arith, i.0, i.1, c.requires.few)
+overflow_add-tally g c = let i = c.loop-fault.invariant in omega (arith, i.0, i.1, c.requires.few)
 
-pub overflow_add-tally-in-Passed : goal.overflow_add-tally-in-Passed
-overflow_add-tally-in-Passed g c =
-    let i = c.loop-stop.invariant in
-    let counts = step_counts _ _ _ (sym c.in_ok-one.ensures.step ∙ c.in-Passed.is) in
+pub overflow_add-tally-in-Ok : goal.overflow_add-tally-in-Ok
+overflow_add-tally-in-Ok g c =
+    let i = c.loop-fault.invariant in
+    let counts = outcome_counts _ _ _ (sym c.in_ok-one.ensures.outcome ∙ c.in-Ok.is) in
     omega (arith, i.0, i.1, i.2, counts.0, counts.1, c.requires.few)
 
 pub returns-in_err-keep_where-in-Some-clause-err : goal.returns-in_err-keep_where-in-Some-clause-err
 returns-in_err-keep_where-in-Some-clause-err g c =
-    let i = c.loop-stop.invariant in
+    let i = c.loop-fault.invariant in
     let says = g.J.Judge.says c.args.judge.now in
     let a = left_of g.R.Read.remaining c.args.reader.now in
-    let r = left_of g.R.Read.remaining c.loop-stop.reader in
+    let r = left_of g.R.Read.remaining c.loop-fault.reader in
     let s = left_of g.R.Read.remaining c.next_line.new.reader in
     let u = g.W.Write.contents c.args.out.now in
     let v = g.W.Write.contents c.next_line.new.out in
     let line = c.line-line.result.now in
     let front = c.front.result.now in
     let kept = c.in-Some.is_kept in
-    let given = subst (Gives g.R.Read.remaining c.loop-stop.reader c.next_line.new.reader) c.in-Line.is c.in_ok-next_line.ensures.given in
+    let given = subst (Gives g.R.Read.remaining c.loop-fault.reader c.next_line.new.reader) c.in-Line.is c.in_ok-next_line.ensures.given in
     let first = subst (λ (l : List ℕ). GivesLine r s l) (sym c.line-line.ensures) given.first in
-    let not_over = λ (over : IsOver c.loop-stop.reader). let ends = c.in_ok-next_line.ensures.again.over over in absurd {A = ⊥} (cc) in
-    let came = HasCome-written says a r (IsOver c.loop-stop.reader → ⊥) u (g.W.Write.contents c.loop-stop.out) v c.loop-stop.held.items c.next_line.new.held.items c.loop-stop.lines c.loop-stop.tally i.4 c.in_ok-next_line.ensures.ok in
+    let not_over = λ (over : IsOver c.loop-fault.reader). let ends = c.in_ok-next_line.ensures.again.over over in absurd {A = ⊥} (cc) in
+    let came = HasCome-written says a r (IsOver c.loop-fault.reader → ⊥) u (g.W.Write.contents c.loop-fault.out) v c.loop-fault.held.items c.next_line.new.held.items c.loop-fault.lines c.loop-fault.tally i.4 c.in_ok-next_line.ensures.ok in
     let is : take (length line) front ≡ line = ap (λ (l : List ℕ). take (length l) front) c.line-line.ensures ∙ c.front.ensures ∙ sym c.line-line.ensures in
     let short : length line ≤ longest_line = subst (λ (l : List ℕ). length l ≤ longest_line) (sym c.line-line.ensures) given.short in
     let finds = found_at_once says front line (length line) kept is short c.in-Some.ensures.not_blank ((i.3 (take (length line) front) (judgment_where kept)).1 c.in-Some.ensures.said) in
     let failed = c.in_err-keep_where-in-Some.ensures in
     OnErr-from c.from_residual-in_err-keep_where-in-Some.result _
-    (HasCome-failed_at_once says line (IsOver c.loop-stop.reader → ⊥) u v (g.W.Write.contents c.keep_where.new.out) c.next_line.new.held.items c.keep_where.new.held.items c.loop-stop.lines c.loop-stop.tally not_over a r s came first kept finds failed.kept failed.err)
+    (HasCome-failed_at_once says line (IsOver c.loop-fault.reader → ⊥) u v (g.W.Write.contents c.keep_where.new.out) c.next_line.new.held.items c.keep_where.new.held.items c.loop-fault.lines c.loop-fault.tally not_over a r s came first kept finds failed.kept failed.err)
 
-pub loop-stop-preserved-in-Some : goal.loop-stop-preserved-in-Some
-loop-stop-preserved-in-Some g c =
-    let i = c.loop-stop.invariant in
+pub loop-fault-preserved-in-Some : goal.loop-fault-preserved-in-Some
+loop-fault-preserved-in-Some g c =
+    let i = c.loop-fault.invariant in
     let says = g.J.Judge.says c.args.judge.now in
     let a = left_of g.R.Read.remaining c.args.reader.now in
-    let r = left_of g.R.Read.remaining c.loop-stop.reader in
+    let r = left_of g.R.Read.remaining c.loop-fault.reader in
     let s = left_of g.R.Read.remaining c.next_line.new.reader in
     let u = g.W.Write.contents c.args.out.now in
     let v = g.W.Write.contents c.next_line.new.out in
     let line = c.line-line.result.now in
     let front = c.front.result.now in
     let kept = c.in-Some.is_kept in
-    let given = subst (Gives g.R.Read.remaining c.loop-stop.reader c.next_line.new.reader) c.in-Line.is c.in_ok-next_line.ensures.given in
+    let given = subst (Gives g.R.Read.remaining c.loop-fault.reader c.next_line.new.reader) c.in-Line.is c.in_ok-next_line.ensures.given in
     let first = subst (λ (l : List ℕ). GivesLine r s l) (sym c.line-line.ensures) given.first in
     let whole = subst (λ (l : List ℕ). IsOver c.next_line.new.reader ⊎ WhereKnown r s (λ rest after. rest ≡ l ++ 10 ∷ after)) (sym c.line-line.ensures) given.whole in
-    let not_over = λ (over : IsOver c.loop-stop.reader). let ends = c.in_ok-next_line.ensures.again.over over in absurd {A = ⊥} (cc) in
-    let came = HasCome-written says a r (IsOver c.loop-stop.reader → ⊥) u (g.W.Write.contents c.loop-stop.out) v c.loop-stop.held.items c.next_line.new.held.items c.loop-stop.lines c.loop-stop.tally i.4 c.in_ok-next_line.ensures.ok in
+    let not_over = λ (over : IsOver c.loop-fault.reader). let ends = c.in_ok-next_line.ensures.again.over over in absurd {A = ⊥} (cc) in
+    let came = HasCome-written says a r (IsOver c.loop-fault.reader → ⊥) u (g.W.Write.contents c.loop-fault.out) v c.loop-fault.held.items c.next_line.new.held.items c.loop-fault.lines c.loop-fault.tally i.4 c.in_ok-next_line.ensures.ok in
     let is : take (length line) front ≡ line = ap (λ (l : List ℕ). take (length l) front) c.line-line.ensures ∙ c.front.ensures ∙ sym c.line-line.ensures in
     let short : length line ≤ longest_line = subst (λ (l : List ℕ). length l ≤ longest_line) (sym c.line-line.ensures) given.short in
     let finds = found_at_once says front line (length line) kept is short c.in-Some.ensures.not_blank ((i.3 (take (length line) front) (judgment_where kept)).1 c.in-Some.ensures.said) in
@@ -152,92 +152,92 @@ loop-stop-preserved-in-Some g c =
     let n = c.count_where.result in
     let few : n ≤ 1 = c.count_where.ensures.few in
     let fewer = given.fewer in
-    let lines_fit : c.loop-stop.lines + 1 + bytes_to_come c.next_line.new.reader ≤ bytes_to_come c.args.reader.now = omega (arith, i.0, fewer) in
-    let rows_fit : c.loop-stop.tally.rows + 1 ≤ c.loop-stop.lines + 1 = omega (arith, i.1) in
-    let kept_fit : c.loop-stop.tally.kept + n ≤ c.loop-stop.lines + 1 = omega (arith, i.2, few) in (
+    let lines_fit : c.loop-fault.lines + 1 + bytes_to_come c.next_line.new.reader ≤ bytes_to_come c.args.reader.now = omega (arith, i.0, fewer) in
+    let rows_fit : c.loop-fault.tally.rows + 1 ≤ c.loop-fault.lines + 1 = omega (arith, i.1) in
+    let kept_fit : c.loop-fault.tally.kept + n ≤ c.loop-fault.lines + 1 = omega (arith, i.2, few) in (
       lines_fit,
       rows_fit,
       kept_fit,
       SaysTheSame-trans _ _ _ i.3 c.keeps.ensures.same,
-      HasCome-at_once says line (IsOver c.loop-stop.reader → ⊥) u v (g.W.Write.contents c.keep_where.new.out) c.next_line.new.held.items c.keep_where.new.held.items c.loop-stop.lines c.loop-stop.tally not_over a r s came first kept finds
+      HasCome-at_once says line (IsOver c.loop-fault.reader → ⊥) u v (g.W.Write.contents c.keep_where.new.out) c.next_line.new.held.items c.keep_where.new.held.items c.loop-fault.lines c.loop-fault.tally not_over a r s came first kept finds
           (IsOver c.next_line.new.reader) whole wrote.ok n c.count_where.ensures.count,
-      reads_well_more g.S.Reads.calls g.R.Read.remaining c.args.reader.now c.loop-stop.reader c.next_line.new.reader i.5 c.in_ok-next_line.ensures.reads (going_read c.next_line.new.reader given.going),
-      stays_well_trans _ (g.T.Writes.calls c.next_line.new.out) _ (stays_well_trans _ (g.T.Writes.calls c.loop-stop.out) _ i.6 c.in_ok-next_line.ensures.well) wrote.well,
+      reads_well_more g.S.Reads.calls g.R.Read.remaining c.args.reader.now c.loop-fault.reader c.next_line.new.reader i.5 c.in_ok-next_line.ensures.reads (going_read c.next_line.new.reader given.going),
+      stays_well_trans _ (g.T.Writes.calls c.next_line.new.out) _ (stays_well_trans _ (g.T.Writes.calls c.loop-fault.out) _ i.6 c.in_ok-next_line.ensures.well) wrote.well,
       λ is_unread. absurd (going_read c.next_line.new.reader given.going is_unread),
     )
 
-pub loop-stop-preserved : goal.loop-stop-preserved
-loop-stop-preserved g c =
-    let i = c.loop-stop.invariant in
+pub loop-fault-preserved : goal.loop-fault-preserved
+loop-fault-preserved g c =
+    let i = c.loop-fault.invariant in
     let says = g.J.Judge.says c.args.judge.now in
     let a = left_of g.R.Read.remaining c.args.reader.now in
-    let r = left_of g.R.Read.remaining c.loop-stop.reader in
+    let r = left_of g.R.Read.remaining c.loop-fault.reader in
     let s = left_of g.R.Read.remaining c.next_line.new.reader in
     let u = g.W.Write.contents c.args.out.now in
     let v = g.W.Write.contents c.next_line.new.out in
     let line = c.line-line.result.now in
     let settled = c.in_ok-one.ensures in
-    let step = sym settled.step ∙ c.in-Passed.is in
-    let counts = step_counts _ _ _ step in
-    let given = subst (Gives g.R.Read.remaining c.loop-stop.reader c.next_line.new.reader) c.in-Line.is c.in_ok-next_line.ensures.given in
+    let step = sym settled.outcome ∙ c.in-Ok.is in
+    let counts = outcome_counts _ _ _ step in
+    let given = subst (Gives g.R.Read.remaining c.loop-fault.reader c.next_line.new.reader) c.in-Line.is c.in_ok-next_line.ensures.given in
     let first = subst (λ (l : List ℕ). GivesLine r s l) (sym c.line-line.ensures) given.first in
     let whole = subst (λ (l : List ℕ). IsOver c.next_line.new.reader ⊎ WhereKnown r s (λ rest after. rest ≡ l ++ 10 ∷ after)) (sym c.line-line.ensures) given.whole in
-    let not_over = λ (over : IsOver c.loop-stop.reader). let ends = c.in_ok-next_line.ensures.again.over over in absurd {A = ⊥} (cc) in
-    let came = HasCome-written says a r (IsOver c.loop-stop.reader → ⊥) u (g.W.Write.contents c.loop-stop.out) v c.loop-stop.held.items c.next_line.new.held.items c.loop-stop.lines c.loop-stop.tally i.4 c.in_ok-next_line.ensures.ok in
-    let same = SaysTheSame-trans says (g.J.Judge.says c.loop-stop.judge) (g.J.Judge.says c.keeps.new.self) i.3 c.keeps.ensures.same in
+    let not_over = λ (over : IsOver c.loop-fault.reader). let ends = c.in_ok-next_line.ensures.again.over over in absurd {A = ⊥} (cc) in
+    let came = HasCome-written says a r (IsOver c.loop-fault.reader → ⊥) u (g.W.Write.contents c.loop-fault.out) v c.loop-fault.held.items c.next_line.new.held.items c.loop-fault.lines c.loop-fault.tally i.4 c.in_ok-next_line.ensures.ok in
+    let same = SaysTheSame-trans says (g.J.Judge.says c.loop-fault.judge) (g.J.Judge.says c.keeps.new.self) i.3 c.keeps.ensures.same in
     let finds = found-same _ _ line c.find-found.result same c.find-found.ensures.found in
     let fewer = given.fewer in
-    let lines_fit : c.loop-stop.lines + 1 + bytes_to_come c.next_line.new.reader ≤ bytes_to_come c.args.reader.now = omega (arith, i.0, fewer) in
-    let rows_fit : c.loop-stop.tally.rows + c.in-Passed.one.rows ≤ c.loop-stop.lines + 1 = omega (arith, i.1, counts.0) in
-    let kept_fit : c.loop-stop.tally.kept + c.in-Passed.one.kept ≤ c.loop-stop.lines + 1 = omega (arith, i.2, counts.1) in (
+    let lines_fit : c.loop-fault.lines + 1 + bytes_to_come c.next_line.new.reader ≤ bytes_to_come c.args.reader.now = omega (arith, i.0, fewer) in
+    let rows_fit : c.loop-fault.tally.rows + c.in-Ok.one.rows ≤ c.loop-fault.lines + 1 = omega (arith, i.1, counts.0) in
+    let kept_fit : c.loop-fault.tally.kept + c.in-Ok.one.kept ≤ c.loop-fault.lines + 1 = omega (arith, i.2, counts.1) in (
       lines_fit,
       rows_fit,
       kept_fit,
       SaysTheSame-trans _ _ _ same c.find-found.ensures.same,
-      HasCome-more says line (IsOver c.loop-stop.reader → ⊥) u v (g.W.Write.contents c.settle.new.out) c.next_line.new.held.items c.settle.new.held.items c.loop-stop.lines c.loop-stop.tally c.find-found.result finds not_over
-          a r s (IsOver c.next_line.new.reader) c.in-Passed.one came first whole settled.ok step,
-      reads_well_more g.S.Reads.calls g.R.Read.remaining c.args.reader.now c.loop-stop.reader c.next_line.new.reader i.5 c.in_ok-next_line.ensures.reads (going_read c.next_line.new.reader given.going),
-      stays_well_trans _ (g.T.Writes.calls c.next_line.new.out) _ (stays_well_trans _ (g.T.Writes.calls c.loop-stop.out) _ i.6 c.in_ok-next_line.ensures.well) settled.well,
+      HasCome-more says line (IsOver c.loop-fault.reader → ⊥) u v (g.W.Write.contents c.settle.new.out) c.next_line.new.held.items c.settle.new.held.items c.loop-fault.lines c.loop-fault.tally c.find-found.result finds not_over
+          a r s (IsOver c.next_line.new.reader) c.in-Ok.one came first whole settled.ok step,
+      reads_well_more g.S.Reads.calls g.R.Read.remaining c.args.reader.now c.loop-fault.reader c.next_line.new.reader i.5 c.in_ok-next_line.ensures.reads (going_read c.next_line.new.reader given.going),
+      stays_well_trans _ (g.T.Writes.calls c.next_line.new.out) _ (stays_well_trans _ (g.T.Writes.calls c.loop-fault.out) _ i.6 c.in_ok-next_line.ensures.well) settled.well,
       λ is. absurd (going_read c.next_line.new.reader given.going is),
     )
 
-pub returns-in-Stopped-clause-ok : goal.returns-in-Stopped-clause-ok
-returns-in-Stopped-clause-ok g c =
-    let i = c.loop-stop.invariant in
+pub returns-in-Err-clause-ok : goal.returns-in-Err-clause-ok
+returns-in-Err-clause-ok g c =
+    let i = c.loop-fault.invariant in
     let says = g.J.Judge.says c.args.judge.now in
     let a = left_of g.R.Read.remaining c.args.reader.now in
-    let r = left_of g.R.Read.remaining c.loop-stop.reader in
+    let r = left_of g.R.Read.remaining c.loop-fault.reader in
     let s = left_of g.R.Read.remaining c.next_line.new.reader in
     let u = g.W.Write.contents c.args.out.now in
     let v = g.W.Write.contents c.next_line.new.out in
     let line = c.line-line.result.now in
     let settled = c.in_ok-one.ensures in
-    let given = subst (Gives g.R.Read.remaining c.loop-stop.reader c.next_line.new.reader) c.in-Line.is c.in_ok-next_line.ensures.given in
+    let given = subst (Gives g.R.Read.remaining c.loop-fault.reader c.next_line.new.reader) c.in-Line.is c.in_ok-next_line.ensures.given in
     let first = subst (λ (l : List ℕ). GivesLine r s l) (sym c.line-line.ensures) given.first in
-    let not_over = λ (over : IsOver c.loop-stop.reader). let ends = c.in_ok-next_line.ensures.again.over over in absurd {A = ⊥} (cc) in
-    let came = HasCome-written says a r (IsOver c.loop-stop.reader → ⊥) u (g.W.Write.contents c.loop-stop.out) v c.loop-stop.held.items c.next_line.new.held.items c.loop-stop.lines c.loop-stop.tally i.4 c.in_ok-next_line.ensures.ok in
-    let same = SaysTheSame-trans says (g.J.Judge.says c.loop-stop.judge) (g.J.Judge.says c.keeps.new.self) i.3 c.keeps.ensures.same in
+    let not_over = λ (over : IsOver c.loop-fault.reader). let ends = c.in_ok-next_line.ensures.again.over over in absurd {A = ⊥} (cc) in
+    let came = HasCome-written says a r (IsOver c.loop-fault.reader → ⊥) u (g.W.Write.contents c.loop-fault.out) v c.loop-fault.held.items c.next_line.new.held.items c.loop-fault.lines c.loop-fault.tally i.4 c.in_ok-next_line.ensures.ok in
+    let same = SaysTheSame-trans says (g.J.Judge.says c.loop-fault.judge) (g.J.Judge.says c.keeps.new.self) i.3 c.keeps.ensures.same in
     let finds = found-same _ _ line c.find-found.result same c.find-found.ensures.found in
-    HasCome-stopped says line (IsOver c.loop-stop.reader → ⊥) u v (g.W.Write.contents c.settle.new.out) c.next_line.new.held.items c.settle.new.held.items c.loop-stop.lines c.loop-stop.tally c.find-found.result finds not_over
-    c.next_line.new.reader.waiting (g.R.Read.remaining c.next_line.new.reader.reader) a r s c.in-Stopped.stop came first settled.ok (sym settled.step ∙ c.in-Stopped.is)
+    HasCome-stopped says line (IsOver c.loop-fault.reader → ⊥) u v (g.W.Write.contents c.settle.new.out) c.next_line.new.held.items c.settle.new.held.items c.loop-fault.lines c.loop-fault.tally c.find-found.result finds not_over
+    c.next_line.new.reader.waiting (g.R.Read.remaining c.next_line.new.reader.reader) a r s c.in-Err.stop came first settled.ok (sym settled.outcome ∙ c.in-Err.is)
 
 pub returns-in-Fault-clause-reads : goal.returns-in-Fault-clause-reads
 returns-in-Fault-clause-reads g c =
-    let i = c.loop-stop.invariant in
+    let i = c.loop-fault.invariant in
     let calls = g.S.Reads.calls in
     let remaining = g.R.Read.remaining in
-    let given = subst (Gives remaining c.loop-stop.reader c.next_line.new.reader) c.in-Fault.is c.in_ok-next_line.ensures.given in
-    let reads = reads_on calls remaining c.args.reader.now c.loop-stop.reader c.next_line.new.reader i.5 c.in_ok-next_line.ensures.reads in
+    let given = subst (Gives remaining c.loop-fault.reader c.next_line.new.reader) c.in-Fault.is c.in_ok-next_line.ensures.given in
+    let reads = reads_on calls remaining c.args.reader.now c.loop-fault.reader c.next_line.new.reader i.5 c.in_ok-next_line.ensures.reads in
     subst (λ (s : Stop g.row.J-Fault.Denot). ReadsUntil calls remaining c.args.reader.now c.next_line.new.reader s) (sym c.fault_stop.ensures)
-    (reads_told g.row.J-Fault.Denot calls remaining c.args.reader.now c.next_line.new.reader c.in-Fault.fault (c.loop-stop.lines + 1) given.failed reads)
+    (reads_told g.row.J-Fault.Denot calls remaining c.args.reader.now c.next_line.new.reader c.in-Fault.fault (c.loop-fault.lines + 1) given.failed reads)
 
-pub returns-in-Stopped-clause-reads : goal.returns-in-Stopped-clause-reads
-returns-in-Stopped-clause-reads g c =
-    let i = c.loop-stop.invariant in
+pub returns-in-Err-clause-reads : goal.returns-in-Err-clause-reads
+returns-in-Err-clause-reads g c =
+    let i = c.loop-fault.invariant in
     let calls = g.S.Reads.calls in
     let remaining = g.R.Read.remaining in
-    let given = subst (Gives remaining c.loop-stop.reader c.next_line.new.reader) c.in-Line.is c.in_ok-next_line.ensures.given in
+    let given = subst (Gives remaining c.loop-fault.reader c.next_line.new.reader) c.in-Line.is c.in_ok-next_line.ensures.given in
     let not = going_read c.next_line.new.reader given.going in
-    let reads = reads_on calls remaining c.args.reader.now c.loop-stop.reader c.next_line.new.reader i.5 c.in_ok-next_line.ensures.reads in
-    let of_item = step_of-of_item (c.loop-stop.lines + 1) c.find-found.result c.in-Stopped.stop (sym c.in_ok-one.ensures.step ∙ c.in-Stopped.is) in
-    reads_of_item calls remaining c.args.reader.now c.next_line.new.reader c.in-Stopped.stop of_item (reads.well not)
+    let reads = reads_on calls remaining c.args.reader.now c.loop-fault.reader c.next_line.new.reader i.5 c.in_ok-next_line.ensures.reads in
+    let of_item = outcome_of-of_item (c.loop-fault.lines + 1) c.find-found.result c.in-Err.stop (sym c.in_ok-one.ensures.outcome ∙ c.in-Err.is) in
+    reads_of_item calls remaining c.args.reader.now c.next_line.new.reader c.in-Err.stop of_item (reads.well not)

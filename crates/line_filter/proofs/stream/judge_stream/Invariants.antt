@@ -9,8 +9,8 @@ use Rattle.line_filter.specs.private.Reading.{IsUnread, ReadsWell}
 use Rattle.line_filter.proofs.RunLaws.Streams.{HasCome}
 use Rattle.line_filter.proofs.stream.judge_stream.Given as goal
 
-abbrev pub invariant-loop-stop : goal.invariant-loop-stop
-invariant-loop-stop g l = (l.lines + bytes_to_come l.reader ≤ bytes_to_come l.initial.reader)
+abbrev pub invariant-loop-fault : goal.invariant-loop-fault
+invariant-loop-fault g l = (l.lines + bytes_to_come l.reader ≤ bytes_to_come l.initial.reader)
     × (l.tally.rows ≤ l.lines) × (l.tally.kept ≤ l.lines)
     × SaysTheSame (g.J.Judge.says l.initial.judge) (g.J.Judge.says l.judge)
     × HasCome (g.J.Judge.says l.initial.judge) (left_of g.R.Read.remaining l.initial.reader) (left_of g.R.Read.remaining l.reader) (IsOver l.reader → ⊥)
@@ -19,5 +19,5 @@ invariant-loop-stop g l = (l.lines + bytes_to_come l.reader ≤ bytes_to_come l.
     × StaysWell (g.T.Writes.calls l.initial.out) (g.T.Writes.calls l.out)
     × (IsUnread l.reader → l.held.items ≡ [])
 
-abbrev pub decreases-loop-stop : goal.decreases-loop-stop
-decreases-loop-stop g l = bytes_to_come l.reader
+abbrev pub decreases-loop-fault : goal.decreases-loop-fault
+decreases-loop-fault g l = bytes_to_come l.reader

@@ -2,7 +2,7 @@ use Rattle.std.proofs.Common.{◌≤◌, ◌+◌, [], Some, length, arith, refl,
 use Rattle.line_filter.proofs.LineLaws.Found.{SaysTheSame-refl, SaysTheSame-trans, found-same}
 use Rattle.line_filter.proofs.LineLaws.InMemory.{found_put, grows_whole, put_whole}
 use Rattle.line_filter.proofs.LineLaws.Walked.{HasPassed-none, HasPassed-more, HasPassed-stopped}
-use Rattle.line_filter.proofs.walk.keep_lines.Goals as goal
+use Rattle.line_filter.proofs.walk.filter_bytes.Goals as goal
 
 pub loop-rest-init : goal.loop-rest-init
 loop-rest-init g c = (omega arith, SaysTheSame-refl (g.J.Judge.says c.args.judge.now), HasPassed-none _ c.args.bytes.now _ (Some c.args.out.now.items) [] refl)
@@ -18,16 +18,16 @@ loop-rest-preserved g c =
       room,
       SaysTheSame-trans _ _ _ c.loop-rest.invariant.1 c.find_at_front.ensures.same,
       HasPassed-more _ _ line c.loop-rest.rest.now after _ (Some c.args.out.now.items) (Some c.loop-rest.out.items) (Some c.put_kept-found.new.out.items) [] [] c.loop-rest.lines c.loop-rest.tally c.put_kept-found.result
-          c.first_line.ensures.lines finds c.loop-rest.invariant.2 c.in-Passed.one _ c.first_line.ensures.behind (omega (arith, c.first_line.ensures.shorter)) put (sym c.step_at.ensures ∙ c.in-Passed.is),
+          c.first_line.ensures.lines finds c.loop-rest.invariant.2 c.in-Ok.one _ c.first_line.ensures.behind (omega (arith, c.first_line.ensures.shorter)) put (sym c.outcome_of.ensures ∙ c.in-Ok.is),
     )
 
-pub returns-in-Stopped-clause-goes : goal.returns-in-Stopped-clause-goes
-returns-in-Stopped-clause-goes g c =
+pub returns-in-Err-clause-stops : goal.returns-in-Err-clause-stops
+returns-in-Err-clause-stops g c =
     let line = c.first_line.result.0.now in
     let after = c.first_line.result.1.now in
     let said = found-same _ _ line c.find_at_front.result c.loop-rest.invariant.1 c.find_at_front.ensures.found in
     let finds = found_put _ c.put_kept-found.result c.find_at_front.result c.put_kept-found.ensures.same said in
     let put = put_whole c.loop-rest.out.items c.put_kept-found.new.out.items _ c.put_kept-found.ensures.put in
     let (text, wrote, stops) = HasPassed-stopped _ _ line c.loop-rest.rest.now after _ (Some c.args.out.now.items) (Some c.loop-rest.out.items) (Some c.put_kept-found.new.out.items) [] [] c.loop-rest.lines c.loop-rest.tally c.put_kept-found.result
-    c.first_line.ensures.lines finds c.loop-rest.invariant.2 (λ text line. ⊥) c.in-Stopped.stop (omega (arith, c.first_line.ensures.shorter)) put (sym c.step_at.ensures ∙ c.in-Stopped.is) in
+    c.first_line.ensures.lines finds c.loop-rest.invariant.2 (λ text line. ⊥) c.in-Err.stop (omega (arith, c.first_line.ensures.shorter)) put (sym c.outcome_of.ensures ∙ c.in-Err.is) in
     grows_whole _ c.args.out.now.items c.put_kept-found.new.out.items text wrote stops
