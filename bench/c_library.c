@@ -2,6 +2,7 @@
  *
  *     c_library check SCHEMA TYPE FILTER THREADS SECONDS    checks the filter's text by a type's handle, and frees it
  *     c_library judge SCHEMA TYPE FILTER ROWS SECONDS       judges the lines of a file, one by one
+ *     c_library next SCHEMA TYPE FILTER ROWS SECONDS        the same by a judge of the filter
  *     c_library lines SCHEMA TYPE FILTER ROWS SECONDS       judges them by one call for all
  *
  * Prints how many were done, the seconds of the clock and of the processors, how many allocations the first round took
@@ -90,15 +91,37 @@ static unsigned long check_once(struct work *work)
     return 1;
 }
 
+/* the row at the front of a text */
+static odfilter_bytes first_of(const char *at, const char *end)
+{
+    const char *feed = memchr(at, '\n', (size_t)(end - at));
+    odfilter_bytes row = {at, (size_t)((feed ? feed : end) - at)};
+    return row;
+}
+
 static unsigned long judge_each(struct work *work)
 {
     const char *at = rows.at, *end = rows.at + rows.length;
     unsigned long count = 0;
     odfilter_answer answer;
     while (at < end) {
-        const char *feed = memchr(at, '\n', (size_t)(end - at));
-        odfilter_bytes row = {at, (size_t)((feed ? feed : end) - at)};
+        odfilter_bytes row = first_of(at, end);
         if (odfilter_judge(filter, work->judge, row, &answer) != ODFILTER_OK)
+            give_up("a row is not judged");
+        count++;
+        at += row.length + 1;
+    }
+    return count;
+}
+
+static unsigned long judge_next(struct work *work)
+{
+    const char *at = rows.at, *end = rows.at + rows.length;
+    unsigned long count = 0;
+    odfilter_answer answer;
+    while (at < end) {
+        odfilter_bytes row = first_of(at, end);
+        if (odfilter_judge_next(work->judge, row, &answer) != ODFILTER_OK)
             give_up("a row is not judged");
         count++;
         at += row.length + 1;
@@ -167,14 +190,29 @@ static void measure(struct work *works, int threads)
     printf("%lu %.6f %.6f %lu %lu\n", done, clock, used, works[0].at_first, works[0].later);
 }
 
+/* what is done over and over, by the first word */
+static const struct verb {
+    const char *word;
+    unsigned long (*round)(struct work *);
+} verbs[] = {{"check", check_once}, {"judge", judge_each}, {"next", judge_next}, {"lines", judge_lines}};
+
+static unsigned long (*round_of(const char *word))(struct work *)
+{
+    size_t number, count = sizeof verbs / sizeof *verbs;
+    for (number = 0; number < count; number++)
+        if (!strcmp(verbs[number].word, word))
+            return verbs[number].round;
+    give_up("usage: c_library check|judge|next|lines SCHEMA TYPE FILTER THREADS|ROWS SECONDS");
+    return NULL;
+}
+
 int main(int count, char **words)
 {
     static struct work works[MOST_THREADS];
     int number, threads = 1;
-    if (count != 7)
-        give_up("usage: c_library check|judge|lines SCHEMA TYPE FILTER THREADS|ROWS SECONDS");
+    unsigned long (*round)(struct work *) = round_of(count == 7 ? words[1] : "");
     take_handles(words);
-    if (!strcmp(words[1], "check"))
+    if (round == check_once)
         threads = atoi(words[5]) < MOST_THREADS ? atoi(words[5]) : MOST_THREADS;
     else
         rows = file_of(words[5]);
@@ -182,9 +220,9 @@ int main(int count, char **words)
     kept.at = malloc(kept.length);
     for (number = 0; number < threads; number++) {
         struct work *work = &works[number];
-        work->round = !strcmp(words[1], "check") ? check_once : !strcmp(words[1], "judge") ? judge_each : judge_lines;
+        work->round = round;
         work->seconds = atof(words[6]);
-        if (odfilter_new_judge(&work->judge) != ODFILTER_OK)
+        if (odfilter_new_judge_of(filter, &work->judge) != ODFILTER_OK)
             give_up("no judge");
     }
     measure(works, threads);

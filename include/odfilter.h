@@ -266,10 +266,18 @@ uint32_t odfilter_property_paths(const odfilter_handle *filter, odfilter_room pa
 /* ---- Rows */
 
 /* Makes a judge, which is reused from row to row and for any filter. It has no moment and no bound yet. One call at a
- * time uses it.
+ * time uses it. For many rows of one filter, one by one, odfilter_new_judge_of makes a quicker one.
  *
  * ODFILTER_OK: `judge` is a judge. ODFILTER_NULL: it is. ODFILTER_MEMORY. */
 uint32_t odfilter_new_judge(odfilter_handle **judge);
+
+/* Makes a judge of a filter, which it owns with all that it needs. It is a judge as any other, for any filter too; beside
+ * that odfilter_judge_next judges rows by its own one, which is quicker than odfilter_judge, since the judge stores how
+ * such rows are read. It has no moment and no bound yet.
+ *
+ * ODFILTER_OK: `judge` is a judge. ODFILTER_NULL: any of the two is. ODFILTER_OTHER_KIND: `filter` is not a filter.
+ * ODFILTER_MEMORY. */
+uint32_t odfilter_new_judge_of(const odfilter_handle *filter, odfilter_handle **judge);
 
 /* Sets the moment that now() stands for, spelled as a moment in a filter: 2026-11-25T09:00:00Z.
  *
@@ -293,6 +301,12 @@ uint32_t odfilter_set_bound(odfilter_handle *judge, uint64_t most);
  * `judge` not a judge. ODFILTER_MEMORY. */
 uint32_t odfilter_judge(const odfilter_handle *filter, odfilter_handle *judge, odfilter_bytes row,
                         odfilter_answer *answer);
+
+/* Judges a row by the filter that the judge was made of, and else as odfilter_judge does.
+ *
+ * ODFILTER_NULL: any of the three is. ODFILTER_OTHER_KIND: `judge` is not one that odfilter_new_judge_of made. All other
+ * statuses are those of odfilter_judge. */
+uint32_t odfilter_judge_next(odfilter_handle *judge, odfilter_bytes row, odfilter_answer *answer);
 
 /* Judges rows, a line each, and writes those whose verdict is true, unchanged and each followed by a line feed.
  * Lines of spaces, tabs and carriage returns alone are passed over. A buffer with one byte more than the rows is

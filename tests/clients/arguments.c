@@ -52,6 +52,9 @@ static void nulls_that_make_handles(void)
     is_null("find_type: no name", odfilter_find_type(handles[SCHEMA], no_bytes_of_length, at), 0, at);
     is_null("find_type: no place", odfilter_find_type(handles[SCHEMA], name, NULL), 0, NULL);
     is_null("new_judge: no place", odfilter_new_judge(NULL), 0, NULL);
+    at = place();
+    is_null("new_judge_of: no filter", odfilter_new_judge_of(NULL, at), 0, at);
+    is_null("new_judge_of: no place", odfilter_new_judge_of(handles[FILTER_KIND], NULL), 0, NULL);
     drop(document);
     drop(name);
     drop(text);
@@ -130,13 +133,16 @@ static void nulls_of_urls(void)
 static void nulls_of_rows(void)
 {
     odfilter_bytes row = bytes_of(ROW);
-    odfilter_handle *filter = handles[FILTER_KIND], *judge = handles[JUDGE];
+    odfilter_handle *filter = handles[FILTER_KIND], *judge = handles[JUDGE], *own = new_judge_of(filter);
     odfilter_room kept = {block(row.length + 1), row.length + 1};
     is_null("judge: no filter", odfilter_judge(NULL, judge, row, told()), 1, NULL);
     is_null("judge: no judge", odfilter_judge(filter, NULL, row, told()), 1, NULL);
     is_null("judge: no row", odfilter_judge(filter, judge, no_bytes_of_length, told()), 1, NULL);
     is_null("judge: no row of a length", odfilter_judge(filter, judge, no_bytes_of_length, told()), 1, NULL);
     is_null("judge: no answer", odfilter_judge(filter, judge, row, NULL), 0, NULL);
+    is_null("judge_next: no judge", odfilter_judge_next(NULL, row, told()), 1, NULL);
+    is_null("judge_next: no row of a length", odfilter_judge_next(own, no_bytes_of_length, told()), 1, NULL);
+    is_null("judge_next: no answer", odfilter_judge_next(own, row, NULL), 0, NULL);
     is_null("filter_lines: no filter", odfilter_filter_lines(NULL, judge, row, kept, told()), 1, NULL);
     is_null("filter_lines: no judge", odfilter_filter_lines(filter, NULL, row, kept, told()), 1, NULL);
     is_null("filter_lines: no rows", odfilter_filter_lines(filter, judge, no_bytes_of_length, kept, told()), 1, NULL);
@@ -146,6 +152,8 @@ static void nulls_of_rows(void)
     is_null("set_moment: no moment", odfilter_set_moment(judge, no_bytes_of_length), 0, NULL);
     is_null("set_bound: no judge", odfilter_set_bound(NULL, 0), 0, NULL);
     is_null("free: no place", odfilter_free(NULL), 0, NULL);
+    check("a judge of the filter is as it was", is_next_kept(own, ROW));
+    odfilter_free(&own);
     drop(row);
     free(kept.at);
 }
@@ -184,6 +192,11 @@ static void other_kinds(void)
         check("judge: no filter", kind == FILTER_KIND || odfilter_judge(other, judge, row, told()) == status);
         check("judge: its answer is written", kind == FILTER_KIND || is_answer(answer, nothing));
         check("judge: no judge", kind == JUDGE || odfilter_judge(filter, other, row, told()) == status);
+        at = place();
+        check("new_judge_of: no filter",
+              kind == FILTER_KIND || (odfilter_new_judge_of(other, at) == status && !*at));
+        check("judge_next: no judge of a filter", odfilter_judge_next(other, row, told()) == status);
+        check("judge_next: its answer is written", is_answer(answer, nothing));
         check("lines: no filter",
               kind == FILTER_KIND || odfilter_filter_lines(other, judge, row, kept, told()) == status);
         check("lines: no judge", kind == JUDGE || odfilter_filter_lines(filter, other, row, kept, told()) == status);
@@ -201,7 +214,7 @@ static void other_kinds(void)
 static void empty_texts(odfilter_bytes empty)
 {
     odfilter_room kept = {block(1), 1};
-    odfilter_handle **at = place();
+    odfilter_handle **at = place(), *own = new_judge_of(handles[FILTER_KIND]);
     odfilter_answer wanted = nothing;
     check("an empty document", odfilter_read_schema(empty, room, at, told()) == ODFILTER_SCHEMA_FAULT && !*at);
     wanted.fault = ODFILTER_SCHEMA_NOT_JSON;
@@ -217,6 +230,8 @@ static void empty_texts(odfilter_bytes empty)
     check("of an empty query nothing is told", is_answer(answer, nothing));
     check("an empty row", odfilter_judge(handles[FILTER_KIND], handles[JUDGE], empty, told()) == ODFILTER_JSON_FAULT);
     check("of an empty row nothing is told", is_answer(answer, nothing));
+    check("an empty row of a filter's judge", odfilter_judge_next(own, empty, told()) == ODFILTER_JSON_FAULT);
+    check("of it nothing is told", is_answer(answer, nothing));
     check("no lines", odfilter_filter_lines(handles[FILTER_KIND], handles[JUDGE], empty, kept, told()) == ODFILTER_OK);
     check("of no lines nothing is told", is_answer(answer, nothing));
     check("an empty moment", odfilter_set_moment(handles[JUDGE], empty) == ODFILTER_NOT_A_MOMENT);
@@ -228,6 +243,7 @@ static void empty_texts(odfilter_bytes empty)
     wanted.fault = ODFILTER_EVAL_OVERFLOW;
     check("a sentence about an empty text",
           odfilter_fault_text(handles[TYPE], ODFILTER_EVAL_FAULT, empty, room, &wanted, told()) == ODFILTER_OK);
+    odfilter_free(&own);
     free(kept.at);
 }
 

@@ -123,6 +123,30 @@ static inline uint32_t judged(const odfilter_handle *filter, odfilter_handle *ju
     return status;
 }
 
+static inline odfilter_handle *new_judge_of(const odfilter_handle *filter)
+{
+    odfilter_handle *judge = NULL;
+    check("a judge of a filter is made", odfilter_new_judge_of(filter, &judge) == ODFILTER_OK);
+    return judge;
+}
+
+/* the same by the filter that the judge was made of */
+static inline uint32_t judged_next(odfilter_handle *judge, const char *row, uint32_t *verdict)
+{
+    odfilter_answer answer;
+    odfilter_bytes bytes = bytes_of(row);
+    uint32_t status = odfilter_judge_next(judge, bytes, &answer);
+    *verdict = answer.verdict;
+    drop(bytes);
+    return status;
+}
+
+static inline int is_next_kept(odfilter_handle *judge, const char *row)
+{
+    uint32_t verdict;
+    return judged_next(judge, row, &verdict) == ODFILTER_OK && verdict == ODFILTER_TRUE;
+}
+
 static inline int is_kept(const odfilter_handle *filter, odfilter_handle *judge, const char *row)
 {
     uint32_t verdict;

@@ -1,7 +1,7 @@
 /* Handles are freed in every order, and after each one that is freed all that is left is used. */
 #include "checks.h"
 
-enum kind { SCHEMA, TYPE, FILTER_KIND, JUDGE, KINDS };
+enum kind { SCHEMA, TYPE, FILTER_KIND, JUDGE, OWN_JUDGE, KINDS };
 
 static void use_type(const odfilter_handle *type)
 {
@@ -36,6 +36,12 @@ static void use(odfilter_handle *const *handles)
         check("a row is kept", is_kept(handles[FILTER_KIND], handles[JUDGE], ROW));
         check("a row is not kept", !is_kept(handles[FILTER_KIND], handles[JUDGE], OTHER_ROW));
     }
+    if (handles[OWN_JUDGE]) {
+        check("a row is kept by a judge whose filter may be gone", is_next_kept(handles[OWN_JUDGE], ROW));
+        check("a row is not kept by it", !is_next_kept(handles[OWN_JUDGE], OTHER_ROW));
+    }
+    if (handles[FILTER_KIND] && handles[OWN_JUDGE])
+        check("it judges as any judge", is_kept(handles[FILTER_KIND], handles[OWN_JUDGE], ROW));
 }
 
 static void free_in_order(const int *order)
@@ -46,6 +52,7 @@ static void free_in_order(const int *order)
     handles[TYPE] = type_of(handles[SCHEMA], "Mini.Item");
     handles[FILTER_KIND] = filter_of(handles[TYPE], FILTER);
     handles[JUDGE] = new_judge();
+    handles[OWN_JUDGE] = new_judge_of(handles[FILTER_KIND]);
     use(handles);
     for (number = 0; number < KINDS; number++) {
         odfilter_handle **handle = &handles[order[number]];
@@ -79,18 +86,26 @@ static void one_judge(void)
     odfilter_free(&second);
 }
 
+/* whether it is an order of all kinds: each stands in it */
+static int is_order(const int *order)
+{
+    int places[KINDS] = {0}, number, count = 0;
+    for (number = 0; number < KINDS; number++)
+        places[order[number]] = 1;
+    for (number = 0; number < KINDS; number++)
+        count += places[number];
+    return count == KINDS;
+}
+
 int main(void)
 {
-    int order[KINDS], places[KINDS], number, is_order;
-    for (number = 0; number < 256; number++) {
-        order[0] = number & 3;
-        order[1] = number >> 2 & 3;
-        order[2] = number >> 4 & 3;
-        order[3] = number >> 6 & 3;
-        memset(places, 0, sizeof places);
-        places[order[0]] = places[order[1]] = places[order[2]] = places[order[3]] = 1;
-        is_order = places[0] && places[1] && places[2] && places[3];
-        if (is_order)
+    int order[KINDS], all = 1, number, rest, place;
+    for (place = 0; place < KINDS; place++)
+        all *= KINDS;
+    for (number = 0; number < all; number++) {
+        for (place = 0, rest = number; place < KINDS; place++, rest /= KINDS)
+            order[place] = rest % KINDS;
+        if (is_order(order))
             free_in_order(order);
     }
     one_judge();

@@ -30,7 +30,7 @@ void *__wrap_realloc(void *at, size_t size)
     return is_refused() ? NULL : __real_realloc(at, size);
 }
 
-static odfilter_handle *schema, *type, *filter, *judge, *made;
+static odfilter_handle *schema, *type, *filter, *judge, *own, *made;
 static odfilter_bytes document, name, text, query, rows, row;
 static odfilter_room room, names;
 static odfilter_answer answer;
@@ -95,28 +95,57 @@ static uint32_t call_new_judge(void)
     return odfilter_new_judge(&made);
 }
 
-/* a judge that has seen no row, so that it has no room of its own yet */
-static void renew_judge(void)
+static uint32_t call_new_judge_of(void)
+{
+    return odfilter_new_judge_of(filter, &made);
+}
+
+/* judges that have seen no row, so that they have no room of their own yet */
+static void renew_judges(void)
 {
     is_watched = 0;
     odfilter_free(&judge);
+    odfilter_free(&own);
     judge = new_judge();
+    own = new_judge_of(filter);
     is_watched = 1;
 }
 
 static uint32_t call_judge(void)
 {
     uint32_t status;
-    renew_judge();
+    renew_judges();
     status = odfilter_judge(filter, judge, row, &answer);
     check("a verdict is the right one", status != ODFILTER_OK || answer.verdict == ODFILTER_TRUE);
     return status;
 }
 
+static uint32_t judge_next(void)
+{
+    uint32_t status = odfilter_judge_next(own, row, &answer);
+    check("a verdict by the filter's judge is the right one", status != ODFILTER_OK || answer.verdict == ODFILTER_TRUE);
+    return status;
+}
+
+/* the first row of a judge of the filter, and the second, to which the first one's memory is refused or not */
+static uint32_t call_judge_first(void)
+{
+    renew_judges();
+    return judge_next();
+}
+
+static uint32_t call_judge_second(void)
+{
+    uint32_t first;
+    renew_judges();
+    first = judge_next();
+    return first == ODFILTER_OK ? judge_next() : first;
+}
+
 static uint32_t call_filter_lines(void)
 {
     uint32_t status;
-    renew_judge();
+    renew_judges();
     status = odfilter_filter_lines(filter, judge, rows, room, &answer);
     check("kept lines are the right ones", status != ODFILTER_OK || (answer.rows == 2 && answer.kept == 1));
     return status;
@@ -143,6 +172,11 @@ static int is_filter(void)
 static int is_judge(void)
 {
     return is_kept(filter, made, ROW) && !is_kept(filter, made, OTHER_ROW);
+}
+
+static int is_own_judge(void)
+{
+    return is_next_kept(made, ROW) && !is_next_kept(made, OTHER_ROW) && is_judge();
 }
 
 /* a call of which one allocation is refused, if it asks for so many: what it makes is whole or not there */
@@ -188,27 +222,37 @@ static void refuse_each(const char *call_name, uint32_t (*call)(void), int (*is_
     check(call_name, refuse_in_turn(call_name, call, is_whole) > 0);
 }
 
+static uint32_t by_any_judge(odfilter_bytes json)
+{
+    return odfilter_judge(filter, judge, json, &answer);
+}
+
+static uint32_t by_own_judge(odfilter_bytes json)
+{
+    return odfilter_judge_next(own, json, &answer);
+}
+
 /* how many allocations it takes to judge a row */
-static unsigned long taken_by(const char *json)
+static unsigned long taken_by(uint32_t (*call)(odfilter_bytes), const char *json)
 {
     odfilter_bytes bytes = bytes_of(json);
     asked = refused_one = 0;
     is_watched = 1;
-    check("a row is judged", odfilter_judge(filter, judge, bytes, &answer) == ODFILTER_OK);
+    check("a row is judged", call(bytes) == ODFILTER_OK);
     is_watched = 0;
     drop(bytes);
     return asked;
 }
 
-static void rows_seen_before(void)
+static void rows_seen_before(const char *by, uint32_t (*call)(odfilter_bytes))
 {
-    unsigned long first = taken_by(ROW), later = 0;
+    unsigned long first = taken_by(call, ROW) + taken_by(call, ROW), later = 0;
     int times;
     for (times = 0; times < 1000; times++)
-        later += taken_by(times % 2 ? ROW : OTHER_ROW);
-    check("the first row takes memory, or this counts nothing", first != 0);
+        later += taken_by(call, times % 2 ? ROW : OTHER_ROW);
+    check("the first rows take memory, or this counts nothing", first != 0);
     check("a row of a kind seen before takes none", later == 0);
-    printf("the first row takes %lu allocations, 1,000 later ones %lu\n", first, later);
+    printf("by %s the first two rows take %lu allocations, 1,000 later ones %lu\n", by, first, later);
 }
 
 static void take_handles(void)
@@ -227,12 +271,14 @@ static void take_handles(void)
     type = type_of(schema, "Mini.Item");
     filter = filter_of(type, "Active and contains(Name,'a') and ID eq 1");
     judge = new_judge();
+    own = new_judge_of(filter);
 }
 
 int main(void)
 {
     take_handles();
-    rows_seen_before();
+    rows_seen_before("any judge", by_any_judge);
+    rows_seen_before("the filter's judge", by_own_judge);
     refuse_each("read_schema", call_read_schema, is_schema);
     refuse_each("find_type", call_find_type, is_type);
     refuse_each("check", call_check, is_filter);
@@ -243,12 +289,16 @@ int main(void)
     refuse_each("canonical", call_canonical, NULL);
     refuse_each("explain", call_explain, NULL);
     refuse_each("new_judge", call_new_judge, is_judge);
+    refuse_each("new_judge_of", call_new_judge_of, is_own_judge);
     refuse_each("judge", call_judge, NULL);
+    refuse_each("judge_next", call_judge_first, NULL);
+    refuse_each("judge_next, again", call_judge_second, NULL);
     refuse_each("filter_lines", call_filter_lines, NULL);
     odfilter_free(&schema);
     odfilter_free(&type);
     odfilter_free(&filter);
     odfilter_free(&judge);
+    odfilter_free(&own);
     drop(document);
     drop(name);
     drop(text);

@@ -3,18 +3,46 @@
 
 static odfilter_handle *schema, *type, *judge;
 
-/* the answer to a row, by a filter */
-static void row_is(const char *text, const char *row, uint32_t status, odfilter_answer wanted, const char *path)
+/* the path of the last row of a judge */
+static int is_path(const odfilter_handle *of, const char *path)
 {
     char at[64];
     odfilter_room room = {at, sizeof at};
+    odfilter_answer answer;
+    return odfilter_path(of, room, &answer) == ODFILTER_OK && answer.length == strlen(path) &&
+           !memcmp(at, path, answer.length);
+}
+
+/* the same answer by a judge of the filter, to the first row, and after rows that it has a verdict on */
+static void next_is(const odfilter_handle *filter, const char *row, uint32_t status, odfilter_answer wanted,
+                    const char *path)
+{
+    odfilter_handle *own = new_judge_of(filter);
+    odfilter_bytes bytes = bytes_of(row), well = bytes_of(ROW), other = bytes_of(OTHER_ROW);
+    int times;
+    for (times = 0; times < 4; times++) {
+        odfilter_answer answer = unwritten();
+        check(row, odfilter_judge_next(own, bytes, &answer) == status);
+        check(row, is_answer(answer, wanted));
+        check("the path of the next row", is_path(own, path));
+        odfilter_judge_next(own, times % 2 ? other : well, &answer);
+    }
+    drop(bytes);
+    drop(well);
+    drop(other);
+    odfilter_free(&own);
+}
+
+/* the answer to a row, by a filter */
+static void row_is(const char *text, const char *row, uint32_t status, odfilter_answer wanted, const char *path)
+{
     odfilter_answer answer = unwritten();
     odfilter_handle *filter = filter_of(type, text);
     odfilter_bytes bytes = bytes_of(row);
     check(row, odfilter_judge(filter, judge, bytes, &answer) == status);
     check(row, is_answer(answer, wanted));
-    check("its path", odfilter_path(judge, room, &answer) == ODFILTER_OK);
-    check("its path is the last row's", answer.length == strlen(path) && !memcmp(at, path, answer.length));
+    check("its path is the last row's", is_path(judge, path));
+    next_is(filter, row, status, wanted, path);
     drop(bytes);
     odfilter_free(&filter);
 }
@@ -54,14 +82,17 @@ static void verdicts_and_faults(void)
 /* each beginning of a row is no row */
 static void beginnings(void)
 {
-    odfilter_handle *filter = filter_of(type, FILTER);
+    odfilter_handle *filter = filter_of(type, FILTER), *own = new_judge_of(filter);
     size_t length;
     for (length = 0; length < strlen(ROW); length++) {
         odfilter_bytes row = {memcpy(block(length), ROW, length), length};
         odfilter_answer answer;
         check("a beginning of a row", odfilter_judge(filter, judge, row, &answer) == ODFILTER_JSON_FAULT);
+        check("a row by a judge of the filter", is_next_kept(own, ROW) && !is_next_kept(own, OTHER_ROW));
+        check("a beginning of a row after it", odfilter_judge_next(own, row, &answer) == ODFILTER_JSON_FAULT);
         drop(row);
     }
+    odfilter_free(&own);
     odfilter_free(&filter);
 }
 
@@ -108,7 +139,7 @@ static void lines(void)
 static void long_lines(void)
 {
     size_t limit = 1048576, length;
-    odfilter_handle *filter = filter_of(type, FILTER);
+    odfilter_handle *filter = filter_of(type, FILTER), *own = new_judge_of(filter);
     for (length = limit; length <= limit + 1; length++) {
         odfilter_bytes row = {memset(block(length), ' ', length), length};
         odfilter_room room = {block(length + 1), length + 1};
@@ -118,6 +149,8 @@ static void long_lines(void)
         status = odfilter_filter_lines(filter, judge, row, room, &answer);
         of_row = odfilter_judge(filter, judge, row, &answer);
         check("a line of any length is a row", of_row == ODFILTER_OK && answer.verdict == ODFILTER_TRUE);
+        of_row = odfilter_judge_next(own, row, &answer);
+        check("and is one by a judge of the filter", of_row == ODFILTER_OK && answer.verdict == ODFILTER_TRUE);
         check("a line of the greatest length", length > limit || status == ODFILTER_OK);
         check("a line that is longer", length == limit || status == ODFILTER_LINE_TOO_LONG);
         odfilter_filter_lines(filter, judge, row, room, &answer);
@@ -125,13 +158,14 @@ static void long_lines(void)
         drop(row);
         free(room.at);
     }
+    odfilter_free(&own);
     odfilter_free(&filter);
 }
 
-static int sets(const char *moment, uint32_t status)
+static int sets(odfilter_handle *of, const char *moment, uint32_t status)
 {
     odfilter_bytes bytes = bytes_of(moment);
-    int is_so = odfilter_set_moment(judge, bytes) == status;
+    int is_so = odfilter_set_moment(of, bytes) == status;
     drop(bytes);
     return is_so;
 }
@@ -163,16 +197,54 @@ static void moments(void)
     check("no moment, and a row at fault", judged(filter, judge, "{", &told) == ODFILTER_MOMENT_NEEDED);
     lines_without_moment(filter);
     check("none is needed", is_kept(plain, judge, ROW));
-    check("a text that is none", sets("2027-02-29T00:00:00Z", ODFILTER_NOT_A_MOMENT));
+    check("a text that is none", sets(judge, "2027-02-29T00:00:00Z", ODFILTER_NOT_A_MOMENT));
     check("it has set none", judged(filter, judge, ROW, &told) == ODFILTER_MOMENT_NEEDED);
-    check("a moment", sets("2026-11-25T09:00:00+01:00", ODFILTER_OK));
+    check("a moment", sets(judge, "2026-11-25T09:00:00+01:00", ODFILTER_OK));
     check("before", is_kept(filter, judge, ROW));
-    check("a text that is none, again", sets("tomorrow", ODFILTER_NOT_A_MOMENT));
+    check("a text that is none, again", sets(judge, "tomorrow", ODFILTER_NOT_A_MOMENT));
     check("the moment is as it was", is_kept(filter, judge, ROW));
-    check("a later moment", sets("2027-01-01T00:00:00Z", ODFILTER_OK));
+    check("a later moment", sets(judge, "2027-01-01T00:00:00Z", ODFILTER_OK));
     check("no more", judged(filter, judge, ROW, &told) == ODFILTER_OK && told == ODFILTER_FALSE);
     odfilter_free(&filter);
     odfilter_free(&plain);
+}
+
+/* the moment of a judge of a filter, which is for any filter that it judges by */
+static void moments_of_a_filter(void)
+{
+    odfilter_handle *filter = filter_of(type, "now() lt 2027-01-01T00:00:00Z"), *own = new_judge_of(filter);
+    odfilter_handle *plain = filter_of(type, FILTER);
+    uint32_t told;
+    check("a judge of a filter has no moment", judged_next(own, ROW, &told) == ODFILTER_MOMENT_NEEDED);
+    check("no moment, and a row at fault", judged_next(own, "{", &told) == ODFILTER_MOMENT_NEEDED);
+    check("another filter needs none", is_kept(plain, own, ROW));
+    check("a moment of its own", sets(own, "2026-11-25T09:00:00+01:00", ODFILTER_OK) && is_next_kept(own, ROW));
+    check("by the call of any judge", is_kept(filter, own, ROW));
+    check("a later moment", sets(own, "2027-01-01T00:00:00Z", ODFILTER_OK));
+    check("no more", judged_next(own, ROW, &told) == ODFILTER_OK && told == ODFILTER_FALSE);
+    odfilter_free(&plain);
+    odfilter_free(&own);
+    odfilter_free(&filter);
+}
+
+/* a judge of a filter judges by other filters too, and goes on by its own */
+static void any_filter(void)
+{
+    odfilter_handle *first = filter_of(type, FILTER), *second = filter_of(type, "not Active"), *own = new_judge_of(first);
+    uint32_t told;
+    int times;
+    for (times = 0; times < 3; times++) {
+        check("by its own filter", is_next_kept(own, ROW) && !is_next_kept(own, OTHER_ROW));
+        check("by another", is_kept(second, own, OTHER_ROW) && !is_kept(second, own, ROW));
+        check("a fault by another", judged(second, own, BAD_ROW, &told) == ODFILTER_ROW_FAULT);
+        check("its path", is_path(own, "Part/Size"));
+        check("no fault by its own", is_next_kept(own, ROW) && is_path(own, ""));
+        check("a fault by its own", judged_next(own, BAD_ROW, &told) == ODFILTER_ROW_FAULT && is_path(own, "Part/Size"));
+    }
+    odfilter_free(&first);
+    odfilter_free(&second);
+    check("without the filter", is_next_kept(own, ROW));
+    odfilter_free(&own);
 }
 
 #define TAGS_DOCUMENT                                                                                                  \
@@ -182,15 +254,24 @@ static void moments(void)
 /* a row by a judge with a bound: its status, and no path */
 static int comes_to(const odfilter_handle *filter, odfilter_handle *bounded, uint64_t most, uint32_t status)
 {
-    char at[64];
-    odfilter_room room = {at, sizeof at};
     odfilter_answer answer = unwritten(), wanted = {0};
     odfilter_bytes row = bytes_of(TAGS_ROW);
     int is_so = odfilter_set_bound(bounded, most) == ODFILTER_OK;
     is_so &= odfilter_judge(filter, bounded, row, &answer) == status;
     wanted.verdict = status == ODFILTER_OK ? ODFILTER_TRUE : 0;
-    is_so &= is_answer(answer, wanted);
-    is_so &= odfilter_path(bounded, room, &answer) == ODFILTER_OK && !answer.length;
+    is_so &= is_answer(answer, wanted) && is_path(bounded, "");
+    drop(row);
+    return is_so;
+}
+
+static int next_comes_to(odfilter_handle *bounded, uint64_t most, uint32_t status)
+{
+    odfilter_answer answer = unwritten(), wanted = {0};
+    odfilter_bytes row = bytes_of(TAGS_ROW);
+    int is_so = odfilter_set_bound(bounded, most) == ODFILTER_OK;
+    is_so &= odfilter_judge_next(bounded, row, &answer) == status;
+    wanted.verdict = status == ODFILTER_OK ? ODFILTER_TRUE : 0;
+    is_so &= is_answer(answer, wanted) && is_path(bounded, "");
     drop(row);
     return is_so;
 }
@@ -199,6 +280,7 @@ static void bounds(void)
 {
     odfilter_handle *tags_schema = schema_of(TAGS_DOCUMENT), *tags = type_of(tags_schema, "Mini.Item");
     odfilter_handle *bounded = new_judge(), *filter = filter_of(tags, "Tags/any(t:t eq 'c')");
+    odfilter_handle *own = new_judge_of(filter);
     odfilter_handle *plain = filter_of(tags, "'c' in Tags");
     uint32_t told;
     check("no bound", is_kept(filter, bounded, TAGS_ROW));
@@ -210,6 +292,13 @@ static void bounds(void)
     check("no lambda operator", comes_to(plain, bounded, 0, ODFILTER_OK));
     check("no row", judged(filter, bounded, "{}", &told) == ODFILTER_ROW_FAULT);
     check("too costly after a row at fault", comes_to(filter, bounded, 0, ODFILTER_TOO_COSTLY));
+    check("no bound of a judge of the filter", is_next_kept(own, TAGS_ROW));
+    check("a bound of none of it", next_comes_to(own, 0, ODFILTER_TOO_COSTLY));
+    check("a bound of one less of it", next_comes_to(own, 2, ODFILTER_TOO_COSTLY));
+    check("a bound of as many of it", next_comes_to(own, 3, ODFILTER_OK));
+    check("its next row has the whole bound", is_next_kept(own, TAGS_ROW));
+    check("its greatest bound", next_comes_to(own, UINT64_MAX, ODFILTER_OK));
+    odfilter_free(&own);
     odfilter_free(&plain);
     odfilter_free(&filter);
     odfilter_free(&bounded);
@@ -260,6 +349,8 @@ int main(void)
     lines();
     long_lines();
     moments();
+    moments_of_a_filter();
+    any_filter();
     bounds();
     refusals();
     odfilter_free(&judge);

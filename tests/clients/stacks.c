@@ -56,7 +56,7 @@ static void *check_it(void *nothing)
 
 static void *use_it(void *nothing)
 {
-    odfilter_handle *judge = new_judge();
+    odfilter_handle *judge = new_judge(), *own = new_judge_of(filter);
     odfilter_answer answer;
     uint32_t verdict;
     check("its canonical text", odfilter_canonical(filter, room, &answer) == ODFILTER_OK && answer.length > 0);
@@ -65,6 +65,9 @@ static void *use_it(void *nothing)
     check("its lambda operators", odfilter_lambda_depth(filter, &answer) == ODFILTER_OK && answer.number <= OPEN);
     check("its paths", odfilter_property_paths(filter, room, &answer) == ODFILTER_OK);
     check("a row is judged", judged(filter, judge, row, &verdict) == ODFILTER_OK);
+    check("the first by the filter's judge", judged_next(own, row, &verdict) == ODFILTER_OK);
+    check("the next by it", judged_next(own, row, &verdict) == ODFILTER_OK);
+    odfilter_free(&own);
     odfilter_free(&judge);
     check("the filter is freed", odfilter_free(&filter) == ODFILTER_OK);
     return nothing;

@@ -19,6 +19,9 @@ struct text {
 struct held {
     odfilter_handle *schema, *type, *filter, *judge;
     int judge_has_moment;
+    /* a judge of the filter, with the moment of the last row */
+    odfilter_handle *own;
+    int own_has_moment;
 };
 
 typedef uint32_t (*writer)(const odfilter_handle *, odfilter_room, odfilter_answer *);
@@ -107,6 +110,13 @@ static int names_of(uint32_t fault)
     }
 }
 
+/* frees the filter and the judge of it */
+static void free_filter(struct held *held)
+{
+    odfilter_free(&held->filter);
+    odfilter_free(&held->own);
+}
+
 static void answer_schema(struct held *held, const odfilter_bytes *given, struct text *to)
 {
     odfilter_answer answer;
@@ -114,7 +124,7 @@ static void answer_schema(struct held *held, const odfilter_bytes *given, struct
     uint32_t status;
     /* what was made of the last schema goes after it: handles may be freed in any order */
     odfilter_free(&held->schema);
-    odfilter_free(&held->filter);
+    free_filter(held);
     odfilter_free(&held->type);
     status = odfilter_read_schema(given[0], names, &held->schema, &answer);
     free(names.at);
@@ -142,7 +152,7 @@ static void answer_type(struct held *held, const odfilter_bytes *given, struct t
 {
     uint32_t status;
     odfilter_free(&held->type);
-    odfilter_free(&held->filter);
+    free_filter(held);
     status = odfilter_find_type(held->schema, given[0], &held->type);
     if (status == ODFILTER_NULL)
         add_word(to, "nothing");
@@ -188,14 +198,14 @@ static void add_checked(struct text *to, uint32_t status, const odfilter_answer 
 static void answer_filter(struct held *held, const odfilter_bytes *given, struct text *to)
 {
     odfilter_answer answer;
-    odfilter_free(&held->filter);
+    free_filter(held);
     add_checked(to, odfilter_check(held->type, given[0], &held->filter, &answer), &answer);
 }
 
 static void answer_query(struct held *held, const odfilter_bytes *given, struct text *to)
 {
     odfilter_answer answer;
-    odfilter_free(&held->filter);
+    free_filter(held);
     add_checked(to, odfilter_check_query(held->type, given[0], &held->filter, &answer), &answer);
 }
 
@@ -217,9 +227,9 @@ static void answer_url(struct held *held, const odfilter_bytes *given, struct te
     odfilter_answer answer = {0};
     odfilter_room text = {block(0), 0};
     uint32_t status;
-    odfilter_free(&held->filter);
+    free_filter(held);
     odfilter_check_url(held->type, given[0], text, &held->filter, &answer);
-    odfilter_free(&held->filter);
+    free_filter(held);
     free(text.at);
     text.at = block(answer.length);
     text.length = answer.length;
@@ -317,6 +327,27 @@ static int is_same_in_lines(struct held *held, odfilter_bytes row, uint32_t stat
     return is_same;
 }
 
+/* whether a judge of the filter reports the same of the row, in whichever way it reads it */
+static int is_same_next(struct held *held, const odfilter_bytes *given, uint32_t status, odfilter_answer told)
+{
+    odfilter_answer answer;
+    int times, is_same = 1;
+    uint32_t made = ODFILTER_OK;
+    if (held->own_has_moment && !given[1].length)
+        odfilter_free(&held->own);
+    if (!held->own)
+        made = odfilter_new_judge_of(held->filter, &held->own);
+    if (made == ODFILTER_OK && given[1].length)
+        made = odfilter_set_moment(held->own, given[1]);
+    if (made != ODFILTER_OK)
+        give_up("no judge of the filter", made);
+    held->own_has_moment = given[1].length != 0;
+    for (times = 0; times < 3; times++)
+        is_same &= odfilter_judge_next(held->own, given[0], &answer) == status && answer.fault == told.fault &&
+                   answer.verdict == told.verdict && answer.length == told.length;
+    return is_same;
+}
+
 static void answer_row(struct held *held, const odfilter_bytes *given, struct text *to)
 {
     static const char *const verdicts[] = {"false", "true", "null"};
@@ -327,6 +358,8 @@ static void answer_row(struct held *held, const odfilter_bytes *given, struct te
         add_word(to, "nothing");
     else if (is_line(given[0]) && !is_same_in_lines(held, given[0], status, answer))
         add_word(to, "another answer in lines");
+    else if (!is_same_next(held, given, status, answer))
+        add_word(to, "another answer by the filter's judge");
     else if (status == ODFILTER_OK)
         add_word(to, verdicts[answer.verdict]);
     else
@@ -415,7 +448,7 @@ static int answer_next(struct held *held, FILE *file)
 
 int main(int count, char **words)
 {
-    struct held held = {NULL, NULL, NULL, NULL, 0};
+    struct held held = {NULL, NULL, NULL, NULL, 0, NULL, 0};
     FILE *file = count == 2 ? fopen(words[1], "rb") : NULL;
     if (!file)
         give_up("usage: suite FILE", 0);
@@ -425,6 +458,6 @@ int main(int count, char **words)
     odfilter_free(&held.schema);
     odfilter_free(&held.judge);
     odfilter_free(&held.type);
-    odfilter_free(&held.filter);
+    free_filter(&held);
     return ferror(stdout) || fflush(stdout) ? 1 : 0;
 }

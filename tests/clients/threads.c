@@ -30,6 +30,13 @@ static int keeps(const odfilter_handle *by, odfilter_handle *judge, const char *
     return odfilter_judge(by, judge, lent(row), &answer) == ODFILTER_OK && answer.verdict == verdict;
 }
 
+/* the same by the filter of the judge, which is the one that all read */
+static int keeps_next(odfilter_handle *judge, const char *row, uint32_t verdict)
+{
+    odfilter_answer answer;
+    return odfilter_judge_next(judge, lent(row), &answer) == ODFILTER_OK && answer.verdict == verdict;
+}
+
 /* the texts of the filter that all read */
 static int is_told(uint32_t (*call)(const odfilter_handle *, odfilter_room, odfilter_answer *), const char *wanted)
 {
@@ -58,13 +65,15 @@ static int is_checked(odfilter_handle *judge)
 static void *work_of(void *given)
 {
     struct work *work = given;
-    odfilter_handle *judge = NULL;
+    odfilter_handle *judge = NULL, *own = NULL;
     odfilter_answer answer;
     long number;
     work->wrong += odfilter_new_judge(&judge) != ODFILTER_OK;
+    work->wrong += odfilter_new_judge_of(filter, &own) != ODFILTER_OK;
     for (number = 0; number < times; number++) {
         work->wrong += !keeps(filter, judge, ROW, ODFILTER_TRUE) || !keeps(filter, judge, OTHER_ROW, ODFILTER_FALSE);
         work->wrong += odfilter_judge(filter, judge, lent(BAD_ROW), &answer) != ODFILTER_ROW_FAULT;
+        work->wrong += !keeps_next(own, ROW, ODFILTER_TRUE) || !keeps_next(own, OTHER_ROW, ODFILTER_FALSE);
         if (number % 16 == 0)
             work->wrong +=
                 !is_checked(judge) || !is_told(odfilter_canonical, FILTER) || !is_told(odfilter_explain, "0..18 and");
@@ -75,7 +84,7 @@ static void *work_of(void *given)
         }
     }
     work->wrong += odfilter_check(type, lent(FILTER), &work->made, &answer) != ODFILTER_OK;
-    work->wrong += odfilter_free(&judge) != ODFILTER_OK;
+    work->wrong += odfilter_free(&judge) != ODFILTER_OK || odfilter_free(&own) != ODFILTER_OK;
     return NULL;
 }
 

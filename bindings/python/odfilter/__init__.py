@@ -133,9 +133,11 @@ _CALLS: dict[str, list[Any]] = {
     "node_count": [_HANDLE, _ANSWER],
     "property_paths": [_HANDLE, _Room, _ANSWER],
     "new_judge": [_PLACE],
+    "new_judge_of": [_HANDLE, _PLACE],
     "set_moment": [_HANDLE, _Bytes],
     "set_bound": [_HANDLE, _COUNT],
     "judge": [_HANDLE, _HANDLE, _Bytes, _ANSWER],
+    "judge_next": [_HANDLE, _Bytes, _ANSWER],
     "filter_lines": [_HANDLE, _HANDLE, _Bytes, _Room, _ANSWER],
     "path": [_HANDLE, _Room, _ANSWER],
     "free": [_PLACE],
@@ -404,7 +406,7 @@ class Judge(_Held):
     def __init__(self, by_filter: Filter, now: Optional[str] = None, bound: Optional[int] = None) -> None:
         self._filter, self._one_call = by_filter._open(), threading.Lock()
         library = self._filter.library
-        owned = _Owned(library, "new_judge", ())
+        owned = _Owned(library, "new_judge_of", (self._filter.handle,))
         if now is not None and library._call("set_moment", owned.handle, _lent_text(now, "a moment")) != OK:
             raise library._worded(NotAMoment(), NOT_A_MOMENT, _Answer(), now)
         if bound is not None:
@@ -418,7 +420,7 @@ class Judge(_Held):
         """
         owned, answer, lent = self._open(), _Answer(), _lent(row, "a row")
         with self._one_call:
-            status = owned.library._call("judge", self._filter.handle, owned.handle, lent, ctypes.byref(answer))
+            status = owned.library._call("judge_next", owned.handle, lent, ctypes.byref(answer))
             if status != OK:
                 raise self._fault(owned, status, answer)
         return _VERDICTS[answer.verdict]

@@ -13,6 +13,7 @@ pub use Rattle.odata_checked_filter.specs.PropertyPaths
 pub use Rattle.odata_expression_types.specs.HasTyping
 pub use Rattle.odata_expression_types.specs.PreOrder
 pub use Rattle.odata_filter.specs.FaultNumbers
+pub use Rattle.odata_filter.specs.FilterRows
 pub use Rattle.odata_filter.specs.RowAnswer
 pub use Rattle.odata_filter.specs.RowCosts
 pub use Rattle.odata_syntax.specs.CanonicalText
@@ -36,4 +37,5 @@ pub mod Costs
 pub mod UrlCalls
 pub mod Sentences
 pub mod FilterExports
+pub mod JudgeExports
 pub mod private

@@ -1,5 +1,6 @@
 -- The results of a judge: the verdict of a filter on a row, and the rows that the filter keeps.
-use Rattle.std.specs.Prelude.{◌≡◌, ◌<◌, ◌≤◌, ℕ, IsUtf8, IsSomeAnd, List, [], Option, None, Some, Result, Ok, Err}
+use Rattle.std.specs.Prelude.{◌≡◌, ◌<◌, ◌≤◌, ℕ, IsUtf8, IsSomeAnd, Box, List, [], Option, None, Some, Result, Ok, Err}
+use Rattle.std.specs.declared.alloc.Global.{Global}
 use Rattle.edm_entities.specs.declared.fault.RowFault.{RowFault}
 use Rattle.edm_values.specs.MomentLiteral.{MomentValue}
 use Rattle.edm_values.specs.MomentParts.{MomentParts}
@@ -15,18 +16,31 @@ use Rattle.odata_filter.specs.RowCosts.{RowCostIs}
 use Rattle.odata_filter.specs.RowJudgment.{JudgesRow, rows_of}
 use Rattle.odata_filter.specs.declared.bad_row.BadRow.{BadRow}
 use Rattle.odfilter_c.specs.Answers.{path_bytes}
+use Rattle.odfilter_c.specs.Kinds.{IsFilterKind}
 use Rattle.odfilter_c.specs.declared.fault.Fault.{Fault}
 use Rattle.odfilter_c.specs.declared.handle.Handle.{Handle}
 use Rattle.odfilter_c.specs.declared.handle.JudgeHandle.{JudgeHandle}
 
--- a judge that has no moment and no bound, and was in no fault
-abbrev pub IsNewJudge : Handle → Type 0
-IsNewJudge (Handle.Judge judge) = judge.value ≡ record { reader = tt; moment = None; bound = None; last = None }
-IsNewJudge handle = ⊥
+-- a judge of that filter, or of none, that has no moment and no bound, and was in no fault
+abbrev pub IsNewJudge : Option (Box Filter Global) → Handle → Type 0
+IsNewJudge own (Handle.Judge judge) =
+    judge.value ≡ record { reader = tt; moment = None; bound = None; last = None; own = own }
+IsNewJudge own handle = ⊥
 
 abbrev pub IsNoMemory : Fault → Type 0
 IsNoMemory Fault.Memory = Unit {0}
 IsNoMemory fault = ⊥
+
+-- a new judge of the filter that a handle is, or why there is none
+abbrev pub IsJudgeOf : Handle → Handle → Type 0
+IsJudgeOf (Handle.Filter filter) made =
+    (own : Box Filter Global) × ((own.value ≡ filter) × IsNewJudge (Some own) made)
+IsJudgeOf given made = ⊥
+
+abbrev pub IsNoJudgeOf : Handle → Fault → Type 0
+IsNoJudgeOf given Fault.OtherKind = ¬ IsFilterKind given
+IsNoJudgeOf (Handle.Filter filter) Fault.Memory = Unit {0}
+IsNoJudgeOf given fault = ⊥
 
 -- the moment that a text spells, or why it spells none
 abbrev pub IsMomentOf : List ℕ → Result MomentParts Fault → Type 0

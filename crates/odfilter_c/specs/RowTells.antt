@@ -1,5 +1,6 @@
 -- What each call about rows reports of what it borrows.
-use Rattle.std.specs.Prelude.{◌≡◌, ◌⊎◌, ℕ, List, length, Option, None, Some, Result, Ok, Err}
+use Rattle.std.specs.Prelude.{◌≡◌, ◌⊎◌, ℕ, Box, List, length, Option, None, Some, Result, Ok, Err}
+use Rattle.std.specs.declared.alloc.Global.{Global}
 use Rattle.edm_entities.specs.declared.fault.RowFault.{RowFault}
 use Rattle.edm_values.specs.MomentParts.{MomentParts}
 use Rattle.line_filter.specs.declared.tally.Tally.{Tally}
@@ -8,7 +9,8 @@ use Rattle.odata_checked_filter.specs.Filter.{Filter, tree_of_filter}
 use Rattle.odata_eval.specs.declared.verdict.Verdict.{Verdict}
 use Rattle.odfilter_c.specs.Answers.{empty_answer, fault_answer, fault_status}
 use Rattle.odfilter_c.specs.Outcomes.{IsTold, Makes}
-use Rattle.odfilter_c.specs.RowCalls.{IsMomentOf, IsNewJudge, IsNoMemory, IsOutcomeOn, IsRunOver, Keeps, last_after, path_kept}
+use Rattle.odfilter_c.specs.RowCalls.{IsJudgeOf, IsMomentOf, IsNewJudge, IsNoJudgeOf, IsNoMemory, IsOutcomeOn, IsRunOver}
+use Rattle.odfilter_c.specs.RowCalls.{Keeps, last_after, path_kept}
 use Rattle.odfilter_c.specs.Texts.{IsTooSmall, IsWritten, Writes}
 use Rattle.odfilter_c.specs.declared.c_types.Answer.{Answer}
 use Rattle.odfilter_c.specs.declared.fault.Fault.{Fault}
@@ -26,10 +28,14 @@ abbrev pub TellsNeed : Handle → Answer → ℕ → Type 0
 TellsNeed (Handle.Filter filter) answer status = TellsNeedOf filter answer status
 TellsNeed handle answer status = IsTold Fault.OtherKind answer status
 
--- making a judge, which has no answer of its own
+-- making a judge, and one of a filter, which have no answer of their own
 pub record MakesJudge (made : Owned) (status : ℕ) : Type 0 where
   pub answer : Answer
-  pub makes : Makes IsNewJudge IsNoMemory made.value answer status
+  pub makes : Makes (IsNewJudge None) IsNoMemory made.value answer status
+
+pub record MakesJudgeOf (given : Handle) (made : Owned) (status : ℕ) : Type 0 where
+  pub answer : Answer
+  pub makes : Makes (IsJudgeOf given) (IsNoJudgeOf given) made.value answer status
 
 -- the judge takes the moment, or is as it was
 abbrev pub TakesMoment : Result MomentParts Fault → JudgeHandle → JudgeHandle → ℕ → Type 0
@@ -76,6 +82,16 @@ abbrev pub JudgesOne : Handle → Handle → Handle → List ℕ → Answer → 
 JudgesOne (Handle.Filter filter) (Handle.Judge old) (Handle.Judge new) row answer status =
     JudgesOneBy filter old.value new.value row answer status
 JudgesOne filter old new row answer status = (new ≡ old) × IsTold Fault.OtherKind answer status
+
+-- judging a row by the judge's own filter
+abbrev pub JudgesOwn : Option (Box Filter Global) → JudgeHandle → JudgeHandle → List ℕ → Answer → ℕ → Type 0
+JudgesOwn (Some filter) old new row answer status = JudgesOneBy filter.value old new row answer status
+JudgesOwn None old new row answer status = (new ≡ old) × IsTold Fault.OtherKind answer status
+
+abbrev pub JudgesNext : Handle → Handle → List ℕ → Answer → ℕ → Type 0
+JudgesNext (Handle.Judge old) (Handle.Judge new) row answer status =
+    JudgesOwn old.value.own old.value new.value row answer status
+JudgesNext old new row answer status = (new ≡ old) × IsTold Fault.OtherKind answer status
 
 -- the text is reported, and how many rows there were; where the buffer is too small, how long it is
 abbrev pub TellsTally : Tally → List ℕ → List ℕ → List ℕ → Answer → ℕ → Type 0

@@ -5,15 +5,15 @@ ghost use Rattle.odfilter_c.specs.Tells.{TellsCanonical, TellsFault, TellsNodes,
 ghost use Rattle.odfilter_c.specs.Sentences.{ReportsSentence, ReportsSentenceFor};
 ghost use Rattle.odfilter_c.specs.UrlCalls.{ChecksUrl};
 ghost use Rattle.odfilter_c.specs.Costs.{ReportsLambdaDepth, ReportsNodeCount, ReportsPaths};
-ghost use Rattle.odfilter_c.specs.RowTells.{FiltersLines, JudgesOne, MakesJudge, SetsBound, SetsMoment, TellsNeed};
-ghost use Rattle.odfilter_c.specs.RowTells.{TellsPath};
+ghost use Rattle.odfilter_c.specs.RowTells.{FiltersLines, JudgesNext, JudgesOne, MakesJudge, MakesJudgeOf};
+ghost use Rattle.odfilter_c.specs.RowTells.{SetsBound, SetsMoment, TellsNeed, TellsPath};
 
 use crate::c_types::Answer;
-use crate::cost_calls::{path_lines, report_lambda_depth, report_lines, report_node_count};
+use crate::cost_calls::{counted, path_lines, report_lines};
 use crate::fault::Fault;
 use crate::filter_calls::{canonical_of, explanation_of, filter_for, filter_in_query, filter_of};
 use crate::handle::Handle;
-use crate::judge_calls::{empty_judge, last_path, put_bound, put_moment, tell_need, tell_row};
+use crate::judge_calls::{judge_of, judge_with, last_path, put_moment, tell_next, tell_row};
 use crate::line_calls::tell_rows;
 use crate::name_calls::{VERSION, name_of_fault, name_of_status};
 use crate::owned::Owned;
@@ -176,7 +176,13 @@ pub(crate) fn needs_moment<'a>(filter: &'a Handle, answer: &'a mut Answer) -> u3
     ensures { TellsNeed filter.now answer.new result }
 {
     match filter {
-        Handle::Filter(held) => tell_need(held, answer),
+        Handle::Filter(held) => {
+            *answer = Answer::empty();
+            if held.checked().uses_now() {
+                answer.number = 1;
+            }
+            0
+        }
         _ => tell_fault(&Fault::OtherKind, answer),
     }
 }
@@ -184,13 +190,25 @@ pub(crate) fn needs_moment<'a>(filter: &'a Handle, answer: &'a mut Answer) -> u3
 pub(crate) fn node_count<'a>(filter: &'a Handle, answer: &'a mut Answer) -> u32
     ensures { ReportsNodeCount filter.now answer.new result }
 {
-    report_node_count(filter, answer)
+    match filter {
+        Handle::Filter(held) => {
+            *answer = counted(held.checked().node_count());
+            0
+        }
+        _ => tell_fault(&Fault::OtherKind, answer),
+    }
 }
 
 pub(crate) fn lambda_depth<'a>(filter: &'a Handle, answer: &'a mut Answer) -> u32
     ensures { ReportsLambdaDepth filter.now answer.new result }
 {
-    report_lambda_depth(filter, answer)
+    match filter {
+        Handle::Filter(held) => {
+            *answer = counted(held.checked().lambda_depth());
+            0
+        }
+        _ => tell_fault(&Fault::OtherKind, answer),
+    }
 }
 
 pub(crate) fn property_paths<'a>(
@@ -211,7 +229,14 @@ pub(crate) fn new_judge<'a>(alloc: Global, judge: &'a mut Owned) -> u32
     ensures { MakesJudge judge.new result }
 {
     let mut answer = Answer::empty();
-    give(alloc, empty_judge(alloc), judge, &mut answer)
+    give(alloc, judge_with(alloc, None), judge, &mut answer)
+}
+
+pub(crate) fn new_judge_of<'a>(alloc: Global, filter: &'a Handle, judge: &'a mut Owned) -> u32
+    ensures { MakesJudgeOf filter.now judge.new result }
+{
+    let mut answer = Answer::empty();
+    give(alloc, judge_of(alloc, filter), judge, &mut answer)
 }
 
 pub(crate) fn set_moment<'a>(judge: &'a mut Handle, moment: &'a [u8]) -> u32
@@ -223,7 +248,13 @@ pub(crate) fn set_moment<'a>(judge: &'a mut Handle, moment: &'a [u8]) -> u32
 pub(crate) fn set_bound<'a>(judge: &'a mut Handle, most: u64) -> u32
     ensures { SetsBound judge.old judge.new most result }
 {
-    put_bound(judge, most)
+    match judge {
+        Handle::Judge(judge) => {
+            judge.bound = Some(most);
+            0
+        }
+        _ => Fault::OtherKind.status(),
+    }
 }
 
 pub(crate) fn judge<'a>(
@@ -235,6 +266,12 @@ pub(crate) fn judge<'a>(
     ensures { JudgesOne filter.now judge.old judge.new row.now answer.new result }
 {
     tell_row(filter, judge, row, answer)
+}
+
+pub(crate) fn judge_next<'a>(judge: &'a mut Handle, row: &'a [u8], answer: &'a mut Answer) -> u32
+    ensures { JudgesNext judge.old judge.new row.now answer.new result }
+{
+    tell_next(judge, row, answer)
 }
 
 pub(crate) fn filter_lines<'a>(

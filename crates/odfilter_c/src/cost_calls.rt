@@ -1,8 +1,7 @@
 //! What a filter costs, and what it reads.
 ghost use Rattle.std.specs.Prelude.{◌≡◌, IfOk, MatchResult, map, string_bytes};
 ghost use Rattle.odfilter_c.specs.Answers.{empty_answer};
-ghost use Rattle.odfilter_c.specs.Costs.{ArePaths, ArePathsOf, ReportsLambdaDepth, ReportsLines, ReportsNodeCount};
-ghost use Rattle.odfilter_c.specs.Costs.{lines_of};
+ghost use Rattle.odfilter_c.specs.Costs.{ArePaths, ArePathsOf, ReportsLines, lines_of};
 ghost use Rattle.odfilter_c.specs.FilterCalls.{IsNoText};
 
 use crate::c_types::Answer;
@@ -13,38 +12,12 @@ use crate::telling::tell_fault;
 use std::alloc::{AllocError, Global};
 
 /// An answer of a number.
-fn counted(number: usize) -> Answer
+pub(crate) fn counted(number: usize) -> Answer
     ensures { result ≡ record empty_answer { number = number } }
 {
     let mut answer = Answer::empty();
     answer.number = number as u64;
     answer
-}
-
-/// Reports how many nodes a filter has.
-pub(crate) fn report_node_count(filter: &Handle, answer: &mut Answer) -> u32
-    ensures { ReportsNodeCount filter.now answer.new result }
-{
-    match filter {
-        Handle::Filter(held) => {
-            *answer = counted(held.filter.with_schema(&held.schema).node_count());
-            0
-        }
-        _ => tell_fault(&Fault::OtherKind, answer),
-    }
-}
-
-/// Reports how many lambda operators of a filter stand in one another.
-pub(crate) fn report_lambda_depth(filter: &Handle, answer: &mut Answer) -> u32
-    ensures { ReportsLambdaDepth filter.now answer.new result }
-{
-    match filter {
-        Handle::Filter(held) => {
-            *answer = counted(held.filter.with_schema(&held.schema).lambda_depth());
-            0
-        }
-        _ => tell_fault(&Fault::OtherKind, answer),
-    }
 }
 
 /// The paths of the properties that a filter reads, each followed by a line feed, and how many there are.
@@ -69,7 +42,7 @@ fn lines_of_paths(alloc: Global, paths: &[String]) -> Result<String, AllocError>
 fn lines_of_filter(alloc: Global, held: &FilterHandle) -> Result<PathLines, AllocError>
     ensures { IfOk result (λ lines. ArePathsOf held.now lines.count (string_bytes lines.text)) }
 {
-    let paths = held.filter.with_schema(&held.schema).property_paths(alloc)?;
+    let paths = held.checked().property_paths(alloc)?;
     let text = lines_of_paths(alloc, paths.as_slice())?;
     Ok(PathLines {
         count: paths.len(),

@@ -44,6 +44,9 @@ fn held_filter(alloc: Global, held: &TypeHandle, filter: StoredFilter) -> Result
         (λ fault. fault ≡ Fault.Memory) }
 {
     let plan = plan_for(alloc, &held.plan, &filter.with_schema(&held.schema))?;
+    let Ok(filter) = Arc::new(alloc, filter) else {
+        return Err(Fault::Memory);
+    };
     match Arc::try_clone(&held.schema) {
         Ok(schema) => Ok(Handle::Filter(FilterHandle {
             schema,
@@ -107,7 +110,7 @@ pub(crate) fn canonical_of(alloc: Global, handle: &Handle) -> Result<String, Fau
     ensures { MatchResult result (λ text. IsCanonicalOf handle.now (string_bytes text)) (IsNoText handle.now) }
 {
     match handle {
-        Handle::Filter(held) => match held.filter.with_schema(&held.schema).canonical(alloc) {
+        Handle::Filter(held) => match held.checked().canonical(alloc) {
             Ok(text) => Ok(text),
             Err(_) => Err(Fault::Memory),
         },
@@ -120,7 +123,7 @@ pub(crate) fn explanation_of(alloc: Global, handle: &Handle) -> Result<String, F
     ensures { MatchResult result (λ text. IsExplanationOf handle.now (string_bytes text)) (IsNoText handle.now) }
 {
     match handle {
-        Handle::Filter(held) => match held.filter.with_schema(&held.schema).explain(alloc) {
+        Handle::Filter(held) => match held.checked().explain(alloc) {
             Ok(text) => Ok(text),
             Err(_) => Err(Fault::Memory),
         },

@@ -1,8 +1,11 @@
 //! What a handle stands for.
+ghost use Rattle.std.specs.Prelude.{◌≡◌};
+
 use csdl_schema::{Schema, TypeId};
 use edm_entities::{RowFault, RowPlan, RowReader};
 use edm_values::Moment;
-use odata_typing::StoredFilter;
+use odata_filter::FilterRows;
+use odata_typing::{Checked, StoredFilter};
 use std::marker::Model;
 use std::sync::Arc;
 
@@ -46,7 +49,7 @@ impl Model for TypeHandle {
 #[derive(Drop)]
 pub struct FilterHandle {
     pub(crate) schema: Arc<Schema>,
-    pub(crate) filter: StoredFilter,
+    pub(crate) filter: Arc<StoredFilter>,
     pub(crate) plan: Arc<RowPlan>,
 }
 
@@ -62,11 +65,45 @@ impl Model for FilterHandle {
 
     ghost use Rattle.odata_checked_filter.specs.Filter.{filter_in};
 
-    ghost view = { λ held. filter_in held.schema.value held.filter };
+    ghost view = { λ held. filter_in held.schema.value held.filter.value };
 
     ghost use Rattle.odfilter_c.specs.HeldFilter.{IsHeldFilter};
 
-    ghost invariant = { λ held. IsHeldFilter (filter_in held.schema.value held.filter) held.plan.value };
+    ghost invariant = { λ held. IsHeldFilter (filter_in held.schema.value held.filter.value) held.plan.value };
+}
+
+impl FilterHandle {
+    /// The filter, with its schema.
+    #[inline(always)]
+    pub(crate) fn checked(&self) -> Checked<'_>
+        ensures { result ≡ self.now }
+    {
+        self.filter.with_schema(&self.schema)
+    }
+}
+
+/// A filter, and what is kept from row to row by it.
+#[derive(Drop)]
+pub struct OwnFilter {
+    pub(crate) held: FilterHandle,
+    pub(crate) rows: FilterRows<'static>,
+}
+
+impl Model for OwnFilter {
+    ghost use Rattle.odata_checked_filter.specs.Filter.{Filter};
+    ghost use Rattle.odata_checked_filter.specs.contracts.checked_node.CheckedNode as checked_node;
+    ghost use Rattle.edm_values.specs.contracts.value.Value as value;
+    ghost use Rattle.std.specs.Coded.{codes};
+
+    ghost Value = { Filter };
+
+    ghost coded = { Prim.hlevel (codes, checked_node.the_row.coded, value.the_row.coded) };
+
+    ghost view = { λ own. own.held };
+
+    ghost use Rattle.odata_filter.specs.FilterRows.{AreRowsOfFilter};
+
+    ghost invariant = { λ own. AreRowsOfFilter own.held own.rows };
 }
 
 /// What lasts from row to row, of any filter.
@@ -79,4 +116,6 @@ pub struct JudgeHandle {
     pub(crate) bound: Option<u64>,
     /// What the last row was refused for, if it was.
     pub(crate) last: Option<RowFault>,
+    /// The filter that it was made for, if it was made for one. In a box of its own, since it is large.
+    pub(crate) own: Option<Box<OwnFilter>>,
 }

@@ -1,52 +1,76 @@
 //! Judges, and what a filter says of a row.
-ghost use Rattle.std.specs.Prelude.{◌≡◌, IfOk, IfErr, MatchResult, None};
+ghost use Rattle.std.specs.Prelude.{◌≡◌, ℕ, List, IfOk, IfErr, MatchResult, None, Some};
+ghost use Rattle.edm_values.specs.MomentParts.{MomentParts};
 ghost use Rattle.odata_checked_filter.specs.Calls.{UsesNow};
-ghost use Rattle.odata_checked_filter.specs.Filter.{tree_of_filter};
+ghost use Rattle.odata_checked_filter.specs.Filter.{Filter, tree_of_filter};
+ghost use Rattle.odata_filter.specs.FilterRows.{AreRowsOfFilter};
+ghost use Rattle.odata_filter.specs.RowAnswer.{TellsRow};
+ghost use Rattle.odata_filter.specs.RowCosts.{ReportsRowWithin};
 ghost use Rattle.odfilter_c.specs.Answers.{empty_answer};
 ghost use Rattle.odfilter_c.specs.Outcomes.{IsTold};
-ghost use Rattle.odfilter_c.specs.RowCalls.{IsMomentFor, IsMomentOf, IsNewJudge, IsNoMemory, IsOutcomeAt, IsOutcomeOn};
-ghost use Rattle.odfilter_c.specs.RowCalls.{Keeps, last_after, path_kept};
-ghost use Rattle.odata_filter.specs.RowAnswer.{IsPlanOfFilter};
+ghost use Rattle.odfilter_c.specs.RowCalls.{IsJudgeOf, IsMomentFor, IsMomentOf, IsNewJudge, IsNoJudgeOf, IsNoMemory};
+ghost use Rattle.odfilter_c.specs.RowCalls.{IsOutcomeAt, IsOutcomeOn, Keeps, last_after, path_kept};
 ghost use Rattle.odfilter_c.specs.private.RowFaults.{row_fault};
-ghost use Rattle.odfilter_c.specs.RowTells.{JudgesOne, JudgesOneBy, SetsBound, SetsMoment, SetsMomentOf};
-ghost use Rattle.odfilter_c.specs.RowTells.{TellsNeedOf, verdict_number};
+ghost use Rattle.odfilter_c.specs.RowTells.{JudgesNext, JudgesOne, JudgesOneBy, JudgesOwn, SetsMoment};
+ghost use Rattle.odfilter_c.specs.RowTells.{SetsMomentOf, TellsVerdict, verdict_number};
 
 use crate::c_types::Answer;
 use crate::fault::{Fault, path_of};
-use crate::handle::{FilterHandle, Handle, JudgeHandle};
+use crate::handle::{FilterHandle, Handle, JudgeHandle, OwnFilter};
 use crate::telling::tell_fault;
-use edm_entities::{RowPlan, RowReader};
+use edm_entities::RowReader;
 use edm_values::{Moment, read_moment};
 use jiff::civil;
 use odata_eval::Verdict;
-use odata_filter::{BadRow, BoundedJudge, NoVerdict, RowStop, judge_row};
+use odata_filter::{BadRow, BoundedJudge, FilterRows, NoVerdict, RowStop, judge_row};
 use odata_typing::Checked;
-use std::alloc::Global;
+use std::alloc::{AllocError, Global};
+use std::sync::Arc;
 
-/// Reports whether a filter needs a moment.
-pub(crate) fn tell_need(held: &FilterHandle, answer: &mut Answer) -> u32
-    ensures { TellsNeedOf held.now answer.new result }
-{
-    *answer = Answer::empty();
-    if held.filter.with_schema(&held.schema).uses_now() {
-        answer.number = 1;
-    }
-    0
-}
-
-/// A judge that has seen nothing.
-pub(crate) fn empty_judge(alloc: Global) -> Result<Handle, Fault>
-    ensures { MatchResult result IsNewJudge IsNoMemory }
+/// A judge that has seen nothing, of that filter or of none.
+pub(crate) fn judge_with(alloc: Global, own: Option<Box<OwnFilter>>) -> Result<Handle, Fault>
+    ensures { MatchResult result (IsNewJudge own) IsNoMemory }
 {
     let judge = JudgeHandle {
         reader: RowReader::new(alloc),
         moment: None,
         bound: None,
         last: None,
+        own,
     };
     match Box::new(alloc, judge) {
         Ok(judge) => Ok(Handle::Judge(judge)),
         Err(_) => Err(Fault::Memory),
+    }
+}
+
+/// A filter as a judge has it for its own, which shares all of the filter's handle.
+fn own_filter(alloc: Global, held: &FilterHandle) -> Result<Box<OwnFilter>, AllocError>
+    ensures { IfOk result (λ own. own.value ≡ held.now) }
+{
+    let schema = Arc::try_clone(&held.schema)?;
+    let rows = FilterRows::shared(alloc, &held.checked(), schema);
+    let held = FilterHandle {
+        schema: Arc::try_clone(&held.schema)?,
+        filter: Arc::try_clone(&held.filter)?,
+        plan: Arc::try_clone(&held.plan)?,
+    };
+    match Box::new(alloc, OwnFilter { held, rows }) {
+        Ok(own) => Ok(own),
+        Err(_) => Err(AllocError),
+    }
+}
+
+/// A judge of the filter that a handle is.
+pub(crate) fn judge_of(alloc: Global, handle: &Handle) -> Result<Handle, Fault>
+    ensures { MatchResult result (IsJudgeOf handle.now) (IsNoJudgeOf handle.now) }
+{
+    match handle {
+        Handle::Filter(held) => match own_filter(alloc, held) {
+            Ok(own) => judge_with(alloc, Some(own)),
+            Err(_) => Err(Fault::Memory),
+        },
+        _ => Err(Fault::OtherKind),
     }
 }
 
@@ -86,19 +110,6 @@ pub(crate) fn put_moment(handle: &mut Handle, text: &[u8]) -> u32
     }
 }
 
-/// Has a handle that is a judge bound what a row may cost.
-pub(crate) fn put_bound(handle: &mut Handle, most: u64) -> u32
-    ensures { SetsBound handle.old handle.new most result }
-{
-    match handle {
-        Handle::Judge(judge) => {
-            judge.bound = Some(most);
-            0
-        }
-        _ => Fault::OtherKind.status(),
-    }
-}
-
 /// The moment for a filter: the judge's, or the first one of year 1 where the filter does not ask for it.
 pub(crate) fn moment_for(checked: &Checked<'_>, given: Option<Moment>) -> Result<Moment, Fault>
     ensures moment { IfOk result (IsMomentFor checked.now given) }
@@ -128,33 +139,23 @@ fn row_fault(why: NoVerdict) -> Fault
     }
 }
 
-/// The verdict on a row at a moment, or why there is none.
-fn plain_verdict(
-    checked: &Checked<'_>,
-    now: &Moment,
-    plan: &RowPlan,
-    reader: &mut RowReader,
-    row: &[u8],
-) -> Result<Verdict, Fault>
-    requires { IsPlanOfFilter checked.now plan.now }
-    ensures { IsOutcomeAt checked.now now.now None row.now result }
+/// What a filter says of a row without a bound, as a call reports it.
+fn plain_outcome(told: Result<Verdict, NoVerdict>) -> Result<Verdict, Fault>
+    ensures { (filter : Filter) → (now : MomentParts) → (row : List ℕ) → TellsRow filter now row told
+        → IsOutcomeAt filter now None row result }
 {
-    match judge_row(checked, now, plan, reader, row) {
+    match told {
         Ok(verdict) => Ok(verdict),
         Err(why) => Err(row_fault(why)),
     }
 }
 
-/// The verdict on a row within a bound, or why there is none.
-fn bounded_verdict(
-    by: &BoundedJudge<'_, '_>,
-    reader: &mut RowReader,
-    row: &[u8],
-) -> Result<Verdict, Fault>
-    requires { IsPlanOfFilter by.now.checked.now by.now.plan.now }
-    ensures { IsOutcomeAt by.now.checked.now by.now.moment.now (Some by.now.most) row.now result }
+/// What a filter says of a row within a bound, as a call reports it.
+fn bounded_outcome(told: Result<Verdict, RowStop>) -> Result<Verdict, Fault>
+    ensures { (filter : Filter) → (now : MomentParts) → (row : List ℕ) → (most : ℕ)
+        → ReportsRowWithin filter now row most told → IsOutcomeAt filter now (Some most) row result }
 {
-    match by.judge(reader, row) {
+    match told {
         Ok(verdict) => Ok(verdict),
         Err(RowStop::NoVerdict(why)) => Err(row_fault(why)),
         Err(RowStop::TooCostly) => Err(Fault::TooCostly),
@@ -166,7 +167,7 @@ fn verdict_on(held: &FilterHandle, judge: &mut JudgeHandle, row: &[u8]) -> Resul
     ensures outcome { IsOutcomeOn held.now judge.old.moment judge.old.bound row.now result }
     ensures same { judge.new ≡ judge.old }
 {
-    let checked = held.filter.with_schema(&held.schema);
+    let checked = held.checked();
     let now = moment_for(&checked, judge.moment)?;
     match judge.bound {
         Some(most) => {
@@ -176,10 +177,46 @@ fn verdict_on(held: &FilterHandle, judge: &mut JudgeHandle, row: &[u8]) -> Resul
                 plan: &held.plan,
                 most,
             };
-            bounded_verdict(&by, &mut judge.reader, row)
+            bounded_outcome(by.judge(&mut judge.reader, row))
         }
-        None => plain_verdict(&checked, &now, &held.plan, &mut judge.reader, row),
+        None => {
+            let told = judge_row(&checked, &now, &held.plan, &mut judge.reader, row);
+            plain_outcome(told)
+        }
     }
+}
+
+/// The verdict on a row at a moment by what is kept of the filter's rows, within a bound if there is one.
+fn own_outcome(
+    rows: &mut FilterRows<'static>,
+    checked: &Checked<'_>,
+    now: &Moment,
+    bound: Option<u64>,
+    row: &[u8],
+) -> Result<Verdict, Fault>
+    requires { AreRowsOfFilter checked.now rows.old }
+    ensures outcome { IsOutcomeAt checked.now now.now bound row.now result }
+    ensures rows { AreRowsOfFilter checked.now rows.new }
+{
+    match bound {
+        Some(most) => bounded_outcome(rows.judge_within(checked, now, most, row)),
+        None => plain_outcome(rows.judge(checked, now, row)),
+    }
+}
+
+/// The verdict on a row by a judge's own filter, within a bound if there is one, or why there is none.
+fn own_verdict(
+    own: &mut OwnFilter,
+    moment: Option<Moment>,
+    bound: Option<u64>,
+    row: &[u8],
+) -> Result<Verdict, Fault>
+    ensures outcome { IsOutcomeOn own.old moment bound row.now result }
+    ensures same { own.new ≡ own.old }
+{
+    let checked = own.held.checked();
+    let now = moment_for(&checked, moment)?;
+    own_outcome(&mut own.rows, &checked, &now, bound, row)
 }
 
 fn verdict_number(verdict: Verdict) -> u32
@@ -190,15 +227,6 @@ fn verdict_number(verdict: Verdict) -> u32
         Verdict::True => 1,
         Verdict::Null => 2,
     }
-}
-
-/// An answer of a verdict.
-fn judged(verdict: Verdict) -> Answer
-    ensures { result ≡ record empty_answer { verdict = verdict_number verdict } }
-{
-    let mut answer = Answer::empty();
-    answer.verdict = verdict_number(verdict);
-    answer
 }
 
 /// Has the judge keep a fault for its path.
@@ -212,19 +240,19 @@ pub(crate) fn keep_fault(fault: Fault, judge: &mut JudgeHandle)
     }
 }
 
-/// Judges a row, and reports the verdict, or why there is none.
-fn tell_verdict(
-    held: &FilterHandle,
+/// Reports a verdict, or why there is none.
+fn report_verdict(
+    outcome: Result<Verdict, Fault>,
     judge: &mut JudgeHandle,
-    row: &[u8],
     answer: &mut Answer,
 ) -> u32
-    ensures { JudgesOneBy held.now judge.old judge.new row.now answer.new result }
+    ensures { TellsVerdict outcome judge.old judge.new answer.new result }
 {
-    match verdict_on(held, judge, row) {
+    match outcome {
         Ok(verdict) => {
             judge.last = None;
-            *answer = judged(verdict);
+            *answer = Answer::empty();
+            answer.verdict = verdict_number(verdict);
             0
         }
         Err(fault) => {
@@ -235,12 +263,48 @@ fn tell_verdict(
     }
 }
 
+/// Judges a row, and reports the verdict, or why there is none.
+fn tell_verdict(
+    held: &FilterHandle,
+    judge: &mut JudgeHandle,
+    row: &[u8],
+    answer: &mut Answer,
+) -> u32
+    ensures { JudgesOneBy held.now judge.old judge.new row.now answer.new result }
+{
+    let outcome = verdict_on(held, judge, row);
+    report_verdict(outcome, judge, answer)
+}
+
 /// Judges a row by handles, where they are a filter and a judge.
 pub(crate) fn tell_row(filter: &Handle, handle: &mut Handle, row: &[u8], answer: &mut Answer) -> u32
     ensures { JudgesOne filter.now handle.old handle.new row.now answer.new result }
 {
     match (filter, handle) {
         (Handle::Filter(held), Handle::Judge(judge)) => tell_verdict(held, judge, row, answer),
+        _ => tell_fault(&Fault::OtherKind, answer),
+    }
+}
+
+/// Judges a row by the judge's own filter, if it has one.
+fn tell_own_verdict(judge: &mut JudgeHandle, row: &[u8], answer: &mut Answer) -> u32
+    ensures { JudgesOwn judge.old.own judge.old judge.new row.now answer.new result }
+{
+    match &mut judge.own {
+        Some(own) => {
+            let outcome = own_verdict(own, judge.moment, judge.bound, row);
+            report_verdict(outcome, judge, answer)
+        }
+        None => tell_fault(&Fault::OtherKind, answer),
+    }
+}
+
+/// Judges a row by the filter of a handle that is a judge of one.
+pub(crate) fn tell_next(handle: &mut Handle, row: &[u8], answer: &mut Answer) -> u32
+    ensures { JudgesNext handle.old handle.new row.now answer.new result }
+{
+    match handle {
+        Handle::Judge(judge) => tell_own_verdict(judge, row, answer),
         _ => tell_fault(&Fault::OtherKind, answer),
     }
 }

@@ -18,6 +18,7 @@ mod filter_calls;
 pub mod filter_exports;
 mod handle;
 mod judge_calls;
+pub mod judge_exports;
 mod line_calls;
 mod name_calls;
 mod null_calls;

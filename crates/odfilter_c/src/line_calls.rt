@@ -44,7 +44,7 @@ fn run_over(held: &FilterHandle, judge: &JudgeHandle, rows: &[u8]) -> Run
     ensures { IsRunOver held.now judge.now.moment rows.now result.outcome result.kept.items }
 {
     let alloc = judge.reader.allocator();
-    let checked = held.filter.with_schema(&held.schema);
+    let checked = held.checked();
     match moment_for(&checked, judge.moment) {
         Ok(now) => run_at(alloc, &checked, &now, rows),
         Err(fault) => Run {

@@ -4,12 +4,13 @@ ghost use Rattle.std.specs.Prelude.{◌≡◌, []};
 ghost use Rattle.odfilter_c.specs.Loans.{UnlessLong};
 ghost use Rattle.odfilter_c.specs.Tells.{ReadsSchema, FindsType, ChecksText, ChecksQuery};
 ghost use Rattle.odfilter_c.specs.UrlCalls.{ChecksUrl};
-ghost use Rattle.odfilter_c.specs.RowTells.{SetsMoment, JudgesOne, FiltersLines};
+ghost use Rattle.odfilter_c.specs.RowTells.{SetsMoment, JudgesOne, JudgesNext, FiltersLines};
 ghost use Rattle.odfilter_c.specs.Sentences.{ReportsSentence, ReportsSentenceFor};
 
 use crate::c_types::Answer;
 use crate::calls;
 use crate::handle::Handle;
+use crate::judge_calls::{put_moment, tell_next};
 use crate::owned::Owned;
 use std::alloc::Global;
 
@@ -98,7 +99,7 @@ pub(crate) fn set_moment_at_null<'a>(judge: &'a mut Handle, length: usize) -> u3
     if length > 0 {
         return 1;
     }
-    calls::set_moment(judge, b"".as_slice())
+    put_moment(judge, b"".as_slice())
 }
 
 pub(crate) fn judge_at_null<'a>(
@@ -114,6 +115,20 @@ pub(crate) fn judge_at_null<'a>(
         return 1;
     }
     calls::judge(filter, judge, b"".as_slice(), answer)
+}
+
+pub(crate) fn judge_next_at_null<'a>(
+    judge: &'a mut Handle,
+    length: usize,
+    answer: &'a mut Answer,
+) -> u32
+    ensures { UnlessLong length ((judge.new ≡ judge.old) × ((answer.new ≡ answer.old) × (result ≡ 1)))
+        (JudgesNext judge.old judge.new [] answer.new result) }
+{
+    if length > 0 {
+        return 1;
+    }
+    tell_next(judge, b"".as_slice(), answer)
 }
 
 pub(crate) fn filter_lines_at_null<'a>(

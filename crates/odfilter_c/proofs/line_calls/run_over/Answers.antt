@@ -1,6 +1,3 @@
-use Rattle.std.proofs.Common.{◌≡◌, ◌∙◌, ap}
-use Rattle.csdl_schema.specs.SchemaModel.{SchemaModel}
-use Rattle.odata_checked_filter.specs.Filter.{filter_in}
 use Rattle.odfilter_c.specs.RowCalls.{IsRunAt}
 use Rattle.odfilter_c.proofs.RowSteps.{at_moment, run_there}
 use Rattle.odfilter_c.proofs.line_calls.run_over.Goals as goal
@@ -8,7 +5,6 @@ use Rattle.odfilter_c.proofs.line_calls.run_over.Goals as goal
 pub returns-in-Ok : goal.returns-in-Ok
 returns-in-Ok c =
     let filter = c.args.held.now in let given = c.args.judge.now.moment in let rows = c.args.rows.now in let run = c.run_at.result in
-    let same : c.with_schema-checked.result ≡ filter =
-    c.with_schema-checked.ensures ∙ ap (λ (schema : SchemaModel). filter_in schema c.held.inside.filter) c.deref.ensures ∙ c.held.view_is in
     run_there filter given rows run.outcome run.kept.items
-    (at_moment (λ f now. IsRunAt f now rows run.outcome run.kept.items) c.with_schema-checked.result filter given c.in-Ok.now same c.in-Ok.ensures.moment c.run_at.ensures)
+    (at_moment (λ f now. IsRunAt f now rows run.outcome run.kept.items) c.checked-checked.result filter given c.in-Ok.now
+    c.checked-checked.ensures c.in-Ok.ensures.moment c.run_at.ensures)
