@@ -82,7 +82,8 @@ fn are_others_absent(plan: &TypePlan, filled: &KeyMarks) -> bool
     requires few { length plan.now.slots.items ≤ MARKS }
     ensures { (schema : SchemaModel) (steps : List StepModel) → IsPlan schema steps plan.now → IsTrue result
         → (k : ℕ) → (get_or filled.now k false ≡ true)
-        ⊎ IfSome (slice_get (properties_at schema plan.now.type_id) k) (MayBeAbsent (slots_at schema steps plan.now.node)) }
+        ⊎ IfSome (slice_get (properties_at schema plan.now.type_id) k)
+        (MayBeAbsent (slots_at schema steps plan.now.node)) }
 {
     for slot in 0..plan.slots.len() {
         if !is_settled(&plan.slots[slot], filled, slot) {

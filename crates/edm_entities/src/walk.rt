@@ -75,7 +75,8 @@ fn read_property(
     ensures fits { IfOk result (λ v. FitsProperty (slots_in scene.now node) property.now.nullable
         (property_type scene.now.schema.now property.now) (option_map (λ json. view json.now) found.entry)
         (field_of (slots_in scene.now node).properties (property_type scene.now.schema.now property.now) (val_of v))) }
-    ensures holds { IfOk result (HoldsInSlot (slots_in scene.now node) (property_type scene.now.schema.now property.now)) }
+    ensures holds { IfOk result (HoldsInSlot (slots_in scene.now node)
+        (property_type scene.now.schema.now property.now)) }
     ensures fault { IfErr result (IsFaultOf (IsPropertyFault (slots_in scene.now node) property.now.nullable
         (property_type scene.now.schema.now property.now) (option_map (λ json. view json.now) found.entry))) }
 {

@@ -22,7 +22,8 @@ target_at steps node property = target_if (paths_at steps node []) (target_of pr
 -- it is a slot of a type after a node: its name and its property, the node after that, and the target, if the property
 -- navigates and is expanded
 pub record IsSlotPlan
-    (schema : SchemaModel) (steps : List StepModel) (id : ℕ) (node : Option ℕ) (slot : ℕ) (plan : SlotPlan) : Type 0 where
+    (schema : SchemaModel) (steps : List StepModel) (id : ℕ) (node : Option ℕ) (slot : ℕ) (plan : SlotPlan)
+    : Type 0 where
   pub named : IsSlotNamed schema id plan.key slot plan.property
   pub behind : plan.node ≡ node_behind steps node plan.key
   pub leads : plan.target ≡ target_at steps plan.node plan.property

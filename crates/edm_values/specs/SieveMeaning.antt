@@ -10,8 +10,8 @@ use Rattle.edm_values.specs.declared.sieve.Sieve.TheVariants.{All, True, Within,
 abbrev pub IsInt64 : ℤ → Type 0
 IsInt64 n = IsBetween (neg_ℤ (pos 9223372036854775808)) (pos 9223372036854775807) n
 
--- the truth value false; a number below the least or above the greatest, or the one number; a text of other characters, or
--- of the same ones
+-- the truth value false; a number below the least or above the greatest, or the one number; a text of other characters,
+-- or of the same ones
 abbrev pub Rejects : Sieve → Val → Type 0
 Rejects All value = ⊥
 Rejects True value = value ≡ boolean false

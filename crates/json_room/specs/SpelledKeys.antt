@@ -8,5 +8,6 @@ use Rattle.json_room.specs.declared.spelled_key.SpelledKey.TheInside.{Inside}
 pub record IsSpelled (key : Inside) : Type 0 where
   pub plain : PlainBetween key.key 0 (length key.key)
   pub long : key.length ≡ length (name_with_colon key.key)
-  pub front : (k : ℕ) → k < 16 → k < length (name_with_colon key.key) → get_or key.front k 0 ≡ get_or (name_with_colon key.key) k 0
+  pub front : (k : ℕ) → k < 16 → k < length (name_with_colon key.key)
+      → get_or key.front k 0 ≡ get_or (name_with_colon key.key) k 0
   pub mask : (k : ℕ) → k < 16 → k < length (name_with_colon key.key) → get_or key.mask k 0 ≡ 255

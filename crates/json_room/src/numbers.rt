@@ -92,7 +92,8 @@ pub fn digits_up_to(line: &RoomyLine<'_>, place: usize, most: usize) -> Option<u
 #[inline(always)]
 pub fn whole_at(line: &RoomyLine<'_>, place: usize) -> Option<(u64, usize)>
     requires { place ≤ length line.now }
-    ensures whole { IfSome result (λ found. (s : List ℕ) × StandsTo line.now place (number s) found.1 × IsWhole s found.0) }
+    ensures whole { IfSome result (λ found. (s : List ℕ) × StandsTo line.now place (number s) found.1
+        × IsWhole s found.0) }
     ensures few { IfSome result (λ found. found.0 < 10 ^ (found.1 - place)) }
 {
     let Some((number, end)) = digits_value(line, place) else {

@@ -21,7 +21,8 @@ pub record IsTextAt (text : List ℕ) (from : ℕ) (content : List ℕ) (to : �
 -- where a value may begin, the token begins at one offset, and from the other on the text is read on
 pub record BeginsToken (text : List ℕ) (from : ℕ) (first : Token) (to : ℕ) (turn : Turn) : Type 0 where
   pub within : to ≤ length text
-  pub begins : (p : Place) → may_begin p ≡ true → punctuate p (lex between (drop from text)) ≡ first ∷ tokens_left turn (drop to text)
+  pub begins : (p : Place) → may_begin p ≡ true
+      → punctuate p (lex between (drop from text)) ≡ first ∷ tokens_left turn (drop to text)
 
 -- the same of a key with its colon
 abbrev pub BeginsKey : List ℕ → ℕ → List ℕ → ℕ → Type 0

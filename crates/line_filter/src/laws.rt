@@ -36,14 +36,15 @@ pub fn lines_stop_once<J: Judge>(judge: &J)
 {}
 
 /// A law: of the items of a list at most one is the first at fault. Judgments of one kind are said of each item, and
-/// none is at fault where all pass. One text is kept, of all items or of those before the first at fault; all items have
-/// one tally.
+/// none is at fault where all pass. One text is kept, of all items or of those before the first at fault; all items
+/// have one tally.
 pub fn items_stop_once<J: SaysOfItems>(judge: &J)
     requires { JudgesItemsOnce (J.says judge.now) }
     ensures stopped { (items : List J.Item) (text other : List ℕ) (m n : ℕ) (f g : FindingModel J.Fault)
         → IsFaulty f → IsFaulty g → (a : StopsAt (places (J.says judge.now) items) text m f)
         → (b : StopsAt (places (J.says judge.now) items) other n g) → (m ≡ n) × (text ≡ other) × (a.bad ≡ b.bad) }
-    ensures filtered { (items : List J.Item) (text other : List ℕ) (tally : TallyModel) (n : ℕ) (f : FindingModel J.Fault)
+    ensures filtered { (items : List J.Item) (text other : List ℕ) (tally : TallyModel) (n : ℕ)
+        (f : FindingModel J.Fault)
         → Filters (places (J.says judge.now) items) text tally → IsFaulty f
         → StopsAt (places (J.says judge.now) items) other n f → ⊥ }
     ensures kept { (items : List J.Item) (text other : List ℕ) (m n : TallyModel)

@@ -5,8 +5,8 @@ use Rattle.odata_checked_filter.specs.Filter.{Filter}
 use Rattle.odata_filter.specs.RowAnswer.{IsPlanOfFilter, PassesNone}
 use Rattle.odata_filter.specs.declared.filter_rows.FilterRows.{FilterRows}
 
--- the reader is of the filter's schema and type, and a whole one has that expanded which the filter needs; it keeps what
--- the filter names
+-- the reader is of the filter's schema and type, and a whole one has that expanded which the filter needs; it keeps
+-- what the filter names
 pub record KeepsNames (filter : Filter) (rows : RowsOfType) : Type 0 where
   pub schema : rows.schema ≡ filter.schema
   pub type_id : rows.type_id ≡ filter.filtered

@@ -44,5 +44,6 @@ ReportsRowWithin filter now row most (Ok verdict) =
     TellsRow filter now row (Ok verdict) × RowCostIs filter now row (λ cost. cost ≤ most)
 ReportsRowWithin filter now row most (Err RowStop.TooCostly) = RowCostIs filter now row (λ cost. most < cost)
 ReportsRowWithin filter now row most (Err (RowStop.NoVerdict (NoVerdict.Bad (BadRow.NoValue fault)))) =
-    TellsRow filter now row (Err (NoVerdict.Bad (BadRow.NoValue fault))) × RowCostIs filter now row (λ cost. cost ≤ most)
+    TellsRow filter now row (Err (NoVerdict.Bad (BadRow.NoValue fault)))
+    × RowCostIs filter now row (λ cost. cost ≤ most)
 ReportsRowWithin filter now row most (Err (RowStop.NoVerdict other)) = TellsRow filter now row (Err other)

@@ -69,8 +69,8 @@ impl BoundedJudge<'_, '_> {
         row: &[u8],
     ) -> Option<Result<Verdict, EvalStop>>
         requires { IsPlanOfFilter self.now.checked.now self.now.plan.now }
-        ensures { IfSome result (λ answer. ReportsRowWithin self.now.checked.now self.now.moment.now row.now self.now.most
-            (stop_reported answer)) }
+        ensures { IfSome result (λ answer. ReportsRowWithin self.now.checked.now self.now.moment.now row.now
+            self.now.most (stop_reported answer)) }
     {
         let is_whole = self.plan.is_whole;
         if !is_whole {
@@ -103,7 +103,8 @@ impl BoundedJudge<'_, '_> {
             → paths_in entity.now.expansion path ≡ paths_in self.now.checked.now.expansion path }
         ensures outcome { IfSome (outcome_told result)
             (IsTheOutcome entity.now self.now.moment.now (tree_of_filter self.now.checked.now)) }
-        ensures bound { KeepsBound entity.now self.now.moment.now (tree_of_filter self.now.checked.now) self.now.most result }
+        ensures bound { KeepsBound entity.now self.now.moment.now (tree_of_filter self.now.checked.now) self.now.most
+            result }
     {
         evaluate_within(alloc, self.checked, entity, self.moment, self.most)
     }

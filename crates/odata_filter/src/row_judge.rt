@@ -111,7 +111,8 @@ impl RowJudge<'_, '_> {
         row: &[u8],
     ) -> Option<Result<Verdict, EvalFault>>
         requires { IsPlanOfFilter self.now.checked.now plan.now }
-        ensures { IfSome result (λ answer. TellsRow self.now.checked.now self.now.moment.now row.now (answer_told answer)) }
+        ensures { IfSome result (λ answer. TellsRow self.now.checked.now self.now.moment.now row.now
+            (answer_told answer)) }
     {
         let is_whole = plan.is_whole;
         if !is_whole {

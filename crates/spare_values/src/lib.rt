@@ -1,4 +1,5 @@
-//! Values of rows that are filled again: what no row holds any more is kept, and what stands in a place is written over.
+//! Values of rows that are filled again: what no row holds any more is kept, and what stands in a place is written
+//! over.
 #![tactic(auto)]
 
 mod spares;

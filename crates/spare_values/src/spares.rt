@@ -154,7 +154,8 @@ impl Spares {
     #[inline(never)]
     fn add_item(&mut self, spare: Spare, items: &mut Vec<Value>) -> bool
         ensures room { IsTrue result → length items.old.items < length items.new.items }
-        ensures kept { (count : ℕ) → count ≤ length items.old.items → take count items.new.items ≡ take count items.old.items }
+        ensures kept { (count : ℕ) → count ≤ length items.old.items
+            → take count items.new.items ≡ take count items.old.items }
     {
         let value = self.take(spare);
         items.push(value).is_ok()

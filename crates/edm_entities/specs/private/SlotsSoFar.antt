@@ -24,7 +24,8 @@ HoldsSoFar slots found p true v = FitsSlot slots found p v
 HoldsSoFar slots found p false v = found p.name ≡ None
 
 -- of each slot, by whether it was filled; there may be more marks than slots
-abbrev pub HoldEachSoFar : (PropertyModel → Bool → Value → Type 0) → List PropertyModel → List Bool → List Value → Type 0
+abbrev pub HoldEachSoFar :
+    (PropertyModel → Bool → Value → Type 0) → List PropertyModel → List Bool → List Value → Type 0
 HoldEachSoFar Q [] filled [] = Unit {0}
 HoldEachSoFar Q (p ∷ ps) (filled ∷ more) (value ∷ values) = Q p filled value × HoldEachSoFar Q ps more values
 HoldEachSoFar Q _ _ _ = ⊥

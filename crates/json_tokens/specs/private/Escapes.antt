@@ -8,7 +8,8 @@ use Rattle.json.specs.Text.{content, plain, after_backslash, prepend}
 pub record EscapesAt (text : List ℕ) (from character to : ℕ) : Type 0 where
   pub bounds : (from < to) × (to ≤ length text)
   pub last : get_or text (to - 1) 0 < 128
-  pub stands_for : content after_backslash (drop from text) ≡ prepend (encode_utf8 character) (content plain (drop to text))
+  pub stands_for : content after_backslash (drop from text)
+      ≡ prepend (encode_utf8 character) (content plain (drop to text))
 
 -- what was decoded of a text, and what the rest of it stands for
 abbrev pub told_and_rest : List ℕ → List ℕ → ℕ → Option (List ℕ)

@@ -15,8 +15,8 @@ waits b = record {
   room = vec_len b.bytes - b.filled;
 }
 
--- The offsets are in order and within the vector, which is not too long, and no byte that was searched is an LF. Where it
--- is noted so, the searched bytes are of ASCII, and those of the line given last.
+-- The offsets are in order and within the vector, which is not too long, and no byte that was searched is an LF. Where
+-- it is noted so, the searched bytes are of ASCII, and those of the line given last.
 pub record IsBuffer (b : Inside) : Type 0 where
   pub line_in_order : b.line ≤ b.line_end
   pub line_within : b.line_end ≤ b.filled

@@ -16,7 +16,8 @@ ReportsValueWithin filter now json most (Ok verdict) =
     TellsValue filter now json (Ok verdict) × CostIs filter now json (λ cost. cost ≤ most)
 ReportsValueWithin filter now json most (Err RowStop.TooCostly) = CostIs filter now json (λ cost. most < cost)
 ReportsValueWithin filter now json most (Err (RowStop.NoVerdict (NoVerdict.Bad (BadRow.NoValue fault)))) =
-    TellsValue filter now json (Err (NoVerdict.Bad (BadRow.NoValue fault))) × CostIs filter now json (λ cost. cost ≤ most)
+    TellsValue filter now json (Err (NoVerdict.Bad (BadRow.NoValue fault)))
+    × CostIs filter now json (λ cost. cost ≤ most)
 ReportsValueWithin filter now json most (Err (RowStop.NoVerdict other)) = TellsValue filter now json (Err other)
 
 -- what a filter's answer to an entity reports
