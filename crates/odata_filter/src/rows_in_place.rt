@@ -101,8 +101,35 @@ pub(crate) fn begin_after(
     }
 }
 
-/// Copies a line to where it has room after it, unless out of memory.
+/// Copies a line to where it has a line feed and room after it, unless out of memory. What else was there stays.
+#[inline(always)]
 pub(crate) fn copy_with_room(line: &[u8], room: &mut Vec<u8>) -> bool
+    ensures within { IsTrue result → length line.now ≤ length room.new.items }
+    ensures copied { IsTrue result → take (length line.now) room.new.items ≡ line.now }
+{
+    let count = line.len();
+    if room.len() < ROOM || count > room.len() - ROOM {
+        return take_room(line, room);
+    }
+    write_line(room.as_mut_slice(), line);
+    true
+}
+
+/// Writes a line and a line feed over the front of a room.
+#[inline(always)]
+fn write_line(room: &mut [u8], line: &[u8])
+    requires { length line.now < length room.old }
+    ensures long { length room.new ≡ length room.old }
+    ensures copied { take (length line.now) room.new ≡ line.now }
+{
+    let (front, rest) = room.split_at_mut(line.len());
+    front.copy_from_slice(line);
+    rest[0] = b'\n';
+}
+
+/// The same in a room that is made for it.
+#[inline(never)]
+fn take_room(line: &[u8], room: &mut Vec<u8>) -> bool
     ensures within { IsTrue result → length line.now ≤ length room.new.items }
     ensures copied { IsTrue result → take (length line.now) room.new.items ≡ line.now }
 {
