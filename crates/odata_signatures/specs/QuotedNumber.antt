@@ -5,7 +5,6 @@ use Rattle.edm_values.specs.StringLiteral.{quote}
 use Rattle.csdl_schema.specs.EnumerationText.{IsOfUnderlying, IsValueIn}
 use Rattle.csdl_schema.specs.ExprType.{ExprType, single, enumeration}
 use Rattle.csdl_schema.specs.SchemaModel.{Slots}
-use Rattle.odata_signatures.specs.declared.quoted_number.Beside.{Beside}
 
 -- the text between the quotes stands for the number in the enumeration of that name, as that of an enumeration literal
 -- does
@@ -33,9 +32,3 @@ HasNumber slots beside quoted = (n : ℤ) × NumberBeside slots beside quoted n
 pub record LacksNumber (slots : Slots) (beside : ExprType) (quoted : Option (List ℕ)) : Type 0 where
   pub read : IsReadBeside beside quoted
   pub none : ¬ HasNumber slots beside quoted
-
--- what is reported about an operand beside a value of the type: that it is not read, its number, or that it has none
-abbrev pub IsToldBeside : Slots → ExprType → Option (List ℕ) → Beside → Type 0
-IsToldBeside slots beside quoted Beside.Unread = ¬ IsReadBeside beside quoted
-IsToldBeside slots beside quoted (Beside.Number n) = NumberBeside slots beside quoted n
-IsToldBeside slots beside quoted Beside.Unknown = LacksNumber slots beside quoted

@@ -21,7 +21,6 @@ mod has;
 mod laws;
 mod membership;
 mod operator;
-mod quoted_number;
 
 pub use argument_kind::ArgumentKind;
 pub use call::{CallFault, TypedCall, judged_call};
@@ -33,4 +32,3 @@ pub use has::has_type;
 pub use laws::{calls_have_one_type, quoted_texts_have_one_number, unread_operands_go_by_types};
 pub use membership::in_path_type;
 pub use operator::{made_type, negated_type, opposite_type};
-pub use quoted_number::{Beside, number_beside};

@@ -9,6 +9,7 @@ pub mod OperandTexts
 pub mod Rows
 pub mod Settings
 pub mod SpanLaws
+pub mod TextBeside
 pub mod Variables
 pub mod Walks
 pub mod Wholes

@@ -13,11 +13,12 @@ ghost use Rattle.odata_typing.specs.private.Settings.{IsNodeReady};
 use super::binary_node::is_enumeration;
 use super::laws_below::laws_below;
 use super::setting::{Judged, Setting};
+use super::text_beside::{Beside, number_beside};
 use super::walk::Walk;
 use csdl_schema::Schema;
 use odata_checked_filter::{CheckedNode, NodeKind};
 use odata_expression_types::TypeFaultCode;
-use odata_signatures::{BOOLEAN, Beside, EdmType, are_comparable, number_beside};
+use odata_signatures::{BOOLEAN, EdmType, are_comparable};
 
 /// Whether items may stand after the operand.
 #[derive(Clone, Copy)]

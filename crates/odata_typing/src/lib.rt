@@ -25,6 +25,7 @@ mod operand_text;
 mod property;
 mod reading;
 mod setting;
+mod text_beside;
 mod unary_node;
 mod variables;
 mod walk;

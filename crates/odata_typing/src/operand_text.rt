@@ -4,9 +4,9 @@ ghost use Rattle.odata_signatures.specs.OperatorTyped.{IsEquality};
 ghost use Rattle.odata_typing.specs.private.OperandTexts.{IsOperandRead, left_side, right_side};
 
 use super::binary_node::OperandTypes;
+use super::text_beside::{Beside, number_beside};
 use csdl_schema::Schema;
 use odata_checked_filter::NodeKind;
-use odata_signatures::{Beside, number_beside};
 use odata_syntax::{BinaryOperator, ComparisonOperator};
 
 /// What is read of two operands.

@@ -4,14 +4,15 @@ ghost use Rattle.std.specs.Option.{option_map};
 ghost use Rattle.edm_values.specs.StringLiteral.{quote};
 ghost use Rattle.csdl_schema.specs.ExprType.{single};
 ghost use Rattle.csdl_schema.specs.SchemaModel.{slots_of, type_name_at};
+ghost use Rattle.odata_signatures.specs.QuotedNumber.{IsQuotedNumber};
 ghost use Rattle.odata_signatures.specs.TypeView.{expr_type, single_type};
 
-use super::edm_type::{EdmType, ValueType};
 use csdl_schema::{EnumId, Schema};
+use odata_signatures::{EdmType, ValueType};
 
 /// The role of an operand beside a value of a type, by what it quotes.
-#[derive(Clone, Copy, Debug, PartialEq, Eq)]
-pub enum Beside {
+#[derive(Clone, Copy)]
+pub(crate) enum Beside {
     /// It is not read: it quotes nothing, or the type is that of no enumeration.
     Unread,
     /// It stands for that number of the enumeration.
@@ -20,11 +21,11 @@ pub enum Beside {
     Unknown,
 }
 
-ghost use Rattle.odata_signatures.specs.QuotedNumber.{IsQuotedNumber, IsToldBeside};
+ghost use Rattle.odata_typing.specs.private.TextBeside.{IsRoleBeside};
 
-/// Returns what an operand is beside a value of this type, if it is a String literal of that spelling.
-pub fn number_beside(schema: &Schema, beside: &EdmType, quoted: Option<&str>) -> Beside
-    ensures { IsToldBeside (slots_of schema.now) (expr_type schema.now beside.now)
+/// The role of an operand beside a value of this type, by what it quotes.
+pub(crate) fn number_beside(schema: &Schema, beside: &EdmType, quoted: Option<&str>) -> Beside
+    ensures { IsRoleBeside (slots_of schema.now) (expr_type schema.now beside.now)
         (option_map (λ spelling. spelling.now) quoted.entry) result }
 {
     match beside {
@@ -36,7 +37,7 @@ pub fn number_beside(schema: &Schema, beside: &EdmType, quoted: Option<&str>) ->
 
 /// The same, beside a value of that type which is not a collection.
 fn beside_value(schema: &Schema, member: &ValueType, quoted: Option<&str>) -> Beside
-    ensures { IsToldBeside (slots_of schema.now) (single (single_type schema.now member.now))
+    ensures { IsRoleBeside (slots_of schema.now) (single (single_type schema.now member.now))
         (option_map (λ spelling. spelling.now) quoted.entry) result }
 {
     match member {

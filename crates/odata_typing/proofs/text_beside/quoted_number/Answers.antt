@@ -1,5 +1,5 @@
-use Rattle.odata_signatures.proofs.types.Quoted.{quoted_none, quoted_some}
-use Rattle.odata_signatures.proofs.quoted_number.quoted_number.Goals as goal
+use Rattle.odata_typing.proofs.types.Quoted.{quoted_none, quoted_some}
+use Rattle.odata_typing.proofs.text_beside.quoted_number.Goals as goal
 
 pub returns-in-Some-clause-some : goal.returns-in-Some-clause-some
 returns-in-Some-clause-some c =

@@ -1,6 +1,6 @@
 use Rattle.csdl_schema.specs.SchemaModel.{slots_of, type_name_at}
-use Rattle.odata_signatures.proofs.types.Quoted.{quoted_held}
-use Rattle.odata_signatures.proofs.quoted_number.beside_value.Goals as goal
+use Rattle.odata_typing.proofs.types.Quoted.{quoted_held}
+use Rattle.odata_typing.proofs.text_beside.beside_value.Goals as goal
 
 pub returns-in-Some-quoted_number : goal.returns-in-Some-quoted_number
 returns-in-Some-quoted_number c =
