@@ -68,14 +68,10 @@ pub fn filter_bytes<J: Judge>(
     while !rest.is_empty() {
         let (line, after) = first_line(rest);
         let found = put_kept(find_at_front(judge, rest, line), line, out);
-        match outcome_of(found, lines + 1) {
-            Ok(one) => {
-                lines += 1;
-                tally.rows += one.rows;
-                tally.kept += one.kept;
-            }
-            Err(stop) => return Err(stop),
-        }
+        let one = outcome_of(found, lines + 1)?;
+        lines += 1;
+        tally.rows += one.rows;
+        tally.kept += one.kept;
         rest = after;
     }
     Ok(tally)

@@ -13,7 +13,6 @@ pub mod FormsSame
 pub mod FunctionEnds
 pub mod FunctionLaws
 pub mod Kinds
-pub mod LawsBelow
 pub mod MadeTexts
 pub mod MembersLaws
 pub mod NoEnumerations

@@ -5,11 +5,12 @@ pub mod CallSteps
 pub mod Children
 pub mod Compared
 pub mod Extents
+pub mod FalseTerms
 pub mod ItemSteps
 pub mod KeptValues
-pub mod FalseTerms
 pub mod Lambdas
 pub mod Leaves
+pub mod Measures
 pub mod MemberSteps
 pub mod MemberValues
 pub mod MembersAsked

@@ -10,3 +10,4 @@ pub mod SceneModel
 pub mod Spending
 pub mod WalkAnswer
 pub mod WalkClass
+pub mod LawsBelow

@@ -8,7 +8,7 @@ ghost use Rattle.odata_eval.specs.private.Rest.{IsRest, TellsTerms};
 ghost use Rattle.odata_eval.specs.private.WalkAnswer.{AnswersTruth};
 
 use super::kept_terms::kept_truth_at;
-use super::logical::{decides, join};
+use super::logical::decides;
 use super::part::right_of;
 use super::scene::Scene;
 use super::walk::term_at;
@@ -70,11 +70,11 @@ pub(crate) fn truth_of_rest(
     ensures { AnswersTruth scene.now 0 result }
 {
     let mut left = term_at(scene, rest.term)?;
+    if decides(LogicalOperator::And, left) {
+        return Ok(left);
+    }
     let mut at = rest.ands;
     while 0 < at {
-        if decides(LogicalOperator::And, left) {
-            return Ok(left);
-        }
         at -= 1;
         let right_place = right_of(scene, at);
         match kept_truth_at(scene, right_place) {
@@ -82,7 +82,11 @@ pub(crate) fn truth_of_rest(
             Some(false) => return Ok(Some(false)),
             None => {
                 let right = term_at(scene, right_place)?;
-                left = join(LogicalOperator::And, left, right);
+                match right {
+                    Some(true) => {}
+                    Some(false) => return Ok(Some(false)),
+                    None => left = None,
+                }
             }
         }
     }

@@ -197,14 +197,14 @@ fn last_text_at<'e>(scene: &Scene<'e, '_, '_>, place: usize, function: Function)
     kept_text_at(scene, second_place)
 }
 
-/// The number to which such a path leads.
+/// The number of a property, a literal or a variable.
 #[inline(always)]
-fn kept_number_at(scene: &Scene<'_, '_, '_>, place: usize) -> Option<Option<i64>>
-    requires { OperandStands scene.now place }
+pub(crate) fn found_number_at(scene: &Scene<'_, '_, '_>, place: usize) -> Option<Option<i64>>
+    requires stands { OperandStands scene.now place }
     ensures answers { IfSome result (λ number. AnswersNumber scene.now place (Ok number)) }
-    ensures path { IfSome result (λ number. IsPathAt scene.now.list place) }
+    ensures leaf { IfSome result (λ number. IsClassAt scene.now.list Class.Leaf place) }
 {
-    let Some(value) = kept_at(scene, place) else {
+    let Some(value) = found_at(scene, place) else {
         return None;
     };
     match value {
@@ -281,7 +281,7 @@ fn length_compared_at(
     let Some(left) = length_at(scene, place + 1, function) else {
         return None;
     };
-    let Some(right) = kept_number_at(scene, right_place) else {
+    let Some(right) = found_number_at(scene, right_place) else {
         return None;
     };
     Some(compare_numbers(comparison, left, right))

@@ -19,6 +19,7 @@ ghost use Rattle.odata_filter_operations.specs.Outcome.{gives, divides_by_zero};
 ghost use Rattle.odata_eval.specs.SomeCosts.{CostsOnTags, fault_first, is_listed};
 ghost use Rattle.odata_eval.specs.UnreadMeans.{FlagsAlone, ItemsAlone, OperandsAlone};
 ghost use Rattle.odata_eval.specs.SameMeaning.{NormalFormsKeepOutcomes, CanonicalTextsKeepOutcomes};
+ghost use Rattle.odata_eval.specs.private.LawsBelow.{OneEach, Promotes, SomeEach};
 
 use edm_entities::{spelled_values_lie_within, what_fits_has_its_type};
 use odata_expression_types::{
@@ -34,12 +35,12 @@ use odata_signatures::{
 use odata_syntax::{canonical_texts_read_back, one_tree};
 use odata_text::one_list_of_any_length;
 
-/// A law: an expression that has a type has exactly one outcome on every value at paths. The value is of the filtered
-/// type and has all expanded that the expression needs, at every moment and whatever the range variables around it
-/// hold, each a value of its type at a path. The outcome is a value of its type at its path, or the fault of an
-/// arithmetic operator. Nothing is asked of what is not needed.
-pub fn typed_trees_end_once_at_paths()
-    ensures { TypedEndsOnceAtPaths }
+/// What the laws of the layers below say, together: what makes outcomes the only ones, what gives them, and where
+/// operands lie.
+fn laws_below()
+    ensures one { OneEach }
+    ensures some { SomeEach }
+    ensures promotes { Promotes }
 {
     literals_have_one_value();
     trees_have_one_type();
@@ -54,6 +55,16 @@ pub fn typed_trees_end_once_at_paths()
     quoted_texts_have_one_number();
     quoting_trees_are_texts();
     unread_operands_go_by_types();
+}
+
+/// A law: an expression that has a type has exactly one outcome on every value at paths. The value is of the filtered
+/// type and has all expanded that the expression needs, at every moment and whatever the range variables around it
+/// hold, each a value of its type at a path. The outcome is a value of its type at its path, or the fault of an
+/// arithmetic operator. Nothing is asked of what is not needed.
+pub fn typed_trees_end_once_at_paths()
+    ensures { TypedEndsOnceAtPaths }
+{
+    laws_below();
 }
 
 /// A law: a typed expression has one outcome apart from paths. There each value is of its type whatever is needed in
@@ -79,18 +90,7 @@ pub fn typed_trees_cost_once_on_entities()
 {
     typed_trees_end_once();
     what_fits_has_its_type();
-    literals_have_one_value();
-    trees_have_one_type();
-    arithmetic_has_one_answer();
-    comparisons_are_decided();
-    bits_are_decided();
-    spelled_values_lie_within();
-    calls_have_one_type();
-    texts_have_one_answer();
-    day_numbers_have_one_date();
-    quoted_texts_have_one_number();
-    quoting_trees_are_texts();
-    unread_operands_go_by_types();
+    laws_below();
 }
 
 /// A law: a value of a type has that type at every path, whatever is needed. So have the values of variables, at any
@@ -151,13 +151,7 @@ pub fn first_run_comes_to()
     ensures right_side_left_out { (slots : Slots) (value : Val)
         → ComesToIn slots false_and_missing value (gives (boolean false)) }
 {
-    literals_have_one_value();
-    trees_have_one_type();
-    arithmetic_has_one_answer();
-    calls_have_one_type();
-    texts_have_one_answer();
-    day_numbers_have_one_date();
-    quoted_texts_have_one_number();
+    laws_below();
 }
 
 /// Worked outcomes of `any`, `all`, `in`, `$count` and `any()`. The members are `'a'` and null of a property `Tags`, or
@@ -181,13 +175,7 @@ pub fn members_come_to()
     ensures null_member { ComesToOn text_and_null (in_path null_literal (named (codes "Tags"))) (gives (boolean true)) }
     ensures in_null { ComesToOn null (in_path null_literal (named (codes "Tags"))) (gives null) }
 {
-    literals_have_one_value();
-    trees_have_one_type();
-    arithmetic_has_one_answer();
-    calls_have_one_type();
-    texts_have_one_answer();
-    day_numbers_have_one_date();
-    quoted_texts_have_one_number();
+    laws_below();
 }
 
 /// Worked costs of filters on the same members. `any` asks for the second member's body, `all` for the first one's

@@ -15,6 +15,7 @@ mod budget;
 mod collection_walk;
 mod evaluator;
 mod frames;
+mod kept_arithmetic;
 mod kept_operands;
 mod kept_terms;
 mod lambda_walk;

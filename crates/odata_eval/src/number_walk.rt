@@ -5,7 +5,7 @@ ghost use Rattle.odata_eval.specs.private.WalkAnswer.{AnswersNumber};
 
 use super::budget::Counting;
 use super::part::{
-    Part, WalkClass, arithmetic_operator, class_at, is_class_at, part_at, right_of, spine_bottom,
+    Part, WalkClass, arithmetic_operator, is_class_at, part_at, right_of, spine_bottom,
 };
 use super::scene::Scene;
 use super::walk::operand_at;
@@ -32,46 +32,6 @@ pub(crate) fn number_at<B: Counting>(
         answer = numeric_at::<B>(scene, at, answer);
     }
     answer
-}
-
-/// The same, where most of these nodes stand: two of them on a stored value, or one, are taken at once.
-#[cycle(evaluate)]
-#[inline(always)]
-pub(crate) fn number_chain_at<B: Counting>(
-    scene: &Scene<'_, '_, '_>,
-    place: usize,
-) -> Result<Option<i64>, EvalFault>
-    requires stands { PartStands scene.now place }
-    requires numeric { IsClassAt scene.now.list WalkClass.Numeric place }
-    ensures { AnswersNumber scene.now place result }
-{
-    let _nodes = scene.nodes();
-    match class_at(scene, place + 1) {
-        WalkClass::Numeric => {
-            let first = number_on_leaf_at::<B>(scene, place + 1);
-            numeric_at::<B>(scene, place, first)
-        }
-        _ => number_on_leaf_at::<B>(scene, place),
-    }
-}
-
-/// The same, where the first operand is likely a stored value.
-#[cycle(evaluate)]
-#[inline(always)]
-fn number_on_leaf_at<B: Counting>(
-    scene: &Scene<'_, '_, '_>,
-    place: usize,
-) -> Result<Option<i64>, EvalFault>
-    requires stands { PartStands scene.now place }
-    requires numeric { IsClassAt scene.now.list WalkClass.Numeric place }
-    ensures { AnswersNumber scene.now place result }
-{
-    scene.ends_once();
-    let _nodes = scene.nodes();
-    match part_at(scene, place + 1) {
-        Part::Leaf(first) => numeric_at::<B>(scene, place, Ok(kept_number(first))),
-        _ => number_at::<B>(scene, place),
-    }
 }
 
 /// What a node of a number type or Null evaluates to, where a stored value is likely.

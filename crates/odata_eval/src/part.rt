@@ -34,6 +34,7 @@ ghost use Rattle.odata_eval.specs.private.WalkAnswer.{AnswersKept, IsPart};
 ghost use Rattle.odata_eval.specs.private.WalkClass.{walk_of_kind};
 
 /// How the walk takes a node of this kind.
+#[inline(always)]
 fn walk_of_kind(kind: NodeKind) -> WalkClass
     ensures { result ≡ walk_of_kind kind }
 {
@@ -142,6 +143,7 @@ pub(crate) fn class_at(scene: &Scene<'_, '_, '_>, place: usize) -> WalkClass
 }
 
 /// Whether the walk takes the node at an index so. There is none past the end.
+#[inline(always)]
 pub(crate) fn is_class_at(scene: &Scene<'_, '_, '_>, place: usize, class: WalkClass) -> bool
     ensures { IsTrue result ↔ IsClassAt scene.now.list class place }
 {
@@ -153,6 +155,7 @@ pub(crate) fn is_class_at(scene: &Scene<'_, '_, '_>, place: usize, class: WalkCl
 
 /// The index of the first node from an index on that the walk does not take so. In pre-order these nodes are the left
 /// spine of a tree: each but the first is the first operand of the one before.
+#[inline(always)]
 pub(crate) fn spine_bottom(scene: &Scene<'_, '_, '_>, top: usize, class: WalkClass) -> usize
     ensures below { top ≤ result }
     ensures spine { (k : ℕ) → k < result → top ≤ k → IsClassAt scene.now.list class k }

@@ -230,7 +230,15 @@ impl<'e, 'c, 'r> Scene<'e, 'c, 'r> {
                 return value;
             }
         }
-        // They are looked for in a copy, so that the scene itself has no address.
+        self.variable_among(level)
+    }
+
+    /// The same, where several are around.
+    #[inline(never)]
+    fn variable_among(&self, level: usize) -> &'e Value
+        requires { level < length (names_of (environment_of self.now)) }
+        ensures { StandsAtLevel (slots_of self.now.row.schema) (environment_of self.now) level result.now }
+    {
         let frames = self.frames;
         match at_level(&frames, level) {
             AtLevel::There(value) => value,

@@ -10,11 +10,12 @@ ghost use Rattle.odata_eval.specs.private.WalkAnswer.{AnswersDatum, AnswersTruth
 
 use super::budget::{Counting, Unbounded, as_stop, fault_of};
 use super::collection_walk::{among_at, flags_at, listed_at};
+use super::kept_arithmetic::arithmetic_compared_at;
 use super::kept_operands::{kept_compared_at, lower_start_at};
 use super::kept_terms::kept_truth_at;
 use super::lambda_walk::lambda_at;
 use super::logical::{decides, join};
-use super::number_walk::{number_at, number_chain_at};
+use super::number_walk::number_at;
 use super::part::{
     Part, WalkClass, class_at, logical_operator, part_at, right_of, spine_bottom, stop_of,
 };
@@ -105,7 +106,10 @@ fn compared_truth_at<B: Counting>(
             Part::Leaf(right) => Ok(Some(compare_kept(comparison, left, right))),
             _ => made_truth_at(scene, place, budget),
         },
-        Part::Numeric => numbers_truth_at(scene, place, comparison, budget),
+        Part::Numeric => match arithmetic_compared_at(scene, place, comparison) {
+            Some(truth) => Ok(Some(truth)),
+            None => numbers_truth_at(scene, place, comparison, budget),
+        },
         _ => match kept_compared_at(scene, place, comparison) {
             Some(truth) => Ok(Some(truth)),
             None => made_truth_at(scene, place, budget),
@@ -115,7 +119,7 @@ fn compared_truth_at<B: Counting>(
 
 /// The same, of a comparison whose left side is a node of numbers.
 #[cycle(evaluate)]
-#[inline(always)]
+#[inline(never)]
 fn numbers_truth_at<B: Counting>(
     scene: &Scene<'_, '_, '_>,
     place: usize,
@@ -130,7 +134,7 @@ fn numbers_truth_at<B: Counting>(
 {
     scene.ends_once();
     let right_place = right_of(scene, place);
-    let left = match number_chain_at::<B>(scene, place + 1) {
+    let left = match number_at::<B>(scene, place + 1) {
         Ok(left) => left,
         Err(fault) => return Err(EvalStop::Fault(fault)),
     };

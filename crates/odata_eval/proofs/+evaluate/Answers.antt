@@ -1,4 +1,4 @@
-use Rattle.std.proofs.Common.{Err, None, ◌≡◌, ◌<◌, ◌≤◌, ◌+◌, ◌-◌, ◌*◌, ◌∙◌, ℕ, ℤ, [], ◌∷◌, refl, Bool, Option, Some, Result, Ok, SFits, w64, ap, sym, subst, slice_get, length, rules, arith}
+use Rattle.std.proofs.Common.{Err, None, ◌≡◌, ◌<◌, ◌≤◌, ◌+◌, ◌-◌, ◌∙◌, ℕ, ℤ, [], ◌∷◌, refl, Bool, Option, Some, Result, Ok, SFits, w64, ap, sym, subst, slice_get, length, rules, arith}
 use Rattle.edm_values.specs.declared.datum.Datum.{Datum}
 use Rattle.edm_values.specs.declared.datum.Datum.TheVariants as datum
 use Rattle.std.specs.Prelude.{◌↔◌, IsTrue}
@@ -47,7 +47,7 @@ use Rattle.odata_eval.specs.private.Lambda.{Suits}
 use Rattle.odata_eval.specs.private.SceneModel.{SceneModel, environment_of, with_frame}
 use Rattle.odata_eval.proofs.walking.Parts.{found_there, part_inside, there_found}
 use Rattle.odata_eval.proofs.walking.CallSteps.{OneName, argument_behind, argument_faults, argument_stands, call_answers, call_applies, first_argument, third_is_last}
-use Rattle.odata_eval.proofs.meaning.LawsBelow.{Promotes}
+use Rattle.odata_eval.specs.private.LawsBelow.{Promotes}
 use Rattle.odata_eval.proofs.walking.BaseSteps.{any_item_base, base_answers, base_members, count_base}
 use Rattle.odata_eval.proofs.walking.ItemSteps.{equal_due, item_differs, item_equals, item_faults, items_there, list_begins, lists_there, may_compare_item, next_item, no_item, stop_further}
 use Rattle.odata_eval.proofs.walking.Lambdas.{body_behind, body_place, body_there, fault_answers, members_suit, null_answers, over_members, truth_answers}
@@ -63,6 +63,7 @@ use Rattle.odata_eval.proofs.walking.Spines.{StepUp, at_top, below_bottom, botto
 use Rattle.odata_eval.proofs.walking.WalkSteps.{both_faults, calculation_answers, decided_answers, joined_answers, joined_faults, negated_operand, negation_answers, not_answers, numbers_there}
 use Rattle.odata_eval.proofs.walking.WalkValues.{kept_datum, made_value, read_value, value_there}
 use Rattle.odata_eval.proofs.walking.Operands.{operand_inside, tree_of_class, tree_operand}
+use Rattle.odata_eval.proofs.walking.Measures.{measure_at, rank_counted, rank_eager, rank_made_number, rank_number_operand, rank_numbers, rank_operand, rank_plain, rank_rest, rank_step, rank_test, rank_truth}
 use Rattle.odata_eval.proofs.+evaluate.Goals as goal
 
 pub walk::truth_at-returns-clause-answers : goal.walk::truth_at-returns-clause-answers
@@ -91,7 +92,7 @@ walk::counted_at-returns-in-Ok-number_at-clause-answers g t c = made_value c.arg
 pub walk::truth_at-plain_truth_at-answer-requires : goal.walk::truth_at-plain_truth_at-answer-requires
 walk::truth_at-plain_truth_at-answer-requires g t c =
     let below : c.args.place ≤ c.spine_bottom-bottom.result = c.spine_bottom-bottom.ensures.below in
-    let smaller : 16 * (length c.args.scene.now.list.nodes - c.spine_bottom-bottom.result) + 10 < 16 * (length c.args.scene.now.list.nodes - c.args.place) + 11 = omega arith in
+    let smaller : measure_at c.args.scene.now.list.nodes c.spine_bottom-bottom.result rank_plain < measure_at c.args.scene.now.list.nodes c.args.place rank_truth = omega arith in
     let stands : TruthStands c.args.scene.now c.spine_bottom-bottom.result = typed_down c.args.scene.now WalkClass.Logical (λ leaf. cc) c.args.place c.spine_bottom-bottom.result below c.requires.stands c.spine_bottom-bottom.ensures.spine in
     search rules
 
@@ -99,7 +100,7 @@ pub walk::truth_at-logical_at-answer-requires : goal.walk::truth_at-logical_at-a
 walk::truth_at-logical_at-answer-requires g t c =
     let l = c.loop-at in
     let above : c.args.place < l.at = omega arith in
-    let smaller : 16 * (length c.args.scene.now.list.nodes - (l.at - 1)) + 4 < 16 * (length c.args.scene.now.list.nodes - c.args.place) + 11 = omega arith in
+    let smaller : measure_at c.args.scene.now.list.nodes (l.at - 1) rank_step < measure_at c.args.scene.now.list.nodes c.args.place rank_truth = omega arith in
     let up : StepUp c.args.scene.now WalkClass.Logical (λ k. CountedTruth c.args.scene.now k l.answer) l.at = step_up c.args.scene.now WalkClass.Logical (λ leaf. cc) (λ k. CountedTruth c.args.scene.now k l.answer) c.args.place l.at c.spine_bottom-bottom.result above l.invariant.within (typed_part c.args.scene.now c.args.place IsBooleanOrNull c.requires.stands) c.spine_bottom-bottom.ensures.spine l.invariant.answers in
     search rules
 
@@ -107,7 +108,7 @@ pub walk::eager_at-made_at-answer-requires : goal.walk::eager_at-made_at-answer-
 walk::eager_at-made_at-answer-requires g t c =
     let l = c.loop-at in
     let above : c.args.place < l.at = omega arith in
-    let smaller : 16 * (length c.args.scene.now.list.nodes - (l.at - 1)) + 4 < 16 * (length c.args.scene.now.list.nodes - c.args.place) + 5 = omega arith in
+    let smaller : measure_at c.args.scene.now.list.nodes (l.at - 1) rank_step < measure_at c.args.scene.now.list.nodes c.args.place rank_eager = omega arith in
     let up : StepUp c.args.scene.now WalkClass.Eager (λ k. CountedDatum c.args.scene.now k l.answer) l.at = step_up c.args.scene.now WalkClass.Eager (λ leaf. cc) (λ k. CountedDatum c.args.scene.now k l.answer) c.args.place l.at c.spine_bottom-bottom.result above l.invariant.within c.requires.stands c.spine_bottom-bottom.ensures.spine l.invariant.answers in
     search rules
 
@@ -115,7 +116,7 @@ pub walk::eager_at-likely_stored_at-answer-requires : goal.walk::eager_at-likely
 walk::eager_at-likely_stored_at-answer-requires g t c =
     let inside : c.args.place < length c.args.scene.now.list.nodes = part_inside c.args.scene.now c.args.place c.requires.stands in
     let behind : c.args.place < c.spine_bottom-bottom.result = below_bottom c.args.scene.now.list WalkClass.Eager c.args.place c.spine_bottom-bottom.result c.spine_bottom-bottom.ensures.below c.requires.eager c.spine_bottom-bottom.ensures.bottom in
-    let smaller : 16 * (length c.args.scene.now.list.nodes - c.spine_bottom-bottom.result) + 13 < 16 * (length c.args.scene.now.list.nodes - c.args.place) + 5 = omega arith in
+    let smaller : measure_at c.args.scene.now.list.nodes c.spine_bottom-bottom.result rank_operand < measure_at c.args.scene.now.list.nodes c.args.place rank_eager = omega arith in
     let stands = part_down c.args.scene.now WalkClass.Eager (λ leaf. cc) c.args.place c.spine_bottom-bottom.result c.spine_bottom-bottom.ensures.below c.requires.stands c.spine_bottom-bottom.ensures.spine in
     search rules
 
@@ -145,7 +146,7 @@ pub walk::connected_at-side_at-requires : goal.walk::connected_at-side_at-requir
 walk::connected_at-side_at-requires g t c =
     let inside : c.args.place < length c.args.scene.now.list.nodes = part_inside c.args.scene.now c.args.place c.requires.stands in
     let behind : c.args.place < c.right_of-right_place.result = right_further c.args.scene.now c.args.place (BinaryOperator.Logical c.args.operator) c.requires.here c.requires.stands c.right_of-right_place.result c.right_of-right_place.ensures in
-    let smaller : 16 * (length c.args.scene.now.list.nodes - c.right_of-right_place.result) + 12 < 16 * (length c.args.scene.now.list.nodes - c.args.place) + 3 = omega arith in
+    let smaller : measure_at c.args.scene.now.list.nodes c.right_of-right_place.result rank_counted < measure_at c.args.scene.now.list.nodes c.args.place rank_rest = omega arith in
     let stands : TruthStands c.args.scene.now c.right_of-right_place.result = right_typed c.args.scene.now c.args.place (BinaryOperator.Logical c.args.operator) c.requires.here c.requires.stands c.right_of-right_place.result c.right_of-right_place.ensures WalkClass.Logical refl (λ same. cc) in
     search rules
 
@@ -217,7 +218,7 @@ pub number_walk::calculated_at-number_operand_at-requires : goal.number_walk::ca
 number_walk::calculated_at-number_operand_at-requires g t c =
     let inside : c.args.place < length c.args.scene.now.list.nodes = part_inside c.args.scene.now c.args.place c.requires.stands in
     let behind : c.args.place < c.right_of.result = right_further c.args.scene.now c.args.place (BinaryOperator.Arithmetic c.args.operator) c.requires.here c.requires.stands c.right_of.result c.right_of.ensures in
-    let smaller : 16 * (length c.args.scene.now.list.nodes - c.right_of.result) + 15 < 16 * (length c.args.scene.now.list.nodes - c.args.place) + 3 = omega arith in
+    let smaller : measure_at c.args.scene.now.list.nodes c.right_of.result rank_number_operand < measure_at c.args.scene.now.list.nodes c.args.place rank_rest = omega arith in
     let stands : NumberStands c.args.scene.now c.right_of.result = right_typed c.args.scene.now c.args.place (BinaryOperator.Arithmetic c.args.operator) c.requires.here c.requires.stands c.right_of.result c.right_of.ensures WalkClass.Numeric refl (λ same. cc) in
     search rules
 
@@ -252,7 +253,7 @@ pub walk::compared_at-counted_at-requires : goal.walk::compared_at-counted_at-re
 walk::compared_at-counted_at-requires g t c =
     let inside : c.args.place < length c.args.scene.now.list.nodes = part_inside c.args.scene.now c.args.place c.requires.stands in
     let behind : c.args.place < c.right_of-right_place.result = right_further c.args.scene.now c.args.place (BinaryOperator.Comparison c.args.comparison) c.requires.here c.requires.stands c.right_of-right_place.result c.right_of-right_place.ensures in
-    let smaller : 16 * (length c.args.scene.now.list.nodes - c.right_of-right_place.result) + 12 < 16 * (length c.args.scene.now.list.nodes - c.args.place) + 3 = omega arith in
+    let smaller : measure_at c.args.scene.now.list.nodes c.right_of-right_place.result rank_counted < measure_at c.args.scene.now.list.nodes c.args.place rank_rest = omega arith in
     let stands : OperandStands c.args.scene.now c.right_of-right_place.result = right_part c.args.scene.now c.args.place (BinaryOperator.Comparison c.args.comparison) c.requires.here c.requires.stands c.right_of-right_place.result c.right_of-right_place.ensures in
     search rules
 
@@ -312,11 +313,24 @@ walk::compared_truth_at-kept_compared_at-requires g t c = record {
   here = c.requires.here;
 }
 
+pub walk::compared_truth_at-arithmetic_compared_at-requires : goal.walk::compared_truth_at-arithmetic_compared_at-requires
+walk::compared_truth_at-arithmetic_compared_at-requires g t c = record {
+  stands = typed_part c.args.scene.now c.args.place IsBooleanOrNull c.requires.stands;
+  here = c.requires.here;
+  numeric = c.in-Numeric.ensures;
+}
+
 pub walk::compared_truth_at-returns-in-Some-clause-answers : goal.walk::compared_truth_at-returns-in-Some-clause-answers
 walk::compared_truth_at-returns-in-Some-clause-answers g t c = c.in-Some.ensures.answers
 
 pub walk::compared_truth_at-returns-in-Some-clause-spent : goal.walk::compared_truth_at-returns-in-Some-clause-spent
 walk::compared_truth_at-returns-in-Some-clause-spent g t c = c.in-Some.ensures.spent (g.B.Counting.left c.args.budget.now)
+
+pub walk::compared_truth_at-returns-in-Some-kept_compared_at-clause-answers : goal.walk::compared_truth_at-returns-in-Some-kept_compared_at-clause-answers
+walk::compared_truth_at-returns-in-Some-kept_compared_at-clause-answers g t c = c.in-Some-kept_compared_at.ensures.answers
+
+pub walk::compared_truth_at-returns-in-Some-kept_compared_at-clause-spent : goal.walk::compared_truth_at-returns-in-Some-kept_compared_at-clause-spent
+walk::compared_truth_at-returns-in-Some-kept_compared_at-clause-spent g t c = c.in-Some-kept_compared_at.ensures.spent (g.B.Counting.left c.args.budget.now)
 
 pub walk::numbers_truth_at-right_of-right_place-requires : goal.walk::numbers_truth_at-right_of-right_place-requires
 walk::numbers_truth_at-right_of-right_place-requires g t c = right_there c.args.scene.now c.args.place (BinaryOperator.Comparison c.args.comparison) c.requires.here (typed_part c.args.scene.now c.args.place IsBooleanOrNull c.requires.stands)
@@ -326,11 +340,11 @@ walk::numbers_truth_at-overflow_add-place g t c =
     let behind = right_further c.args.scene.now c.args.place (BinaryOperator.Comparison c.args.comparison) c.requires.here (typed_part c.args.scene.now c.args.place IsBooleanOrNull c.requires.stands) c.right_of-right_place.result c.right_of-right_place.ensures in
     omega (arith, behind, c.right_of-right_place.type_inv)
 
-pub walk::numbers_truth_at-number_chain_at-requires : goal.walk::numbers_truth_at-number_chain_at-requires
-walk::numbers_truth_at-number_chain_at-requires g t c =
+pub walk::numbers_truth_at-number_at-requires : goal.walk::numbers_truth_at-number_at-requires
+walk::numbers_truth_at-number_at-requires g t c =
     let part = typed_part c.args.scene.now c.args.place IsBooleanOrNull c.requires.stands in
     let inside : c.args.place < length c.args.scene.now.list.nodes = part_inside c.args.scene.now c.args.place part in
-    let smaller : 16 * (length c.args.scene.now.list.nodes - (c.args.place + 1)) + 10 < 16 * (length c.args.scene.now.list.nodes - c.args.place) + 8 = omega arith in
+    let smaller : measure_at c.args.scene.now.list.nodes (c.args.place + 1) rank_numbers < measure_at c.args.scene.now.list.nodes c.args.place rank_numbers = omega arith in
     let left : PartStands c.args.scene.now (c.args.place + 1) =
     tree_of_class c.args.scene.now (c.args.place + 1) WalkClass.Numeric (λ leaf. cc) c.requires.numeric (first_part c.args.scene.now c.args.place WalkClass.Eager (λ leaf. cc) (walks_by c.args.scene.now.list c.args.place (BinaryOperator.Comparison c.args.comparison) WalkClass.Eager c.requires.here refl) part) in
     search rules
@@ -344,12 +358,12 @@ walk::numbers_truth_at-part_at-requires g t c = record {
 pub walk::numbers_truth_at-returns-in-Err-clause-answers : goal.walk::numbers_truth_at-returns-in-Err-clause-answers
 walk::numbers_truth_at-returns-in-Err-clause-answers g t c = first_faults c.args.scene.now c.args.place WalkClass.Eager c.in-Err.fault (λ leaf. cc) (walks_by c.args.scene.now.list c.args.place (BinaryOperator.Comparison c.args.comparison) WalkClass.Eager c.requires.here refl) c.in-Err.ensures
 
-pub walk::numbers_truth_at-number_at-requires : goal.walk::numbers_truth_at-number_at-requires
-walk::numbers_truth_at-number_at-requires g t c =
+pub walk::numbers_truth_at-number_at-requires-in-Numeric : goal.walk::numbers_truth_at-number_at-requires-in-Numeric
+walk::numbers_truth_at-number_at-requires-in-Numeric g t c =
     let part = typed_part c.args.scene.now c.args.place IsBooleanOrNull c.requires.stands in
     let inside : c.args.place < length c.args.scene.now.list.nodes = part_inside c.args.scene.now c.args.place part in
     let behind : c.args.place < c.right_of-right_place.result = right_further c.args.scene.now c.args.place (BinaryOperator.Comparison c.args.comparison) c.requires.here part c.right_of-right_place.result c.right_of-right_place.ensures in
-    let smaller : 16 * (length c.args.scene.now.list.nodes - c.right_of-right_place.result) + 8 < 16 * (length c.args.scene.now.list.nodes - c.args.place) + 8 = omega arith in
+    let smaller : measure_at c.args.scene.now.list.nodes c.right_of-right_place.result rank_numbers < measure_at c.args.scene.now.list.nodes c.args.place rank_numbers = omega arith in
     let right : PartStands c.args.scene.now c.right_of-right_place.result =
     tree_of_class c.args.scene.now c.right_of-right_place.result WalkClass.Numeric (λ leaf. cc) c.in-Numeric.ensures (right_part c.args.scene.now c.args.place (BinaryOperator.Comparison c.args.comparison) c.requires.here part c.right_of-right_place.result c.right_of-right_place.ensures) in
     search rules
@@ -362,7 +376,7 @@ walk::logical_at-connected_at-requires g t c =
     let operator = BinaryOperator.Logical c.in-Some.operator in
     let here : HasOperator c.args.scene.now.list c.args.place operator = there_found (λ (f : CheckedNode). f.kind ≡ NodeKind.Binary operator) (slice_get c.args.scene.now.list.nodes c.args.place) c.node.result.now c.node.ensures c.in-Some.ensures.some in
     let left : AnswersTruth c.args.scene.now (c.args.place + 1) (Ok c.in-Ok.first) = subst (λ (r : Result (Option Bool) EvalStop). CountedTruth c.args.scene.now (c.args.place + 1) r) c.in-Ok.is c.requires.first in
-    let smaller : 16 * (length c.args.scene.now.list.nodes - c.args.place) + 3 < 16 * (length c.args.scene.now.list.nodes - c.args.place) + 4 = omega arith in
+    let smaller : measure_at c.args.scene.now.list.nodes c.args.place rank_rest < measure_at c.args.scene.now.list.nodes c.args.place rank_step = omega arith in
     search rules
 
 pub number_walk::numeric_at-calculated_at-requires : goal.number_walk::numeric_at-calculated_at-requires
@@ -370,7 +384,7 @@ number_walk::numeric_at-calculated_at-requires g t c =
     let operator = BinaryOperator.Arithmetic c.in-Some.operator in
     let here : HasOperator c.args.scene.now.list c.args.place operator = there_found (λ (f : CheckedNode). f.kind ≡ NodeKind.Binary operator) (slice_get c.args.scene.now.list.nodes c.args.place) c.node-node.result.now c.node-node.ensures c.in-Some.ensures.some in
     let left : AnswersNumber c.args.scene.now (c.args.place + 1) (Ok c.in-Ok.first) = subst (λ (r : Result (Option ℤ) EvalFault). AnswersNumber c.args.scene.now (c.args.place + 1) r) c.in-Ok.is c.requires.first in
-    let smaller : 16 * (length c.args.scene.now.list.nodes - c.args.place) + 3 < 16 * (length c.args.scene.now.list.nodes - c.args.place) + 4 = omega arith in
+    let smaller : measure_at c.args.scene.now.list.nodes c.args.place rank_rest < measure_at c.args.scene.now.list.nodes c.args.place rank_step = omega arith in
     search rules
 
 pub walk::made_at-compared_at-requires : goal.walk::made_at-compared_at-requires
@@ -378,14 +392,14 @@ walk::made_at-compared_at-requires g t c =
     let operator = BinaryOperator.Comparison c.in-Comparison.comparison in
     let here : HasOperator c.args.scene.now.list c.args.place operator = there_found (λ (f : CheckedNode). f.kind ≡ NodeKind.Binary operator) (slice_get c.args.scene.now.list.nodes c.args.place) c.node.result.now c.node.ensures (c.in-Binary.is ∙ ap NodeKind.Binary c.in-Comparison.is) in
     let left : AnswersDatum c.args.scene.now (c.args.place + 1) (Ok c.in-Ok.first) = subst (λ (r : Result Datum EvalStop). CountedDatum c.args.scene.now (c.args.place + 1) r) c.in-Ok.is c.requires.first in
-    let smaller : 16 * (length c.args.scene.now.list.nodes - c.args.place) + 3 < 16 * (length c.args.scene.now.list.nodes - c.args.place) + 4 = omega arith in
+    let smaller : measure_at c.args.scene.now.list.nodes c.args.place rank_rest < measure_at c.args.scene.now.list.nodes c.args.place rank_step = omega arith in
     search rules
 
 pub walk::plain_truth_at-compared_truth_at-requires : goal.walk::plain_truth_at-compared_truth_at-requires
 walk::plain_truth_at-compared_truth_at-requires g t c =
     let operator = BinaryOperator.Comparison c.in-Comparison.comparison in
     let here : HasOperator c.args.scene.now.list c.args.place operator = there_found (λ (f : CheckedNode). f.kind ≡ NodeKind.Binary operator) (slice_get c.args.scene.now.list.nodes c.args.place) c.node.result.now c.node.ensures (c.in-Binary.is ∙ ap NodeKind.Binary c.in-Comparison.is) in
-    let smaller : 16 * (length c.args.scene.now.list.nodes - c.args.place) + 9 < 16 * (length c.args.scene.now.list.nodes - c.args.place) + 10 = omega arith in
+    let smaller : measure_at c.args.scene.now.list.nodes c.args.place rank_test < measure_at c.args.scene.now.list.nodes c.args.place rank_plain = omega arith in
     search rules
 
 -- ---- `not`, and `-`
@@ -421,7 +435,7 @@ pub number_walk::number_at-number_operand_at-answer-requires : goal.number_walk:
 number_walk::number_at-number_operand_at-answer-requires g t c =
     let inside : c.args.place < length c.args.scene.now.list.nodes = part_inside c.args.scene.now c.args.place c.requires.stands in
     let behind : c.args.place < c.spine_bottom-bottom.result = below_bottom c.args.scene.now.list WalkClass.Numeric c.args.place c.spine_bottom-bottom.result c.spine_bottom-bottom.ensures.below c.requires.numeric c.spine_bottom-bottom.ensures.bottom in
-    let smaller : 16 * (length c.args.scene.now.list.nodes - c.spine_bottom-bottom.result) + 15 < 16 * (length c.args.scene.now.list.nodes - c.args.place) + 8 = omega arith in
+    let smaller : measure_at c.args.scene.now.list.nodes c.spine_bottom-bottom.result rank_number_operand < measure_at c.args.scene.now.list.nodes c.args.place rank_numbers = omega arith in
     let stands : NumberStands c.args.scene.now c.spine_bottom-bottom.result = bottom_down c.args.scene.now WalkClass.Numeric (λ leaf. cc) c.args.place c.spine_bottom-bottom.result behind c.requires.stands c.spine_bottom-bottom.ensures.spine in
     search rules
 
@@ -429,17 +443,8 @@ pub number_walk::number_at-numeric_at-answer-requires : goal.number_walk::number
 number_walk::number_at-numeric_at-answer-requires g t c =
     let l = c.loop-at in
     let above : c.args.place < l.at = omega arith in
-    let smaller : 16 * (length c.args.scene.now.list.nodes - (l.at - 1)) + 4 < 16 * (length c.args.scene.now.list.nodes - c.args.place) + 8 = omega arith in
+    let smaller : measure_at c.args.scene.now.list.nodes (l.at - 1) rank_step < measure_at c.args.scene.now.list.nodes c.args.place rank_numbers = omega arith in
     let up : StepUp c.args.scene.now WalkClass.Numeric (λ k. AnswersNumber c.args.scene.now k l.answer) l.at = step_up c.args.scene.now WalkClass.Numeric (λ leaf. cc) (λ k. AnswersNumber c.args.scene.now k l.answer) c.args.place l.at c.spine_bottom-bottom.result above l.invariant.within c.requires.stands c.spine_bottom-bottom.ensures.spine l.invariant.answers in
-    search rules
-
-pub number_walk::number_on_leaf_at-kept_number-requires : goal.number_walk::number_on_leaf_at-kept_number-requires
-number_walk::number_on_leaf_at-kept_number-requires g t c = value_kept c.args.scene.now (c.args.place + 1) c.in-Leaf.first.now c.in-Leaf.ensures.0 number_values c.ends_once.ensures (first_step c.args.scene.now c.args.place WalkClass.Numeric (λ leaf. cc) c.requires.numeric c.requires.stands)
-
-pub number_walk::number_on_leaf_at-numeric_at-requires : goal.number_walk::number_on_leaf_at-numeric_at-requires
-number_walk::number_on_leaf_at-numeric_at-requires g t c =
-    let smaller : 16 * (length c.args.scene.now.list.nodes - c.args.place) + 4 < 16 * (length c.args.scene.now.list.nodes - c.args.place) + 9 = omega arith in
-    let first : AnswersNumber c.args.scene.now (c.args.place + 1) (Ok c.kept_number.result) = kept_value c.args.scene.now (c.args.place + 1) c.in-Leaf.first.now c.in-Leaf.ensures.0 (number_val c.kept_number.result) c.kept_number.ensures in
     search rules
 
 pub number_walk::number_operand_at-kept_number-requires : goal.number_walk::number_operand_at-kept_number-requires
@@ -480,7 +485,7 @@ pub walk::made_at-called_at-requires : goal.walk::made_at-called_at-requires
 walk::made_at-called_at-requires g t c =
     let first : AnswersDatum c.args.scene.now (c.args.place + 1) (Ok c.in-Ok.first) = subst (λ (r : Result Datum EvalStop). CountedDatum c.args.scene.now (c.args.place + 1) r) c.in-Ok.is c.requires.first in
     let here : HasCall c.args.scene.now.list c.args.place c.in-Call.function = there_found (λ (f : CheckedNode). f.kind ≡ NodeKind.Call c.in-Call.function) (slice_get c.args.scene.now.list.nodes c.args.place) c.node.result.now c.node.ensures c.in-Call.is in
-    let smaller : 16 * (length c.args.scene.now.list.nodes - c.args.place) + 3 < 16 * (length c.args.scene.now.list.nodes - c.args.place) + 4 = omega arith in
+    let smaller : measure_at c.args.scene.now.list.nodes c.args.place rank_rest < measure_at c.args.scene.now.list.nodes c.args.place rank_step = omega arith in
     search rules
 
 pub walk::called_at-stop_of-own_stop-requires : goal.walk::called_at-stop_of-own_stop-requires
@@ -533,7 +538,7 @@ pub walk::called_at-operand_at-requires : goal.walk::called_at-operand_at-requir
 walk::called_at-operand_at-requires g t c =
     let inside : c.args.place < length c.args.scene.now.list.nodes = part_inside c.args.scene.now c.args.place c.requires.stands in
     let behind : c.args.place < c.stop_of-second_place.result = argument_behind c.args.scene.now c.calls_have_one_type.ensures.named c.args.place c.args.function c.requires.here c.stop_of-own_stop.result c.stop_of-own_stop.ensures c.stop_of-second_place.result (c.args.first ∷ []) c.requires.stands (one_answered c.args.scene.now c.calls_have_one_type.ensures.named c.args.place c.args.function c.requires.here c.stop_of-own_stop.result c.stop_of-own_stop.ensures c.requires.stands c.stop_of-second_place.result c.stop_of-second_place.ensures c.args.first c.requires.first) in
-    let smaller : 16 * (length c.args.scene.now.list.nodes - c.stop_of-second_place.result) + 13 < 16 * (length c.args.scene.now.list.nodes - c.args.place) + 3 = omega arith in
+    let smaller : measure_at c.args.scene.now.list.nodes c.stop_of-second_place.result rank_operand < measure_at c.args.scene.now.list.nodes c.args.place rank_rest = omega arith in
     let stands : OperandStands c.args.scene.now c.stop_of-second_place.result = tree_operand c.args.scene.now c.stop_of-second_place.result (argument_stands c.args.scene.now c.calls_have_one_type.ensures.named c.args.place c.args.function c.requires.here c.stop_of-own_stop.result c.stop_of-own_stop.ensures c.stop_of-second_place.result (c.args.first ∷ []) c.requires.stands (one_answered c.args.scene.now c.calls_have_one_type.ensures.named c.args.place c.args.function c.requires.here c.stop_of-own_stop.result c.stop_of-own_stop.ensures c.requires.stands c.stop_of-second_place.result c.stop_of-second_place.ensures c.args.first c.requires.first) c.if-second_place-own_stop.false) in
     search rules
 
@@ -561,7 +566,7 @@ pub walk::called_at-operand_at-requires-2 : goal.walk::called_at-operand_at-requ
 walk::called_at-operand_at-requires-2 g t c =
     let inside : c.args.place < length c.args.scene.now.list.nodes = part_inside c.args.scene.now c.args.place c.requires.stands in
     let behind : c.args.place < c.stop_of-third_place.result = argument_behind c.args.scene.now c.calls_have_one_type.ensures.named c.args.place c.args.function c.requires.here c.stop_of-own_stop.result c.stop_of-own_stop.ensures c.stop_of-third_place.result (c.args.first ∷ c.in-Ok.second ∷ []) c.requires.stands (two_answered c.args.scene.now c.calls_have_one_type.ensures.named c.args.place c.args.function c.requires.here c.stop_of-own_stop.result c.stop_of-own_stop.ensures c.requires.stands c.stop_of-second_place.result c.stop_of-second_place.ensures c.args.first c.requires.first c.if-second_place-own_stop.false c.stop_of-third_place.result c.stop_of-third_place.ensures c.in-Ok.second c.in-Ok.ensures) in
-    let smaller : 16 * (length c.args.scene.now.list.nodes - c.stop_of-third_place.result) + 13 < 16 * (length c.args.scene.now.list.nodes - c.args.place) + 3 = omega arith in
+    let smaller : measure_at c.args.scene.now.list.nodes c.stop_of-third_place.result rank_operand < measure_at c.args.scene.now.list.nodes c.args.place rank_rest = omega arith in
     let stands : OperandStands c.args.scene.now c.stop_of-third_place.result = tree_operand c.args.scene.now c.stop_of-third_place.result (argument_stands c.args.scene.now c.calls_have_one_type.ensures.named c.args.place c.args.function c.requires.here c.stop_of-own_stop.result c.stop_of-own_stop.ensures c.stop_of-third_place.result (c.args.first ∷ c.in-Ok.second ∷ []) c.requires.stands (two_answered c.args.scene.now c.calls_have_one_type.ensures.named c.args.place c.args.function c.requires.here c.stop_of-own_stop.result c.stop_of-own_stop.ensures c.requires.stands c.stop_of-second_place.result c.stop_of-second_place.ensures c.args.first c.requires.first c.if-second_place-own_stop.false c.stop_of-third_place.result c.stop_of-third_place.ensures c.in-Ok.second c.in-Ok.ensures) c.if-third_place-own_stop.false) in
     search rules
 
@@ -687,21 +692,21 @@ pub walk::made_at-flags_at-requires : goal.walk::made_at-flags_at-requires
 walk::made_at-flags_at-requires g t c =
     let first : AnswersDatum c.args.scene.now (c.args.place + 1) (Ok c.in-Ok.first) = subst (λ (r : Result Datum EvalStop). CountedDatum c.args.scene.now (c.args.place + 1) r) c.in-Ok.is c.requires.first in
     let here : HasKind c.args.scene.now.list c.args.place NodeKind.Has = there_found (λ (f : CheckedNode). f.kind ≡ NodeKind.Has) (slice_get c.args.scene.now.list.nodes c.args.place) c.node.result.now c.node.ensures c.in-Has.is in
-    let smaller : 16 * (length c.args.scene.now.list.nodes - c.args.place) + 3 < 16 * (length c.args.scene.now.list.nodes - c.args.place) + 4 = omega arith in
+    let smaller : measure_at c.args.scene.now.list.nodes c.args.place rank_rest < measure_at c.args.scene.now.list.nodes c.args.place rank_step = omega arith in
     search rules
 
 pub walk::made_at-among_at-requires : goal.walk::made_at-among_at-requires
 walk::made_at-among_at-requires g t c =
     let first : AnswersDatum c.args.scene.now (c.args.place + 1) (Ok c.in-Ok.first) = subst (λ (r : Result Datum EvalStop). CountedDatum c.args.scene.now (c.args.place + 1) r) c.in-Ok.is c.requires.first in
     let here : HasKind c.args.scene.now.list c.args.place NodeKind.InPath = there_found (λ (f : CheckedNode). f.kind ≡ NodeKind.InPath) (slice_get c.args.scene.now.list.nodes c.args.place) c.node.result.now c.node.ensures c.in-InPath.is in
-    let smaller : 16 * (length c.args.scene.now.list.nodes - c.args.place) + 3 < 16 * (length c.args.scene.now.list.nodes - c.args.place) + 4 = omega arith in
+    let smaller : measure_at c.args.scene.now.list.nodes c.args.place rank_rest < measure_at c.args.scene.now.list.nodes c.args.place rank_step = omega arith in
     search rules
 
 pub walk::made_at-listed_at-requires : goal.walk::made_at-listed_at-requires
 walk::made_at-listed_at-requires g t c =
     let first : AnswersDatum c.args.scene.now (c.args.place + 1) (Ok c.in-Ok.first) = subst (λ (r : Result Datum EvalStop). CountedDatum c.args.scene.now (c.args.place + 1) r) c.in-Ok.is c.requires.first in
     let here : HasKind c.args.scene.now.list c.args.place NodeKind.InList = there_found (λ (f : CheckedNode). f.kind ≡ NodeKind.InList) (slice_get c.args.scene.now.list.nodes c.args.place) c.node.result.now c.node.ensures c.in-InList.is in
-    let smaller : 16 * (length c.args.scene.now.list.nodes - c.args.place) + 3 < 16 * (length c.args.scene.now.list.nodes - c.args.place) + 4 = omega arith in
+    let smaller : measure_at c.args.scene.now.list.nodes c.args.place rank_rest < measure_at c.args.scene.now.list.nodes c.args.place rank_step = omega arith in
     search rules
 
 pub collection_walk::flags_at-right_of-requires : goal.collection_walk::flags_at-right_of-requires
@@ -711,7 +716,7 @@ pub collection_walk::flags_at-operand_at-requires : goal.collection_walk::flags_
 collection_walk::flags_at-operand_at-requires g t c =
     let inside : c.args.place < length c.args.scene.now.list.nodes = part_inside c.args.scene.now c.args.place c.requires.stands in
     let behind : c.args.place < c.right_of.result = next_further c.args.scene.now c.args.place (TypedHere c.args.scene.now) AreFlags HasGives (flags_sides c.args.scene.now c.args.place c.requires.here) c.right_of.result c.right_of.ensures c.requires.stands in
-    let smaller : 16 * (length c.args.scene.now.list.nodes - c.right_of.result) + 13 < 16 * (length c.args.scene.now.list.nodes - c.args.place) + 3 = omega arith in
+    let smaller : measure_at c.args.scene.now.list.nodes c.right_of.result rank_operand < measure_at c.args.scene.now.list.nodes c.args.place rank_rest = omega arith in
     let stands : OperandStands c.args.scene.now c.right_of.result = next_part c.args.scene.now c.args.place (TypedHere c.args.scene.now) AreFlags HasGives (flags_sides c.args.scene.now c.args.place c.requires.here) c.right_of.result c.right_of.ensures c.requires.stands in
     search rules
 
@@ -737,7 +742,7 @@ pub collection_walk::among_at-operand_at-requires : goal.collection_walk::among_
 collection_walk::among_at-operand_at-requires g t c =
     let inside : c.args.place < length c.args.scene.now.list.nodes = part_inside c.args.scene.now c.args.place c.requires.stands in
     let behind : c.args.place < c.right_of.result = next_further c.args.scene.now c.args.place NoOperand IsComparableWithMembers InGives (path_sides c.args.scene.now c.args.place c.requires.here) c.right_of.result c.right_of.ensures c.requires.stands in
-    let smaller : 16 * (length c.args.scene.now.list.nodes - c.right_of.result) + 13 < 16 * (length c.args.scene.now.list.nodes - c.args.place) + 3 = omega arith in
+    let smaller : measure_at c.args.scene.now.list.nodes c.right_of.result rank_operand < measure_at c.args.scene.now.list.nodes c.args.place rank_rest = omega arith in
     let stands : OperandStands c.args.scene.now c.right_of.result = next_part c.args.scene.now c.args.place NoOperand IsComparableWithMembers InGives (path_sides c.args.scene.now c.args.place c.requires.here) c.right_of.result c.right_of.ensures c.requires.stands in
     search rules
 
@@ -771,7 +776,7 @@ pub collection_walk::listed_at-likely_stored_at-requires : goal.collection_walk:
 collection_walk::listed_at-likely_stored_at-requires g t c =
     let inside : c.args.place < length c.args.scene.now.list.nodes = part_inside c.args.scene.now c.args.place c.requires.stands in
     let behind : c.args.place < c.loop-at.at = c.loop-at.invariant.behind in
-    let smaller : 16 * (length c.args.scene.now.list.nodes - c.loop-at.at) + 13 < 16 * (length c.args.scene.now.list.nodes - c.args.place) + 3 = omega arith in
+    let smaller : measure_at c.args.scene.now.list.nodes c.loop-at.at rank_operand < measure_at c.args.scene.now.list.nodes c.args.place rank_rest = omega arith in
     let stands : OperandStands c.args.scene.now c.loop-at.at = next_item c.args.scene.now c.args.place c.stop_of-own_stop.result c.loop-at.at (Takes (g.B.Counting.left c.args.budget.now) (g.B.Counting.left c.loop-at.budget)) c.args.left.now c.loop-at.invariant c.requires.stands c.loop-at-test.true in
     search rules
 
@@ -810,7 +815,7 @@ pub walk::made_at-lambda_at-requires : goal.walk::made_at-lambda_at-requires
 walk::made_at-lambda_at-requires g t c =
     let first : AnswersDatum c.args.scene.now (c.args.place + 1) (Ok c.in-Ok.first) = subst (λ (r : Result Datum EvalStop). CountedDatum c.args.scene.now (c.args.place + 1) r) c.in-Ok.is c.requires.first in
     let here : HasKind c.args.scene.now.list c.args.place (NodeKind.Lambda c.in-Lambda.quantifier) = there_found (λ (f : CheckedNode). f.kind ≡ NodeKind.Lambda c.in-Lambda.quantifier) (slice_get c.args.scene.now.list.nodes c.args.place) c.node.result.now c.node.ensures c.in-Lambda.is in
-    let smaller : 16 * (length c.args.scene.now.list.nodes - c.args.place) + 3 < 16 * (length c.args.scene.now.list.nodes - c.args.place) + 4 = omega arith in
+    let smaller : measure_at c.args.scene.now.list.nodes c.args.place rank_rest < measure_at c.args.scene.now.list.nodes c.args.place rank_step = omega arith in
     search rules
 
 pub lambda_walk::lambda_at-returns-in_default-clause-answers : goal.lambda_walk::lambda_at-returns-in_default-clause-answers
@@ -826,7 +831,7 @@ pub lambda_walk::lambda_at-members_at-requires : goal.lambda_walk::lambda_at-mem
 lambda_walk::lambda_at-members_at-requires g t c =
     let inside : c.args.place < length c.args.scene.now.list.nodes = part_inside c.args.scene.now c.args.place c.requires.stands in
     let behind : c.args.place < c.right_of.result = body_behind c.trees_have_one_type.ensures c.args.scene.now c.args.place c.args.quantifier c.requires.here c.right_of.result c.right_of.ensures c.requires.stands in
-    let smaller : 16 * (length c.args.scene.now.list.nodes - c.right_of.result) + 13 < 16 * (length c.args.scene.now.list.nodes - c.args.place) + 3 = omega arith in
+    let smaller : measure_at c.args.scene.now.list.nodes c.right_of.result rank_operand < measure_at c.args.scene.now.list.nodes c.args.place rank_rest = omega arith in
     let body = body_there c.trees_have_one_type.ensures c.args.scene.now c.args.place c.args.quantifier c.requires.here c.variable_bound-variable.result c.variable_bound-variable.ensures c.right_of.result c.right_of.ensures c.requires.stands in
     let suit = members_suit c.trees_have_one_type.ensures c.args.scene.now c.args.place c.args.quantifier c.requires.here c.variable_bound-variable.result c.variable_bound-variable.ensures c.right_of.result c.right_of.ensures c.ends_once.ensures c.in-List.members (subst (λ (d : Datum). AnswersDatum c.args.scene.now (c.args.place + 1) (Ok d)) c.in-List.is c.requires.first) c.requires.stands in
     search rules
@@ -857,8 +862,8 @@ lambda_walk::members_at-side_at-requires g t c =
     let bound = c.with-bound.result in
     let same : bound ≡ with_frame c.args.scene.now (frame_of c.args.variable.now c.index-members-at.result) = c.with-bound.ensures in
     let stands : TruthStands bound c.args.body.place = subst (λ (s : SceneModel). TruthStands s c.args.body.place) (sym same) (body_truth c.args.scene.now c.args.variable.now c.args.body.place c.index-members-at.result c.requires.body) in
-    let smaller : 16 * (length bound.list.nodes - c.args.body.place) + 12 < 16 * (length c.args.scene.now.list.nodes - c.args.body.place) + 13 =
-    subst (λ (s : SceneModel). 16 * (length s.list.nodes - c.args.body.place) + 12 < 16 * (length c.args.scene.now.list.nodes - c.args.body.place) + 13) (sym same) (omega arith) in
+    let smaller : measure_at bound.list.nodes c.args.body.place rank_counted < measure_at c.args.scene.now.list.nodes c.args.body.place rank_operand =
+    subst (λ (s : SceneModel). measure_at s.list.nodes c.args.body.place rank_counted < measure_at c.args.scene.now.list.nodes c.args.body.place rank_operand) (sym same) (omega arith) in
     search rules
 
 pub lambda_walk::members_at-returns-then-not-is_undecided-clause-answers : goal.lambda_walk::members_at-returns-then-not-is_undecided-clause-answers
@@ -886,25 +891,6 @@ lambda_walk::members_at-returns-clause-answers g t c = all_undecided c.args.scen
 
 -- ---- what search does not find any more with so many kinds
 
-pub number_walk::number_chain_at-class_at-requires : goal.number_walk::number_chain_at-class_at-requires
-number_walk::number_chain_at-class_at-requires g t c = operand_inside c.args.scene.now (c.args.place + 1) (first_part c.args.scene.now c.args.place WalkClass.Numeric (λ leaf. cc) c.requires.numeric c.requires.stands)
-
-pub number_walk::number_chain_at-overflow_add-place-in-Numeric : goal.number_walk::number_chain_at-overflow_add-place-in-Numeric
-number_walk::number_chain_at-overflow_add-place-in-Numeric g t c =
-    let within : c.args.place + 1 < length c.args.scene.now.list.nodes = operand_inside c.args.scene.now (c.args.place + 1) (first_part c.args.scene.now c.args.place WalkClass.Numeric (λ leaf. cc) c.requires.numeric c.requires.stands) in
-    let same = c.nodes-nodes.ensures in
-    search rules
-
-pub number_walk::number_chain_at-number_on_leaf_at-first-requires : goal.number_walk::number_chain_at-number_on_leaf_at-first-requires
-number_walk::number_chain_at-number_on_leaf_at-first-requires g t c =
-    let inside : c.args.place < length c.args.scene.now.list.nodes = part_inside c.args.scene.now c.args.place c.requires.stands in
-    let smaller : 16 * (length c.args.scene.now.list.nodes - (c.args.place + 1)) + 9 < 16 * (length c.args.scene.now.list.nodes - c.args.place) + 10 = omega arith in
-    let stands : PartStands c.args.scene.now (c.args.place + 1) = typed_part c.args.scene.now (c.args.place + 1) IsNumberOperand (first_step c.args.scene.now c.args.place WalkClass.Numeric (λ leaf. cc) c.requires.numeric c.requires.stands) in
-    search rules
-
-pub number_walk::number_on_leaf_at-part_at-requires : goal.number_walk::number_on_leaf_at-part_at-requires
-number_walk::number_on_leaf_at-part_at-requires g t c = record { stands = first_part c.args.scene.now c.args.place WalkClass.Numeric (λ leaf. cc) c.requires.numeric c.requires.stands }
-
 pub walk::compared_at-part_at-requires : goal.walk::compared_at-part_at-requires
 walk::compared_at-part_at-requires g t c =
     record { stands = right_part c.args.scene.now c.args.place (BinaryOperator.Comparison c.args.comparison) c.requires.here c.requires.stands c.right_of-right_place.result c.right_of-right_place.ensures }
@@ -912,19 +898,19 @@ walk::compared_at-part_at-requires g t c =
 pub walk::counted_at-truth_at-requires : goal.walk::counted_at-truth_at-requires
 walk::counted_at-truth_at-requires g t c =
     let stands : TruthStands c.args.scene.now c.args.place = logical_stands c.args.scene.now c.args.place c.in-Logical.ensures (tree_of_class c.args.scene.now c.args.place WalkClass.Logical (λ leaf. cc) c.in-Logical.ensures c.requires.stands) in
-    let smaller : 16 * (length c.args.scene.now.list.nodes - c.args.place) + 11 < 16 * (length c.args.scene.now.list.nodes - c.args.place) + 12 = omega arith in
+    let smaller : measure_at c.args.scene.now.list.nodes c.args.place rank_truth < measure_at c.args.scene.now.list.nodes c.args.place rank_counted = omega arith in
     search rules
 
 pub walk::counted_at-number_at-requires : goal.walk::counted_at-number_at-requires
 walk::counted_at-number_at-requires g t c =
     let stands : PartStands c.args.scene.now c.args.place = tree_of_class c.args.scene.now c.args.place WalkClass.Numeric (λ leaf. cc) c.in-Numeric.ensures c.requires.stands in
-    let smaller : 16 * (length c.args.scene.now.list.nodes - c.args.place) + 8 < 16 * (length c.args.scene.now.list.nodes - c.args.place) + 12 = omega arith in
+    let smaller : measure_at c.args.scene.now.list.nodes c.args.place rank_numbers < measure_at c.args.scene.now.list.nodes c.args.place rank_counted = omega arith in
     search rules
 
 pub walk::counted_at-eager_at-requires : goal.walk::counted_at-eager_at-requires
 walk::counted_at-eager_at-requires g t c =
     let stands : PartStands c.args.scene.now c.args.place = tree_of_class c.args.scene.now c.args.place WalkClass.Eager (λ leaf. cc) c.in-Eager.ensures c.requires.stands in
-    let smaller : 16 * (length c.args.scene.now.list.nodes - c.args.place) + 5 < 16 * (length c.args.scene.now.list.nodes - c.args.place) + 12 = omega arith in
+    let smaller : measure_at c.args.scene.now.list.nodes c.args.place rank_eager < measure_at c.args.scene.now.list.nodes c.args.place rank_counted = omega arith in
     search rules
 
 pub walk::plain_truth_at-part_at-requires : goal.walk::plain_truth_at-part_at-requires
@@ -936,7 +922,7 @@ number_walk::number_operand_at-part_at-requires g t c = record { stands = tree_o
 pub number_walk::made_number_at-operand_at-requires : goal.number_walk::made_number_at-operand_at-requires
 number_walk::made_number_at-operand_at-requires g t c =
     let stands : OperandStands c.args.scene.now c.args.place = tree_operand c.args.scene.now c.args.place (typed_part c.args.scene.now c.args.place IsNumberOperand c.requires.stands) in
-    let smaller : 16 * (length c.args.scene.now.list.nodes - c.args.place) + 13 < 16 * (length c.args.scene.now.list.nodes - c.args.place) + 14 = omega arith in
+    let smaller : measure_at c.args.scene.now.list.nodes c.args.place rank_operand < measure_at c.args.scene.now.list.nodes c.args.place rank_made_number = omega arith in
     search rules
 
 pub walk::made_at-returns-in-Call-clause-answers : goal.walk::made_at-returns-in-Call-clause-answers

@@ -1,98 +1,92 @@
-use Rattle.std.proofs.Common.{◌≤◌, ◌+◌, ◌-◌, ◌*◌, length}
+use Rattle.std.proofs.Common.{◌≤◌, ◌-◌}
 use Rattle.odata_eval.specs.private.Spending.{CountedDatum, CountedTruth, SpendsAt, Takes, datum_stop, stopped_by}
 use Rattle.odata_eval.specs.private.WalkAnswer.{AnswersNumber}
 use Rattle.odata_eval.proofs.spending.Members.{MembersPaid}
 use Rattle.odata_eval.proofs.walking.ItemSteps.{ListLeft}
 use Rattle.odata_eval.proofs.walking.MembersAsked.{MembersLeft}
+use Rattle.odata_eval.proofs.walking.Measures.{measure_at, rank_counted, rank_eager, rank_made_number, rank_made_truth, rank_number_operand, rank_numbers, rank_operand, rank_plain, rank_rest, rank_step, rank_test, rank_truth}
 use Rattle.odata_eval.proofs.+evaluate.Given as goal
 
--- what is left of the list counts first, and at one index the order of the calls
 abbrev pub decreases-number_walk::number_operand_at : goal.decreases-number_walk::number_operand_at
-decreases-number_walk::number_operand_at g l = 16 * (length l.scene.now.list.nodes - l.place) + 15
+decreases-number_walk::number_operand_at g l = measure_at l.scene.now.list.nodes l.place rank_number_operand
 
 abbrev pub decreases-number_walk::made_number_at : goal.decreases-number_walk::made_number_at
-decreases-number_walk::made_number_at g l = 16 * (length l.scene.now.list.nodes - l.place) + 14
+decreases-number_walk::made_number_at g l = measure_at l.scene.now.list.nodes l.place rank_made_number
 
 abbrev pub decreases-walk::operand_at : goal.decreases-walk::operand_at
-decreases-walk::operand_at g l = 16 * (length l.scene.now.list.nodes - l.place) + 13
+decreases-walk::operand_at g l = measure_at l.scene.now.list.nodes l.place rank_operand
 
 abbrev pub decreases-walk::likely_stored_at : goal.decreases-walk::likely_stored_at
-decreases-walk::likely_stored_at g l = 16 * (length l.scene.now.list.nodes - l.place) + 13
+decreases-walk::likely_stored_at g l = measure_at l.scene.now.list.nodes l.place rank_operand
 
 abbrev pub decreases-walk::counted_at : goal.decreases-walk::counted_at
-decreases-walk::counted_at g l = 16 * (length l.scene.now.list.nodes - l.place) + 12
+decreases-walk::counted_at g l = measure_at l.scene.now.list.nodes l.place rank_counted
 
 abbrev pub decreases-walk::side_at : goal.decreases-walk::side_at
-decreases-walk::side_at g l = 16 * (length l.scene.now.list.nodes - l.place) + 12
+decreases-walk::side_at g l = measure_at l.scene.now.list.nodes l.place rank_counted
 
 abbrev pub decreases-walk::truth_at : goal.decreases-walk::truth_at
-decreases-walk::truth_at g l = 16 * (length l.scene.now.list.nodes - l.place) + 11
+decreases-walk::truth_at g l = measure_at l.scene.now.list.nodes l.place rank_truth
 
 abbrev pub decreases-walk::plain_truth_at : goal.decreases-walk::plain_truth_at
-decreases-walk::plain_truth_at g l = 16 * (length l.scene.now.list.nodes - l.place) + 10
+decreases-walk::plain_truth_at g l = measure_at l.scene.now.list.nodes l.place rank_plain
 
 abbrev pub decreases-walk::numbers_truth_at : goal.decreases-walk::numbers_truth_at
-decreases-walk::numbers_truth_at g l = 16 * (length l.scene.now.list.nodes - l.place) + 8
+decreases-walk::numbers_truth_at g l = measure_at l.scene.now.list.nodes l.place rank_numbers
 
 abbrev pub decreases-walk::compared_truth_at : goal.decreases-walk::compared_truth_at
-decreases-walk::compared_truth_at g l = 16 * (length l.scene.now.list.nodes - l.place) + 9
+decreases-walk::compared_truth_at g l = measure_at l.scene.now.list.nodes l.place rank_test
 
 abbrev pub decreases-walk::called_truth_at : goal.decreases-walk::called_truth_at
-decreases-walk::called_truth_at g l = 16 * (length l.scene.now.list.nodes - l.place) + 9
+decreases-walk::called_truth_at g l = measure_at l.scene.now.list.nodes l.place rank_test
 
 abbrev pub decreases-walk::numeric_truth_at : goal.decreases-walk::numeric_truth_at
-decreases-walk::numeric_truth_at g l = 16 * (length l.scene.now.list.nodes - l.place) + 9
+decreases-walk::numeric_truth_at g l = measure_at l.scene.now.list.nodes l.place rank_test
 
 abbrev pub decreases-walk::made_truth_at : goal.decreases-walk::made_truth_at
-decreases-walk::made_truth_at g l = 16 * (length l.scene.now.list.nodes - l.place) + 7
+decreases-walk::made_truth_at g l = measure_at l.scene.now.list.nodes l.place rank_made_truth
 
 abbrev pub decreases-number_walk::number_at : goal.decreases-number_walk::number_at
-decreases-number_walk::number_at g l = 16 * (length l.scene.now.list.nodes - l.place) + 8
-
-abbrev pub decreases-number_walk::number_chain_at : goal.decreases-number_walk::number_chain_at
-decreases-number_walk::number_chain_at g l = 16 * (length l.scene.now.list.nodes - l.place) + 10
-
-abbrev pub decreases-number_walk::number_on_leaf_at : goal.decreases-number_walk::number_on_leaf_at
-decreases-number_walk::number_on_leaf_at g l = 16 * (length l.scene.now.list.nodes - l.place) + 9
+decreases-number_walk::number_at g l = measure_at l.scene.now.list.nodes l.place rank_numbers
 
 abbrev pub decreases-walk::eager_at : goal.decreases-walk::eager_at
-decreases-walk::eager_at g l = 16 * (length l.scene.now.list.nodes - l.place) + 5
+decreases-walk::eager_at g l = measure_at l.scene.now.list.nodes l.place rank_eager
 
 abbrev pub decreases-walk::logical_at : goal.decreases-walk::logical_at
-decreases-walk::logical_at g l = 16 * (length l.scene.now.list.nodes - l.place) + 4
+decreases-walk::logical_at g l = measure_at l.scene.now.list.nodes l.place rank_step
 
 abbrev pub decreases-walk::made_at : goal.decreases-walk::made_at
-decreases-walk::made_at g l = 16 * (length l.scene.now.list.nodes - l.place) + 4
+decreases-walk::made_at g l = measure_at l.scene.now.list.nodes l.place rank_step
 
 abbrev pub decreases-number_walk::numeric_at : goal.decreases-number_walk::numeric_at
-decreases-number_walk::numeric_at g l = 16 * (length l.scene.now.list.nodes - l.place) + 4
+decreases-number_walk::numeric_at g l = measure_at l.scene.now.list.nodes l.place rank_step
 
 abbrev pub decreases-number_walk::calculated_at : goal.decreases-number_walk::calculated_at
-decreases-number_walk::calculated_at g l = 16 * (length l.scene.now.list.nodes - l.place) + 3
+decreases-number_walk::calculated_at g l = measure_at l.scene.now.list.nodes l.place rank_rest
 
 abbrev pub decreases-walk::compared_at : goal.decreases-walk::compared_at
-decreases-walk::compared_at g l = 16 * (length l.scene.now.list.nodes - l.place) + 3
+decreases-walk::compared_at g l = measure_at l.scene.now.list.nodes l.place rank_rest
 
 abbrev pub decreases-walk::called_at : goal.decreases-walk::called_at
-decreases-walk::called_at g l = 16 * (length l.scene.now.list.nodes - l.place) + 3
+decreases-walk::called_at g l = measure_at l.scene.now.list.nodes l.place rank_rest
 
 abbrev pub decreases-collection_walk::flags_at : goal.decreases-collection_walk::flags_at
-decreases-collection_walk::flags_at g l = 16 * (length l.scene.now.list.nodes - l.place) + 3
+decreases-collection_walk::flags_at g l = measure_at l.scene.now.list.nodes l.place rank_rest
 
 abbrev pub decreases-collection_walk::among_at : goal.decreases-collection_walk::among_at
-decreases-collection_walk::among_at g l = 16 * (length l.scene.now.list.nodes - l.place) + 3
+decreases-collection_walk::among_at g l = measure_at l.scene.now.list.nodes l.place rank_rest
 
 abbrev pub decreases-collection_walk::listed_at : goal.decreases-collection_walk::listed_at
-decreases-collection_walk::listed_at g l = 16 * (length l.scene.now.list.nodes - l.place) + 3
+decreases-collection_walk::listed_at g l = measure_at l.scene.now.list.nodes l.place rank_rest
 
 abbrev pub decreases-walk::connected_at : goal.decreases-walk::connected_at
-decreases-walk::connected_at g l = 16 * (length l.scene.now.list.nodes - l.place) + 3
+decreases-walk::connected_at g l = measure_at l.scene.now.list.nodes l.place rank_rest
 
 abbrev pub decreases-lambda_walk::lambda_at : goal.decreases-lambda_walk::lambda_at
-decreases-lambda_walk::lambda_at g l = 16 * (length l.scene.now.list.nodes - l.place) + 3
+decreases-lambda_walk::lambda_at g l = measure_at l.scene.now.list.nodes l.place rank_rest
 
 abbrev pub decreases-lambda_walk::members_at : goal.decreases-lambda_walk::members_at
-decreases-lambda_walk::members_at g l = 16 * (length l.scene.now.list.nodes - l.body.place) + 13
+decreases-lambda_walk::members_at g l = measure_at l.scene.now.list.nodes l.body.place rank_operand
 
 abbrev pub invariant-walk::truth_at-loop-at : goal.invariant-walk::truth_at-loop-at
 invariant-walk::truth_at-loop-at g l = record {

@@ -30,7 +30,7 @@ use Rattle.odata_eval.proofs.meaning.AllTrees.{AllTrees, AllTyped}
 use Rattle.odata_eval.proofs.meaning.CompareEnds.{compare_ends}
 use Rattle.odata_eval.proofs.meaning.Ends.{Ends, after_ends}
 use Rattle.odata_eval.proofs.meaning.FormsEnd.{ItemEnds}
-use Rattle.odata_eval.proofs.meaning.LawsBelow.{OneEach, SomeEach}
+use Rattle.odata_eval.specs.private.LawsBelow.{OneEach, SomeEach}
 use Rattle.odata_eval.proofs.meaning.OneLeaf.{CompareGives-one}
 use Rattle.odata_eval.proofs.meaning.OneMeaning.{items_one}
 use Rattle.odata_eval.proofs.meaning.OneStep.{After-one, AtMostOne}

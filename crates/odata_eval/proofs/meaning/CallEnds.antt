@@ -18,7 +18,7 @@ use Rattle.odata_filter_operations.specs.Arguments.{Applies, AreArguments, IsArg
 use Rattle.odata_eval.proofs.meaning.Ends.{Ends}
 use Rattle.odata_eval.proofs.meaning.FunctionEnds.{function_ends}
 use Rattle.odata_eval.proofs.meaning.Kinds.{number_kind}
-use Rattle.odata_eval.proofs.meaning.LawsBelow.{SomeEach}
+use Rattle.odata_eval.specs.private.LawsBelow.{SomeEach}
 use Rattle.odata_eval.proofs.meaning.TypeValues.{IsOfKind, ValueKind, date_within, dates, moment_within, moments, null_has, null_value, primitive_kind, text_within, texts, wholes}
 
 -- each value is of the type at its index

@@ -7,7 +7,7 @@ use Rattle.odata_filter_operations.specs.CallGives.{CallGives, UnlessNull, has_n
 use Rattle.odata_filter_operations.specs.FunctionGives.{FunctionGives}
 use Rattle.odata_filter_operations.specs.Outcome.{Outcome, gives}
 use Rattle.odata_eval.proofs.meaning.FunctionLaws.{FunctionGives-one}
-use Rattle.odata_eval.proofs.meaning.LawsBelow.{OneEach}
+use Rattle.odata_eval.specs.private.LawsBelow.{OneEach}
 use Rattle.odata_eval.proofs.meaning.OneStep.{AtMostOne, same_one}
 
 UnlessNull-one : (is_null : Bool) (Gives : Outcome → Type 0) → AtMostOne Gives → AtMostOne (UnlessNull is_null Gives)

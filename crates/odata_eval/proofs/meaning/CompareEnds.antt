@@ -11,7 +11,7 @@ use Rattle.odata_filter_operations.specs.CompareGives.{CompareGives}
 use Rattle.odata_filter_operations.specs.Outcome.{gives}
 use Rattle.odata_eval.proofs.meaning.Ends.{Ends, typed_value}
 use Rattle.odata_eval.proofs.meaning.Kinds.{comparable_values}
-use Rattle.odata_eval.proofs.meaning.LawsBelow.{SomeEach}
+use Rattle.odata_eval.specs.private.LawsBelow.{SomeEach}
 use Rattle.odata_eval.proofs.meaning.TypeValues.{truth_has}
 
 pub compare_ends : (some : SomeEach) (slots : Slots) (operator : ComparisonOperator) (left right type : ExprType) (l r : Val)

@@ -20,7 +20,7 @@ use Rattle.odata_eval.specs.Means.{Means}
 use Rattle.odata_filter_operations.specs.Outcome.{Outcome, gives}
 use Rattle.odata_filter_operations.specs.TruthGives.{truth_val}
 use Rattle.odata_eval.proofs.meaning.OneMeaning.{Means-one}
-use Rattle.odata_eval.proofs.meaning.LawsBelow.{OneEach}
+use Rattle.odata_eval.specs.private.LawsBelow.{OneEach}
 use Rattle.odata_eval.proofs.meaning.NoEnumerations.{unread}
 
 -- one outcome of a tree is the only one

@@ -32,7 +32,7 @@ use Rattle.odata_eval.proofs.meaning.Ends.{Ends, after_ends}
 use Rattle.odata_eval.proofs.meaning.CompareEnds.{compare_ends}
 use Rattle.odata_eval.proofs.meaning.FunctionEnds.{truth_given}
 use Rattle.odata_eval.proofs.meaning.Kinds.{IsTruth, truth_of}
-use Rattle.odata_eval.proofs.meaning.LawsBelow.{SomeEach}
+use Rattle.odata_eval.specs.private.LawsBelow.{SomeEach}
 use Rattle.odata_eval.proofs.meaning.NumberComes.{number_given}
 use Rattle.odata_eval.proofs.meaning.OneByOne.{items_both, members_both}
 use Rattle.odata_eval.proofs.meaning.SameGives.{Both}

@@ -22,7 +22,7 @@ use Rattle.odata_eval.specs.OneByOne.{GoesOn, ItemAlone, ItemsGo, MembersGo}
 use Rattle.odata_filter_operations.specs.Outcome.{Outcome, gives}
 use Rattle.odata_filter_operations.specs.QuantifierGives.{undecided_val}
 use Rattle.odata_eval.proofs.meaning.AllTrees.{AllTrees}
-use Rattle.odata_eval.proofs.meaning.LawsBelow.{OneEach}
+use Rattle.odata_eval.specs.private.LawsBelow.{OneEach}
 use Rattle.odata_eval.proofs.meaning.NumberComes.{GivesNumber-one}
 use Rattle.odata_eval.proofs.meaning.OneByOne.{items_both, members_both}
 use Rattle.odata_eval.proofs.meaning.OneLeaf.{CompareGives-one, GivesTruth-one}

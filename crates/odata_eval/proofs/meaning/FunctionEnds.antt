@@ -25,7 +25,7 @@ use Rattle.odata_filter_operations.specs.Outcome.{Outcome, gives}
 use Rattle.odata_filter_operations.specs.Arguments.{Applies, AreArguments}
 use Rattle.odata_eval.proofs.meaning.ArgumentForms.{IsDated, IsPartAsked, one_dated, one_moment, one_text, part_asked, two_texts}
 use Rattle.odata_eval.proofs.meaning.Ends.{Ends}
-use Rattle.odata_eval.proofs.meaning.LawsBelow.{SomeEach}
+use Rattle.odata_eval.specs.private.LawsBelow.{SomeEach}
 use Rattle.odata_eval.proofs.meaning.MadeTexts.{dropped_characters, inner_characters, joined_characters, lower_characters, made_text, taken_characters, upper_characters}
 use Rattle.odata_eval.proofs.meaning.NumberComes.{number_given}
 use Rattle.odata_eval.proofs.meaning.TypeValues.{date_has, moment_has, text_has, truth_has}

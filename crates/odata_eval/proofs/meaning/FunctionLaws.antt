@@ -13,7 +13,7 @@ use Rattle.odata_signatures.specs.declared.function.Function.{Function}
 use Rattle.odata_filter_operations.specs.ArgumentValues.{OfDate, OfMoment, OfNone, OfText, OfTextAndNumbers, OfTexts}
 use Rattle.odata_filter_operations.specs.FunctionGives.{FunctionGives, GivesCount, GivesText}
 use Rattle.odata_filter_operations.specs.Outcome.{Outcome, gives}
-use Rattle.odata_eval.proofs.meaning.LawsBelow.{OneEach}
+use Rattle.odata_eval.specs.private.LawsBelow.{OneEach}
 use Rattle.odata_eval.proofs.meaning.NumberComes.{GivesNumber-one}
 use Rattle.odata_eval.proofs.meaning.OneLeaf.{GivesTruth-one}
 use Rattle.odata_eval.proofs.meaning.OneStep.{AtMostOne, same_one}

@@ -22,7 +22,7 @@ use Rattle.odata_filter_operations.specs.LeftFirst.{After}
 use Rattle.odata_eval.specs.Means.{Means}
 use Rattle.odata_eval.specs.OneByOne.{ItemAlone, ItemsGo, MembersGo}
 use Rattle.odata_filter_operations.specs.Outcome.{Outcome, gives, divides_by_zero}
-use Rattle.odata_eval.proofs.meaning.LawsBelow.{OneEach}
+use Rattle.odata_eval.specs.private.LawsBelow.{OneEach}
 use Rattle.odata_eval.proofs.meaning.NoEnumerations.{unread}
 use Rattle.odata_eval.proofs.meaning.OneByOne.{items_both, members_both}
 use Rattle.odata_eval.proofs.meaning.OneMeaning.{Means-one}

@@ -13,7 +13,7 @@ use Rattle.odata_functions.specs.declared.arithmetic.ArithFault.TheVariants.{Ove
 use Rattle.odata_filter_operations.specs.CalculationGives.{GivesNumber, number_outcome}
 use Rattle.odata_eval.specs.EndsOnce.{IsOutcomeOf}
 use Rattle.odata_eval.proofs.meaning.Ends.{Ends}
-use Rattle.odata_eval.proofs.meaning.LawsBelow.{OneEach, SomeEach}
+use Rattle.odata_eval.specs.private.LawsBelow.{OneEach, SomeEach}
 use Rattle.odata_eval.proofs.meaning.OneLeaf.{same_number}
 use Rattle.odata_eval.proofs.meaning.OneStep.{AtMostOne}
 use Rattle.odata_eval.proofs.meaning.TypeValues.{null_has, number_has}

@@ -33,7 +33,7 @@ use Rattle.odata_filter_operations.specs.TruthGives.{NotGives}
 use Rattle.odata_eval.proofs.meaning.AllTrees.{AllTrees}
 use Rattle.odata_eval.proofs.meaning.CallLaws.{CallGives-one}
 use Rattle.odata_eval.proofs.meaning.FormsOne.{AnyItemGives-one, CountGives-one, HasGives-one, InGives-one, ItemsGive-one, LambdaGives-one}
-use Rattle.odata_eval.proofs.meaning.LawsBelow.{OneEach}
+use Rattle.odata_eval.specs.private.LawsBelow.{OneEach}
 use Rattle.odata_eval.proofs.meaning.OneLeaf.{OperatorGives-one, FoundGives-one, NegatedGives-one, NotGives-one, StepGives-one}
 use Rattle.odata_eval.proofs.meaning.OneStep.{AtMostOne, GivesSome-one, After-one, InType-one, same_one}
 

@@ -51,7 +51,7 @@ use Rattle.odata_eval.proofs.meaning.CompareEnds.{compare_ends}
 use Rattle.odata_eval.proofs.meaning.Ends.{Ends, after_ends, typed_value}
 use Rattle.odata_eval.proofs.meaning.FormsEnd.{ItemEnds, has_ends}
 use Rattle.odata_eval.proofs.meaning.Kinds.{IsTruth, truth_of}
-use Rattle.odata_eval.proofs.meaning.LawsBelow.{Promotes, SomeEach}
+use Rattle.odata_eval.specs.private.LawsBelow.{Promotes, SomeEach}
 use Rattle.odata_eval.proofs.meaning.NumberComes.{number_typed}
 use Rattle.odata_eval.proofs.meaning.Numbers.{calculated_values}
 use Rattle.odata_eval.proofs.meaning.Reads.{equality_typed, flags_apart, left_unread, number_comparable, number_flags, other_unread, right_apart, right_unread}

@@ -38,7 +38,7 @@ use Rattle.odata_eval.proofs.meaning.CallEnds.{call_ends}
 use Rattle.odata_eval.proofs.meaning.Ends.{Ends, after_ends}
 use Rattle.odata_eval.proofs.meaning.FormsEnd.{any_item_ends, both_ends, count_ends, goes_on_ends, in_list_ends, in_path_ends, of_type, undecided_typed}
 use Rattle.odata_eval.proofs.meaning.Kinds.{truth_of}
-use Rattle.odata_eval.proofs.meaning.LawsBelow.{OneEach, Promotes, SomeEach}
+use Rattle.odata_eval.specs.private.LawsBelow.{OneEach, Promotes, SomeEach}
 use Rattle.odata_eval.proofs.meaning.Numbers.{negated_value}
 use Rattle.odata_eval.proofs.meaning.OneByOne.{members_both}
 use Rattle.odata_eval.proofs.meaning.OneMeaning.{Means-one}

@@ -15,7 +15,7 @@ use Rattle.odata_signatures.specs.QuotedNumber.{NumberBeside}
 use Rattle.odata_expression_types.specs.Reads.{OfEquality, ReadsNumber}
 use Rattle.odata_expression_types.specs.Sides.{quoted_text}
 use Rattle.odata_expression_types.specs.Typed.{Scope, Typed}
-use Rattle.odata_eval.proofs.meaning.LawsBelow.{ReadLaws}
+use Rattle.odata_eval.specs.private.LawsBelow.{ReadLaws}
 use Rattle.odata_eval.proofs.meaning.TypeValues.{member_has}
 
 -- an enumeration, and a text beside it

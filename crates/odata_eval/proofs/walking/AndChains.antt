@@ -54,6 +54,12 @@ false_term (Some true) = refl
 false_term (Some false) = refl
 false_term None = refl
 
+-- beside a null they are null, where they do not decide
+null_term : (left : Option Bool) → ¬ (IsDecided LogicalOperator.And (truth_val left)) → joined LogicalOperator.And left None ≡ None
+null_term (Some true) undecided = refl
+null_term (Some false) undecided = absurd (undecided tt)
+null_term None undecided = refl
+
 -- after a true one the others evaluate to what they evaluate to by themselves
 true_side : (term : Option Bool) → joined LogicalOperator.And (Some true) term ≡ term
 true_side (Some true) = refl
@@ -110,6 +116,9 @@ module _ (scene : SceneModel) where
 
           pub true_answers : AnswersTruth scene right (Ok (Some true)) → AnswersTruth scene (at - 1) (Ok left)
           true_answers second = subst (λ (r : Option Bool). AnswersTruth scene (at - 1) (Ok r)) (true_term left) (next_answers (Some true) second)
+
+          pub null_answers : AnswersTruth scene right (Ok None) → AnswersTruth scene (at - 1) (Ok None)
+          null_answers second = subst (λ (r : Option Bool). AnswersTruth scene (at - 1) (Ok r)) (null_term left undecided) (next_answers None second)
 
           pub false_answers : AnswersTruth scene right (Ok (Some false)) → AnswersTruth scene 0 (Ok (Some false))
           false_answers second =

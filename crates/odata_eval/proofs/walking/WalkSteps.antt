@@ -37,7 +37,7 @@ use Rattle.odata_eval.specs.private.SceneModel.{SceneModel, environment_of}
 use Rattle.odata_filter_operations.specs.Tells.{Tells}
 use Rattle.odata_eval.specs.private.WalkAnswer.{AnswersAtPlace, AnswersNumber, AnswersTruth}
 use Rattle.odata_eval.specs.private.WalkClass.{IsDecided}
-use Rattle.odata_eval.proofs.meaning.LawsBelow.{Promotes}
+use Rattle.odata_eval.specs.private.LawsBelow.{Promotes}
 use Rattle.odata_eval.proofs.meaning.Numbers.{calculated_values, negated_value}
 use Rattle.odata_eval.specs.ReadGives.{GivesMember}
 use Rattle.odata_eval.proofs.meaning.Reads.{equality_typed, number_comparable, read_has}

@@ -1,4 +1,5 @@
-use Rattle.std.proofs.Common.{◌≤◌, ◌+◌, [], Some, length, arith, refl, sym, ◌∙◌}
+use Rattle.std.proofs.Common.{◌≤◌, ◌+◌, [], Some, Err, length, arith, refl, ap, sym, ◌∙◌}
+use Rattle.std.proofs.lemmas.Result.{err_from_is_err_and}
 use Rattle.line_filter.proofs.LineLaws.Found.{SaysTheSame-refl, SaysTheSame-trans, found-same}
 use Rattle.line_filter.proofs.LineLaws.InMemory.{found_put, grows_whole, put_whole}
 use Rattle.line_filter.proofs.LineLaws.Walked.{HasPassed-none, HasPassed-more, HasPassed-stopped}
@@ -18,16 +19,17 @@ loop-rest-preserved g c =
       room,
       SaysTheSame-trans _ _ _ c.loop-rest.invariant.1 c.find_at_front.ensures.same,
       HasPassed-more _ _ line c.loop-rest.rest.now after _ (Some c.args.out.now.items) (Some c.loop-rest.out.items) (Some c.put_kept-found.new.out.items) [] [] c.loop-rest.lines c.loop-rest.tally c.put_kept-found.result
-          c.first_line.ensures.lines finds c.loop-rest.invariant.2 c.in-Ok.one _ c.first_line.ensures.behind (omega (arith, c.first_line.ensures.shorter)) put (sym c.outcome_of.ensures ∙ c.in-Ok.is),
+          c.first_line.ensures.lines finds c.loop-rest.invariant.2 c.in_ok-one.one _ c.first_line.ensures.behind (omega (arith, c.first_line.ensures.shorter)) put (sym c.outcome_of.ensures ∙ c.in_ok-one.was),
     )
 
-pub returns-in-Err-clause-stops : goal.returns-in-Err-clause-stops
-returns-in-Err-clause-stops g c =
+pub returns-in_err-one-clause-stops : goal.returns-in_err-one-clause-stops
+returns-in_err-one-clause-stops g c =
+    let exit = err_from_is_err_and c.from_residual.result c.from_residual.ensures.1 in
     let line = c.first_line.result.0.now in
     let after = c.first_line.result.1.now in
     let said = found-same _ _ line c.find_at_front.result c.loop-rest.invariant.1 c.find_at_front.ensures.found in
     let finds = found_put _ c.put_kept-found.result c.find_at_front.result c.put_kept-found.ensures.same said in
     let put = put_whole c.loop-rest.out.items c.put_kept-found.new.out.items _ c.put_kept-found.ensures.put in
     let (text, wrote, stops) = HasPassed-stopped _ _ line c.loop-rest.rest.now after _ (Some c.args.out.now.items) (Some c.loop-rest.out.items) (Some c.put_kept-found.new.out.items) [] [] c.loop-rest.lines c.loop-rest.tally c.put_kept-found.result
-    c.first_line.ensures.lines finds c.loop-rest.invariant.2 (λ text line. ⊥) c.in-Err.stop (omega (arith, c.first_line.ensures.shorter)) put (sym c.outcome_of.ensures ∙ c.in-Err.is) in
-    grows_whole _ c.args.out.now.items c.put_kept-found.new.out.items text wrote stops
+    c.first_line.ensures.lines finds c.loop-rest.invariant.2 (λ text line. ⊥) c.in_err-one.field-0.0 (omega (arith, c.first_line.ensures.shorter)) put (sym c.outcome_of.ensures ∙ c.in_err-one.was) in
+    rw (exit.1 ∙ ap Err exit.2) (grows_whole _ c.args.out.now.items c.put_kept-found.new.out.items text wrote stops)

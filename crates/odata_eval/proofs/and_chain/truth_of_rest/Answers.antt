@@ -1,10 +1,10 @@
-use Rattle.std.proofs.Common.{ap, ◌∙◌, ◌≡◌, ◌<◌, ◌≤◌, ◌-◌, Bool, false, true, Option, Some, Ok, Err, arith, subst, sym}
+use Rattle.std.proofs.Common.{ap, ◌∙◌, ◌≡◌, ◌<◌, ◌≤◌, ◌-◌, Bool, false, true, Option, None, Some, Ok, Err, arith, subst, sym}
 use Rattle.std.proofs.lemmas.Result.{err_from_is_err_and}
 use Rattle.odata_syntax.specs.declared.binary_operator.LogicalOperator.{LogicalOperator}
 use Rattle.odata_filter_operations.specs.TruthGives.{truth_val}
 use Rattle.odata_eval.specs.private.WalkAnswer.{AnswersTruth}
 use Rattle.odata_eval.specs.private.WalkClass.{IsDecided}
-use Rattle.odata_eval.proofs.walking.AndChains.{decided_up, false_answers, fault_answers, fault_up, next_answers, term_stands, term_there, told_not, true_answers}
+use Rattle.odata_eval.proofs.walking.AndChains.{decided_up, false_answers, fault_answers, fault_up, null_answers, term_stands, term_there, told_not, true_answers}
 use Rattle.odata_eval.proofs.and_chain.truth_of_rest.Goals as goal
 
 pub returns-in_err-left : goal.returns-in_err-left
@@ -14,8 +14,14 @@ returns-in_err-left c =
 
 pub returns-then-decides : goal.returns-then-decides
 returns-then-decides c =
-    let l = c.loop-at in
-    decided_up c.args.scene.now c.args.rest.ands c.requires.rest.ands l.left (c.decides.ensures.0 c.if-decides.true) l.at l.invariant.within l.invariant.answers
+    decided_up c.args.scene.now c.args.rest.ands c.requires.rest.ands c.in_ok-left.left (c.decides.ensures.0 c.if-decides.true) c.args.rest.ands (omega arith) (c.requires.rest.goes_up (Ok c.in_ok-left.left) c.in_ok-left.ensures)
+
+pub loop-at-init : goal.loop-at-init
+loop-at-init c = record {
+  within = omega arith;
+  undecided = told_not c.decides.result (IsDecided LogicalOperator.And (truth_val c.in_ok-left.left)) c.decides.ensures c.if-decides.false;
+  answers = c.requires.rest.goes_up (Ok c.in_ok-left.left) c.in_ok-left.ensures;
+}
 
 pub right_of-right_place-requires : goal.right_of-right_place-requires
 right_of-right_place-requires c =
@@ -49,7 +55,8 @@ loop-at-preserved-in-Some-true c =
     let within : l.at ≤ c.args.rest.ands = l.invariant.within in
     record {
       within = omega arith;
-      answers = true_answers c.args.scene.now c.args.rest.ands c.requires.rest.ands c.requires.stands l.at above l.invariant.within c.right_of-right_place.result c.right_of-right_place.ensures l.left (told_not c.decides.result (IsDecided LogicalOperator.And (truth_val l.left)) c.decides.ensures c.if-decides.false) l.invariant.answers term;
+      undecided = l.invariant.undecided;
+      answers = true_answers c.args.scene.now c.args.rest.ands c.requires.rest.ands c.requires.stands l.at above l.invariant.within c.right_of-right_place.result c.right_of-right_place.ensures l.left l.invariant.undecided l.invariant.answers term;
     }
 
 pub returns-in-Some-false : goal.returns-in-Some-false
@@ -59,17 +66,43 @@ returns-in-Some-false c =
     let is : c.in-Some-false.field-0 ≡ false = cc in
     let term : AnswersTruth c.args.scene.now c.right_of-right_place.result (Ok (Some false)) =
     subst (λ (b : Bool). AnswersTruth c.args.scene.now c.right_of-right_place.result (Ok (Some b))) is c.in-Some-false.ensures.answers in
-    false_answers c.args.scene.now c.args.rest.ands c.requires.rest.ands c.requires.stands l.at above l.invariant.within c.right_of-right_place.result c.right_of-right_place.ensures l.left (told_not c.decides.result (IsDecided LogicalOperator.And (truth_val l.left)) c.decides.ensures c.if-decides.false) l.invariant.answers term
+    false_answers c.args.scene.now c.args.rest.ands c.requires.rest.ands c.requires.stands l.at above l.invariant.within c.right_of-right_place.result c.right_of-right_place.ensures l.left l.invariant.undecided l.invariant.answers term
 
-pub loop-at-preserved : goal.loop-at-preserved
-loop-at-preserved c =
+pub loop-at-preserved-in-None-Some-true : goal.loop-at-preserved-in-None-Some-true
+loop-at-preserved-in-None-Some-true c =
     let l = c.loop-at in
     let above : 0 < l.at = omega arith in
+    let is : c.in_ok-right-in-None.right ≡ Some true = cc in
+    let term : AnswersTruth c.args.scene.now c.right_of-right_place.result (Ok (Some true)) =
+    subst (λ (r : Option Bool). AnswersTruth c.args.scene.now c.right_of-right_place.result (Ok r)) is c.in_ok-right-in-None.ensures in
     let within : l.at ≤ c.args.rest.ands = l.invariant.within in
     record {
       within = omega arith;
-      answers = subst (λ (r : Option Bool). AnswersTruth c.args.scene.now (l.at - 1) (Ok r)) (sym c.join-left.ensures)
-          (next_answers c.args.scene.now c.args.rest.ands c.requires.rest.ands c.requires.stands l.at above l.invariant.within c.right_of-right_place.result c.right_of-right_place.ensures l.left (told_not c.decides.result (IsDecided LogicalOperator.And (truth_val l.left)) c.decides.ensures c.if-decides.false) l.invariant.answers c.in_ok-right-in-None.right c.in_ok-right-in-None.ensures);
+      undecided = l.invariant.undecided;
+      answers = true_answers c.args.scene.now c.args.rest.ands c.requires.rest.ands c.requires.stands l.at above l.invariant.within c.right_of-right_place.result c.right_of-right_place.ensures l.left l.invariant.undecided l.invariant.answers term;
+    }
+
+pub returns-in-None-Some-false : goal.returns-in-None-Some-false
+returns-in-None-Some-false c =
+    let l = c.loop-at in
+    let above : 0 < l.at = omega arith in
+    let is : c.in_ok-right-in-None.right ≡ Some false = cc in
+    let term : AnswersTruth c.args.scene.now c.right_of-right_place.result (Ok (Some false)) =
+    subst (λ (r : Option Bool). AnswersTruth c.args.scene.now c.right_of-right_place.result (Ok r)) is c.in_ok-right-in-None.ensures in
+    false_answers c.args.scene.now c.args.rest.ands c.requires.rest.ands c.requires.stands l.at above l.invariant.within c.right_of-right_place.result c.right_of-right_place.ensures l.left l.invariant.undecided l.invariant.answers term
+
+pub loop-at-preserved-in-None-None : goal.loop-at-preserved-in-None-None
+loop-at-preserved-in-None-None c =
+    let l = c.loop-at in
+    let above : 0 < l.at = omega arith in
+    let is : c.in_ok-right-in-None.right ≡ None = cc in
+    let term : AnswersTruth c.args.scene.now c.right_of-right_place.result (Ok (None)) =
+    subst (λ (r : Option Bool). AnswersTruth c.args.scene.now c.right_of-right_place.result (Ok r)) is c.in_ok-right-in-None.ensures in
+    let within : l.at ≤ c.args.rest.ands = l.invariant.within in
+    record {
+      within = omega arith;
+      undecided = λ none. none;
+      answers = null_answers c.args.scene.now c.args.rest.ands c.requires.rest.ands c.requires.stands l.at above l.invariant.within c.right_of-right_place.result c.right_of-right_place.ensures l.left l.invariant.undecided l.invariant.answers term;
     }
 
 pub returns-in_err-right-in-None : goal.returns-in_err-right-in-None
@@ -77,4 +110,4 @@ returns-in_err-right-in-None c =
     let l = c.loop-at in
     let above : 0 < l.at = omega arith in
     let exit = err_from_is_err_and c.from_residual-in_err-right-in-None.result c.from_residual-in_err-right-in-None.ensures.1 in
-    rw (exit.1 ∙ ap Err exit.2) (fault_answers c.args.scene.now c.args.rest.ands c.requires.rest.ands c.requires.stands l.at above l.invariant.within c.right_of-right_place.result c.right_of-right_place.ensures l.left (told_not c.decides.result (IsDecided LogicalOperator.And (truth_val l.left)) c.decides.ensures c.if-decides.false) l.invariant.answers c.in_err-right-in-None.field-0.0 c.in_err-right-in-None.ensures)
+    rw (exit.1 ∙ ap Err exit.2) (fault_answers c.args.scene.now c.args.rest.ands c.requires.rest.ands c.requires.stands l.at above l.invariant.within c.right_of-right_place.result c.right_of-right_place.ensures l.left l.invariant.undecided l.invariant.answers c.in_err-right-in-None.field-0.0 c.in_err-right-in-None.ensures)

@@ -1,7 +1,7 @@
 use Rattle.std.proofs.Common.{◌+◌, None, arith}
 use Rattle.odata_syntax.specs.declared.binary_operator.BinaryOperator.{BinaryOperator}
 use Rattle.odata_eval.proofs.spending.Budgets.{takes_nothing}
-use Rattle.odata_eval.proofs.spending.Free.{called_free, path_free}
+use Rattle.odata_eval.proofs.spending.Free.{called_free, leaf_free}
 use Rattle.odata_eval.proofs.spending.Rests.{free_spends}
 use Rattle.odata_eval.proofs.spending.Wholes.{both_free}
 use Rattle.odata_eval.proofs.walking.AndChains.{left_side}
@@ -26,19 +26,21 @@ length_at-requires c = record {
   here = c.requires.call;
 }
 
-pub kept_number_at-requires : goal.kept_number_at-requires
-kept_number_at-requires c = right_part c.args.scene.now c.args.place (BinaryOperator.Comparison c.args.comparison) c.requires.here c.requires.stands c.right_of-right_place.result c.right_of-right_place.ensures
+pub found_number_at-requires : goal.found_number_at-requires
+found_number_at-requires c = record {
+  stands = right_part c.args.scene.now c.args.place (BinaryOperator.Comparison c.args.comparison) c.requires.here c.requires.stands c.right_of-right_place.result c.right_of-right_place.ensures;
+}
 
 pub returns-clause-answers : goal.returns-clause-answers
 returns-clause-answers c =
     let here = c.requires.here in
-    numbers_compared c.args.scene.now c.args.place c.args.comparison here c.right_of-right_place.result c.right_of-right_place.ensures c.in-Some.left c.in-Some-kept_number_at.right c.compare_numbers.result
-    c.in-Some.ensures c.in-Some-kept_number_at.ensures.answers c.compare_numbers.ensures
+    numbers_compared c.args.scene.now c.args.place c.args.comparison here c.right_of-right_place.result c.right_of-right_place.ensures c.in-Some.left c.in-Some-found_number_at.right c.compare_numbers.result
+    c.in-Some.ensures c.in-Some-found_number_at.ensures.answers c.compare_numbers.ensures
 
 pub returns-clause-spent : goal.returns-clause-spent
 returns-clause-spent c = λ budget.
     free_spends c.args.scene.now c.args.place None budget
     (both_free c.args.scene.now c.args.place (BinaryOperator.Comparison c.args.comparison) c.requires.here c.right_of-right_place.result c.right_of-right_place.ensures
     (called_free c.args.scene.now (c.args.place + 1) c.args.function c.requires.call)
-    (path_free c.args.scene.now c.right_of-right_place.result c.in-Some-kept_number_at.ensures.path))
+    (leaf_free c.args.scene.now c.right_of-right_place.result c.in-Some-found_number_at.ensures.leaf))
     (takes_nothing budget)

@@ -16,8 +16,3 @@ returns-in-Empty c =
     subst (λ (s : SceneModel). StandsAtLevel (slots_of s.row.schema) (environment_of s) c.args.level c.in-Bound.value.now) c.self.view_is
     (only_variable schema (frames_in c.self.inside.frames) frame c.args.level is
     (subst (λ (s : SceneModel). c.args.level < length (names_of (environment_of s))) (sym c.self.view_is) c.requires))
-
-pub returns : goal.returns
-returns c =
-    subst (λ (s : SceneModel). StandsAtLevel (slots_of s.row.schema) (environment_of s) c.args.level c.in-There.value.now) c.self.view_is
-    (c.in-There.ensures c.self.inside.entity.now.schema)

@@ -1,6 +1,5 @@
--- What is known of the layers below.
-use Rattle.std.proofs.Common.{◌≡◌, ◌↔◌, ℕ, ℤ, List, Bool, IsTrue, Option, Some, Result, length}
-use Rattle.std.specs.Prelude.{IfSome}
+-- What the laws of the layers below say, together. Private clauses alone cite these.
+use Rattle.std.specs.Prelude.{◌≡◌, ◌↔◌, ℕ, ℤ, List, Bool, IsTrue, Option, Some, Result, length, IfSome}
 use Rattle.edm_values.specs.Civil.{Date, epoch_day}
 use Rattle.edm_values.specs.GuidLiteral.{GuidValue}
 use Rattle.edm_values.specs.MomentLiteral.{MomentValue}
