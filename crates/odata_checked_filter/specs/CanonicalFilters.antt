@@ -5,8 +5,8 @@ use Rattle.odata_syntax.specs.CanonicalText.{IsCanonicalText}
 use Rattle.csdl_schema.specs.ExpansionView.{paths_in}
 use Rattle.csdl_schema.specs.ExprType.{ExprType}
 use Rattle.csdl_schema.specs.PathSet.{Covers, PathSet, PropertyPath}
-use Rattle.odata_expression_types.specs.HasTyping.{HasTree}
-use Rattle.odata_expression_types.specs.PreOrder.{pre_order}
+use Rattle.odata_signatures.specs.HasTyping.{HasTree}
+use Rattle.odata_signatures.specs.PreOrder.{pre_order}
 use Rattle.odata_checked_filter.specs.Filter.{Filter, HasNeededPaths, IsTypeAt, tree_of_filter}
 
 -- the first is of this text, and the second of that one's canonical text, for the same type of the same schema

@@ -10,7 +10,7 @@ use Rattle.odata_signatures.specs.declared.edm_type.EdmType.{EdmType}
 use Rattle.odata_checked_filter.specs.Depths.{depths}
 use Rattle.odata_checked_filter.specs.Filter.{Filter, IsTypeAt, tree_of_filter}
 use Rattle.odata_checked_filter.specs.Levels.{level_named}
-use Rattle.odata_expression_types.specs.PreOrder.{pre_order, span_of_tree}
+use Rattle.odata_signatures.specs.PreOrder.{pre_order, span_of_tree}
 use Rattle.odata_checked_filter.specs.ScopedNodes.{ScopedNode, scoped_nodes}
 use Rattle.odata_checked_filter.specs.TypeText.{type_text}
 

@@ -8,12 +8,12 @@ use Rattle.csdl_schema.specs.PathSet.{PropertyPath}
 use Rattle.csdl_schema.specs.SchemaModel.{SchemaModel, Slots, HoldsType, expanded, slots_of, type_name_at}
 use Rattle.odata_signatures.specs.ExprTypes.{IsBooleanOrNull}
 use Rattle.odata_checked_filter.specs.FlatTree.{FlatTree, tree_of_nodes}
-use Rattle.odata_expression_types.specs.PreOrder.{pre_order}
+use Rattle.odata_signatures.specs.PreOrder.{pre_order}
 use Rattle.odata_checked_filter.specs.NodeScopes.{IsNode}
 use Rattle.odata_checked_filter.specs.Stands.{Stands}
 use Rattle.odata_checked_filter.specs.StoredParts.{StoredParts}
-use Rattle.odata_expression_types.specs.NeededPaths.{IsNeeded}
-use Rattle.odata_expression_types.specs.Typed.{Scope, Typed}
+use Rattle.odata_signatures.specs.NeededPaths.{IsNeeded}
+use Rattle.odata_signatures.specs.Typed.{Scope, Typed}
 
 -- a filter of the n-th type of a schema, by the list of its nodes, with what it needs of navigation
 pub record Filter : Type 0 where

@@ -8,7 +8,7 @@ use Rattle.odata_checked_filter.specs.Levels.{level_named}
 use Rattle.odata_checked_filter.specs.NodeScopes.{IsNode}
 use Rattle.odata_checked_filter.specs.ScopedNodes.{scoped_nodes}
 use Rattle.odata_checked_filter.specs.Stands.{variable_names}
-use Rattle.odata_expression_types.specs.Typed.{Scope, Typed}
+use Rattle.odata_signatures.specs.Typed.{Scope, Typed}
 
 -- the node names the property in the slot: a name that no variable in scope has names one of the filtered type, a step
 -- one of the type of what stands before its slash

@@ -6,8 +6,8 @@ use Rattle.std.specs.List.{fold, list_any}
 use Rattle.odata_syntax.specs.Tree.{Shape, Tree, Trees, any_item, binary, call, count, has, in_list, in_path, it, lambda, literal, logical_not, member, more_trees, name, negation, no_trees, node}
 use Rattle.csdl_schema.specs.ExprType.{null_type}
 use Rattle.csdl_schema.specs.PathSet.{PropertyPath}
-use Rattle.odata_expression_types.specs.NeededPaths.{VariablePaths, path_of}
-use Rattle.odata_expression_types.specs.Typed.{Scope, with_variable}
+use Rattle.odata_signatures.specs.NeededPaths.{VariablePaths, path_of}
+use Rattle.odata_signatures.specs.Typed.{Scope, with_variable}
 
 abbrev mutual
   -- the path of each node of a tree in pre-order, where the variables in scope have these paths; no path depends on the

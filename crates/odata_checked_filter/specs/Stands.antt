@@ -11,9 +11,9 @@ use Rattle.odata_checked_filter.specs.declared.checked_node.CheckedNode.{Checked
 use Rattle.odata_checked_filter.specs.declared.checked_node.NodeKind.{NodeKind}
 use Rattle.odata_checked_filter.specs.FlatTree.{FlatTree}
 use Rattle.odata_checked_filter.specs.Levels.{level_named}
-use Rattle.odata_expression_types.specs.LiteralValue.{LiteralValue}
-use Rattle.odata_expression_types.specs.Reads.{OfEquality, ReadsNone, ReadsNumber}
-use Rattle.odata_expression_types.specs.Typed.{BindsVariable, Scope, Typed, with_variable}
+use Rattle.odata_signatures.specs.LiteralValue.{LiteralValue}
+use Rattle.odata_signatures.specs.Reads.{OfEquality, ReadsNone, ReadsNumber}
+use Rattle.odata_signatures.specs.Typed.{BindsVariable, Scope, Typed, with_variable}
 use Rattle.odata_signatures.specs.Functions.{IsNamed}
 use Rattle.odata_signatures.specs.TypeView.{expr_type}
 use Rattle.odata_signatures.specs.declared.function.Function.{Function}

@@ -10,7 +10,7 @@ ghost use Rattle.odata_checked_filter.specs.LambdaDepth.{lambda_depth};
 ghost use Rattle.odata_checked_filter.specs.NameKinds.{IsSlotAt, level_at};
 ghost use Rattle.odata_checked_filter.specs.PropertyPaths.{property_paths};
 ghost use Rattle.odata_checked_filter.specs.private.KeptLists.{expansion_in, list_in};
-ghost use Rattle.odata_expression_types.specs.PreOrder.{pre_order, span_of_tree};
+ghost use Rattle.odata_signatures.specs.PreOrder.{pre_order, span_of_tree};
 ghost use Rattle.odata_signatures.specs.TypeView.{expr_type};
 
 use super::called::{any_maker, any_now};
@@ -23,8 +23,7 @@ use super::node_list::NodeList;
 use super::property_paths::paths_of_list;
 use csdl_schema::{Expansion, Schema, TypeId};
 use edm_values::Value;
-use odata_expression_types::trees_have_one_type;
-use odata_signatures::{EdmType, calls_have_one_type};
+use odata_signatures::{EdmType, calls_have_one_type, trees_have_one_type};
 use odata_text::Span;
 use std::alloc::{AllocError, Global};
 use std::marker::Model;

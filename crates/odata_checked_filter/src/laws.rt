@@ -3,7 +3,7 @@ ghost use Rattle.odata_checked_filter.specs.CanonicalFilters.{HaveOneTypeAt, Hav
 ghost use Rattle.odata_checked_filter.specs.Laws.{ItemListStands, KeptStands, OneSlotAt, OneTree, OneTypeAt};
 ghost use Rattle.odata_checked_filter.specs.Laws.{PathsOfNodes, PathsOnce, PutChanges, PutStands};
 
-use odata_expression_types::{
+use odata_signatures::{
     canonical_texts_keep_types, canonical_texts_need_the_same, normal_forms_keep_types,
     trees_have_one_type,
 };

@@ -4,8 +4,8 @@ ghost use Rattle.odata_syntax.specs.Tree.{Tree};
 ghost use Rattle.csdl_schema.specs.ExpansionView.{IsReached, LeadsTo, paths_in};
 ghost use Rattle.csdl_schema.specs.PathSet.{PropertyPath};
 ghost use Rattle.csdl_schema.specs.SchemaModel.{properties_at};
-ghost use Rattle.odata_expression_types.specs.NeededPaths.{VariablePaths};
-ghost use Rattle.odata_expression_types.specs.Typed.{Scope};
+ghost use Rattle.odata_signatures.specs.NeededPaths.{VariablePaths};
+ghost use Rattle.odata_signatures.specs.Typed.{Scope};
 ghost use Rattle.odata_checked_filter.specs.Filter.{HasNeededPaths};
 ghost use Rattle.odata_checked_filter.specs.FlatTree.{tree_of_nodes};
 ghost use Rattle.odata_checked_filter.specs.private.Layout.{Lies};
@@ -22,8 +22,7 @@ use super::checked_node::NodeKind;
 use super::node_list::NodeList;
 use super::path_steps::path_base;
 use csdl_schema::{Expansion, Schema, TypeId};
-use odata_expression_types::trees_have_one_type;
-use odata_signatures::{EdmType, ValueType};
+use odata_signatures::{EdmType, ValueType, trees_have_one_type};
 use std::alloc::{AllocError, Global};
 
 /// What a walk over a list goes by.

@@ -11,8 +11,8 @@ use Rattle.csdl_schema.specs.SchemaModel.{Slots, expanded, slots_of, type_name_a
 use Rattle.edm_entities.specs.Fits.{Fits}
 use Rattle.edm_entities.specs.HasType.{HasType}
 use Rattle.edm_entities.specs.Row.{Row, IsEntity, value_of}
-use Rattle.odata_expression_types.specs.NeededPaths.{IsNeeded, VariablePaths}
-use Rattle.odata_expression_types.specs.Typed.{Typed}
+use Rattle.odata_signatures.specs.NeededPaths.{IsNeeded, VariablePaths}
+use Rattle.odata_signatures.specs.Typed.{Typed}
 use Rattle.odata_eval.specs.EndsOnceAtPaths.{EndsOnceAt}
 use Rattle.odata_eval.specs.Environment.{Environment, IsFitting, scope_of}
 use Rattle.odata_eval.specs.TypesAtPaths.{AreFittingAt, HasTypeAt}

@@ -13,7 +13,7 @@ use Rattle.odata_syntax.specs.declared.node.Quantifier.TheVariants.{Any, All}
 use Rattle.odata_syntax.specs.declared.binary_operator.LogicalOperator.TheVariants.{And, Or}
 use Rattle.odata_syntax.specs.declared.binary_operator.BinaryOperator.{BinaryOperator}
 use Rattle.odata_syntax.specs.declared.binary_operator.BinaryOperator.TheVariants.{Logical}
-use Rattle.odata_expression_types.specs.Typed.{Typed}
+use Rattle.odata_signatures.specs.Typed.{Typed}
 use Rattle.odata_filter_operations.specs.CompareGives.{CompareGives}
 use Rattle.odata_filter_operations.specs.LeftFirst.{After}
 use Rattle.odata_filter_operations.specs.Outcome.{Outcome, gives, overflow, divides_by_zero}

@@ -7,7 +7,7 @@ use Rattle.csdl_schema.specs.ExprType.{ExprType}
 use Rattle.csdl_schema.specs.SchemaModel.{Slots, slots_of, type_name_at}
 use Rattle.edm_entities.specs.Row.{Row, IsEntity, value_of}
 use Rattle.odata_checked_filter.specs.LambdaDepth.{lambda_depth}
-use Rattle.odata_expression_types.specs.Typed.{Typed}
+use Rattle.odata_signatures.specs.Typed.{Typed}
 use Rattle.odata_eval.specs.Costs.{Costs}
 use Rattle.odata_eval.specs.Environment.{Environment, IsFitting, scope_of}
 

@@ -10,7 +10,7 @@ use Rattle.edm_entities.specs.Row.{Row, IsEntity, value_of}
 use Rattle.odata_eval.specs.Environment.{Environment, scope_of, IsFitting}
 use Rattle.odata_eval.specs.Means.{Means}
 use Rattle.odata_filter_operations.specs.Outcome.{Outcome, gives, overflow, divides_by_zero}
-use Rattle.odata_expression_types.specs.Typed.{Typed}
+use Rattle.odata_signatures.specs.Typed.{Typed}
 
 -- the outcome is a value of the type, or a fault
 abbrev pub IsOutcomeOf : Slots → ExprType → Outcome → Type 0

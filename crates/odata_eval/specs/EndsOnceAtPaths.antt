@@ -7,8 +7,8 @@ use Rattle.odata_syntax.specs.Tree.{Tree}
 use Rattle.csdl_schema.specs.ExprType.{ExprType, single, structured}
 use Rattle.csdl_schema.specs.PathSet.{PathSet, PropertyPath}
 use Rattle.csdl_schema.specs.SchemaModel.{Slots}
-use Rattle.odata_expression_types.specs.NeededPaths.{IsNeeded, VariablePaths, path_of}
-use Rattle.odata_expression_types.specs.Typed.{Typed}
+use Rattle.odata_signatures.specs.NeededPaths.{IsNeeded, VariablePaths, path_of}
+use Rattle.odata_signatures.specs.Typed.{Typed}
 use Rattle.odata_eval.specs.Environment.{Environment, scope_of}
 use Rattle.odata_eval.specs.Means.{Means}
 use Rattle.odata_filter_operations.specs.Outcome.{Outcome, gives, overflow, divides_by_zero}

@@ -7,7 +7,7 @@ use Rattle.edm_values.specs.Val.{Val}
 use Rattle.csdl_schema.specs.ExprType.{ExprType}
 use Rattle.csdl_schema.specs.SchemaModel.{Slots}
 use Rattle.edm_entities.specs.HasType.{HasType}
-use Rattle.odata_expression_types.specs.Typed.{Scope, Variable}
+use Rattle.odata_signatures.specs.Typed.{Scope, Variable}
 
 -- a variable, by its name and type, and its value
 pub record Bound : Type 0 where

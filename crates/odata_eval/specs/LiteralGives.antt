@@ -2,7 +2,7 @@
 use Rattle.std.specs.Prelude.{ℕ, List}
 use Rattle.csdl_schema.specs.SchemaModel.{Slots}
 use Rattle.odata_syntax.specs.declared.node.LiteralKind.{LiteralKind}
-use Rattle.odata_expression_types.specs.LiteralValue.{LiteralValue}
+use Rattle.odata_signatures.specs.LiteralValue.{LiteralValue}
 use Rattle.odata_filter_operations.specs.Outcome.{Outcome, GivesSome}
 
 -- its value, if it has one

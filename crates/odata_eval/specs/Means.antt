@@ -10,9 +10,9 @@ use Rattle.csdl_schema.specs.SchemaModel.{Slots}
 use Rattle.odata_signatures.specs.OperatorTyped.{NegationTyped, OperatorTyped}
 use Rattle.csdl_schema.specs.ExprType.{ExprType}
 use Rattle.odata_syntax.specs.declared.binary_operator.BinaryOperator.{BinaryOperator}
-use Rattle.odata_expression_types.specs.Reads.{OfEquality, ReadsNumber}
-use Rattle.odata_expression_types.specs.Sides.{Between}
-use Rattle.odata_expression_types.specs.Typed.{OperandTyped, OperandsTyped, Typed}
+use Rattle.odata_signatures.specs.Reads.{OfEquality, ReadsNumber}
+use Rattle.odata_signatures.specs.Sides.{Between}
+use Rattle.odata_signatures.specs.Typed.{OperandTyped, OperandsTyped, Typed}
 use Rattle.odata_filter_operations.specs.CalculationGives.{NegatedGives}
 use Rattle.odata_filter_operations.specs.CallGives.{CallMeans}
 use Rattle.odata_filter_operations.specs.CollectionGives.{AnyItemGives, CountGives}

@@ -17,8 +17,8 @@ use Rattle.odata_eval.specs.Means.{ItemMeans, Means}
 use Rattle.odata_filter_operations.specs.Outcome.{Outcome, gives}
 use Rattle.odata_filter_operations.specs.QuantifierGives.{undecided_val}
 use Rattle.odata_eval.specs.ReadGives.{GivesMember, UnlessRead}
-use Rattle.odata_expression_types.specs.Reads.{ReadsNumber}
-use Rattle.odata_expression_types.specs.Typed.{Typed}
+use Rattle.odata_signatures.specs.Reads.{ReadsNumber}
+use Rattle.odata_signatures.specs.Typed.{Typed}
 
 -- a value of the body decides, or what follows goes on
 abbrev pub GoesOn : Quantifier → (Outcome → Type 0) → Val → Outcome → Type 0

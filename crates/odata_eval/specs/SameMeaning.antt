@@ -7,7 +7,7 @@ use Rattle.odata_syntax.specs.CanonicalText.{IsCanonicalText}
 use Rattle.odata_syntax.specs.NormalForm.{IsNormalForm}
 use Rattle.odata_syntax.specs.Parse.{IsExpression}
 use Rattle.odata_syntax.specs.Tree.{Tree}
-use Rattle.odata_expression_types.specs.HasTyping.{HasTree}
+use Rattle.odata_signatures.specs.HasTyping.{HasTree}
 use Rattle.odata_eval.specs.Environment.{Environment}
 use Rattle.odata_eval.specs.Means.{Means}
 use Rattle.odata_filter_operations.specs.Outcome.{Outcome}

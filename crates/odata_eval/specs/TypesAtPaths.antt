@@ -8,7 +8,7 @@ use Rattle.csdl_schema.specs.ExprType.{ExprType, single, collection, SingleType,
 use Rattle.csdl_schema.specs.PathSet.{PathSet, PropertyPath}
 use Rattle.csdl_schema.specs.SchemaModel.{Slots, PropertyType, declared, opaque, navigation}
 use Rattle.edm_entities.specs.HasType.{IsPrimitiveValue}
-use Rattle.odata_expression_types.specs.NeededPaths.{VariablePaths}
+use Rattle.odata_signatures.specs.NeededPaths.{VariablePaths}
 use Rattle.odata_eval.specs.Environment.{Environment}
 
 abbrev mutual

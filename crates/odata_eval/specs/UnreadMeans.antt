@@ -6,8 +6,8 @@ use Rattle.edm_values.specs.Val.{Val}
 use Rattle.csdl_schema.specs.SchemaModel.{Slots}
 use Rattle.odata_syntax.specs.Tree.{Tree, binary, has, node}
 use Rattle.odata_syntax.specs.declared.binary_operator.BinaryOperator.{BinaryOperator}
-use Rattle.odata_expression_types.specs.Reads.{OfEquality, ReadsNone}
-use Rattle.odata_expression_types.specs.Typed.{Typed}
+use Rattle.odata_signatures.specs.Reads.{OfEquality, ReadsNone}
+use Rattle.odata_signatures.specs.Typed.{Typed}
 use Rattle.odata_eval.specs.Environment.{Environment, scope_of}
 use Rattle.odata_filter_operations.specs.HasGives.{HasGives}
 use Rattle.odata_filter_operations.specs.LeftFirst.{After}

@@ -11,7 +11,7 @@ use super::scene::Scene;
 use super::stop::EvalStop;
 use super::walk::{likely_stored_at, operand_at};
 use edm_values::Datum;
-use odata_expression_types::trees_have_one_type;
+use odata_signatures::trees_have_one_type;
 use odata_filter_operations::{EvalFault, among, flags_of};
 use odata_functions::{compare, comparisons_are_decided};
 use odata_syntax::ComparisonOperator;

@@ -8,7 +8,7 @@ ghost use Rattle.odata_eval.specs.private.Place.{HasKind, HasOperator};
 
 use edm_values::{Sieve, Value};
 use odata_checked_filter::{Checked, NodeKind};
-use odata_expression_types::literals_have_one_value;
+use odata_signatures::literals_have_one_value;
 use odata_syntax::{BinaryOperator, ComparisonOperator, LogicalOperator};
 use std::alloc::Global;
 

@@ -10,8 +10,8 @@ use Rattle.csdl_schema.specs.PathSet.{Covers}
 use Rattle.csdl_schema.specs.SchemaModel.{Slots, slots_of, type_name_at}
 use Rattle.edm_entities.specs.Fits.{Fits}
 use Rattle.edm_entities.specs.Row.{Row, IsEntity, value_of}
-use Rattle.odata_expression_types.specs.HasTyping.{HasTyping, HasNoTyping, IsRefusal}
-use Rattle.odata_expression_types.specs.declared.refusal.Refusal.{Refusal}
+use Rattle.odata_signatures.specs.HasTyping.{HasTyping, HasNoTyping, IsRefusal}
+use Rattle.odata_signatures.specs.declared.refusal.Refusal.{Refusal}
 use Rattle.odata_checked_filter.specs.Filter.{Filter, HasNeededPaths, slots_for_filter, tree_of_filter}
 use Rattle.odata_eval.specs.MeansOn.{IsTheOutcome}
 use Rattle.odata_filter_operations.specs.Outcome.{Outcome, gives, overflow, divides_by_zero}

@@ -26,7 +26,7 @@ use Rattle.odata_syntax.specs.CanonicalText.{IsCanonicalText}
 use Rattle.odata_checked_filter.specs.Calls.{UsesNow}
 use Rattle.odata_checked_filter.specs.Explanation.{IsExplanation}
 use Rattle.odata_checked_filter.specs.Filter.{Filter, tree_of_filter}
-use Rattle.odata_expression_types.specs.HasTyping.{HasTyping, HasNoTyping}
+use Rattle.odata_signatures.specs.HasTyping.{HasTyping, HasNoTyping}
 
 -- the moment that is handed in where none is given and none is asked for: 0001-01-01T00:00:00Z
 abbrev pub IsFirstMoment : MomentParts → Type 0

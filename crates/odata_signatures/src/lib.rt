@@ -20,7 +20,10 @@ mod function;
 mod has;
 mod laws;
 mod membership;
+mod normal_form_laws;
 mod operator;
+mod refusal;
+mod tree_type_laws;
 
 pub use argument_kind::ArgumentKind;
 pub use call::{CallFault, TypedCall, judged_call};
@@ -31,4 +34,15 @@ pub use function::{Function, Signature};
 pub use has::has_type;
 pub use laws::{calls_have_one_type, quoted_texts_have_one_number, unread_operands_go_by_types};
 pub use membership::in_path_type;
+pub use normal_form_laws::{
+    canonical_texts_keep_types, canonical_texts_need_the_same, normal_forms_keep_types,
+};
 pub use operator::{made_type, negated_type, opposite_type};
+pub use refusal::{Refusal, TypeFault, TypeFaultCode};
+pub use tree_type_laws::{
+    a_filter_of_items_is_boolean, a_number_is_no_text, children_come_first,
+    enumeration_literals_are_spelled_by_pieces, enumeration_literals_have_one_name,
+    literals_have_one_value, quoting_trees_are_texts, texts_have_few_nodes, texts_have_one_refusal,
+    trees_have_one_type, typed_trees_are_clear, unread_operands_have_one_reason,
+    untypable_nodes_start_apart,
+};

@@ -18,8 +18,7 @@ use super::setting::{Judged, Setting};
 use super::walk::Walk;
 use csdl_schema::Schema;
 use odata_checked_filter::NodeKind;
-use odata_expression_types::TypeFaultCode;
-use odata_signatures::{BOOLEAN, EdmType, ValueType, has_type, in_path_type, made_type};
+use odata_signatures::{BOOLEAN, EdmType, TypeFaultCode, ValueType, has_type, in_path_type, made_type};
 use odata_syntax::{BinaryOperator, ComparisonOperator};
 
 /// The types of the two operands, and what they quote.

@@ -4,7 +4,7 @@ ghost use Rattle.std.specs.Str.{str_to_ascii_lowercase};
 ghost use Rattle.odata_syntax.specs.TextTree.{IsTextRange};
 ghost use Rattle.odata_syntax.specs.Tree.{Tree, call, trees_of_list};
 ghost use Rattle.odata_signatures.specs.Functions.{IsNamed};
-ghost use Rattle.odata_expression_types.specs.FirstUntypable.{code_of_call};
+ghost use Rattle.odata_signatures.specs.FirstUntypable.{code_of_call};
 ghost use Rattle.odata_checked_filter.specs.Stands.{IsCallNode};
 ghost use Rattle.odata_typing.specs.private.Judging.{AreChildren, IsNodeJudged};
 ghost use Rattle.odata_typing.specs.private.Rows.{AreInRow};
@@ -14,8 +14,7 @@ use super::laws_below::laws_below;
 use super::setting::{Judged, Setting};
 use super::walk::Walk;
 use odata_checked_filter::{CheckedNode, NodeKind};
-use odata_expression_types::TypeFaultCode;
-use odata_signatures::{CallFault, EdmType, Function, judged_call};
+use odata_signatures::{CallFault, EdmType, Function, TypeFaultCode, judged_call};
 
 /// No function takes more arguments.
 const MOST_ARGUMENTS: usize = 3;

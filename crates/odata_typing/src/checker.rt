@@ -4,7 +4,7 @@ ghost use Rattle.odata_signatures.specs.ExprTypes.{IsBooleanOrNull};
 ghost use Rattle.odata_signatures.specs.TypeView.{expr_type};
 ghost use Rattle.odata_checked_filter.specs.Filter.{HasNeededPaths, IsFilter, filter_in, tree_of_filter};
 ghost use Rattle.odata_checked_filter.specs.FlatTree.{tree_of_nodes};
-ghost use Rattle.odata_expression_types.specs.HasTyping.{HasNoTyping, HasTyping, IsRefusal, UnlessMemory};
+ghost use Rattle.odata_signatures.specs.HasTyping.{HasNoTyping, HasTyping, IsRefusal, UnlessMemory};
 ghost use Rattle.odata_typing.specs.private.Answer.{IsTypeRefusal, refusal_of};
 ghost use Rattle.odata_typing.specs.private.Judging.{IsStanding};
 ghost use Rattle.odata_typing.specs.private.Settings.{IsReady, IsSetting, whole_tree};
@@ -20,7 +20,7 @@ use csdl_schema::{Expansion, Schema, TypeId};
 use odata_checked_filter::{
     Checked, CheckedNode, StoredFilter, a_list_stands_for_one_tree, expansion_of,
 };
-use odata_expression_types::{Refusal, TypeFault, TypeFaultCode, texts_have_few_nodes};
+use odata_signatures::{Refusal, TypeFault, TypeFaultCode, texts_have_few_nodes};
 use odata_syntax::{SyntaxFault, TextOrSyntaxFault, parse_text};
 use odata_text::{Span, TextFault, tokens_are_spelled};
 use std::alloc::{AllocError, Global};

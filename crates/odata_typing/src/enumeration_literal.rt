@@ -2,10 +2,10 @@
 //! section 7, `enum`).
 ghost use Rattle.std.specs.Prelude.{ℕ, ℤ, List, Some, IfSome, IfNone};
 ghost use Rattle.csdl_schema.specs.SchemaModel.{HoldsEnumeration, slots_of, type_name_at};
-ghost use Rattle.odata_expression_types.specs.LiteralValue.{EnumerationLiteral, IsNameAndText, NamesNumber};
+ghost use Rattle.odata_signatures.specs.LiteralValue.{EnumerationLiteral, IsNameAndText, NamesNumber};
 
 use csdl_schema::{EnumId, Schema};
-use odata_expression_types::enumeration_literals_have_one_name;
+use odata_signatures::enumeration_literals_have_one_name;
 
 /// An enumeration, and a number of it.
 #[derive(Clone, Copy)]

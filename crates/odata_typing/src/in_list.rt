@@ -17,8 +17,7 @@ use super::text_beside::{Beside, number_beside};
 use super::walk::Walk;
 use csdl_schema::Schema;
 use odata_checked_filter::{CheckedNode, NodeKind};
-use odata_expression_types::TypeFaultCode;
-use odata_signatures::{BOOLEAN, EdmType, are_comparable};
+use odata_signatures::{BOOLEAN, EdmType, TypeFaultCode, are_comparable};
 
 /// Whether items may stand after the operand.
 #[derive(Clone, Copy)]

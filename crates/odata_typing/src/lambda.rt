@@ -12,8 +12,7 @@ use super::setting::{Judged, Setting};
 use super::variables::{Variables, variable_named};
 use super::walk::Walk;
 use odata_checked_filter::NodeKind;
-use odata_expression_types::TypeFaultCode;
-use odata_signatures::{BOOLEAN, EdmType};
+use odata_signatures::{BOOLEAN, EdmType, TypeFaultCode};
 use odata_syntax::{Quantifier, SyntaxKind};
 
 /// Judges the body of the lambda expression of an index, which begins with the node `from`, and then the expression.

@@ -2,7 +2,7 @@
 ghost use Rattle.std.specs.Prelude.{◌≡◌, ◌≢◌, ◌+◌};
 ghost use Rattle.odata_syntax.specs.TextTree.{IsTextRange};
 ghost use Rattle.odata_syntax.specs.Tree.{literal};
-ghost use Rattle.odata_expression_types.specs.FirstUntypable.{LiteralReason};
+ghost use Rattle.odata_signatures.specs.FirstUntypable.{LiteralReason};
 ghost use Rattle.odata_signatures.specs.TypeThere.{IsTypeThere};
 ghost use Rattle.odata_typing.specs.private.Answer.{IsReading};
 ghost use Rattle.odata_typing.specs.private.Judging.{IsNodeJudged};
@@ -14,7 +14,7 @@ use super::setting::{Judged, Setting};
 use super::walk::Walk;
 use edm_values::{LitFault, Prim, Value, read_int, read_string};
 use odata_checked_filter::NodeKind;
-use odata_expression_types::TypeFaultCode;
+use odata_signatures::TypeFaultCode;
 use odata_syntax::LiteralKind;
 
 /// Puts the literal's node at its index, with its value.

@@ -7,9 +7,9 @@ ghost use Rattle.csdl_schema.specs.PropertyView.{PointsWithin, property_type};
 ghost use Rattle.csdl_schema.specs.SchemaModel.{SchemaModel, properties_at, slot_named};
 ghost use Rattle.odata_signatures.specs.TypeThere.{IsTypeThere};
 ghost use Rattle.odata_signatures.specs.TypeView.{expr_type};
-ghost use Rattle.odata_expression_types.specs.FirstUntypable.{NameReason, PropertyReason};
-ghost use Rattle.odata_expression_types.specs.NeededPaths.{Navigates};
-ghost use Rattle.odata_expression_types.specs.Typed.{PropertyTyped, named_type};
+ghost use Rattle.odata_signatures.specs.FirstUntypable.{NameReason, PropertyReason};
+ghost use Rattle.odata_signatures.specs.NeededPaths.{Navigates};
+ghost use Rattle.odata_signatures.specs.Typed.{PropertyTyped, named_type};
 ghost use Rattle.odata_typing.specs.private.Judging.{AreChildren, IsNodeJudged};
 ghost use Rattle.odata_typing.specs.private.Settings.{IsNodeReady, name_of};
 
@@ -19,8 +19,7 @@ use super::variables::variable_in_scope;
 use super::walk::Walk;
 use csdl_schema::{Property, PropertyKind, TypeId};
 use odata_checked_filter::NodeKind;
-use odata_expression_types::TypeFaultCode;
-use odata_signatures::{EdmType, ValueType};
+use odata_signatures::{EdmType, TypeFaultCode, ValueType};
 
 /// Puts the node of the variable of that name at its index, or where there is none that of the property of the filtered
 /// type.

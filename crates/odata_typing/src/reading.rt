@@ -2,7 +2,7 @@
 ghost use Rattle.std.specs.Prelude.{◌≡◌, ◌≢◌, Bool, IfSome, IfNone};
 ghost use Rattle.csdl_schema.specs.ExprType.{ExprType};
 ghost use Rattle.csdl_schema.specs.SchemaModel.{slots_of};
-ghost use Rattle.odata_expression_types.specs.LiteralValue.{BooleanValue, LiteralTyped};
+ghost use Rattle.odata_signatures.specs.LiteralValue.{BooleanValue, LiteralTyped};
 ghost use Rattle.odata_signatures.specs.TypeThere.{IsTypeThere};
 ghost use Rattle.odata_typing.specs.private.Answer.{IsReading};
 

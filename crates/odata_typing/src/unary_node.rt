@@ -12,8 +12,7 @@ use super::laws_below::laws_below;
 use super::setting::{Judged, Setting};
 use super::walk::Walk;
 use odata_checked_filter::NodeKind;
-use odata_expression_types::TypeFaultCode;
-use odata_signatures::{EdmType, any_item_type, count_type, negated_type, opposite_type};
+use odata_signatures::{EdmType, TypeFaultCode, any_item_type, count_type, negated_type, opposite_type};
 
 /// What is asked of the one operand.
 #[derive(Clone, Copy)]

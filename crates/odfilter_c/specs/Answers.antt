@@ -3,7 +3,7 @@ use Rattle.std.specs.Prelude.{ℕ, List, [], length, Option, None, Some}
 use Rattle.odata_text.specs.declared.find_fault.FindFault.{FindFault}
 use Rattle.odata_text.specs.declared.query_fault.QueryFault.{QueryFault}
 use Rattle.odata_text.specs.declared.span.Span.{Span}
-use Rattle.odata_expression_types.specs.declared.refusal.Refusal.{Refusal}
+use Rattle.odata_signatures.specs.declared.refusal.Refusal.{Refusal}
 use Rattle.edm_entities.specs.declared.fault.RowFault.{RowFault}
 use Rattle.odata_filter.specs.FaultNumbers.{evaluation_number, path_told, query_number, row_number, schema_number, span_told, syntax_number, text_number, type_number}
 use Rattle.odfilter_c.specs.declared.c_types.Answer.{Answer}

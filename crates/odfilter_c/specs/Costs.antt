@@ -4,7 +4,7 @@ use Rattle.std.specs.List.{flat_map}
 use Rattle.odata_checked_filter.specs.Filter.{Filter, tree_of_filter}
 use Rattle.odata_checked_filter.specs.LambdaDepth.{lambda_depth}
 use Rattle.odata_checked_filter.specs.PropertyPaths.{property_paths}
-use Rattle.odata_expression_types.specs.PreOrder.{pre_order}
+use Rattle.odata_signatures.specs.PreOrder.{pre_order}
 use Rattle.odfilter_c.specs.Answers.{empty_answer}
 use Rattle.odfilter_c.specs.FilterCalls.{IsNoText}
 use Rattle.odfilter_c.specs.Outcomes.{IsTold}

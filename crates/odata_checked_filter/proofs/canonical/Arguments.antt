@@ -6,7 +6,7 @@ use Rattle.odata_syntax.specs.CanonicalText.{IsCanonicalText, further_text, tree
 use Rattle.odata_syntax.specs.NormalForm.{AreNormalForms}
 use Rattle.odata_syntax.specs.Tree.{Shape, Tree, Trees, call, more_trees, no_trees, node}
 use Rattle.csdl_schema.specs.SchemaModel.{SchemaModel}
-use Rattle.odata_expression_types.specs.Typed.{Scope}
+use Rattle.odata_signatures.specs.Typed.{Scope}
 use Rattle.odata_checked_filter.specs.declared.canonical_text.Part.{Part}
 use Rattle.odata_checked_filter.specs.declared.canonical_text.Part.TheVariants.{Close, Further, Operand}
 use Rattle.odata_checked_filter.specs.declared.checked_node.NodeKind.{NodeKind}

@@ -12,7 +12,7 @@ use Rattle.odata_checked_filter.specs.FlatTree.{FlatTree}
 use Rattle.odata_checked_filter.specs.Stands.{IsKindOf}
 use Rattle.std.specs.Prelude.{codes}
 use Rattle.odata_signatures.specs.Functions.{row_of}
-use Rattle.odata_expression_types.specs.Typed.{Scope}
+use Rattle.odata_signatures.specs.Typed.{Scope}
 use Rattle.odata_checked_filter.specs.private.CanonicalWalk.{StandsThere}
 use Rattle.odata_checked_filter.specs.private.KindTexts.{kind_level}
 

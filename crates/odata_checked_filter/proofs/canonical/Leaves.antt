@@ -16,7 +16,7 @@ use Rattle.odata_checked_filter.specs.declared.checked_node.CheckedNode.{Checked
 use Rattle.odata_checked_filter.specs.declared.checked_node.NodeKind.{NodeKind}
 use Rattle.odata_checked_filter.specs.FlatTree.{FlatTree}
 use Rattle.odata_checked_filter.specs.private.Layout.{Lies}
-use Rattle.odata_expression_types.specs.Typed.{Scope}
+use Rattle.odata_signatures.specs.Typed.{Scope}
 use Rattle.odata_checked_filter.specs.private.CanonicalWalk.{HasTreeAt, IsPieceOf, IsTextAdded, Piece, StandsThere, WritesNode, further, operand, plain, stop_at}
 use Rattle.odata_checked_filter.proofs.canonical.Kinds.{Matches, shape_there}
 use Rattle.odata_checked_filter.proofs.flat.Places.{found_before}

@@ -12,7 +12,7 @@ use Rattle.odata_syntax.specs.declared.binary_operator.BinaryOperator.{BinaryOpe
 use Rattle.odata_syntax.specs.declared.node.LiteralKind.{LiteralKind}
 use Rattle.odata_signatures.specs.declared.function.Function.{Function}
 use Rattle.csdl_schema.specs.SchemaModel.{SchemaModel}
-use Rattle.odata_expression_types.specs.Typed.{Scope, with_variable}
+use Rattle.odata_signatures.specs.Typed.{Scope, with_variable}
 use Rattle.odata_checked_filter.specs.declared.canonical_text.Part.{Part}
 use Rattle.odata_checked_filter.specs.declared.canonical_text.Part.TheVariants.{Close, Joint}
 use Rattle.odata_checked_filter.specs.declared.checked_node.CheckedNode.{CheckedNode}

@@ -10,7 +10,7 @@ use Rattle.odata_checked_filter.specs.Depths.{depths, depths_among, depths_below
 use Rattle.odata_checked_filter.specs.FlatTree.{FlatTree}
 use Rattle.odata_checked_filter.specs.private.Layout.{AllLie, ChildrenLie, Lies, OfAnyValue}
 use Rattle.odata_checked_filter.specs.Stands.{IsTop}
-use Rattle.odata_expression_types.specs.Typed.{Scope, with_variable}
+use Rattle.odata_signatures.specs.Typed.{Scope, with_variable}
 use Rattle.csdl_schema.specs.ExprType.{single}
 use Rattle.odata_checked_filter.specs.private.ExplanationWalk.{still_around}
 use Rattle.odata_checked_filter.proofs.flat.Children.{body_there, one_there, two_there}

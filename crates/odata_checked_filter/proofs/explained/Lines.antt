@@ -10,10 +10,10 @@ use Rattle.odata_checked_filter.specs.declared.checked_node.CheckedNode.{Checked
 use Rattle.odata_checked_filter.specs.Depths.{depths}
 use Rattle.odata_checked_filter.specs.Explanation.{IsExplanation, IsNodeLine, node_label, node_line}
 use Rattle.odata_checked_filter.specs.Filter.{Filter, IsFilter, tree_of_filter}
-use Rattle.odata_expression_types.specs.PreOrder.{span_of_tree}
+use Rattle.odata_signatures.specs.PreOrder.{span_of_tree}
 use Rattle.odata_checked_filter.specs.private.Layout.{Lies}
 use Rattle.odata_checked_filter.specs.Stands.{text_of_shape, variable_names}
-use Rattle.odata_expression_types.specs.Typed.{Scope}
+use Rattle.odata_signatures.specs.Typed.{Scope}
 use Rattle.odata_checked_filter.specs.private.ExplanationWalk.{IsLinePut, kind_label, listed_line, still_around}
 use Rattle.odata_checked_filter.proofs.flat.Lying.{filter_lies}
 use Rattle.odata_checked_filter.proofs.flat.Numbered.{IsNumbered, count_of, numbered, type_at}

@@ -3,8 +3,8 @@ use Rattle.std.proofs.Common.{◌≡◌, subst, ℕ, List, [], Option, Some}
 use Rattle.odata_syntax.specs.Tree.{Tree, member, name, node}
 use Rattle.csdl_schema.specs.ExprType.{single, structured}
 use Rattle.csdl_schema.specs.SchemaModel.{Slots, slots_of, type_name_at, slot_named}
-use Rattle.odata_expression_types.specs.Laws.{OneType}
-use Rattle.odata_expression_types.specs.Typed.{Scope, Typed}
+use Rattle.odata_signatures.specs.Laws.{OneType}
+use Rattle.odata_signatures.specs.Typed.{Scope, Typed}
 use Rattle.odata_checked_filter.specs.Filter.{tree_of_filter}
 use Rattle.odata_checked_filter.specs.Laws.{OneSlotAt, OneTypeAt}
 use Rattle.odata_checked_filter.specs.NameKinds.{NamesSlot}

@@ -5,7 +5,7 @@ use Rattle.csdl_schema.specs.SchemaModel.{SchemaModel, slots_of, type_name_at}
 use Rattle.odata_checked_filter.specs.FlatTree.{FlatTree}
 use Rattle.odata_checked_filter.specs.private.Layout.{Lies}
 use Rattle.odata_checked_filter.specs.Stands.{InBody, InLine, SideBySide}
-use Rattle.odata_expression_types.specs.Typed.{Scope, Typed}
+use Rattle.odata_signatures.specs.Typed.{Scope, Typed}
 
 only_part : (Part : ℕ → ℕ → Type 0) (i j : ℕ) → InLine (Part ∷ []) i j → Part i j
 only_part Part i j stand = let same : stand.middle ≡ j = stand.right in subst (λ (k : ℕ). Part i k) same stand.left

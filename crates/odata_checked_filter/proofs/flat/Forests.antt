@@ -12,7 +12,7 @@ use Rattle.odata_checked_filter.specs.private.Layout.{AllLie, ChildrenLie, Lies,
 use Rattle.odata_checked_filter.specs.Stands.{IsTop, IsKindOf, Stands, text_of_shape}
 use Rattle.std.specs.Prelude.{codes}
 use Rattle.odata_signatures.specs.Functions.{row_of}
-use Rattle.odata_expression_types.specs.Typed.{Scope, with_variable}
+use Rattle.odata_signatures.specs.Typed.{Scope, with_variable}
 use Rattle.csdl_schema.specs.ExprType.{single}
 use Rattle.odata_checked_filter.proofs.flat.Children.{body_there, one_there, two_there}
 use Rattle.odata_checked_filter.proofs.flat.Places.{drop_at}

@@ -9,7 +9,7 @@ use Rattle.odata_checked_filter.specs.declared.checked_node.CheckedNode.{Checked
 use Rattle.odata_checked_filter.specs.declared.checked_node.NodeKind.{NodeKind}
 use Rattle.odata_checked_filter.specs.FlatTree.{FlatTree}
 use Rattle.odata_checked_filter.specs.Stands.{AllStand, BesideStands, ChildrenStand, HasOwnValue, HasValue, IsTop, ItemsStand, NumberStands, Stands}
-use Rattle.odata_expression_types.specs.Typed.{Scope, Typed, with_variable}
+use Rattle.odata_signatures.specs.Typed.{Scope, Typed, with_variable}
 use Rattle.odata_checked_filter.proofs.flat.Lying.{all_lie, beside_lies, items_lie, stands_lie}
 use Rattle.odata_checked_filter.proofs.flat.Standing.{lies_nonempty, lie_onward}
 

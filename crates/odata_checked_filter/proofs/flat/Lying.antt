@@ -9,7 +9,7 @@ use Rattle.odata_checked_filter.specs.Filter.{Filter, IsFilter, tree_of_filter}
 use Rattle.odata_checked_filter.specs.FlatTree.{FlatTree}
 use Rattle.odata_checked_filter.specs.private.Layout.{AllLie, ChildrenLie, Lies, OfAnyValue}
 use Rattle.odata_checked_filter.specs.Stands.{AllStand, BesideStands, ChildrenStand, IsTop, ItemsStand, NumberStands, Stands}
-use Rattle.odata_expression_types.specs.Typed.{Scope, Typed, with_variable}
+use Rattle.odata_signatures.specs.Typed.{Scope, Typed, with_variable}
 
 top_lies :
     (schema : SchemaModel) (n : ℕ) (scope : Scope) (list : FlatTree) (i j start stop : ℕ) (shape : Shape) (Valued : NodeKind → Type 0)

@@ -5,9 +5,9 @@ use Rattle.odata_syntax.specs.Spans.{IsWithin, children_of, in_child, is_root, l
 use Rattle.odata_syntax.specs.Tree.{Shape, Tree, Trees, any_item, binary, call, count, has, in_list, in_path, it, lambda, literal, logical_not, member, more_trees, name, negation, no_trees, node}
 use Rattle.csdl_schema.specs.ExprType.{SingleType, collection, single}
 use Rattle.csdl_schema.specs.SchemaModel.{Slots}
-use Rattle.odata_expression_types.specs.Laws.{OneType}
-use Rattle.odata_expression_types.specs.PreOrder.{nodes_among, nodes_below, pre_order}
-use Rattle.odata_expression_types.specs.Typed.{Scope, Typed, with_variable}
+use Rattle.odata_signatures.specs.Laws.{OneType}
+use Rattle.odata_signatures.specs.PreOrder.{nodes_among, nodes_below, pre_order}
+use Rattle.odata_signatures.specs.Typed.{Scope, Typed, with_variable}
 use Rattle.odata_checked_filter.specs.NodeScopes.{InEither, IsNode, IsNodeAmong, IsNodeBelow}
 use Rattle.odata_checked_filter.specs.Stands.{InBody}
 

@@ -7,18 +7,18 @@ use Rattle.odata_text.specs.declared.span.Span.{Span}
 use Rattle.csdl_schema.specs.SchemaModel.{Slots, slots_of, type_name_at}
 use Rattle.odata_checked_filter.specs.declared.checked_node.CheckedNode.{CheckedNode}
 use Rattle.odata_checked_filter.specs.declared.checked_node.NodeKind.{NodeKind}
-use Rattle.odata_expression_types.specs.Laws.{OneType}
+use Rattle.odata_signatures.specs.Laws.{OneType}
 use Rattle.odata_checked_filter.specs.NodeScopes.{IsNode}
 use Rattle.odata_checked_filter.proofs.flat.Nodes.{node_before, node_one}
 use Rattle.odata_checked_filter.specs.Filter.{Filter, IsFilter, IsTypeAt, tree_of_filter}
 use Rattle.odata_checked_filter.specs.FlatTree.{FlatTree}
 use Rattle.odata_checked_filter.specs.Levels.{level_named}
 use Rattle.odata_checked_filter.specs.NameKinds.{NamesSlot, IsSlotAt, level_of_node, level_at}
-use Rattle.odata_expression_types.specs.PreOrder.{pre_order, span_of_tree}
+use Rattle.odata_signatures.specs.PreOrder.{pre_order, span_of_tree}
 use Rattle.odata_checked_filter.specs.ScopedNodes.{ScopedNode, scoped_nodes}
 use Rattle.odata_checked_filter.specs.private.Layout.{Lies}
 use Rattle.odata_checked_filter.specs.Stands.{IsKindOf, variable_names}
-use Rattle.odata_expression_types.specs.Typed.{Scope, Typed}
+use Rattle.odata_signatures.specs.Typed.{Scope, Typed}
 use Rattle.odata_signatures.specs.TypeView.{expr_type}
 use Rattle.odata_checked_filter.proofs.flat.Places.{found_within, same_found}
 use Rattle.odata_checked_filter.proofs.flat.Lying.{filter_lies}

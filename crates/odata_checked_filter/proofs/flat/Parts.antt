@@ -4,14 +4,14 @@ use Rattle.std.proofs.lemmas.List.{length-map, map-append}
 use Rattle.std.proofs.lemmas.Option.{none-some, slice_get_within}
 use Rattle.odata_syntax.specs.Tree.{Shape, Tree, Trees, any_item, binary, call, count, has, in_list, in_path, it, lambda, literal, logical_not, member, more_trees, name, negation, no_trees, node}
 use Rattle.csdl_schema.specs.SchemaModel.{SchemaModel, slots_of, type_name_at}
-use Rattle.odata_expression_types.specs.Considered.{IsItself}
+use Rattle.odata_signatures.specs.Considered.{IsItself}
 use Rattle.odata_checked_filter.specs.NodeScopes.{InEither, IsNode, IsNodeAmong, IsNodeBelow}
 use Rattle.odata_checked_filter.specs.FlatTree.{FlatTree}
-use Rattle.odata_expression_types.specs.PreOrder.{nodes_among, nodes_below, pre_order}
+use Rattle.odata_signatures.specs.PreOrder.{nodes_among, nodes_below, pre_order}
 use Rattle.odata_checked_filter.specs.ScopedNodes.{ScopedNode, scoped_among, scoped_below, scoped_nodes}
 use Rattle.odata_checked_filter.specs.private.Layout.{AllLie, ChildrenLie, Lies}
 use Rattle.odata_checked_filter.specs.Stands.{InBody, variable_names}
-use Rattle.odata_expression_types.specs.Typed.{Scope, Typed, with_variable}
+use Rattle.odata_signatures.specs.Typed.{Scope, Typed, with_variable}
 use Rattle.csdl_schema.specs.ExprType.{single}
 use Rattle.odata_checked_filter.proofs.flat.Children.{body_there, one_there, two_there}
 use Rattle.odata_checked_filter.proofs.flat.Places.{get_parts}

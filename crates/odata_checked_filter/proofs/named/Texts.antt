@@ -5,8 +5,8 @@ use Rattle.std.specs.List.{list_any}
 use Rattle.std.proofs.lemmas.Bool.{false≢true}
 use Rattle.std.proofs.lemmas.List.Sums.{fold_push}
 use Rattle.csdl_schema.specs.PathSet.{PropertyPath}
-use Rattle.odata_expression_types.specs.NeededPaths.{VariablePaths, variable_path}
-use Rattle.odata_expression_types.specs.Typed.{Scope}
+use Rattle.odata_signatures.specs.NeededPaths.{VariablePaths, variable_path}
+use Rattle.odata_signatures.specs.Typed.{Scope}
 use Rattle.odata_checked_filter.specs.PropertyPaths.{path_text, unseen, with_step}
 use Rattle.odata_checked_filter.specs.private.PathWalk.{AreBound, NamedText, bound_in, text_named, with_texts}
 use Rattle.odata_checked_filter.specs.declared.property_paths.Variables.{Variables, Bound, Empty, the_lemmas}

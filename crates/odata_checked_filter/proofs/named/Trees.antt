@@ -7,8 +7,8 @@ use Rattle.odata_syntax.specs.Spans.{children_of, list_of_trees}
 use Rattle.odata_syntax.specs.declared.node.Quantifier.{Quantifier}
 use Rattle.csdl_schema.specs.ExprType.{null_type}
 use Rattle.csdl_schema.specs.SchemaModel.{slots_of, type_name_at}
-use Rattle.odata_expression_types.specs.NeededPaths.{VariablePaths, path_of}
-use Rattle.odata_expression_types.specs.Typed.{Scope, with_variable}
+use Rattle.odata_signatures.specs.NeededPaths.{VariablePaths, path_of}
+use Rattle.odata_signatures.specs.Typed.{Scope, with_variable}
 use Rattle.odata_checked_filter.specs.FlatTree.{FlatTree}
 use Rattle.odata_checked_filter.specs.PropertyPaths.{node_paths, path_text, paths_among, paths_below}
 use Rattle.odata_checked_filter.specs.declared.checked_node.CheckedNode.{CheckedNode}

@@ -5,9 +5,9 @@ use Rattle.csdl_schema.specs.ExpansionView.{StepModel, paths_in}
 use Rattle.csdl_schema.specs.ExprType.{ExprType, SingleType, collection, single}
 use Rattle.csdl_schema.specs.PathSet.{PropertyPath}
 use Rattle.csdl_schema.specs.SchemaModel.{Slots}
-use Rattle.odata_expression_types.specs.Laws.{OneType}
-use Rattle.odata_expression_types.specs.NeededPaths.{BodyNeeds, IsNeeded, VariablePaths, path_of}
-use Rattle.odata_expression_types.specs.Typed.{BindsVariable, Scope, Typed, with_variable}
+use Rattle.odata_signatures.specs.Laws.{OneType}
+use Rattle.odata_signatures.specs.NeededPaths.{BodyNeeds, IsNeeded, VariablePaths, path_of}
+use Rattle.odata_signatures.specs.Typed.{BindsVariable, Scope, Typed, with_variable}
 use Rattle.odata_checked_filter.specs.private.NeededWalk.{LambdaNeeds, NeedsAmong, NeedsOnWay, Puts}
 use Rattle.odata_checked_filter.proofs.needed.Sets.{puts_as, puts_both}
 use Rattle.odata_checked_filter.proofs.needed.Ways.{way_needed}

@@ -4,8 +4,8 @@ use Rattle.odata_syntax.specs.Tree.{Shape, Tree, any_item, binary, call, count, 
 use Rattle.csdl_schema.specs.ExprType.{ExprType, single, structured}
 use Rattle.csdl_schema.specs.PathSet.{PropertyPath}
 use Rattle.csdl_schema.specs.SchemaModel.{PropertyModel, SchemaModel, Slots, properties_at, slot_named, slots_of, type_name_at}
-use Rattle.odata_expression_types.specs.NeededPaths.{VariablePaths, path_of}
-use Rattle.odata_expression_types.specs.Typed.{Scope, Typed}
+use Rattle.odata_signatures.specs.NeededPaths.{VariablePaths, path_of}
+use Rattle.odata_signatures.specs.Typed.{Scope, Typed}
 use Rattle.odata_signatures.specs.TypeView.{expr_type}
 use Rattle.odata_signatures.specs.declared.edm_type.EdmType.{EdmType}
 use Rattle.odata_signatures.specs.declared.edm_type.ValueType.{ValueType}

@@ -3,8 +3,8 @@ use Rattle.std.proofs.Common.{◌≡◌, ℕ, Bor, rules, suc, ◌<◌, List, []
 use Rattle.std.specs.Cmp.Lexicographic.{pointwise}
 use Rattle.csdl_schema.specs.ExpansionView.{LeadsTo, StepModel}
 use Rattle.csdl_schema.specs.PathSet.{PropertyPath}
-use Rattle.odata_expression_types.specs.NeededPaths.{VariablePaths, variable_path}
-use Rattle.odata_expression_types.specs.Typed.{Scope, variable_type}
+use Rattle.odata_signatures.specs.NeededPaths.{VariablePaths, variable_path}
+use Rattle.odata_signatures.specs.Typed.{Scope, variable_type}
 use Rattle.odata_checked_filter.specs.Levels.{level_named}
 use Rattle.odata_checked_filter.specs.Stands.{variable_names}
 use Rattle.odata_checked_filter.specs.declared.needed_paths.VariableNodes.{VariableNodes, Bound, Empty, the_lemmas}

@@ -7,8 +7,8 @@ use Rattle.csdl_schema.specs.ExpansionView.{LeadsTo, StepModel, paths_in}
 use Rattle.csdl_schema.specs.ExprType.{ExprType}
 use Rattle.csdl_schema.specs.PathSet.{PropertyPath}
 use Rattle.csdl_schema.specs.SchemaModel.{PropertyModel, SchemaModel, Slots, slots_of, type_name_at}
-use Rattle.odata_expression_types.specs.NeededPaths.{IsNeeded, IsNeededAmong, VariablePaths}
-use Rattle.odata_expression_types.specs.Typed.{Scope, Typed, variable_type}
+use Rattle.odata_signatures.specs.NeededPaths.{IsNeeded, IsNeededAmong, VariablePaths}
+use Rattle.odata_signatures.specs.Typed.{Scope, Typed, variable_type}
 use Rattle.odata_checked_filter.specs.FlatTree.{FlatTree}
 use Rattle.odata_checked_filter.specs.Levels.{level_named}
 use Rattle.odata_checked_filter.specs.private.Layout.{AllLie, Lies}

@@ -1,7 +1,7 @@
 -- The parts of a lambda operator, where the code finds them.
 use Rattle.std.proofs.Common.{◌≡◌, ℕ, ◌+◌, ◌<◌, Option, Some, IsSomeAnd, slice_get, sym, ◌∙◌, subst, arith}
 use Rattle.odata_syntax.specs.Tree.{Tree}
-use Rattle.odata_expression_types.specs.Typed.{Scope, Typed}
+use Rattle.odata_signatures.specs.Typed.{Scope, Typed}
 use Rattle.odata_checked_filter.specs.private.Layout.{Lies}
 use Rattle.odata_checked_filter.specs.Stands.{InBody}
 use Rattle.odata_checked_filter.specs.declared.checked_node.CheckedNode.{CheckedNode}

@@ -7,9 +7,9 @@ use Rattle.csdl_schema.specs.ExprType.{single, structured}
 use Rattle.csdl_schema.specs.PathSet.{PropertyPath}
 use Rattle.csdl_schema.specs.PropertyView.{IsReadAs}
 use Rattle.csdl_schema.specs.SchemaModel.{SchemaModel, properties_at, slot_named, slots_of, type_name_at}
-use Rattle.odata_expression_types.specs.Laws.{OneType}
-use Rattle.odata_expression_types.specs.NeededPaths.{NameNeeds, Navigates, StepNeeds, VariablePaths, path_of}
-use Rattle.odata_expression_types.specs.Typed.{Scope, Typed}
+use Rattle.odata_signatures.specs.Laws.{OneType}
+use Rattle.odata_signatures.specs.NeededPaths.{NameNeeds, Navigates, StepNeeds, VariablePaths, path_of}
+use Rattle.odata_signatures.specs.Typed.{Scope, Typed}
 use Rattle.odata_signatures.specs.TypeView.{expr_type}
 use Rattle.odata_signatures.specs.declared.edm_type.EdmType.{EdmType}
 use Rattle.odata_signatures.specs.declared.edm_type.ValueType.{ValueType}

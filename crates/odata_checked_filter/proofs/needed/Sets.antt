@@ -3,8 +3,8 @@ use Rattle.std.proofs.Common.{◌≡◌, ◌⊎◌, List, [], ◌∷◌, ◌++�
 use Rattle.std.specs.Cmp.Lexicographic.{bytes_decides, pointwise_decides}
 use Rattle.csdl_schema.specs.ExpansionView.{KeepsPaths, LeadsTo, StepModel, paths_in}
 use Rattle.csdl_schema.specs.PathSet.{PathSet, PropertyPath, is_path, with_path}
-use Rattle.odata_expression_types.specs.NeededPaths.{VariablePaths}
-use Rattle.odata_expression_types.specs.Typed.{Scope}
+use Rattle.odata_signatures.specs.NeededPaths.{VariablePaths}
+use Rattle.odata_signatures.specs.Typed.{Scope}
 use Rattle.odata_checked_filter.specs.private.NeededWalk.{LeadThere, Puts}
 
 -- nothing is put there

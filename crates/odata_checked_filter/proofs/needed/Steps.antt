@@ -13,8 +13,8 @@ use Rattle.csdl_schema.specs.SchemaModel.{PropertyModel, SchemaModel, navigation
 use Rattle.csdl_schema.specs.declared.property.Property.{Property}
 use Rattle.csdl_schema.specs.declared.property.PropertyKind.{PropertyKind}
 use Rattle.csdl_schema.specs.declared.property.PropertyKind.TheVariants as kind
-use Rattle.odata_expression_types.specs.NeededPaths.{Navigates}
-use Rattle.odata_expression_types.specs.Typed.{property_named}
+use Rattle.odata_signatures.specs.NeededPaths.{Navigates}
+use Rattle.odata_signatures.specs.Typed.{property_named}
 use Rattle.odata_checked_filter.proofs.flat.Places.{found_within}
 
 slot_found : {X : Type 0} (p : X → Bool) (xs : List X) (k : ℕ) → position p xs ≡ Some k → (position_or_len p xs ≡ k) × (k < length xs)

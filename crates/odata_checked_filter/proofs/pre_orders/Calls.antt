@@ -9,8 +9,8 @@ use Rattle.csdl_schema.specs.SchemaModel.{Slots, slots_of, type_name_at}
 use Rattle.odata_signatures.specs.Functions.{IsNamed}
 use Rattle.odata_signatures.specs.declared.function.Function.{Function}
 use Rattle.edm_values.specs.declared.value.Value.{Value}
-use Rattle.odata_expression_types.specs.PreOrder.{nodes_among, nodes_below, pre_order}
-use Rattle.odata_expression_types.specs.Typed.{Scope}
+use Rattle.odata_signatures.specs.PreOrder.{nodes_among, nodes_below, pre_order}
+use Rattle.odata_signatures.specs.Typed.{Scope}
 use Rattle.odata_checked_filter.specs.declared.checked_node.CheckedNode.{CheckedNode}
 use Rattle.odata_checked_filter.specs.declared.checked_node.NodeKind.{NodeKind}
 use Rattle.odata_checked_filter.specs.Calls.{CallsOne, TakesMemory, UsesNow}

@@ -11,9 +11,9 @@ use Rattle.csdl_schema.specs.ExpansionView.{paths_in}
 use Rattle.csdl_schema.specs.ExprType.{ExprType}
 use Rattle.csdl_schema.specs.PathSet.{PropertyPath}
 use Rattle.csdl_schema.specs.SchemaModel.{SchemaModel, slots_of, type_name_at}
-use Rattle.odata_expression_types.specs.HasTyping.{HasTree}
-use Rattle.odata_expression_types.specs.NeededPaths.{IsNeeded}
-use Rattle.odata_expression_types.specs.SamePaths.{CanonicalTextsNeedSamePaths}
+use Rattle.odata_signatures.specs.HasTyping.{HasTree}
+use Rattle.odata_signatures.specs.NeededPaths.{IsNeeded}
+use Rattle.odata_signatures.specs.SamePaths.{CanonicalTextsNeedSamePaths}
 use Rattle.odata_checked_filter.specs.CanonicalFilters.{AreCoveredAlike, ExpandTheSame, HaveAsManyNodes, HaveOneTypeAt, HaveSameTypesAt, IsOfCanonicalText, OfCanonicalTexts}
 use Rattle.odata_checked_filter.specs.Filter.{Filter, IsTypeAt, tree_of_filter}
 use Rattle.odata_checked_filter.specs.Laws.{OneTypeAt}

@@ -4,9 +4,9 @@ use Rattle.odata_syntax.specs.NormalForm.{AreNormalForms, IsNormalForm, IsNormal
 use Rattle.odata_syntax.specs.Tree.{Shape, Tree, Trees, any_item, binary, call, count, has, in_list, in_path, it, lambda, literal, logical_not, member, more_trees, name, negation, no_trees, node}
 use Rattle.csdl_schema.specs.ExprType.{ExprType, collection, single}
 use Rattle.csdl_schema.specs.SchemaModel.{Slots}
-use Rattle.odata_expression_types.specs.PreOrder.{pre_order}
-use Rattle.odata_expression_types.specs.SameTypes.{HaveSameTypesByNumber}
-use Rattle.odata_expression_types.specs.Typed.{Scope, Typed, with_variable}
+use Rattle.odata_signatures.specs.PreOrder.{pre_order}
+use Rattle.odata_signatures.specs.SameTypes.{HaveSameTypesByNumber}
+use Rattle.odata_signatures.specs.Typed.{Scope, Typed, with_variable}
 use Rattle.odata_checked_filter.specs.NodeScopes.{InEither, IsNode, IsNodeAmong, IsNodeBelow}
 use Rattle.odata_checked_filter.specs.Stands.{InBody}
 

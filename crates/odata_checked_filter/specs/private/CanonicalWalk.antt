@@ -13,7 +13,7 @@ use Rattle.odata_signatures.specs.Functions.{row_of}
 use Rattle.odata_checked_filter.specs.FlatTree.{FlatTree}
 use Rattle.odata_checked_filter.specs.private.Layout.{AllLie, Lies}
 use Rattle.odata_checked_filter.specs.private.KindTexts.{IsJoining, joint_text}
-use Rattle.odata_expression_types.specs.Typed.{Scope}
+use Rattle.odata_signatures.specs.Typed.{Scope}
 
 -- the nodes from the i-th on stand for the tree, in some schema and scope
 pub record StandsThere (list : FlatTree) (i : ℕ) (tree : Tree) : Type 0 where

@@ -5,7 +5,7 @@ use Rattle.csdl_schema.specs.SchemaModel.{SchemaModel, slots_of, type_name_at}
 use Rattle.odata_checked_filter.specs.declared.checked_node.NodeKind.{NodeKind}
 use Rattle.odata_checked_filter.specs.FlatTree.{FlatTree}
 use Rattle.odata_checked_filter.specs.Stands.{HasTop, InBody, InLine, IsTop}
-use Rattle.odata_expression_types.specs.Typed.{Scope, Typed}
+use Rattle.odata_signatures.specs.Typed.{Scope, Typed}
 
 -- a node of any value
 abbrev pub OfAnyValue : NodeKind → Type 0

@@ -6,8 +6,8 @@ use Rattle.csdl_schema.specs.PathSet.{PropertyPath}
 use Rattle.csdl_schema.specs.PropertyView.{IsReadAs, target_of}
 use Rattle.csdl_schema.specs.SchemaModel.{SchemaModel, Slots, properties_at, slots_of, type_name_at}
 use Rattle.csdl_schema.specs.declared.property.Property.{Property}
-use Rattle.odata_expression_types.specs.NeededPaths.{BodyNeeds, IsNeeded, NameNeeds, StepNeeds, VariablePaths, path_of}
-use Rattle.odata_expression_types.specs.Typed.{Scope, Typed}
+use Rattle.odata_signatures.specs.NeededPaths.{BodyNeeds, IsNeeded, NameNeeds, StepNeeds, VariablePaths, path_of}
+use Rattle.odata_signatures.specs.Typed.{Scope, Typed}
 use Rattle.odata_signatures.specs.declared.edm_type.EdmType.{EdmType}
 use Rattle.odata_signatures.specs.declared.edm_type.ValueType.{ValueType}
 use Rattle.odata_checked_filter.specs.FlatTree.{FlatTree}

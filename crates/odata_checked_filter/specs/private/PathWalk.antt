@@ -2,8 +2,8 @@
 use Rattle.std.specs.Prelude.{◌≡◌, ℕ, List, [], ◌∷◌, ◌++◌, Option, None, Some, map, nat_eq, if◌then◌else◌}
 use Rattle.std.specs.Cmp.Lexicographic.{pointwise}
 use Rattle.odata_syntax.specs.Tree.{Tree}
-use Rattle.odata_expression_types.specs.NeededPaths.{VariablePaths}
-use Rattle.odata_expression_types.specs.Typed.{Scope}
+use Rattle.odata_signatures.specs.NeededPaths.{VariablePaths}
+use Rattle.odata_signatures.specs.Typed.{Scope}
 use Rattle.odata_checked_filter.specs.FlatTree.{FlatTree}
 use Rattle.odata_checked_filter.specs.PropertyPaths.{node_paths, path_text, unseen}
 use Rattle.odata_checked_filter.specs.private.LambdaLines.{StandsBetween}

@@ -15,7 +15,7 @@ use Rattle.odata_syntax.specs.Tree.{Tree, node, literal, it, name, count, negati
 use Rattle.odata_syntax.specs.Tree as tree
 use Rattle.odata_syntax.specs.declared.node.Quantifier.{Quantifier}
 use Rattle.odata_signatures.specs.ExprTypes.{boolean_type}
-use Rattle.odata_expression_types.specs.Typed.{AreTyped, Typed}
+use Rattle.odata_signatures.specs.Typed.{AreTyped, Typed}
 use Rattle.odata_filter_operations.specs.CompareGives.{CompareGives}
 use Rattle.odata_filter_operations.specs.LeftFirst.{After}
 use Rattle.odata_filter_operations.specs.Outcome.{Outcome, gives}

@@ -14,7 +14,7 @@ use Rattle.odata_signatures.specs.ExprTypes.{IsNumberOrNull, boolean_type}
 use Rattle.odata_signatures.specs.OperatorTyped.{OperatorByTypes}
 use Rattle.odata_signatures.specs.declared.argument_kind.ArgumentKind.{ArgumentKind}
 use Rattle.odata_syntax.specs.declared.binary_operator.BinaryOperator.{BinaryOperator}
-use Rattle.odata_expression_types.specs.Typed.{AreTyped, StepTyped, Typed}
+use Rattle.odata_signatures.specs.Typed.{AreTyped, StepTyped, Typed}
 use Rattle.odata_eval.specs.Costs.{ArgumentsCost, Costs, RightCosts}
 use Rattle.odata_eval.specs.Environment.{Environment, scope_of}
 use Rattle.odata_eval.specs.Means.{Means}

@@ -11,7 +11,7 @@ use Rattle.odata_filter_operations.specs.LeftFirst.{After}
 use Rattle.odata_filter_operations.specs.Outcome.{Outcome, gives, divides_by_zero}
 use Rattle.odata_syntax.specs.Tree.{Tree, trees_of_list}
 use Rattle.odata_syntax.specs.declared.node.Quantifier.{Quantifier}
-use Rattle.odata_expression_types.specs.Typed.{Typed}
+use Rattle.odata_signatures.specs.Typed.{Typed}
 use Rattle.odata_eval.specs.ComesToMembers.{all_alike, is_alike, is_null, named, null_literal, over_tags, tagged, tagged_slots, text_and_null}
 use Rattle.odata_eval.specs.Costs.{CostAfter, Costs, CostThen}
 use Rattle.odata_eval.specs.Environment.{Environment, bound_over, scope_of}

@@ -8,7 +8,7 @@ use Rattle.odata_syntax.specs.Tree.{Tree, node, literal, it, name, count, negati
 use Rattle.odata_syntax.specs.Tree as tree
 use Rattle.odata_syntax.specs.declared.node.Quantifier.{Quantifier}
 use Rattle.odata_checked_filter.specs.LambdaDepth.{lambda_depth, lambda_depth_among}
-use Rattle.odata_expression_types.specs.Typed.{Typed}
+use Rattle.odata_signatures.specs.Typed.{Typed}
 use Rattle.odata_filter_operations.specs.CompareGives.{CompareGives}
 use Rattle.odata_filter_operations.specs.LeftFirst.{After}
 use Rattle.odata_eval.specs.Costs.{ArgumentsCost, Costs, ItemsCost, OthersCost, RightCosts}

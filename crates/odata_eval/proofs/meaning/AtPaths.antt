@@ -10,8 +10,8 @@ use Rattle.csdl_schema.specs.ExprType.{ExprType, null_type, single, collection, 
 use Rattle.csdl_schema.specs.PathSet.{PathSet, PropertyPath}
 use Rattle.csdl_schema.specs.SchemaModel.{Slots, PropertyModel, PropertyType, declared, opaque, navigation}
 use Rattle.edm_entities.specs.HasType.{AllHaveType, HasPropertyType, HasType}
-use Rattle.odata_expression_types.specs.NeededPaths.{Navigates, VariablePaths, variable_path}
-use Rattle.odata_expression_types.specs.Typed.{PropertyTyped, named_type, property_named, variable_type}
+use Rattle.odata_signatures.specs.NeededPaths.{Navigates, VariablePaths, variable_path}
+use Rattle.odata_signatures.specs.Typed.{PropertyTyped, named_type, property_named, variable_type}
 use Rattle.odata_eval.specs.EndsOnce.{IsOutcomeOf}
 use Rattle.odata_eval.specs.EndsOnceAtPaths.{IsOutcomeAt}
 use Rattle.odata_eval.specs.Environment.{Environment, IsFitting, scope_of, variable_value}

@@ -5,8 +5,8 @@ use Rattle.csdl_schema.specs.ExprType.{ExprType, single, enumeration}
 use Rattle.csdl_schema.specs.SchemaModel.{Slots}
 use Rattle.odata_syntax.specs.Tree.{Tree}
 use Rattle.odata_signatures.specs.QuotedNumber.{NumberBeside}
-use Rattle.odata_expression_types.specs.Reads.{ReadsNumber}
-use Rattle.odata_expression_types.specs.Sides.{quoted_text}
+use Rattle.odata_signatures.specs.Reads.{ReadsNumber}
+use Rattle.odata_signatures.specs.Sides.{quoted_text}
 
 module _ (slots : Slots) (none : (name : List ℕ) → slots.enumerations name ≡ None) where
   no_number : (type : ExprType) (quoted : Option (List ℕ)) (n : ℤ) → ¬ NumberBeside slots type quoted n

@@ -9,7 +9,7 @@ use Rattle.csdl_schema.specs.SchemaModel.{Slots, expanded, slots_of, type_name_a
 use Rattle.edm_entities.specs.Fits.{Fits}
 use Rattle.edm_entities.specs.HasType.{HasType}
 use Rattle.edm_entities.specs.Row.{value_of}
-use Rattle.odata_expression_types.specs.NeededPaths.{path_of}
+use Rattle.odata_signatures.specs.NeededPaths.{path_of}
 use Rattle.odata_eval.specs.ConformsAtPaths.{ConformAtPaths, EndsOnceAtPathsOnEntities}
 use Rattle.odata_eval.specs.EndsOnce.{EndsOnceOnEntities, TypedEndsOnce}
 use Rattle.odata_eval.specs.EndsOnceAtPaths.{TypedEndsOnceAtPaths}

@@ -22,13 +22,13 @@ use Rattle.odata_syntax.specs.declared.binary_operator.ArithmeticOperator.{Arith
 use Rattle.odata_syntax.specs.declared.binary_operator.LogicalOperator.{LogicalOperator}
 use Rattle.odata_signatures.specs.CollectionTyped.{IsItemBeside}
 use Rattle.odata_signatures.specs.ExprTypes.{boolean_type, string_type}
-use Rattle.odata_expression_types.specs.LiteralValue.{LiteralTyped, IntTyped}
+use Rattle.odata_signatures.specs.LiteralValue.{LiteralTyped, IntTyped}
 use Rattle.odata_signatures.specs.HasTyped.{HasTyped}
 use Rattle.odata_signatures.specs.OperatorTyped.{OperatorByTypes, NotTyped, OperatorTyped}
 use Rattle.odata_signatures.specs.QuotedNumber.{NumberBeside}
-use Rattle.odata_expression_types.specs.Reads.{ReadsNumber}
-use Rattle.odata_expression_types.specs.Sides.{Between, quoted_text, side_of, sides_of}
-use Rattle.odata_expression_types.specs.Typed.{AreTyped, OperandsTyped, Scope, Typed}
+use Rattle.odata_signatures.specs.Reads.{ReadsNumber}
+use Rattle.odata_signatures.specs.Sides.{Between, quoted_text, side_of, sides_of}
+use Rattle.odata_signatures.specs.Typed.{AreTyped, OperandsTyped, Scope, Typed}
 use Rattle.odata_filter_operations.specs.CalculationGives.{CalculationGives, NegatedGives, number_outcome}
 use Rattle.odata_filter_operations.specs.CompareGives.{CompareGives}
 use Rattle.odata_eval.specs.EndsOnce.{IsOutcomeOf}

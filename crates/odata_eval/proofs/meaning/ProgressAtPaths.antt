@@ -15,8 +15,8 @@ use Rattle.odata_signatures.specs.ExprTypes.{IsBooleanOrNull, boolean_type, numb
 use Rattle.odata_signatures.specs.OperatorTyped.{OperatorByTypes, NegationTyped, OperatorTyped}
 use Rattle.odata_signatures.specs.Side.{Side}
 use Rattle.odata_syntax.specs.declared.binary_operator.BinaryOperator.{BinaryOperator}
-use Rattle.odata_expression_types.specs.NeededPaths.{IsNeeded, IsNeededAmong, StepNeeds, VariablePaths, path_of, variable_path}
-use Rattle.odata_expression_types.specs.Typed.{AreTyped, OperandTyped, StepTyped, Typed, variable_type}
+use Rattle.odata_signatures.specs.NeededPaths.{IsNeeded, IsNeededAmong, StepNeeds, VariablePaths, path_of, variable_path}
+use Rattle.odata_signatures.specs.Typed.{AreTyped, OperandTyped, StepTyped, Typed, variable_type}
 use Rattle.odata_filter_operations.specs.CalculationGives.{NegatedGives}
 use Rattle.odata_filter_operations.specs.CallGives.{CallGives}
 use Rattle.odata_filter_operations.specs.CollectionGives.{AnyItemGives, CountGives}

@@ -12,9 +12,9 @@ use Rattle.odata_signatures.specs.ExprTypes.{boolean_type, string_type}
 use Rattle.odata_signatures.specs.HasTyped.{AreFlags}
 use Rattle.odata_signatures.specs.OperatorTyped.{OperatorByTypes, IsEquality}
 use Rattle.odata_signatures.specs.QuotedNumber.{NumberBeside}
-use Rattle.odata_expression_types.specs.Reads.{OfEquality, ReadsNumber}
-use Rattle.odata_expression_types.specs.Sides.{quoted_text}
-use Rattle.odata_expression_types.specs.Typed.{Scope, Typed}
+use Rattle.odata_signatures.specs.Reads.{OfEquality, ReadsNumber}
+use Rattle.odata_signatures.specs.Sides.{quoted_text}
+use Rattle.odata_signatures.specs.Typed.{Scope, Typed}
 use Rattle.odata_eval.specs.private.LawsBelow.{ReadLaws}
 use Rattle.odata_eval.proofs.meaning.TypeValues.{member_has}
 

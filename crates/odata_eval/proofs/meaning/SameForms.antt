@@ -19,12 +19,12 @@ use Rattle.odata_syntax.specs.Tree.{Trees, no_trees, more_trees}
 use Rattle.odata_syntax.specs.declared.binary_operator.BinaryOperator.{BinaryOperator}
 use Rattle.odata_syntax.specs.declared.node.LiteralKind.{LiteralKind}
 use Rattle.odata_syntax.specs.declared.node.Quantifier.{Quantifier}
-use Rattle.odata_expression_types.specs.LiteralValue.{LiteralValue}
+use Rattle.odata_signatures.specs.LiteralValue.{LiteralValue}
 use Rattle.odata_signatures.specs.OperatorTyped.{NegationTyped, OperatorTyped}
 use Rattle.odata_signatures.specs.Side.{Side, quoting}
-use Rattle.odata_expression_types.specs.Reads.{OfEquality, ReadsNumber}
-use Rattle.odata_expression_types.specs.Sides.{Between, quoted_text}
-use Rattle.odata_expression_types.specs.Typed.{OperandTyped, OperandsTyped, Scope, Typed}
+use Rattle.odata_signatures.specs.Reads.{OfEquality, ReadsNumber}
+use Rattle.odata_signatures.specs.Sides.{Between, quoted_text}
+use Rattle.odata_signatures.specs.Typed.{OperandTyped, OperandsTyped, Scope, Typed}
 use Rattle.odata_filter_operations.specs.CalculationGives.{NegatedGives}
 use Rattle.odata_filter_operations.specs.CallGives.{CallGives}
 use Rattle.odata_filter_operations.specs.CollectionGives.{AnyItemGives, CountGives}

@@ -6,9 +6,9 @@ use Rattle.csdl_schema.specs.SchemaModel.{Slots}
 use Rattle.odata_syntax.specs.Tree.{Tree}
 use Rattle.odata_syntax.specs.declared.binary_operator.BinaryOperator.{BinaryOperator}
 use Rattle.odata_signatures.specs.QuotedNumber.{NumberBeside}
-use Rattle.odata_expression_types.specs.Reads.{OfEquality, ReadsNumber}
-use Rattle.odata_expression_types.specs.Sides.{quoted_text}
-use Rattle.odata_expression_types.specs.Typed.{OperandTyped, OperandsTyped}
+use Rattle.odata_signatures.specs.Reads.{OfEquality, ReadsNumber}
+use Rattle.odata_signatures.specs.Sides.{quoted_text}
+use Rattle.odata_signatures.specs.Typed.{OperandTyped, OperandsTyped}
 use Rattle.odata_syntax.specs.declared.binary_operator.LogicalOperator.{LogicalOperator}
 use Rattle.odata_filter_operations.specs.CalculationGives.{CalculationGives}
 use Rattle.odata_filter_operations.specs.CompareGives.{CompareGives}

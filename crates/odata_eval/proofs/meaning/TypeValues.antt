@@ -14,7 +14,7 @@ use Rattle.csdl_schema.specs.ExprType.{ExprType, null_type, single, collection, 
 use Rattle.csdl_schema.specs.SchemaModel.{Slots, PropertyModel, PropertyType, declared, opaque, navigation}
 use Rattle.edm_entities.specs.HasType.{AllHaveType, HasPropertyType, HasType}
 use Rattle.odata_signatures.specs.ExprTypes.{boolean_type, string_type}
-use Rattle.odata_expression_types.specs.Typed.{PropertyTyped, named_type, property_named}
+use Rattle.odata_signatures.specs.Typed.{PropertyTyped, named_type, property_named}
 
 module _ (slots : Slots) where
   -- ---- a type has these values

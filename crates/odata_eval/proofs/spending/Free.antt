@@ -9,7 +9,7 @@ use Rattle.odata_signatures.specs.CollectionTyped.{IsComparableWithMembers}
 use Rattle.odata_signatures.specs.HasTyped.{AreFlags}
 use Rattle.odata_signatures.specs.OperatorTyped.{OperatorByTypes}
 use Rattle.odata_syntax.specs.declared.binary_operator.BinaryOperator.{BinaryOperator}
-use Rattle.odata_expression_types.specs.Sides.{side_of}
+use Rattle.odata_signatures.specs.Sides.{side_of}
 use Rattle.odata_syntax.specs.Tree.{Tree, binary, node}
 use Rattle.odata_signatures.specs.declared.function.Function.{Function}
 use Rattle.odata_eval.specs.Costs.{RightCosts}

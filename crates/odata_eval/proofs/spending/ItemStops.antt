@@ -8,7 +8,7 @@ use Rattle.odata_filter_operations.specs.FaultView.{fault_outcome}
 use Rattle.odata_filter_operations.specs.Outcome.{Outcome, overflow, divides_by_zero}
 use Rattle.odata_filter_operations.specs.declared.fault.EvalFault.{EvalFault}
 use Rattle.std.specs.List.{AllByRecursion}
-use Rattle.odata_expression_types.specs.Sides.{sides_of}
+use Rattle.odata_signatures.specs.Sides.{sides_of}
 use Rattle.odata_signatures.specs.CollectionTyped.{IsItemBeside}
 use Rattle.odata_syntax.specs.Tree.{Tree, Trees, more_trees, no_trees}
 use Rattle.odata_eval.specs.Costs.{CostThen, item_cost}

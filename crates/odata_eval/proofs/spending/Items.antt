@@ -14,7 +14,7 @@ use Rattle.odata_signatures.specs.CollectionTyped.{IsCollection, IsItemBeside}
 use Rattle.odata_signatures.specs.ExprTypes.{boolean_type}
 use Rattle.odata_syntax.specs.Tree.{Tree, Trees, in_list, more_trees, no_trees, node}
 use Rattle.odata_syntax.specs.declared.node.Quantifier.{Quantifier}
-use Rattle.odata_expression_types.specs.Sides.{side_of}
+use Rattle.odata_signatures.specs.Sides.{side_of}
 use Rattle.odata_eval.specs.Costs.{CostAfter, CostThen, ItemsCost, OthersCost, item_cost}
 use Rattle.odata_eval.specs.Means.{ItemMeans}
 use Rattle.odata_eval.specs.private.Scene.{EndsOnceHere, MeansHere, StandsHere, TypedHere}

@@ -10,8 +10,8 @@ use Rattle.edm_entities.specs.Row.{items_of, val_of, value_of}
 use Rattle.odata_functions.specs.DatumVal.{datum_val}
 use Rattle.odata_checked_filter.specs.Stands.{Stands}
 use Rattle.odata_checked_filter.specs.declared.checked_node.NodeKind.{NodeKind}
-use Rattle.odata_expression_types.specs.Laws.{OneType}
-use Rattle.odata_expression_types.specs.Typed.{Scope, with_variable}
+use Rattle.odata_signatures.specs.Laws.{OneType}
+use Rattle.odata_signatures.specs.Typed.{Scope, with_variable}
 use Rattle.odata_filter_operations.specs.DatumView.{reading_at}
 use Rattle.odata_filter_operations.specs.Outcome.{gives}
 use Rattle.odata_syntax.specs.Tree.{Tree}

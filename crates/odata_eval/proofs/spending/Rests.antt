@@ -35,7 +35,7 @@ use Rattle.odata_eval.proofs.walking.Extents.{left_here, operand_stops_there, ri
 use Rattle.odata_eval.proofs.walking.Spines.{no_empty_call, only_now, TypedAll}
 use Rattle.odata_signatures.specs.OperatorTyped.{IsEquality}
 use Rattle.odata_syntax.specs.declared.node.LiteralKind.{LiteralKind}
-use Rattle.odata_expression_types.specs.Reads.{OfEquality}
+use Rattle.odata_signatures.specs.Reads.{OfEquality}
 use Rattle.odata_eval.proofs.walking.Operands.{BesideHere, IsOther, beside_here, no_number}
 use Rattle.odata_eval.proofs.walking.Sides.{flags_alone}
 

@@ -10,7 +10,7 @@ use Rattle.odata_eval.proofs.costs.Zero.{IsFree}
 use Rattle.odata_eval.proofs.spending.Free.{FreeThere, operand_free, sides_free}
 use Rattle.odata_eval.proofs.walking.Parts.{by_kind}
 use Rattle.odata_eval.proofs.walking.Extents.{left_here, right_stands}
-use Rattle.odata_expression_types.specs.Reads.{OfEquality}
+use Rattle.odata_signatures.specs.Reads.{OfEquality}
 use Rattle.odata_eval.proofs.walking.Operands.{beside_here}
 
 module _ (scene : SceneModel) (place : ℕ) where

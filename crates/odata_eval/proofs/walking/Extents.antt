@@ -10,15 +10,15 @@ use Rattle.odata_checked_filter.specs.declared.checked_node.NodeKind.{NodeKind}
 use Rattle.odata_checked_filter.specs.FlatTree.{FlatTree}
 use Rattle.odata_eval.specs.declared.part.WalkClass.{WalkClass}
 use Rattle.odata_eval.specs.Environment.{scope_of}
-use Rattle.odata_expression_types.specs.Reads.{OfEquality}
-use Rattle.odata_expression_types.specs.Sides.{side_of}
+use Rattle.odata_signatures.specs.Reads.{OfEquality}
+use Rattle.odata_signatures.specs.Sides.{side_of}
 use Rattle.odata_eval.specs.private.Place.{HasKind, IsRightOf, OperandStands, PartStands, TypedStands}
 use Rattle.odata_eval.specs.private.Scene.{OperandHere, StandsHere, TypedHere}
 use Rattle.odata_eval.specs.private.SceneModel.{SceneModel, environment_of}
 use Rattle.odata_eval.specs.private.WalkClass.{walk_of_operator}
 use Rattle.odata_checked_filter.specs.Stands.{AllStand, BesideStands, ItemsStand, NumberStands, SideBySide, Stands}
 use Rattle.odata_syntax.specs.declared.node.LiteralKind.{LiteralKind}
-use Rattle.odata_expression_types.specs.Typed.{Scope, Typed, with_variable}
+use Rattle.odata_signatures.specs.Typed.{Scope, Typed, with_variable}
 use Rattle.csdl_schema.specs.SchemaModel.{SchemaModel, slots_of, type_name_at}
 use Rattle.odata_eval.proofs.walking.Children.{body_stands, one_there}
 use Rattle.odata_eval.proofs.walking.Operands.{BesideHere, beside_here, beside_operand, number_there}

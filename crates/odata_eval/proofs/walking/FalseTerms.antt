@@ -21,13 +21,13 @@ use Rattle.odata_syntax.specs.declared.binary_operator.LogicalOperator.{LogicalO
 use Rattle.odata_syntax.specs.declared.node.LiteralKind.{LiteralKind}
 use Rattle.csdl_schema.specs.ExprType.{ExprType}
 use Rattle.csdl_schema.specs.SchemaModel.{PropertyModel, Slots, opaque, properties_at, slot_named, slots_of, type_name_at}
-use Rattle.odata_expression_types.specs.Laws.{OneLiteralValue}
-use Rattle.odata_expression_types.specs.LiteralValue.{LiteralValue}
+use Rattle.odata_signatures.specs.Laws.{OneLiteralValue}
+use Rattle.odata_signatures.specs.LiteralValue.{LiteralValue}
 use Rattle.odata_checked_filter.specs.Filter.{Filter, IsFilter, tree_of_filter}
 use Rattle.odata_checked_filter.specs.Stands.{IsValueOf, SideBySide}
-use Rattle.odata_expression_types.specs.Reads.{OfEquality, ReadsNone}
-use Rattle.odata_expression_types.specs.Sides.{Between}
-use Rattle.odata_expression_types.specs.Typed.{OperandsTyped, Typed}
+use Rattle.odata_signatures.specs.Reads.{OfEquality, ReadsNone}
+use Rattle.odata_signatures.specs.Sides.{Between}
+use Rattle.odata_signatures.specs.Typed.{OperandsTyped, Typed}
 use Rattle.odata_signatures.specs.OperatorTyped.{IsEquality, OperatorTyped}
 use Rattle.odata_checked_filter.specs.declared.checked_node.NodeKind.{NodeKind}
 use Rattle.odata_filter_operations.specs.CompareGives.{CompareGives, GivesTruth, IsWhether}

@@ -18,8 +18,8 @@ use Rattle.odata_functions.specs.DatumVal.{Reading, datum_val}
 use Rattle.odata_syntax.specs.declared.binary_operator.ComparisonOperator.{ComparisonOperator}
 use Rattle.odata_signatures.specs.CollectionTyped.{IsItemBeside}
 use Rattle.odata_signatures.specs.QuotedNumber.{NumberBeside}
-use Rattle.odata_expression_types.specs.Laws.{OneType}
-use Rattle.odata_expression_types.specs.Sides.{quoted_text, side_of, sides_of}
+use Rattle.odata_signatures.specs.Laws.{OneType}
+use Rattle.odata_signatures.specs.Sides.{quoted_text, side_of, sides_of}
 use Rattle.odata_checked_filter.specs.Calls.{TakesMemory}
 use Rattle.odata_checked_filter.specs.Stands.{ItemsStand, SideBySide}
 use Rattle.odata_checked_filter.specs.declared.checked_node.NodeKind.{NodeKind}

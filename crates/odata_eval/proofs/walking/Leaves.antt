@@ -12,7 +12,7 @@ use Rattle.odata_syntax.specs.declared.node.LiteralKind.{LiteralKind}
 use Rattle.csdl_schema.specs.ExprType.{ExprType}
 use Rattle.csdl_schema.specs.SchemaModel.{PropertyModel, Slots, opaque, properties_at, slot_named, slots_of}
 use Rattle.edm_entities.specs.Row.{val_of, value_of}
-use Rattle.odata_expression_types.specs.Typed.{PropertyTyped, variable_type}
+use Rattle.odata_signatures.specs.Typed.{PropertyTyped, variable_type}
 use Rattle.odata_checked_filter.specs.declared.checked_node.NodeKind.{NodeKind}
 use Rattle.odata_checked_filter.specs.Stands.{HasOwnValue, IsValueOf}
 use Rattle.odata_eval.specs.Environment.{scope_of, variable_value}

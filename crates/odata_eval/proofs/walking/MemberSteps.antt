@@ -12,9 +12,9 @@ use Rattle.edm_entities.specs.HasType.{HasType}
 use Rattle.edm_entities.specs.Row.{field_by_name, val_of}
 use Rattle.odata_functions.specs.DatumVal.{datum_val}
 use Rattle.odata_checked_filter.specs.declared.checked_node.NodeKind.{NodeKind}
-use Rattle.odata_expression_types.specs.Laws.{OneType}
+use Rattle.odata_signatures.specs.Laws.{OneType}
 use Rattle.odata_signatures.specs.TypeView.{expr_type}
-use Rattle.odata_expression_types.specs.Typed.{PropertyTyped, StepTyped}
+use Rattle.odata_signatures.specs.Typed.{PropertyTyped, StepTyped}
 use Rattle.odata_eval.specs.NameGives.{StepGives}
 use Rattle.odata_eval.specs.Environment.{scope_of}
 use Rattle.odata_filter_operations.specs.Outcome.{gives}

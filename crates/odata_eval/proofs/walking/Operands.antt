@@ -13,8 +13,8 @@ use Rattle.odata_signatures.specs.ExprTypes.{boolean_type, string_type}
 use Rattle.odata_signatures.specs.OperatorTyped.{IsEquality, OperatorTyped}
 use Rattle.odata_signatures.specs.QuotedNumber.{NumberBeside}
 use Rattle.odata_signatures.specs.Side.{Side}
-use Rattle.odata_expression_types.specs.Reads.{OfEquality, ReadsNumber}
-use Rattle.odata_expression_types.specs.Sides.{quoted_text}
+use Rattle.odata_signatures.specs.Reads.{OfEquality, ReadsNumber}
+use Rattle.odata_signatures.specs.Sides.{quoted_text}
 use Rattle.odata_checked_filter.specs.Calls.{TakesMemory}
 use Rattle.odata_checked_filter.specs.Stands.{BesideStands, HasValue, IsLiteralNode}
 use Rattle.odata_checked_filter.specs.declared.checked_node.CheckedNode.{CheckedNode}

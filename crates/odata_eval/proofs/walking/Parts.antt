@@ -11,7 +11,7 @@ use Rattle.odata_signatures.specs.TypeView.{expr_type}
 use Rattle.odata_checked_filter.specs.declared.checked_node.CheckedNode.{CheckedNode}
 use Rattle.odata_checked_filter.specs.declared.checked_node.NodeKind.{NodeKind}
 use Rattle.odata_checked_filter.specs.Stands.{IsKindOf}
-use Rattle.odata_expression_types.specs.Typed.{Scope}
+use Rattle.odata_signatures.specs.Typed.{Scope}
 use Rattle.odata_eval.specs.Environment.{scope_of}
 use Rattle.odata_filter_operations.specs.Outcome.{Outcome}
 use Rattle.odata_eval.specs.private.Place.{HasKind, PartStands}

@@ -10,8 +10,8 @@ use Rattle.odata_functions.specs.DatumVal.{datum_val}
 use Rattle.odata_signatures.specs.CollectionTyped.{IsComparableWithMembers}
 use Rattle.odata_signatures.specs.HasTyped.{AreFlags}
 use Rattle.odata_signatures.specs.QuotedNumber.{HasNumber}
-use Rattle.odata_expression_types.specs.Reads.{ReadsNone, ReadsNumber}
-use Rattle.odata_expression_types.specs.Sides.{quoted_text}
+use Rattle.odata_signatures.specs.Reads.{ReadsNone, ReadsNumber}
+use Rattle.odata_signatures.specs.Sides.{quoted_text}
 use Rattle.odata_checked_filter.specs.Calls.{TakesMemory}
 use Rattle.odata_checked_filter.specs.declared.checked_node.NodeKind.{NodeKind}
 use Rattle.odata_filter_operations.specs.declared.fault.EvalFault.{EvalFault}

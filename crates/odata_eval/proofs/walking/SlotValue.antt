@@ -13,7 +13,7 @@ use Rattle.csdl_schema.specs.SchemaModel.{Slots, PropertyModel, PropertyType, de
 use Rattle.edm_entities.specs.Row.{Row, val_of, value_of, field_of, field_by_name, record_of}
 use Rattle.odata_eval.specs.NameGives.{StepGives}
 use Rattle.odata_filter_operations.specs.Outcome.{gives}
-use Rattle.odata_expression_types.specs.Typed.{PropertyTyped, named_type, property_named}
+use Rattle.odata_signatures.specs.Typed.{PropertyTyped, named_type, property_named}
 use Rattle.odata_eval.specs.private.Scene.{HoldsAt}
 use Rattle.odata_eval.proofs.meaning.Progress.{field_gives}
 

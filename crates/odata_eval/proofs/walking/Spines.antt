@@ -24,8 +24,8 @@ use Rattle.odata_filter_operations.specs.LeftFirst.{After}
 use Rattle.odata_filter_operations.specs.HasGives.{HasGives}
 use Rattle.odata_eval.specs.OperatorGives.{OperatorGives, SidesGive}
 use Rattle.odata_eval.specs.ReadGives.{GivesMember}
-use Rattle.odata_expression_types.specs.Reads.{OfEquality, ReadsNone}
-use Rattle.odata_expression_types.specs.Sides.{side_of}
+use Rattle.odata_signatures.specs.Reads.{OfEquality, ReadsNone}
+use Rattle.odata_signatures.specs.Sides.{side_of}
 use Rattle.edm_values.specs.Val as val
 use Rattle.odata_filter_operations.specs.Outcome.{Outcome, overflow, divides_by_zero}
 use Rattle.odata_filter_operations.specs.FaultView.{fault_outcome}
@@ -39,7 +39,7 @@ use Rattle.odata_signatures.specs.Functions.{IsNamed, row_of}
 use Rattle.odata_signatures.specs.declared.function.Function.{Function}
 use Rattle.odata_signatures.specs.CallTyped.{CallTyped}
 use Rattle.odata_checked_filter.specs.Stands.{AllStand}
-use Rattle.odata_expression_types.specs.Typed.{AreTyped}
+use Rattle.odata_signatures.specs.Typed.{AreTyped}
 use Rattle.odata_eval.specs.Means.{ArgumentsMean}
 use Rattle.odata_filter_operations.specs.CallGives.{CallGives}
 use Rattle.csdl_schema.specs.SchemaModel.{Slots, slots_of, type_name_at}

@@ -8,7 +8,7 @@ use Rattle.odata_checked_filter.specs.Calls.{TakesMemory}
 use Rattle.odata_checked_filter.specs.Filter.{Filter, IsFilter, tree_of_filter}
 use Rattle.odata_checked_filter.specs.FlatTree.{FlatTree}
 use Rattle.odata_checked_filter.specs.Stands.{Stands}
-use Rattle.odata_expression_types.specs.Typed.{Typed}
+use Rattle.odata_signatures.specs.Typed.{Typed}
 use Rattle.odata_filter_operations.specs.declared.fault.EvalFault.{EvalFault}
 use Rattle.odata_eval.specs.Environment.{Environment, scope_of}
 use Rattle.odata_eval.specs.Means.{Means}

@@ -7,7 +7,7 @@ use Rattle.edm_values.specs.declared.value.Value.{Value}
 use Rattle.csdl_schema.specs.ExprType.{ExprType}
 use Rattle.csdl_schema.specs.SchemaModel.{SchemaModel, Slots, slots_of}
 use Rattle.edm_entities.specs.Row.{val_of}
-use Rattle.odata_expression_types.specs.Typed.{variable_type}
+use Rattle.odata_signatures.specs.Typed.{variable_type}
 use Rattle.odata_checked_filter.specs.Levels.{level_named}
 use Rattle.odata_eval.specs.Environment.{Bound as BoundVariable, Environment, scope_of, variable_value}
 use Rattle.odata_eval.specs.NameGives.{FoundGives}

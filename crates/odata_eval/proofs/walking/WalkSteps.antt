@@ -14,12 +14,12 @@ use Rattle.odata_syntax.specs.declared.binary_operator.ArithmeticOperator.{Arith
 use Rattle.odata_checked_filter.specs.declared.checked_node.CheckedNode.{CheckedNode}
 use Rattle.odata_checked_filter.specs.declared.checked_node.NodeKind.{NodeKind}
 use Rattle.odata_syntax.specs.declared.binary_operator.LogicalOperator.{LogicalOperator}
-use Rattle.odata_expression_types.specs.Laws.{OneType}
+use Rattle.odata_signatures.specs.Laws.{OneType}
 use Rattle.odata_signatures.specs.TypeView.{expr_type}
 use Rattle.odata_signatures.specs.ExprTypes.{boolean_type}
 use Rattle.odata_signatures.specs.OperatorTyped.{IsEquality, OperatorByTypes}
-use Rattle.odata_expression_types.specs.Reads.{OfEquality, ReadsNone}
-use Rattle.odata_expression_types.specs.Sides.{quoted_text, side_of}
+use Rattle.odata_signatures.specs.Reads.{OfEquality, ReadsNone}
+use Rattle.odata_signatures.specs.Sides.{quoted_text, side_of}
 use Rattle.odata_filter_operations.specs.declared.fault.EvalFault.{EvalFault}
 use Rattle.odata_filter_operations.specs.CalculationGives.{CalculationGives, NegatedGives, number_val}
 use Rattle.odata_filter_operations.specs.CompareGives.{CompareGives}

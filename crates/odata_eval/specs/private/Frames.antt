@@ -7,7 +7,7 @@ use Rattle.csdl_schema.specs.SchemaModel.{SchemaModel, Slots, slots_of}
 use Rattle.edm_entities.specs.Row.{val_of}
 use Rattle.odata_signatures.specs.TypeView.{expr_type}
 use Rattle.odata_signatures.specs.declared.edm_type.EdmType.{EdmType}
-use Rattle.odata_expression_types.specs.Typed.{variable_type}
+use Rattle.odata_signatures.specs.Typed.{variable_type}
 use Rattle.odata_checked_filter.specs.Levels.{level_named}
 use Rattle.odata_checked_filter.specs.Stands.{variable_names}
 use Rattle.odata_eval.specs.Environment.{Bound, Environment, scope_of, variable_value}

@@ -12,7 +12,7 @@ use Rattle.odata_signatures.specs.ExprTypes.{IsBooleanOrNull}
 use Rattle.odata_signatures.specs.TypeView.{expr_type}
 use Rattle.odata_signatures.specs.declared.edm_type.EdmType.{EdmType}
 use Rattle.odata_signatures.specs.declared.edm_type.ValueType.{ValueType}
-use Rattle.odata_expression_types.specs.Typed.{Scope, Typed, with_variable}
+use Rattle.odata_signatures.specs.Typed.{Scope, Typed, with_variable}
 use Rattle.odata_checked_filter.specs.Calls.{TakesMemory}
 use Rattle.odata_checked_filter.specs.FlatTree.{FlatTree}
 use Rattle.odata_checked_filter.specs.Stands.{Stands}

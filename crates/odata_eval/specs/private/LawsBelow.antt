@@ -21,7 +21,7 @@ use Rattle.odata_signatures.specs.declared.function.Function.{Function}
 use Rattle.csdl_schema.specs.SchemaModel.{Slots}
 use Rattle.odata_signatures.specs.QuotedNumber.{IsQuotedNumber}
 use Rattle.odata_signatures.specs.Unread.{TextsApart}
-use Rattle.odata_expression_types.specs.Laws.{OneLiteralValue, OneType, QuotingIsText}
+use Rattle.odata_signatures.specs.Laws.{OneLiteralValue, OneType, QuotingIsText}
 
 -- what makes outcomes the only ones
 pub record OneEach : Type 0 where

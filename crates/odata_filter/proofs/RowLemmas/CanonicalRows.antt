@@ -18,7 +18,7 @@ use Rattle.edm_entities.specs.Fits.{Fits}
 use Rattle.edm_entities.specs.Row.{Row}
 use Rattle.edm_entities.specs.RowFaults.{IsRowFault}
 use Rattle.edm_entities.specs.declared.fault.RowFault.{RowFault}
-use Rattle.odata_expression_types.specs.HasTyping.{HasTree}
+use Rattle.odata_signatures.specs.HasTyping.{HasTree}
 use Rattle.odata_checked_filter.specs.CanonicalFilters.{AreCoveredAlike, ExpandTheSame, IsOfCanonicalText, OfCanonicalTexts}
 use Rattle.odata_checked_filter.specs.Filter.{Filter, slots_for_filter, tree_of_filter}
 use Rattle.odata_eval.specs.Means.{Means}

@@ -8,8 +8,8 @@ use Rattle.csdl_schema.specs.SchemaModel.{Slots}
 use Rattle.odata_syntax.specs.declared.binary_operator.ComparisonOperator.TheVariants.{Eq}
 use Rattle.odata_syntax.specs.Tree.{Shape, Tree, Trees, any_item, binary, call, count, has, in_list, in_path, it, lambda, literal, logical_not, member, more_trees, name, negation, no_trees, node}
 use Rattle.odata_syntax.specs.declared.node.Quantifier.TheVariants.{Any}
-use Rattle.odata_expression_types.specs.Reads.{ReadsNumber}
-use Rattle.odata_expression_types.specs.Typed.{Typed}
+use Rattle.odata_signatures.specs.Reads.{ReadsNumber}
+use Rattle.odata_signatures.specs.Typed.{Typed}
 use Rattle.odata_filter_operations.specs.CompareGives.{CompareGives}
 use Rattle.odata_filter_operations.specs.LeftFirst.{After}
 use Rattle.odata_filter_operations.specs.Outcome.{Outcome}

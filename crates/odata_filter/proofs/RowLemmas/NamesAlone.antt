@@ -8,9 +8,9 @@ use Rattle.csdl_schema.specs.ExprType.{ExprType}
 use Rattle.csdl_schema.specs.SchemaModel.{Slots}
 use Rattle.odata_syntax.specs.Spans.{list_of_trees}
 use Rattle.odata_syntax.specs.Tree.{Shape, Tree, Trees, any_item, binary, call, count, has, in_list, in_path, it, lambda, literal, logical_not, member, more_trees, name, negation, no_trees, node, trees_of_list}
-use Rattle.odata_expression_types.specs.Typed.{OperandTyped, Typed}
+use Rattle.odata_signatures.specs.Typed.{OperandTyped, Typed}
 use Rattle.odata_signatures.specs.OperatorTyped.{NegationTyped}
-use Rattle.odata_expression_types.specs.Reads.{ReadsNumber}
+use Rattle.odata_signatures.specs.Reads.{ReadsNumber}
 use Rattle.odata_checked_filter.specs.FlatTree.{FlatTree, PlacedTree, first_tree, forest, shape_of_kind, tree_of_nodes, trees_before, trees_from}
 use Rattle.odata_checked_filter.specs.declared.checked_node.CheckedNode.{CheckedNode}
 use Rattle.odata_checked_filter.specs.declared.checked_node.NodeKind.{NodeKind}

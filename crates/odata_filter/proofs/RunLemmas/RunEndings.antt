@@ -18,12 +18,12 @@ use Rattle.odata_filter.specs.Run.{Answers, BeginsAs, BeginsBy, BeginsKept, Hold
 use Rattle.csdl_schema.specs.SchemaModel.{SchemaModel, slots_of, type_name_at}
 use Rattle.odata_filter.specs.declared.command.command_line.Plan.{Plan}
 use Rattle.odata_filter.specs.declared.command.failure.Failure.{Failure}
-use Rattle.odata_expression_types.specs.declared.refusal.Refusal.{Refusal}
-use Rattle.odata_expression_types.specs.declared.refusal.Refusal.TheVariants as refusal
+use Rattle.odata_signatures.specs.declared.refusal.Refusal.{Refusal}
+use Rattle.odata_signatures.specs.declared.refusal.Refusal.TheVariants as refusal
 use Rattle.odata_checked_filter.specs.Calls.{UsesNow}
 use Rattle.odata_checked_filter.specs.Explanation.{IsExplanation}
 use Rattle.odata_checked_filter.specs.Filter.{Filter, tree_of_filter}
-use Rattle.odata_expression_types.specs.HasTyping.{HasTyping, HasNoTyping, UnlessMemory}
+use Rattle.odata_signatures.specs.HasTyping.{HasTyping, HasNoTyping, UnlessMemory}
 
 -- ---- the plan's text is a filter, or is none
 

@@ -18,8 +18,8 @@ use Rattle.odata_filter.specs.declared.command.failure.Failure.{Failure}
 use Rattle.odata_filter.specs.declared.command.failure.Failure.TheVariants.{NotAMoment, OneOf, Schema, UnknownType, Query, NoOption, Refused, NoMoment, RowsFile, Rows}
 use Rattle.odata_filter.specs.declared.run_fault.RunFault.{RunFault}
 use Rattle.odata_filter.specs.declared.run_fault.RunFault.TheVariants as rows
-use Rattle.odata_expression_types.specs.declared.refusal.Refusal.{Refusal}
-use Rattle.odata_expression_types.specs.declared.refusal.Refusal.TheVariants as refusal
+use Rattle.odata_signatures.specs.declared.refusal.Refusal.{Refusal}
+use Rattle.odata_signatures.specs.declared.refusal.Refusal.TheVariants as refusal
 
 -- running out of memory, or no schema
 abbrev pub status_of_schema : SchemaFault → Status

@@ -3,8 +3,8 @@ use Rattle.odata_syntax.specs.Places.{lambda_at, number_at, places_of, stop_at}
 use Rattle.odata_syntax.specs.PostOrder.{last_tree}
 use Rattle.csdl_schema.specs.SchemaModel.{slots_of, type_name_at}
 use Rattle.odata_signatures.specs.TypeView.{expr_type}
-use Rattle.odata_expression_types.specs.FirstUntypable.{IsFirstUntypable}
-use Rattle.odata_expression_types.specs.Typed.{Scope, variable_type}
+use Rattle.odata_signatures.specs.FirstUntypable.{IsFirstUntypable}
+use Rattle.odata_signatures.specs.Typed.{Scope, variable_type}
 use Rattle.odata_typing.specs.declared.variables.NamedVariable.{NamedVariable}
 use Rattle.odata_typing.specs.private.Settings.{name_of, run_tree}
 use Rattle.odata_typing.specs.private.Variables.{IsNamedBy, scope_of}

@@ -9,11 +9,11 @@ use Rattle.odata_signatures.specs.ExprTypes.{boolean_type, string_type}
 use Rattle.odata_signatures.specs.HasTyped.{AreFlags}
 use Rattle.odata_signatures.specs.OperatorTyped.{OperatorByTypes, IsEquality, OperatorTyped}
 use Rattle.odata_signatures.specs.QuotedNumber.{HasNumber, IsReadBeside, LacksNumber, NumberBeside}
-use Rattle.odata_expression_types.specs.FirstUntypable.{IsReason}
-use Rattle.odata_expression_types.specs.Reads.{OfEquality, ReadsNone}
-use Rattle.odata_expression_types.specs.Sides.{Between, quoted_text, side_of}
-use Rattle.odata_expression_types.specs.Typed.{Scope, Typed}
-use Rattle.odata_expression_types.specs.declared.refusal.TypeFaultCode.{TypeFaultCode}
+use Rattle.odata_signatures.specs.FirstUntypable.{IsReason}
+use Rattle.odata_signatures.specs.Reads.{OfEquality, ReadsNone}
+use Rattle.odata_signatures.specs.Sides.{Between, quoted_text, side_of}
+use Rattle.odata_signatures.specs.Typed.{Scope, Typed}
+use Rattle.odata_signatures.specs.declared.refusal.TypeFaultCode.{TypeFaultCode}
 use Rattle.odata_checked_filter.specs.declared.checked_node.NodeKind.{NodeKind}
 use Rattle.odata_typing.specs.private.Forms.{InfixByTypes, InfixReason, InfixTyped, infix_shape}
 use Rattle.odata_typing.specs.private.LawsBelow.{LawsBelow}

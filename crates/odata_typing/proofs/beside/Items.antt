@@ -10,9 +10,9 @@ use Rattle.odata_signatures.specs.ExprTypes.{boolean_type, string_type}
 use Rattle.odata_signatures.specs.QuotedNumber.{IsReadBeside, LacksNumber}
 use Rattle.odata_signatures.specs.Side.{Side, quoting}
 use Rattle.odata_signatures.specs.TypeView.{expr_type}
-use Rattle.odata_expression_types.specs.Reads.{OneLacksNumber}
-use Rattle.odata_expression_types.specs.Sides.{BeforeList, quoted_text, sides_of}
-use Rattle.odata_expression_types.specs.Typed.{AreTyped, Scope, Typed}
+use Rattle.odata_signatures.specs.Reads.{OneLacksNumber}
+use Rattle.odata_signatures.specs.Sides.{BeforeList, quoted_text, sides_of}
+use Rattle.odata_signatures.specs.Typed.{AreTyped, Scope, Typed}
 use Rattle.odata_checked_filter.specs.FlatTree.{FlatTree}
 use Rattle.odata_checked_filter.specs.declared.checked_node.CheckedNode.{CheckedNode}
 use Rattle.odata_typing.specs.declared.in_list.ItemsFit.{ItemsFit}

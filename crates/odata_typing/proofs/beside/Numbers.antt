@@ -5,8 +5,8 @@ use Rattle.csdl_schema.specs.ExprType.{ExprType, single, enumeration}
 use Rattle.csdl_schema.specs.SchemaModel.{Slots}
 use Rattle.odata_signatures.specs.ExprTypes.{string_type}
 use Rattle.odata_signatures.specs.QuotedNumber.{IsReadBeside, NumberBeside}
-use Rattle.odata_expression_types.specs.Reads.{ReadsNone}
-use Rattle.odata_expression_types.specs.Sides.{quoted_text}
+use Rattle.odata_signatures.specs.Reads.{ReadsNone}
+use Rattle.odata_signatures.specs.Sides.{quoted_text}
 
 -- what stands for a number is read
 pub is_read : (slots : Slots) (type : ExprType) (quoted : Option (List ℕ)) (n : ℤ) → NumberBeside slots type quoted n → IsReadBeside type quoted

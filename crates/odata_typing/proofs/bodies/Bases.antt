@@ -6,10 +6,10 @@ use Rattle.csdl_schema.specs.ExprType.{ExprType, collection, single}
 use Rattle.odata_signatures.specs.TypeView.{expr_type, single_type}
 use Rattle.odata_signatures.specs.declared.edm_type.EdmType.{EdmType}
 use Rattle.odata_signatures.specs.declared.edm_type.ValueType.{ValueType}
-use Rattle.odata_expression_types.specs.FirstUntypable.{IsFirstUntypable}
-use Rattle.odata_expression_types.specs.Typed.{Typed, variable_type, with_variable}
-use Rattle.odata_expression_types.specs.declared.refusal.TypeFault.{TypeFault}
-use Rattle.odata_expression_types.specs.declared.refusal.TypeFaultCode.{TypeFaultCode}
+use Rattle.odata_signatures.specs.FirstUntypable.{IsFirstUntypable}
+use Rattle.odata_signatures.specs.Typed.{Typed, variable_type, with_variable}
+use Rattle.odata_signatures.specs.declared.refusal.TypeFault.{TypeFault}
+use Rattle.odata_signatures.specs.declared.refusal.TypeFaultCode.{TypeFaultCode}
 use Rattle.odata_typing.specs.declared.setting.Judged.{Judged}
 use Rattle.odata_typing.specs.declared.setting.Setting.{Setting}
 use Rattle.odata_typing.specs.declared.walk.Walk.{Walk}

@@ -7,8 +7,8 @@ use Rattle.csdl_schema.specs.ExprType.{collection}
 use Rattle.odata_signatures.specs.ExprTypes.{IsBooleanOrNull}
 use Rattle.odata_signatures.specs.TypeView.{expr_type, single_type}
 use Rattle.odata_signatures.specs.declared.edm_type.EdmType.{EdmType}
-use Rattle.odata_expression_types.specs.Typed.{BindsVariable, Typed}
-use Rattle.odata_expression_types.specs.declared.refusal.TypeFaultCode.{TypeFaultCode}
+use Rattle.odata_signatures.specs.Typed.{BindsVariable, Typed}
+use Rattle.odata_signatures.specs.declared.refusal.TypeFaultCode.{TypeFaultCode}
 use Rattle.odata_checked_filter.specs.declared.checked_node.CheckedNode.{CheckedNode}
 use Rattle.odata_checked_filter.specs.declared.checked_node.NodeKind.{NodeKind}
 use Rattle.odata_typing.specs.declared.setting.Judged.{Judged}

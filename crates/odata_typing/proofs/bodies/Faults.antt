@@ -9,12 +9,12 @@ use Rattle.odata_signatures.specs.ExprTypes.{IsBooleanOrNull}
 use Rattle.odata_signatures.specs.TypeView.{expr_type}
 use Rattle.odata_signatures.specs.declared.edm_type.EdmType.{EdmType}
 use Rattle.odata_signatures.specs.declared.edm_type.ValueType.{ValueType}
-use Rattle.odata_expression_types.specs.declared.refusal.TypeFault.{TypeFault}
-use Rattle.odata_expression_types.specs.declared.refusal.TypeFaultCode.{TypeFaultCode}
-use Rattle.odata_expression_types.specs.Considered.{IsBodyInScope}
-use Rattle.odata_expression_types.specs.FirstAmong.{StartFrom}
-use Rattle.odata_expression_types.specs.FirstUntypable.{IsFirstUntypable, LambdaReason}
-use Rattle.odata_expression_types.specs.Typed.{IsTyped, IsUntyped, Scope, Typed, variable_type, with_variable}
+use Rattle.odata_signatures.specs.declared.refusal.TypeFault.{TypeFault}
+use Rattle.odata_signatures.specs.declared.refusal.TypeFaultCode.{TypeFaultCode}
+use Rattle.odata_signatures.specs.Considered.{IsBodyInScope}
+use Rattle.odata_signatures.specs.FirstAmong.{StartFrom}
+use Rattle.odata_signatures.specs.FirstUntypable.{IsFirstUntypable, LambdaReason}
+use Rattle.odata_signatures.specs.Typed.{IsTyped, IsUntyped, Scope, Typed, variable_type, with_variable}
 use Rattle.odata_typing.specs.private.LawsBelow.{LawsBelow}
 use Rattle.odata_typing.proofs.untypable.Untypable.{among_typed, first_itself, typed_start}
 

@@ -5,8 +5,8 @@ use Rattle.odata_syntax.specs.declared.node.Quantifier.{Quantifier}
 use Rattle.csdl_schema.specs.ExprType.{ExprType, SingleType, collection, single, structured}
 use Rattle.csdl_schema.specs.PathSet.{PropertyPath}
 use Rattle.csdl_schema.specs.SchemaModel.{Slots}
-use Rattle.odata_expression_types.specs.NeededPaths.{IsNeededAmong, Navigates, VariablePaths}
-use Rattle.odata_expression_types.specs.Typed.{Scope, Typed, variable_type, with_variable}
+use Rattle.odata_signatures.specs.NeededPaths.{IsNeededAmong, Navigates, VariablePaths}
+use Rattle.odata_signatures.specs.Typed.{Scope, Typed, variable_type, with_variable}
 use Rattle.odata_checked_filter.specs.declared.checked_node.NodeKind.{NodeKind}
 use Rattle.odata_typing.specs.declared.unary_node.Unary.{Unary}
 use Rattle.odata_typing.specs.private.Forms.{IsInfix, infix_shape, unary_shape}

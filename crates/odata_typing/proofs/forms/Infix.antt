@@ -4,10 +4,10 @@ use Rattle.edm_values.specs.declared.value.Value.{Value}
 use Rattle.odata_syntax.specs.Tree.{Tree, node}
 use Rattle.csdl_schema.specs.ExprType.{ExprType}
 use Rattle.csdl_schema.specs.SchemaModel.{SchemaModel, Slots, slots_of, type_name_at}
-use Rattle.odata_expression_types.specs.Considered.{IsConsideredBody, children_in_scope}
-use Rattle.odata_expression_types.specs.Reads.{OfEquality}
-use Rattle.odata_expression_types.specs.Sides.{Between}
-use Rattle.odata_expression_types.specs.Typed.{OperandsTyped, Scope, Typed}
+use Rattle.odata_signatures.specs.Considered.{IsConsideredBody, children_in_scope}
+use Rattle.odata_signatures.specs.Reads.{OfEquality}
+use Rattle.odata_signatures.specs.Sides.{Between}
+use Rattle.odata_signatures.specs.Typed.{OperandsTyped, Scope, Typed}
 use Rattle.odata_checked_filter.specs.FlatTree.{FlatTree}
 use Rattle.odata_checked_filter.specs.Stands.{BesideStands, ChildrenStand, HasOwnValue, IsKindOf, Stands, text_of_shape}
 use Rattle.odata_checked_filter.specs.declared.checked_node.NodeKind.{NodeKind}

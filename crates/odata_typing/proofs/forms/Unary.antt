@@ -4,9 +4,9 @@ use Rattle.edm_values.specs.declared.value.Value.{Value}
 use Rattle.odata_syntax.specs.Tree.{Tree, node}
 use Rattle.csdl_schema.specs.ExprType.{ExprType}
 use Rattle.csdl_schema.specs.SchemaModel.{SchemaModel, Slots}
-use Rattle.odata_expression_types.specs.Considered.{IsConsideredBody, children_in_scope}
-use Rattle.odata_expression_types.specs.FirstUntypable.{IsReason}
-use Rattle.odata_expression_types.specs.Typed.{OperandTyped, Scope, Typed}
+use Rattle.odata_signatures.specs.Considered.{IsConsideredBody, children_in_scope}
+use Rattle.odata_signatures.specs.FirstUntypable.{IsReason}
+use Rattle.odata_signatures.specs.Typed.{OperandTyped, Scope, Typed}
 use Rattle.odata_checked_filter.specs.FlatTree.{FlatTree}
 use Rattle.odata_checked_filter.specs.Stands.{ChildrenStand, HasOwnValue, IsKindOf, Stands, text_of_shape}
 use Rattle.odata_typing.specs.declared.unary_node.Unary.{Unary}

@@ -10,10 +10,10 @@ use Rattle.odata_signatures.specs.Side.{Side, quoting}
 use Rattle.odata_signatures.specs.TypeThere.{IsTypeThere}
 use Rattle.odata_signatures.specs.TypeView.{expr_type}
 use Rattle.odata_signatures.specs.declared.edm_type.EdmType.{EdmType}
-use Rattle.odata_expression_types.specs.FirstUntypable.{IsReason}
-use Rattle.odata_expression_types.specs.Sides.{Between, quoted_text, side_of}
-use Rattle.odata_expression_types.specs.Typed.{Scope}
-use Rattle.odata_expression_types.specs.declared.refusal.TypeFaultCode.{TypeFaultCode}
+use Rattle.odata_signatures.specs.FirstUntypable.{IsReason}
+use Rattle.odata_signatures.specs.Sides.{Between, quoted_text, side_of}
+use Rattle.odata_signatures.specs.Typed.{Scope}
+use Rattle.odata_signatures.specs.declared.refusal.TypeFaultCode.{TypeFaultCode}
 use Rattle.odata_checked_filter.specs.declared.checked_node.NodeKind.{NodeKind}
 use Rattle.odata_checked_filter.specs.FlatTree.{FlatTree}
 use Rattle.odata_checked_filter.specs.ListChanges.{number_put}

@@ -10,12 +10,12 @@ use Rattle.odata_signatures.specs.TypeThere.{IsTypeThere}
 use Rattle.odata_signatures.specs.TypeView.{expr_type}
 use Rattle.odata_signatures.specs.declared.edm_type.EdmType.{EdmType}
 use Rattle.odata_signatures.specs.declared.edm_type.ValueType.{ValueType}
-use Rattle.odata_expression_types.specs.FirstUntypable.{IsFirstUntypable, LiteralReason, NameReason, StepReason}
-use Rattle.odata_expression_types.specs.LiteralValue.{LiteralTyped}
-use Rattle.odata_expression_types.specs.NeededPaths.{Navigates}
-use Rattle.odata_expression_types.specs.Typed.{NameTyped, PropertyTyped, StepTyped, Typed, variable_type}
-use Rattle.odata_expression_types.specs.declared.refusal.TypeFault.{TypeFault}
-use Rattle.odata_expression_types.specs.declared.refusal.TypeFaultCode.{TypeFaultCode}
+use Rattle.odata_signatures.specs.FirstUntypable.{IsFirstUntypable, LiteralReason, NameReason, StepReason}
+use Rattle.odata_signatures.specs.LiteralValue.{LiteralTyped}
+use Rattle.odata_signatures.specs.NeededPaths.{Navigates}
+use Rattle.odata_signatures.specs.Typed.{NameTyped, PropertyTyped, StepTyped, Typed, variable_type}
+use Rattle.odata_signatures.specs.declared.refusal.TypeFault.{TypeFault}
+use Rattle.odata_signatures.specs.declared.refusal.TypeFaultCode.{TypeFaultCode}
 use Rattle.odata_checked_filter.specs.declared.checked_node.NodeKind.{NodeKind}
 use Rattle.odata_checked_filter.specs.ListChanges.{with_value}
 use Rattle.odata_checked_filter.specs.Stands.{IsNameNode, variable_names}

@@ -7,11 +7,11 @@ use Rattle.odata_signatures.specs.ExprTypes.{boolean_type}
 use Rattle.odata_signatures.specs.Side.{Side}
 use Rattle.odata_signatures.specs.TypeView.{expr_type}
 use Rattle.odata_signatures.specs.declared.edm_type.EdmType.{EdmType}
-use Rattle.odata_expression_types.specs.FirstUntypable.{OperandReason}
-use Rattle.odata_expression_types.specs.Reads.{OneLacksNumber}
-use Rattle.odata_expression_types.specs.Sides.{BeforeList, sides_of}
-use Rattle.odata_expression_types.specs.Typed.{Typed}
-use Rattle.odata_expression_types.specs.declared.refusal.TypeFaultCode.{TypeFaultCode}
+use Rattle.odata_signatures.specs.FirstUntypable.{OperandReason}
+use Rattle.odata_signatures.specs.Reads.{OneLacksNumber}
+use Rattle.odata_signatures.specs.Sides.{BeforeList, sides_of}
+use Rattle.odata_signatures.specs.Typed.{Typed}
+use Rattle.odata_signatures.specs.declared.refusal.TypeFaultCode.{TypeFaultCode}
 use Rattle.odata_checked_filter.specs.declared.checked_node.CheckedNode.{CheckedNode}
 use Rattle.odata_checked_filter.specs.declared.checked_node.NodeKind.{NodeKind}
 use Rattle.odata_checked_filter.specs.Stands.{ItemsStand, Stands}

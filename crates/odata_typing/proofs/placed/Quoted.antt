@@ -3,8 +3,8 @@ use Rattle.std.proofs.Common.{◌≡◌, ◌≢◌, ◌∙◌, refl, ap, ℕ, Li
 use Rattle.odata_syntax.specs.Tree.{Shape, Tree, any_item, binary, call, count, has, in_list, in_path, it, lambda, literal, logical_not, member, name, negation, node}
 use Rattle.odata_syntax.specs.declared.node.LiteralKind.{LiteralKind}
 use Rattle.csdl_schema.specs.SchemaModel.{SchemaModel, Slots, slots_of, type_name_at}
-use Rattle.odata_expression_types.specs.Sides.{quoted_text}
-use Rattle.odata_expression_types.specs.Typed.{Scope}
+use Rattle.odata_signatures.specs.Sides.{quoted_text}
+use Rattle.odata_signatures.specs.Typed.{Scope}
 use Rattle.odata_checked_filter.specs.declared.checked_node.CheckedNode.{CheckedNode}
 use Rattle.odata_checked_filter.specs.declared.checked_node.NodeKind.{NodeKind}
 use Rattle.odata_checked_filter.specs.FlatTree.{FlatTree}

@@ -6,8 +6,8 @@ use Rattle.csdl_schema.specs.ExprType.{ExprType}
 use Rattle.csdl_schema.specs.SchemaModel.{SchemaModel, slots_of, type_name_at}
 use Rattle.odata_signatures.specs.Side.{Side, quoting}
 use Rattle.odata_signatures.specs.TypeView.{expr_type}
-use Rattle.odata_expression_types.specs.Sides.{quoted_text, sides_of}
-use Rattle.odata_expression_types.specs.Typed.{AreTyped, IsTyped, Scope}
+use Rattle.odata_signatures.specs.Sides.{quoted_text, sides_of}
+use Rattle.odata_signatures.specs.Typed.{AreTyped, IsTyped, Scope}
 use Rattle.odata_checked_filter.specs.declared.checked_node.CheckedNode.{CheckedNode}
 use Rattle.odata_checked_filter.specs.Stands.{AllStand}
 use Rattle.odata_typing.specs.declared.walk.Walk.{Walk}

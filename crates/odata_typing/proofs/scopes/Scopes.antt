@@ -9,7 +9,7 @@ use Rattle.csdl_schema.specs.ExprType.{ExprType}
 use Rattle.csdl_schema.specs.SchemaModel.{SchemaModel, Slots}
 use Rattle.odata_signatures.specs.TypeView.{expr_type}
 use Rattle.odata_signatures.specs.declared.edm_type.EdmType.{EdmType}
-use Rattle.odata_expression_types.specs.Typed.{NameTyped, PropertyTyped, Scope, variable_type, with_variable}
+use Rattle.odata_signatures.specs.Typed.{NameTyped, PropertyTyped, Scope, variable_type, with_variable}
 use Rattle.odata_typing.specs.declared.variables.Variables.{Variables, Bound, Empty, the_lemmas}
 use Rattle.odata_typing.specs.declared.variables.NamedVariable.{NamedVariable}
 use Rattle.odata_typing.specs.private.Variables.{AreThere, IsNamedBy, scope_in, types_in}

@@ -11,11 +11,11 @@ use Rattle.odata_syntax.specs.declared.syntax_list.SyntaxKind.{SyntaxKind}
 use Rattle.odata_syntax.specs.declared.syntax_list.SyntaxNode.{SyntaxNode}
 use Rattle.csdl_schema.specs.ExprType.{collection}
 use Rattle.csdl_schema.specs.SchemaModel.{Slots}
-use Rattle.odata_expression_types.specs.Considered.{children_in_scope}
-use Rattle.odata_expression_types.specs.FirstUntypable.{IsFirstUntypable}
-use Rattle.odata_expression_types.specs.Laws.{FirstBelow, TypedIsClear}
-use Rattle.odata_expression_types.specs.Typed.{Scope}
-use Rattle.odata_expression_types.specs.declared.refusal.TypeFault.{TypeFault}
+use Rattle.odata_signatures.specs.Considered.{children_in_scope}
+use Rattle.odata_signatures.specs.FirstUntypable.{IsFirstUntypable}
+use Rattle.odata_signatures.specs.Laws.{FirstBelow, TypedIsClear}
+use Rattle.odata_signatures.specs.Typed.{Scope}
+use Rattle.odata_signatures.specs.declared.refusal.TypeFault.{TypeFault}
 use Rattle.odata_typing.specs.private.SpanLaws.{SpanLaws}
 use Rattle.odata_typing.proofs.stacks.Stacks.{BodiesBegin, IfLambda, NoneBegins, begin_of, onward, roots_from}
 use Rattle.odata_typing.proofs.stacks.Children.{children_over, left_over, roots_count, trees_count}

@@ -6,12 +6,12 @@ use Rattle.odata_syntax.specs.Parse.{IsExpression}
 use Rattle.odata_syntax.specs.Spans.{IsWithin, children_of, in_child, is_root}
 use Rattle.odata_syntax.specs.Tree.{Shape, Tree, lambda, shape_of, start_of, stop_of}
 use Rattle.csdl_schema.specs.SchemaModel.{Slots}
-use Rattle.odata_expression_types.specs.Considered.{IsAmong, IsConsidered, IsConsideredBody, IsConsideredChild, children_in_scope, considers_below, considers_itself}
-use Rattle.odata_expression_types.specs.FirstAmong.{IsFirstAmong}
-use Rattle.odata_expression_types.specs.FirstUntypable.{IsFirstUntypable}
-use Rattle.odata_expression_types.specs.Laws.{FirstBelow, TypedIsClear}
-use Rattle.odata_expression_types.specs.Typed.{Scope}
-use Rattle.odata_expression_types.specs.declared.refusal.TypeFault.{TypeFault}
+use Rattle.odata_signatures.specs.Considered.{IsAmong, IsConsidered, IsConsideredBody, IsConsideredChild, children_in_scope, considers_below, considers_itself}
+use Rattle.odata_signatures.specs.FirstAmong.{IsFirstAmong}
+use Rattle.odata_signatures.specs.FirstUntypable.{IsFirstUntypable}
+use Rattle.odata_signatures.specs.Laws.{FirstBelow, TypedIsClear}
+use Rattle.odata_signatures.specs.Typed.{Scope}
+use Rattle.odata_signatures.specs.declared.refusal.TypeFault.{TypeFault}
 use Rattle.odata_typing.specs.private.SpanLaws.{SpanLaws}
 use Rattle.odata_typing.proofs.stacks.Onward.{within_whole}
 use Rattle.odata_typing.proofs.untypable.Untypable.{AllStartFrom, AllTyped, IsBodiless, below_node, first_in_back, first_in_front, one_of, typed_start}

@@ -6,7 +6,7 @@ use Rattle.odata_syntax.specs.Tree.{Tree}
 use Rattle.odata_syntax.specs.declared.places.Place.{Place}
 use Rattle.csdl_schema.specs.SchemaModel.{SchemaModel, slots_of, type_name_at}
 use Rattle.odata_signatures.specs.TypeView.{expr_type}
-use Rattle.odata_expression_types.specs.Typed.{Scope}
+use Rattle.odata_signatures.specs.Typed.{Scope}
 use Rattle.odata_typing.specs.declared.walk.Walk.{Walk}
 use Rattle.odata_typing.specs.private.Judging.{IsStanding, StandInRow}
 use Rattle.odata_typing.specs.private.LawsBelow.{LawsBelow}

@@ -5,8 +5,8 @@ use Rattle.odata_syntax.specs.PostOrder.{child_count, last_tree, shape_over}
 use Rattle.odata_syntax.specs.Tree.{Shape, Tree, lambda, node}
 use Rattle.odata_syntax.specs.declared.node.Quantifier.{Quantifier}
 use Rattle.csdl_schema.specs.SchemaModel.{slots_of, type_name_at}
-use Rattle.odata_expression_types.specs.FirstUntypable.{IsFirstUntypable}
-use Rattle.odata_expression_types.specs.declared.refusal.TypeFault.{TypeFault}
+use Rattle.odata_signatures.specs.FirstUntypable.{IsFirstUntypable}
+use Rattle.odata_signatures.specs.declared.refusal.TypeFault.{TypeFault}
 use Rattle.odata_typing.specs.declared.setting.Judged.{Judged}
 use Rattle.odata_typing.specs.declared.setting.Setting.{Setting}
 use Rattle.odata_typing.specs.declared.walk.Walk.{Walk}

@@ -11,8 +11,8 @@ use Rattle.odata_syntax.specs.declared.places.Place.{Place}
 use Rattle.odata_syntax.specs.declared.syntax_list.SyntaxKind.{SyntaxKind}
 use Rattle.odata_syntax.specs.declared.syntax_list.SyntaxNode.{SyntaxNode}
 use Rattle.csdl_schema.specs.SchemaModel.{slots_of, type_name_at}
-use Rattle.odata_expression_types.specs.FirstUntypable.{IsFirstUntypable}
-use Rattle.odata_expression_types.specs.declared.refusal.TypeFault.{TypeFault}
+use Rattle.odata_signatures.specs.FirstUntypable.{IsFirstUntypable}
+use Rattle.odata_signatures.specs.declared.refusal.TypeFault.{TypeFault}
 use Rattle.odata_checked_filter.specs.ListChanges.{IsKeptOutside}
 use Rattle.odata_typing.specs.declared.setting.Judged.{Judged}
 use Rattle.odata_typing.specs.declared.setting.Setting.{Setting}

@@ -18,8 +18,8 @@ use Rattle.odata_signatures.specs.declared.edm_type.EdmType.{EdmType}
 use Rattle.odata_typing.specs.declared.enumeration_literal.EnumerationNumber.{EnumerationNumber}
 use Rattle.odata_signatures.specs.declared.edm_type.ValueType.{ValueType}
 use Rattle.odata_typing.specs.private.Answer.{IsReading}
-use Rattle.odata_expression_types.specs.Laws.{OneNameAndText}
-use Rattle.odata_expression_types.specs.LiteralValue.{EnumerationLiteral, IsNameAndText, NamesNumber}
+use Rattle.odata_signatures.specs.Laws.{OneNameAndText}
+use Rattle.odata_signatures.specs.LiteralValue.{EnumerationLiteral, IsNameAndText, NamesNumber}
 
 -- ---- quotes
 

@@ -21,7 +21,7 @@ use Rattle.csdl_schema.specs.ExprType.{ExprType}
 use Rattle.csdl_schema.specs.SchemaModel.{SchemaModel, Slots}
 use Rattle.odata_signatures.specs.declared.edm_type.EdmType.{EdmType}
 use Rattle.odata_signatures.specs.declared.edm_type.ValueType.{ValueType}
-use Rattle.odata_expression_types.specs.LiteralValue.{BooleanValue, LiteralTyped}
+use Rattle.odata_signatures.specs.LiteralValue.{BooleanValue, LiteralTyped}
 use Rattle.odata_typing.specs.private.Answer.{IsReading}
 
 -- one value of a primitive type

@@ -10,24 +10,24 @@ use Rattle.odata_syntax.specs.TextTree.{HasNoTree, IsFirstFault}
 use Rattle.odata_syntax.specs.declared.parser.text_parser.TextOrSyntaxFault.{TextOrSyntaxFault}
 use Rattle.odata_syntax.specs.declared.syntax_fault.SyntaxFault.{SyntaxFault}
 use Rattle.odata_text.specs.declared.fault.TextFault.{TextFault}
-use Rattle.odata_expression_types.specs.NeededPaths.{IsNeeded}
-use Rattle.odata_expression_types.specs.declared.refusal.Refusal.{Refusal}
-use Rattle.odata_expression_types.specs.declared.refusal.TypeFault.{TypeFault}
-use Rattle.odata_expression_types.specs.declared.refusal.TypeFaultCode.{TypeFaultCode}
+use Rattle.odata_signatures.specs.NeededPaths.{IsNeeded}
+use Rattle.odata_signatures.specs.declared.refusal.Refusal.{Refusal}
+use Rattle.odata_signatures.specs.declared.refusal.TypeFault.{TypeFault}
+use Rattle.odata_signatures.specs.declared.refusal.TypeFaultCode.{TypeFaultCode}
 use Rattle.odata_typing.specs.declared.walk.Walk.{Walk}
 use Rattle.odata_typing.specs.private.Answer.{IsTypeRefusal, refusal_of}
 use Rattle.odata_typing.specs.private.Judging.{IsStanding}
 use Rattle.odata_signatures.specs.ExprTypes.{IsBooleanOrNull}
-use Rattle.odata_expression_types.specs.FirstUntypable.{IsFirstUntypable, IsTypeFault}
-use Rattle.odata_expression_types.specs.Laws.{FewNodes}
+use Rattle.odata_signatures.specs.FirstUntypable.{IsFirstUntypable, IsTypeFault}
+use Rattle.odata_signatures.specs.Laws.{FewNodes}
 use Rattle.odata_checked_filter.specs.Laws.{OneTree}
 use Rattle.odata_typing.specs.private.LawsBelow.{LawsBelow}
-use Rattle.odata_expression_types.specs.HasTyping.{HasTree, HasTyping, HasNoTyping, IsRefusal, UnlessMemory}
+use Rattle.odata_signatures.specs.HasTyping.{HasTree, HasTyping, HasNoTyping, IsRefusal, UnlessMemory}
 use Rattle.odata_checked_filter.specs.Filter.{HasNeededPaths, IsFilter, filter_of}
 use Rattle.odata_checked_filter.specs.FlatTree.{tree_of_nodes}
-use Rattle.odata_expression_types.specs.PreOrder.{pre_order}
+use Rattle.odata_signatures.specs.PreOrder.{pre_order}
 use Rattle.odata_checked_filter.specs.Stands.{Stands}
-use Rattle.odata_expression_types.specs.Typed.{Typed}
+use Rattle.odata_signatures.specs.Typed.{Typed}
 use Rattle.odata_signatures.specs.TypeView.{expr_type}
 
 -- a text whose one tree has an untypable node has no typing

@@ -9,10 +9,10 @@ use Rattle.csdl_schema.specs.Resolution.{type_of_single}
 use Rattle.csdl_schema.specs.declared.property.PropertyKind.{PropertyKind}
 use Rattle.csdl_schema.specs.SchemaModel.{PropertyModel, PropertyType, SchemaModel, Slots, declared, opaque, navigation, slot_named, type_name_at}
 use Rattle.csdl_schema.specs.declared.property.Property.{Property}
-use Rattle.odata_expression_types.specs.declared.refusal.TypeFaultCode.{TypeFaultCode}
-use Rattle.odata_expression_types.specs.FirstUntypable.{IsFirstUntypable, NameReason, PropertyReason}
-use Rattle.odata_expression_types.specs.NeededPaths.{Navigates}
-use Rattle.odata_expression_types.specs.Typed.{PropertyTyped, Scope, named_type, variable_type}
+use Rattle.odata_signatures.specs.declared.refusal.TypeFaultCode.{TypeFaultCode}
+use Rattle.odata_signatures.specs.FirstUntypable.{IsFirstUntypable, NameReason, PropertyReason}
+use Rattle.odata_signatures.specs.NeededPaths.{Navigates}
+use Rattle.odata_signatures.specs.Typed.{PropertyTyped, Scope, named_type, variable_type}
 use Rattle.odata_typing.specs.private.LawsBelow.{LawsBelow}
 use Rattle.odata_typing.proofs.untypable.Untypable.{first_itself}
 use Rattle.odata_typing.proofs.scopes.Scopes.{unbound_only}

@@ -7,7 +7,7 @@ use Rattle.std.proofs.lemmas.Option.{slice_get_past}
 use Rattle.std.specs.Cmp.Lexicographic.{pointwise}
 use Rattle.std.specs.Prelude.{nat_eq}
 use Rattle.csdl_schema.specs.SchemaModel.{PropertyModel, slot_named}
-use Rattle.odata_expression_types.specs.Typed.{property_named}
+use Rattle.odata_signatures.specs.Typed.{property_named}
 
 slot_found : {X : Type 0} (p : X → Bool) (xs : List X) (k : ℕ) → position p xs ≡ Some k → (position_or_len p xs ≡ k) × (k < length xs)
 slot_found p xs k found = grind (arith, nat_tests)

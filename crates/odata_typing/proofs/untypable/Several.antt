@@ -8,11 +8,11 @@ use Rattle.csdl_schema.specs.SchemaModel.{Slots}
 use Rattle.odata_signatures.specs.CallTyped.{CallReason, CallTyped}
 use Rattle.odata_signatures.specs.CollectionTyped.{InListTyped}
 use Rattle.odata_signatures.specs.declared.call.CallFault.{CallFault}
-use Rattle.odata_expression_types.specs.FirstUntypable.{IsFirstUntypable, OperandReason, code_of_call}
-use Rattle.odata_expression_types.specs.Reads.{OneLacksNumber}
-use Rattle.odata_expression_types.specs.Sides.{BeforeList}
-use Rattle.odata_expression_types.specs.Typed.{AreTyped, IsTyped, Scope, Typed}
-use Rattle.odata_expression_types.specs.declared.refusal.TypeFaultCode.{TypeFaultCode}
+use Rattle.odata_signatures.specs.FirstUntypable.{IsFirstUntypable, OperandReason, code_of_call}
+use Rattle.odata_signatures.specs.Reads.{OneLacksNumber}
+use Rattle.odata_signatures.specs.Sides.{BeforeList}
+use Rattle.odata_signatures.specs.Typed.{AreTyped, IsTyped, Scope, Typed}
+use Rattle.odata_signatures.specs.declared.refusal.TypeFaultCode.{TypeFaultCode}
 use Rattle.odata_typing.specs.private.LawsBelow.{LawsBelow}
 use Rattle.odata_typing.proofs.stacks.Children.{listed_again}
 use Rattle.odata_typing.proofs.untypable.Untypable.{first_itself}

@@ -3,13 +3,13 @@ use Rattle.std.proofs.Common.{◌≡◌, refl, inl, inr, ◌⊎◌, ℕ, ◌≤�
 use Rattle.std.specs.List.{AllByRecursion}
 use Rattle.odata_syntax.specs.Tree.{Shape, Tree, node, shape_of, start_of}
 use Rattle.csdl_schema.specs.SchemaModel.{Slots}
-use Rattle.odata_expression_types.specs.declared.refusal.TypeFault.{TypeFault}
-use Rattle.odata_expression_types.specs.Considered.{ChildrenTyped, IsAmong, IsConsideredBody, children_in_scope}
-use Rattle.odata_expression_types.specs.FirstUntypable.{IsFirstUntypable, IsReason, IsUntypable}
-use Rattle.odata_expression_types.specs.Laws.{TypedIsClear}
-use Rattle.odata_expression_types.specs.Typed.{IsTyped, IsUntyped, Scope}
+use Rattle.odata_signatures.specs.declared.refusal.TypeFault.{TypeFault}
+use Rattle.odata_signatures.specs.Considered.{ChildrenTyped, IsAmong, IsConsideredBody, children_in_scope}
+use Rattle.odata_signatures.specs.FirstUntypable.{IsFirstUntypable, IsReason, IsUntypable}
+use Rattle.odata_signatures.specs.Laws.{TypedIsClear}
+use Rattle.odata_signatures.specs.Typed.{IsTyped, IsUntyped, Scope}
 use Rattle.odata_typing.specs.private.LawsBelow.{LawsBelow}
-use Rattle.odata_expression_types.specs.FirstAmong.{IsFirstAmong, IsFirstBelow, StartFrom}
+use Rattle.odata_signatures.specs.FirstAmong.{IsFirstAmong, IsFirstBelow, StartFrom}
 
 -- trees in one scope that all have types
 abbrev pub AllTyped : Slots → List ℕ → Scope → List Tree → Type 0

@@ -9,12 +9,12 @@ use Rattle.odata_syntax.specs.declared.syntax_list.SyntaxNode.{SyntaxNode}
 use Rattle.csdl_schema.specs.SchemaModel.{HoldsType, SchemaModel, slots_of, type_name_at}
 use Rattle.odata_signatures.specs.ExprTypes.{IsBooleanOrNull}
 use Rattle.odata_signatures.specs.TypeView.{expr_type}
-use Rattle.odata_expression_types.specs.HasTyping.{HasTree, HasTyping}
-use Rattle.odata_expression_types.specs.Laws.{FewNodes}
-use Rattle.odata_expression_types.specs.Typed.{Scope}
-use Rattle.odata_expression_types.specs.declared.refusal.Refusal.{Refusal}
-use Rattle.odata_expression_types.specs.declared.refusal.TypeFault.{TypeFault}
-use Rattle.odata_expression_types.specs.declared.refusal.TypeFaultCode.{TypeFaultCode}
+use Rattle.odata_signatures.specs.HasTyping.{HasTree, HasTyping}
+use Rattle.odata_signatures.specs.Laws.{FewNodes}
+use Rattle.odata_signatures.specs.Typed.{Scope}
+use Rattle.odata_signatures.specs.declared.refusal.Refusal.{Refusal}
+use Rattle.odata_signatures.specs.declared.refusal.TypeFault.{TypeFault}
+use Rattle.odata_signatures.specs.declared.refusal.TypeFaultCode.{TypeFaultCode}
 use Rattle.odata_checked_filter.specs.FlatTree.{FlatTree, tree_of_nodes}
 use Rattle.odata_checked_filter.specs.Laws.{OneTree}
 use Rattle.odata_checked_filter.specs.ListChanges.{nothing_yet, with_room}

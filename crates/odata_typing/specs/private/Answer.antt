@@ -9,9 +9,9 @@ use Rattle.odata_syntax.specs.declared.syntax_fault.SyntaxFault.{SyntaxFault}
 use Rattle.csdl_schema.specs.SchemaModel.{SchemaModel, Slots, slots_of}
 use Rattle.odata_signatures.specs.TypeView.{expr_type}
 use Rattle.odata_signatures.specs.declared.edm_type.EdmType.{EdmType}
-use Rattle.odata_expression_types.specs.FirstUntypable.{IsTypeFault}
-use Rattle.odata_expression_types.specs.LiteralValue.{LiteralTyped}
-use Rattle.odata_expression_types.specs.declared.refusal.Refusal.{Refusal}
+use Rattle.odata_signatures.specs.FirstUntypable.{IsTypeFault}
+use Rattle.odata_signatures.specs.LiteralValue.{LiteralTyped}
+use Rattle.odata_signatures.specs.declared.refusal.Refusal.{Refusal}
 use Rattle.odata_checked_filter.specs.Stands.{IsValueOf}
 
 -- a literal with its value and its type

@@ -8,8 +8,8 @@ use Rattle.odata_signatures.specs.ExprTypes.{boolean_type}
 use Rattle.odata_signatures.specs.HasTyped.{AreFlags, HasTyped}
 use Rattle.odata_signatures.specs.OperatorTyped.{OperatorByTypes, NegationTyped, NotTyped, OperatorTyped}
 use Rattle.odata_signatures.specs.Side.{Side}
-use Rattle.odata_expression_types.specs.FirstUntypable.{PathReason}
-use Rattle.odata_expression_types.specs.declared.refusal.TypeFaultCode.{TypeFaultCode}
+use Rattle.odata_signatures.specs.FirstUntypable.{PathReason}
+use Rattle.odata_signatures.specs.declared.refusal.TypeFaultCode.{TypeFaultCode}
 use Rattle.odata_checked_filter.specs.FlatTree.{shape_of_kind}
 use Rattle.odata_checked_filter.specs.declared.checked_node.NodeKind.{NodeKind}
 use Rattle.odata_typing.specs.declared.unary_node.Unary.{Unary}

@@ -6,9 +6,9 @@ use Rattle.csdl_schema.specs.PathSet.{PropertyPath}
 use Rattle.csdl_schema.specs.SchemaModel.{SchemaModel, Slots, slots_of, type_name_at}
 use Rattle.odata_signatures.specs.TypeThere.{IsTypeThere}
 use Rattle.odata_signatures.specs.TypeView.{expr_type}
-use Rattle.odata_expression_types.specs.FirstUntypable.{IsFirstUntypable}
-use Rattle.odata_expression_types.specs.NeededPaths.{IsNeeded, VariablePaths}
-use Rattle.odata_expression_types.specs.Typed.{Scope, Typed}
+use Rattle.odata_signatures.specs.FirstUntypable.{IsFirstUntypable}
+use Rattle.odata_signatures.specs.NeededPaths.{IsNeeded, VariablePaths}
+use Rattle.odata_signatures.specs.Typed.{Scope, Typed}
 use Rattle.odata_checked_filter.specs.declared.checked_node.CheckedNode.{CheckedNode}
 use Rattle.odata_checked_filter.specs.ListChanges.{IsKeptOutside}
 use Rattle.odata_checked_filter.specs.Stands.{SideBySide, Stands}

@@ -9,7 +9,7 @@ use Rattle.csdl_schema.specs.ExprType.{single}
 use Rattle.odata_signatures.specs.TypeView.{single_type}
 use Rattle.odata_signatures.specs.declared.edm_type.EdmType.{EdmType}
 use Rattle.odata_signatures.specs.declared.edm_type.ValueType.{ValueType}
-use Rattle.odata_expression_types.specs.Typed.{variable_type, with_variable}
+use Rattle.odata_signatures.specs.Typed.{variable_type, with_variable}
 use Rattle.odata_typing.specs.declared.setting.Judged.{Judged}
 use Rattle.odata_typing.specs.declared.setting.Setting.{Setting}
 use Rattle.odata_typing.specs.declared.walk.Walk.{Walk}

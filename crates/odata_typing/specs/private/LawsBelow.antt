@@ -1,5 +1,5 @@
 -- For private clauses: the laws on which the walk over a tree rests.
-use Rattle.odata_expression_types.specs.Laws.{FirstBelow, FirstItself, OneType, QuotingIsText, TypedIsClear}
+use Rattle.odata_signatures.specs.Laws.{FirstBelow, FirstItself, OneType, QuotingIsText, TypedIsClear}
 use Rattle.odata_signatures.specs.Unread.{FlagsByTypes, ItemsByTypes, OperandsByTypes, TextsApart}
 use Rattle.odata_checked_filter.specs.Laws.{KeptStands, PutChanges, PutStands}
 use Rattle.odata_typing.specs.private.SpanLaws.{SpanLaws}

@@ -5,7 +5,7 @@ use Rattle.std.specs.List.{AllByRecursion}
 use Rattle.odata_signatures.specs.TypeThere.{IsTypeThere}
 use Rattle.odata_signatures.specs.TypeView.{expr_type}
 use Rattle.odata_signatures.specs.declared.edm_type.EdmType.{EdmType}
-use Rattle.odata_expression_types.specs.Typed.{Scope, variable_type, with_variable}
+use Rattle.odata_signatures.specs.Typed.{Scope, variable_type, with_variable}
 use Rattle.odata_checked_filter.specs.Levels.{level_named}
 use Rattle.odata_checked_filter.specs.Stands.{variable_names}
 use Rattle.odata_typing.specs.declared.setting.Setting.{Setting}

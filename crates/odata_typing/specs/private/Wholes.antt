@@ -3,8 +3,8 @@ use Rattle.std.specs.Prelude.{◌≡◌, ℕ, List, [], false, length}
 use Rattle.csdl_schema.specs.ExpansionView.{StepModel, paths_in}
 use Rattle.csdl_schema.specs.PathSet.{PropertyPath}
 use Rattle.csdl_schema.specs.SchemaModel.{SchemaModel, slots_of, type_name_at}
-use Rattle.odata_expression_types.specs.HasTyping.{HasNoTyping, IsRefusal, UnlessMemory}
-use Rattle.odata_expression_types.specs.declared.refusal.Refusal.{Refusal}
+use Rattle.odata_signatures.specs.HasTyping.{HasNoTyping, IsRefusal, UnlessMemory}
+use Rattle.odata_signatures.specs.declared.refusal.Refusal.{Refusal}
 use Rattle.odata_checked_filter.specs.Filter.{HasNeededPaths, IsFilter, filter_of}
 use Rattle.odata_checked_filter.specs.FlatTree.{tree_of_nodes}
 use Rattle.odata_checked_filter.specs.Stands.{Stands}

@@ -1,8 +1,8 @@
 use Rattle.std.proofs.Common.{◌≡◌, ◌+◌, ◌-◌, ◌∷◌, [], ℕ, List, Ok, Err, OnOk, Result, max, sym, ◌∙◌, subst, arith}
 use Rattle.csdl_schema.specs.ExprType.{single}
 use Rattle.csdl_schema.specs.SchemaModel.{slots_of, type_name_at}
-use Rattle.odata_expression_types.specs.NeededPaths.{path_of}
-use Rattle.odata_expression_types.specs.Typed.{with_variable}
+use Rattle.odata_signatures.specs.NeededPaths.{path_of}
+use Rattle.odata_signatures.specs.Typed.{with_variable}
 use Rattle.odata_checked_filter.specs.private.NeededWalk.{LambdaNeeds, LeadThere, NeedsAmong, Puts, nodes_in}
 use Rattle.odata_checked_filter.proofs.flat.Places.{found_before}
 use Rattle.odata_checked_filter.proofs.flat.Standing.{lies_nonempty}

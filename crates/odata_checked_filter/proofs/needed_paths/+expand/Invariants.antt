@@ -1,7 +1,7 @@
 use Rattle.std.proofs.Common.{◌+◌, ◌*◌, ◌-◌, ◌≤◌, List}
 use Rattle.odata_syntax.specs.Tree.{Tree}
-use Rattle.odata_expression_types.specs.NeededPaths.{VariablePaths}
-use Rattle.odata_expression_types.specs.Typed.{Scope}
+use Rattle.odata_signatures.specs.NeededPaths.{VariablePaths}
+use Rattle.odata_signatures.specs.Typed.{Scope}
 use Rattle.odata_checked_filter.specs.private.NeededWalk.{LeadThere, StandInLine, nodes_in}
 use Rattle.odata_checked_filter.proofs.needed.Lines.{IsLeft}
 use Rattle.odata_checked_filter.proofs.needed_paths.+expand.Given as goal

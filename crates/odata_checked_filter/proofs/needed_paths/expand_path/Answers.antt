@@ -1,7 +1,7 @@
 use Rattle.std.proofs.Common.{◌≡◌, ◌+◌, ◌-◌, ◌<◌, ◌≤◌, ◌++◌, ◌∷◌, [], ℕ, List, Option, Some, IsSome, slice_get, sym, ◌∙◌, subst, arith}
 use Rattle.csdl_schema.specs.ExpansionView.{LeadsTo}
 use Rattle.csdl_schema.specs.SchemaModel.{slots_of, type_name_at}
-use Rattle.odata_expression_types.specs.NeededPaths.{path_of}
+use Rattle.odata_signatures.specs.NeededPaths.{path_of}
 use Rattle.odata_checked_filter.specs.private.Layout.{Lies}
 use Rattle.odata_signatures.specs.declared.edm_type.EdmType.{EdmType}
 use Rattle.odata_signatures.specs.declared.edm_type.ValueType.{ValueType}

@@ -1,8 +1,8 @@
 use Rattle.std.proofs.Common.{◌≤◌, ℕ}
 use Rattle.odata_syntax.specs.Tree.{Tree}
 use Rattle.csdl_schema.specs.SchemaModel.{slots_of, type_name_at}
-use Rattle.odata_expression_types.specs.NeededPaths.{VariablePaths}
-use Rattle.odata_expression_types.specs.Typed.{Scope}
+use Rattle.odata_signatures.specs.NeededPaths.{VariablePaths}
+use Rattle.odata_signatures.specs.Typed.{Scope}
 use Rattle.odata_checked_filter.specs.private.Layout.{Lies}
 use Rattle.odata_checked_filter.specs.private.NeededWalk.{IsPathEnd, LeadThere, nodes_in}
 use Rattle.odata_checked_filter.proofs.needed_paths.expand_path.Given as goal

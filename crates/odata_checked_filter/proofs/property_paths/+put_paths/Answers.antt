@@ -1,7 +1,7 @@
 use Rattle.std.proofs.Common.{◌≡◌, ◌∙◌, ◌∷◌, [], ◌<◌, ◌≤◌, ◌+◌, ℕ, List, Option, Some, ap, arith, map, refl, slice_get, string_bytes, subst, sym}
 use Rattle.csdl_schema.specs.ExprType.{null_type}
-use Rattle.odata_expression_types.specs.NeededPaths.{path_of}
-use Rattle.odata_expression_types.specs.Typed.{with_variable}
+use Rattle.odata_signatures.specs.NeededPaths.{path_of}
+use Rattle.odata_signatures.specs.Typed.{with_variable}
 use Rattle.odata_checked_filter.specs.private.LambdaLines.{AreInLine}
 use Rattle.odata_checked_filter.specs.private.PathWalk.{AreBound, NamedText, with_texts}
 use Rattle.odata_checked_filter.proofs.flat.Places.{found_before}

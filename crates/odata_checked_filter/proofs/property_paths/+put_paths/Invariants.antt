@@ -1,7 +1,7 @@
 use Rattle.std.proofs.Common.{◌-◌, ◌≤◌, List, map, string_bytes}
 use Rattle.odata_syntax.specs.Tree.{Tree}
-use Rattle.odata_expression_types.specs.NeededPaths.{VariablePaths}
-use Rattle.odata_expression_types.specs.Typed.{Scope}
+use Rattle.odata_signatures.specs.NeededPaths.{VariablePaths}
+use Rattle.odata_signatures.specs.Typed.{Scope}
 use Rattle.odata_checked_filter.specs.private.LambdaLines.{AreInLine}
 use Rattle.odata_checked_filter.specs.private.PathWalk.{AreBound, bound_in}
 use Rattle.odata_checked_filter.proofs.named.Trees.{IsLeft}

@@ -1,7 +1,7 @@
 use Rattle.std.proofs.Common.{◌≡◌, ◌∙◌, ℕ, List, IfOk, Option, Some, ap, slice_get, string_bytes, subst, sym, unwrap_or}
 use Rattle.odata_syntax.specs.Tree.{Tree}
-use Rattle.odata_expression_types.specs.NeededPaths.{VariablePaths, path_of}
-use Rattle.odata_expression_types.specs.Typed.{Scope}
+use Rattle.odata_signatures.specs.NeededPaths.{VariablePaths, path_of}
+use Rattle.odata_signatures.specs.Typed.{Scope}
 use Rattle.odata_checked_filter.specs.FlatTree.{FlatTree}
 use Rattle.odata_checked_filter.specs.PropertyPaths.{path_text}
 use Rattle.odata_checked_filter.specs.private.PathWalk.{AreBound, NamedText, bound_in, text_named}

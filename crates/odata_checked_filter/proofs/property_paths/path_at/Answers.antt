@@ -1,6 +1,6 @@
 use Rattle.std.proofs.Common.{◌≡◌, ◌+◌, ◌-◌, ◌<◌, ◌≤◌, ◌∙◌, ℕ, List, Option, Some, ap, arith, slice_get, subst, sym}
 use Rattle.odata_syntax.specs.Tree.{Tree}
-use Rattle.odata_expression_types.specs.NeededPaths.{path_of}
+use Rattle.odata_signatures.specs.NeededPaths.{path_of}
 use Rattle.odata_checked_filter.specs.PropertyPaths.{path_text, with_step}
 use Rattle.odata_checked_filter.specs.private.LambdaLines.{StandsBetween}
 use Rattle.odata_checked_filter.proofs.flat.Places.{found_before}

@@ -1,7 +1,7 @@
 use Rattle.std.proofs.Common.{◌≡◌, ◌≤◌, ℕ, string_bytes}
 use Rattle.odata_syntax.specs.Tree.{Tree}
-use Rattle.odata_expression_types.specs.NeededPaths.{VariablePaths, path_of}
-use Rattle.odata_expression_types.specs.Typed.{Scope}
+use Rattle.odata_signatures.specs.NeededPaths.{VariablePaths, path_of}
+use Rattle.odata_signatures.specs.Typed.{Scope}
 use Rattle.odata_checked_filter.specs.PropertyPaths.{path_text}
 use Rattle.odata_checked_filter.specs.private.LambdaLines.{StandsBetween}
 use Rattle.odata_checked_filter.specs.private.PathWalk.{AreBound, bound_in}

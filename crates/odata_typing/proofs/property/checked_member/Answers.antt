@@ -4,10 +4,10 @@ use Rattle.odata_syntax.specs.TextTree.{text_in}
 use Rattle.odata_signatures.specs.TypeView.{expr_type}
 use Rattle.odata_signatures.specs.declared.edm_type.EdmType.{EdmType}
 use Rattle.odata_signatures.specs.declared.edm_type.ValueType.{ValueType}
-use Rattle.odata_expression_types.specs.Typed.{Typed}
-use Rattle.odata_expression_types.specs.declared.refusal.TypeFaultCode.{TypeFaultCode}
-use Rattle.odata_expression_types.specs.FirstUntypable.{StepReason}
-use Rattle.odata_expression_types.specs.Typed.{StepTyped}
+use Rattle.odata_signatures.specs.Typed.{Typed}
+use Rattle.odata_signatures.specs.declared.refusal.TypeFaultCode.{TypeFaultCode}
+use Rattle.odata_signatures.specs.FirstUntypable.{StepReason}
+use Rattle.odata_signatures.specs.Typed.{StepTyped}
 use Rattle.csdl_schema.specs.ExprType.{ExprType}
 use Rattle.odata_typing.specs.declared.walk.Walk.{Walk}
 use Rattle.odata_typing.specs.private.Settings.{name_of}

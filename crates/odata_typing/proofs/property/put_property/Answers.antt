@@ -2,10 +2,10 @@ use Rattle.std.proofs.Common.{sym, subst, List, ℕ}
 use Rattle.csdl_schema.specs.PropertyView.{property_type}
 use Rattle.csdl_schema.specs.SchemaModel.{properties_at}
 use Rattle.odata_signatures.specs.TypeView.{expr_type}
-use Rattle.odata_expression_types.specs.FirstUntypable.{NameReason}
-use Rattle.odata_expression_types.specs.NeededPaths.{Navigates}
-use Rattle.odata_expression_types.specs.Typed.{PropertyTyped}
-use Rattle.odata_expression_types.specs.declared.refusal.TypeFaultCode.{TypeFaultCode}
+use Rattle.odata_signatures.specs.FirstUntypable.{NameReason}
+use Rattle.odata_signatures.specs.NeededPaths.{Navigates}
+use Rattle.odata_signatures.specs.Typed.{PropertyTyped}
+use Rattle.odata_signatures.specs.declared.refusal.TypeFaultCode.{TypeFaultCode}
 use Rattle.odata_typing.proofs.untypable.Names.{found_at, idle_at, points_within, property_typed, refused_reason, refused_untyped, unknown_reason, unknown_untyped}
 use Rattle.odata_typing.proofs.property.put_property.Goals as goal
 

@@ -1,6 +1,6 @@
 use Rattle.std.proofs.Common.{sym, ap}
 use Rattle.std.specs.Option.{option_map}
-use Rattle.odata_expression_types.specs.PreOrder.{span_of_tree}
+use Rattle.odata_signatures.specs.PreOrder.{span_of_tree}
 use Rattle.odata_checked_filter.proofs.flat.Numbered.{numbered, past_end, past_ordered, span_at}
 use Rattle.odata_checked_filter.proofs.checked.Checked.span_of.Goals as goal
 

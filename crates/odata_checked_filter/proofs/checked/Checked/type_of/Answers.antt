@@ -1,6 +1,6 @@
 use Rattle.std.proofs.Common.{◌≡◌, refl, sym, ◌<◌, ◌≤◌, length, arith}
 use Rattle.odata_checked_filter.specs.Filter.{tree_of_filter}
-use Rattle.odata_expression_types.specs.PreOrder.{pre_order}
+use Rattle.odata_signatures.specs.PreOrder.{pre_order}
 use Rattle.odata_checked_filter.proofs.flat.Numbered.{count_of, numbered, past_end, type_at}
 use Rattle.odata_checked_filter.proofs.flat.Places.{found_before}
 use Rattle.odata_checked_filter.proofs.checked.Checked.type_of.Goals as goal

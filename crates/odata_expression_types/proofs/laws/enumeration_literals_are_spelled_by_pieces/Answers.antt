@@ -1,5 +1,0 @@
-use Rattle.odata_expression_types.proofs.spelled.Pieces.{spelled_by_pieces}
-use Rattle.odata_expression_types.proofs.laws.enumeration_literals_are_spelled_by_pieces.Goals as goal
-
-pub returns : goal.returns
-returns c = spelled_by_pieces

@@ -1,5 +1,0 @@
-use Rattle.odata_expression_types.proofs.types.OneType.{Typed-one}
-use Rattle.odata_expression_types.proofs.laws.trees_have_one_type.Goals as goal
-
-pub returns : goal.returns
-returns c = Typed-one c.calls_have_one_type.ensures.one
