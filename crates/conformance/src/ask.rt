@@ -1,18 +1,18 @@
 //! What a case asks about one given thing, and what is expected.
 use crate::case::Case;
-use crate::form::Asked;
-use crate::report::Report;
-use crate::rows::{changed_row, row_of};
-use crate::schemas::{document_of, joined};
+use crate::case_form::Asked;
+use crate::case_report::Report;
+use crate::case_rows::{changed_row, row_of};
+use crate::case_schemas::{document_of, joined};
 use edm_values::Moment;
 use odata_text::{filter_of_query, is_identifier};
 use serde_json::Value;
 use spelled_answers::entities::line_and_row_answer;
 use spelled_answers::filters::{AskedOfFilter, TypeOf, answer_of, moment_of};
 use spelled_answers::literals::{instant_of, value_of};
-use spelled_answers::pieces::{bytes_of, items_of, pair_of, text_of, word_of};
 use spelled_answers::schemas::fault_of;
 use spelled_answers::texts::{AskedOfText, answer_of as answer_of_text, token_count, tokens_of};
+use spelled_answers::token_pieces::{bytes_of, items_of, pair_of, text_of, word_of};
 use spelled_answers::trouble::Trouble;
 use std::alloc::Global;
 

@@ -1,6 +1,6 @@
 use crate::library::Library;
 use serde_json::{Map, Value};
-use spelled_answers::pieces::{items_of, text_of, word_of};
+use spelled_answers::token_pieces::{items_of, text_of, word_of};
 use spelled_answers::trouble::Trouble;
 use std::alloc::Global;
 

@@ -5,18 +5,18 @@
 
 mod ask;
 mod case;
-mod form;
-mod judge;
+mod case_form;
+mod case_judge;
+mod case_report;
+mod case_rows;
+mod case_runs;
+mod case_schemas;
 mod library;
 mod matrix;
-mod report;
-mod rows;
-mod runs;
-mod schemas;
 
-use crate::judge::{Cases, judge_file};
+use crate::case_judge::{Cases, judge_file};
+use crate::case_report::Report;
 use crate::library::Library;
-use crate::report::Report;
 use spelled_answers::trouble::Trouble;
 use std::process::ExitCode;
 use std::{env, fs, io};

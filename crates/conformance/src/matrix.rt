@@ -1,13 +1,13 @@
 //! Answers that are letters of matrices.
 use crate::ask::{now_of, type_of};
 use crate::case::Case;
-use crate::report::Report;
-use crate::rows::row_of;
+use crate::case_report::Report;
+use crate::case_rows::row_of;
 use serde_json::Value;
 use spelled_answers::entities::line_answer;
 use spelled_answers::filters::{AskedOfFilter, TypeOf, answer_of};
-use spelled_answers::pieces::{items_of, pair_of, word_of};
 use spelled_answers::schemas::fault_of;
+use spelled_answers::token_pieces::{items_of, pair_of, word_of};
 use spelled_answers::trouble::Trouble;
 use std::alloc::Global;
 

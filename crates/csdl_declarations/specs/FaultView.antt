@@ -1,7 +1,7 @@
 -- A refusal of the code, as a fault.
 use Rattle.std.specs.Prelude.{◌≡◌, List, [], ◌∷◌, Option, Some, None, Result, Ok, Err, IfSome, string_bytes}
-use Rattle.csdl_declarations.specs.declared.fault.SchemaFault.{SchemaFault}
-use Rattle.csdl_declarations.specs.declared.fault.SchemaFault.TheVariants as code
+use Rattle.csdl_declarations.specs.declared.schema_fault.SchemaFault.{SchemaFault}
+use Rattle.csdl_declarations.specs.declared.schema_fault.SchemaFault.TheVariants as code
 use Rattle.csdl_declarations.specs.Fault.{Fault, not_json, not_object, version, bad_type, bad_property, unknown_base, base_cycle, property_twice, bad_enum_member, too_large}
 
 -- none when out of memory

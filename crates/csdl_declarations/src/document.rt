@@ -10,10 +10,10 @@ ghost use Rattle.csdl_declarations.specs.private.DocumentView.{declarations_of};
 
 use super::declaration::{Declaration, declarations};
 use super::declared_type::DeclaredType;
-use super::fault::SchemaFault;
 use super::member::declared_members;
 use super::namespaces::{check_namespaces, is_version};
 use super::read_types::{in_name_order, read_types};
+use super::schema_fault::SchemaFault;
 use super::type_kind::kind_of;
 use serde_json::Value;
 use std::alloc::Global;

@@ -12,7 +12,6 @@
 mod declaration;
 mod declared_type;
 mod document;
-mod fault;
 mod laws;
 mod member;
 mod names;
@@ -21,9 +20,10 @@ mod read_enumeration;
 mod read_properties;
 mod read_types;
 mod refusals;
+mod schema_fault;
 mod type_kind;
 
 pub use declared_type::{DeclaredType, PropertyDeclaration, TypeBody};
 pub use document::declared_types;
-pub use fault::SchemaFault;
 pub use laws::{declared_in_order, numbers_of_their_type, types_by_name};
+pub use schema_fault::SchemaFault;

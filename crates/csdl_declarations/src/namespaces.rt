@@ -10,10 +10,10 @@ ghost use Rattle.csdl_declarations.specs.Faults.{alias_count, is_version, is_nam
 ghost use Rattle.csdl_declarations.specs.FaultView.{Reads};
 ghost use Rattle.csdl_declarations.specs.private.DocumentView.{member_view, members_of, is_shared_count};
 
-use super::fault::SchemaFault;
 use super::member::{Member, is_text, text_at};
 use super::names::is_read_over;
 use super::refusals::bad_type;
+use super::schema_fault::SchemaFault;
 use indexmap::IndexMap;
 use serde_json::Value;
 use std::alloc::Global;

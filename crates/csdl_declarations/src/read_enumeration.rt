@@ -8,10 +8,10 @@ ghost use Rattle.csdl_declarations.specs.FaultView.{Reads};
 ghost use Rattle.csdl_declarations.specs.Members.{declared_among};
 ghost use Rattle.csdl_declarations.specs.private.DocumentView.{member_view};
 
-use super::fault::SchemaFault;
 use super::member::{Member, count_declared, is_true_at, is_truth_if_given};
 use super::names::is_read_over;
 use super::refusals::{bad_enum_member, bad_type};
+use super::schema_fault::SchemaFault;
 use edm_enumerations::Enumeration;
 use edm_values::Prim;
 use odata_text::is_identifier;

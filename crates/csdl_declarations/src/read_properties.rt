@@ -10,9 +10,9 @@ ghost use Rattle.csdl_declarations.specs.FaultView.{Reads};
 ghost use Rattle.csdl_declarations.specs.private.DocumentView.{member_view, members_of};
 
 use super::declared_type::PropertyDeclaration;
-use super::fault::SchemaFault;
 use super::member::{Member, is_text, is_text_if_given, is_true_at, is_truth_if_given, text_at};
 use super::refusals::bad_property;
+use super::schema_fault::SchemaFault;
 use odata_text::is_identifier;
 use serde_json::Value;
 use std::alloc::Global;

@@ -11,11 +11,11 @@ ghost use Rattle.csdl_declarations.specs.private.DocumentView.{declaration_view,
 
 use super::declaration::Declaration;
 use super::declared_type::{DeclaredType, TypeBody};
-use super::fault::SchemaFault;
 use super::member::{declared_members, is_text_if_given, text_at};
 use super::read_enumeration::read_enumeration;
 use super::read_properties::read_properties;
 use super::refusals::bad_type;
+use super::schema_fault::SchemaFault;
 use super::type_kind::{TypeKind, kind_of};
 use odata_text::is_identifier;
 use serde_json::Value;

@@ -2,7 +2,7 @@
 ghost use Rattle.csdl_declarations.specs.Fault as fault;
 ghost use Rattle.csdl_declarations.specs.FaultView.{TellsFault};
 
-use super::fault::SchemaFault;
+use super::schema_fault::SchemaFault;
 use std::alloc::Global;
 
 pub(crate) fn bad_type(alloc: Global, name: &str) -> SchemaFault

@@ -1,7 +1,7 @@
 -- Which schema a document stands for, and which fault is its first (CSDL JSON 4.01).
 use Rattle.std.specs.Prelude.{◌≡◌, ℕ, ◌<◌, ◌≤◌, ◌⊎◌, ◌∷◌, ◌++◌, [], List, length, IfSome}
 use Rattle.serde_json.specs.Data.{Data}
-use Rattle.csdl_declarations.specs.declared.fault.SchemaFault.{SchemaFault}
+use Rattle.csdl_declarations.specs.declared.schema_fault.SchemaFault.{SchemaFault}
 use Rattle.csdl_declarations.specs.DeclaredType.{declared_types}
 use Rattle.csdl_declarations.specs.Fault.{Fault, not_json, too_large}
 use Rattle.csdl_declarations.specs.FaultView.{fault_of}

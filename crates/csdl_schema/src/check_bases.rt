@@ -4,11 +4,11 @@ ghost use Rattle.csdl_declarations.specs.FaultView.{Reads};
 ghost use Rattle.csdl_schema.specs.private.Placed.{all_places, base_faults_at, chain_at, chain_faults_at, chains_from, count_at, faults_from, firsts_from, inherited_faults_at, length_faults};
 ghost use Rattle.csdl_schema.specs.private.PlacedView.{placed_of};
 
+use super::base_refusals::{base_cycle, property_twice, unknown_base};
 use super::chain::{Chain, MAX_PROPERTIES, bases_of, count_properties};
 use super::named_type::NamedType;
 use super::property_names::{MAX_BASES, first_names_again, first_twice};
 use super::read_bases::FoundBase;
-use super::refusals::{base_cycle, property_twice, unknown_base};
 use csdl_declarations::SchemaFault;
 use std::alloc::Global;
 

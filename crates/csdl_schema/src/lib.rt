@@ -9,6 +9,7 @@
 //! ```
 #![tactic(auto)]
 
+mod base_refusals;
 mod chain;
 mod check_bases;
 mod ids;
@@ -21,7 +22,6 @@ mod property_names;
 mod property_piece;
 mod read;
 mod read_bases;
-mod refusals;
 mod resolve;
 mod schema;
 mod slots;

@@ -8,8 +8,8 @@ use Rattle.csdl_schema.specs.ExprType.{ExprType, null_type, single, collection, 
 use Rattle.csdl_schema.specs.SchemaModel.{Slots, PropertyModel, PropertyType, declared, opaque, navigation, slots_behind}
 use Rattle.edm_entities.specs.Fits.{takes_null, FitsFound, FitsType, FitsProperty}
 use Rattle.edm_entities.specs.FitsPrimitive.{Flaw, missing, wrong_kind, null_not_allowed, out_of_range, bad_text, not_expanded, OnWrongKind, IsTextFlaw, IsPrimitiveFlaw, IsMemberText}
-use Rattle.edm_entities.specs.declared.fault.RowFault.{RowFault}
-use Rattle.edm_entities.specs.declared.fault.RowFault.TheVariants.{NotObject, Missing, WrongKind, NullNotAllowed, OutOfRange, BadText, NotExpanded, Memory}
+use Rattle.edm_entities.specs.declared.row_fault.RowFault.{RowFault}
+use Rattle.edm_entities.specs.declared.row_fault.RowFault.TheVariants.{NotObject, Missing, WrongKind, NullNotAllowed, OutOfRange, BadText, NotExpanded, Memory}
 
 -- the way from a value to one within it: names of properties, and zero-based indices of items in decimal
 abbrev pub Path : Type 0

@@ -1,10 +1,10 @@
 ghost use Rattle.std.specs.Prelude.{◌≡◌, false, IfOk, IfErr};
 ghost use Rattle.serde_json.specs.View.{view};
 
-use super::fault::RowFault;
 use super::flaw::row_fault;
+use super::json_walk::read_slots;
 use super::kept_row::KeptRow;
-use super::walk::read_slots;
+use super::row_fault::RowFault;
 use csdl_schema::{Expansion, Schema, TypeId};
 use edm_row_plans::WalkScene;
 use edm_values::Value;

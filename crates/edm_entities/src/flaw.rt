@@ -2,7 +2,7 @@
 ghost use Rattle.std.specs.Prelude.{◌≡◌, None, IfOk, decimal};
 ghost use Rattle.edm_entities.specs.private.Faults.{IsBelow, IsPathBelow, IsToldAs};
 
-use super::fault::RowFault;
+use super::row_fault::RowFault;
 use std::alloc::{AllocError, Global};
 use thiserror::Error;
 

@@ -15,7 +15,7 @@ ghost use Rattle.edm_entities.specs.HasType.{HasType};
 ghost use Rattle.edm_entities.specs.Row.{Row, IsEntity};
 ghost use Rattle.edm_entities.specs.SlotValue.{IsSeenAs, IsSlotValue};
 ghost use Rattle.edm_entities.specs.RowFaults.{Path, IsFirstFault, IsRowFault};
-ghost use Rattle.edm_entities.specs.declared.fault.RowFault.{RowFault};
+ghost use Rattle.edm_entities.specs.declared.row_fault.RowFault.{RowFault};
 
 /// A JSON tree stands for one value at most.
 pub fn one_value_fits()

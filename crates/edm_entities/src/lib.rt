@@ -16,14 +16,15 @@
 #![tactic(auto)]
 
 mod entity;
-mod fault;
 mod flaw;
+mod json_walk;
 mod kept_row;
 mod laws;
 mod leaf;
 mod lent_piece;
 mod member_walk;
 mod row_cache;
+mod row_fault;
 mod row_leaf;
 mod row_member;
 mod row_pass;
@@ -34,13 +35,12 @@ mod row_slots;
 mod row_token;
 mod row_walk;
 mod scalar;
-mod walk;
 
 pub use edm_row_plans::RowPlan;
 pub use entity::Entity;
-pub use fault::RowFault;
 pub use laws::{
     a_slot_holds_its_property, example_rows, one_fault_is_first, one_value_fits,
     spelled_values_lie_within, what_fits_has_its_type, what_has_a_fault_fits_nothing,
 };
+pub use row_fault::RowFault;
 pub use row_reader::RowReader;

@@ -24,7 +24,7 @@ mod same_bytes;
 mod scratch;
 mod short_number;
 mod token_reader;
-mod whole;
+mod whole_number;
 
 pub use escaped_text::escaped_at;
 pub use key::Key;

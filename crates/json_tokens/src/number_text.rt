@@ -5,7 +5,7 @@ ghost use Rattle.serde_json.specs.Find.{as_integer};
 ghost use Rattle.serde_json.specs.Read.{number_of, number_from, float_of};
 ghost use Rattle.serde_json.specs.View.{number_view};
 
-use super::whole::digits_of;
+use super::whole_number::digits_of;
 use fast_float::Numeral;
 use serde_json::Number;
 

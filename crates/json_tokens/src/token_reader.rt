@@ -16,7 +16,7 @@ use super::lexeme::{
 use super::same_bytes::stands_at;
 use super::scratch::Scratch;
 use super::short_number::short_number_value;
-use super::whole::whole_value;
+use super::whole_number::whole_value;
 use json::{Invalid, Token};
 use std::marker::Model;
 

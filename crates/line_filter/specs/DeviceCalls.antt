@@ -1,6 +1,6 @@
 -- What devices report about their calls, and what a run makes of them. A call is a read, a write or a flush.
 use Rattle.std.specs.Prelude.{◌≡◌}
-use Rattle.line_filter.specs.declared.calls.Calls.{Calls}
+use Rattle.line_filter.specs.declared.device_calls.Calls.{Calls}
 
 -- after one more call, which did its work
 abbrev pub after_work : Calls → Calls

@@ -1,9 +1,9 @@
 -- What a run over the lines of a reader says of its devices: the line that did not come, and which calls were made.
 use Rattle.std.specs.Prelude.{◌≡◌, ◌≢◌, ℕ, ◌+◌, ◌≤◌, List, ◌++◌, length, All, Option, Some, IfSome, ◌⊎◌}
-use Rattle.line_filter.specs.declared.calls.Calls.{Calls}
+use Rattle.line_filter.specs.declared.device_calls.Calls.{Calls}
 use Rattle.line_filter.specs.declared.line_reader.Course.{Course}
 use Rattle.line_filter.specs.declared.line_reader.LineFault.{LineFault}
-use Rattle.line_filter.specs.declared.stop.Stop.{Stop}
+use Rattle.line_filter.specs.declared.run_stop.Stop.{Stop}
 use Rattle.line_filter.specs.declared.tally.Tally.{Tally}
 use Rattle.line_filter.specs.DeviceCalls.{StaysWell, FailsLast}
 use Rattle.line_filter.specs.Kept.{Passes}

@@ -10,10 +10,10 @@ ghost use Rattle.line_filter.specs.Places.{places};
 ghost use Rattle.line_filter.specs.private.Walk.{Closes, Ends};
 
 use super::device::{Reads, Writes};
+use super::item_indexes::write_kept_places;
 use super::judge::{Judge, JudgeItem};
 use super::line_reader::LineReader;
-use super::places::write_kept_places;
-use super::stop::Stop;
+use super::run_stop::Stop;
 use super::stream::write_kept_stream;
 use super::tally::Tally;
 use std::alloc::Global;

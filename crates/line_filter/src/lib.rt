@@ -11,35 +11,35 @@
 #![tactic(auto)]
 
 mod buffer;
-mod calls;
 mod device;
+mod device_calls;
 mod filter;
 mod finding;
+mod item_indexes;
+mod item_outcome;
 mod judge;
 mod laws;
 mod line_feeds;
 mod line_reader;
+mod line_walk;
 mod output;
-mod places;
 mod recorded;
+mod run_stop;
 mod split;
-mod step;
-mod stop;
 mod strategies;
 mod stream;
 mod tally;
-mod walk;
 
-pub use calls::Calls;
 pub use device::{NotRead, NotWritten, Reads, Writes};
+pub use device_calls::Calls;
 pub use filter::{filter_places, filter_reader};
 pub use finding::Finding;
 pub use judge::{Judge, JudgeItem, Judgment, SaysOfItems};
 pub use laws::{items_stop_once, lines_stop_once, slices_tell_their_bytes};
 pub use line_reader::{LineFault, LineReader};
+pub use line_walk::filter_bytes;
 pub use output::write_out;
 pub use recorded::Recorded;
-pub use stop::Stop;
+pub use run_stop::Stop;
 pub use strategies::{ByRecord, Unfailing, Untold};
 pub use tally::Tally;
-pub use walk::filter_bytes;

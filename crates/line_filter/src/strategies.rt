@@ -3,7 +3,7 @@ ghost use Rattle.std.specs.Prelude.{◌≡◌, ◌<◌, length, IfOk, OnErr, OnO
 ghost use Rattle.std.specs.Io.{ReadsAtMost, WritesAtMost};
 ghost use Rattle.std.specs.Io.KnownBytes.{Keeps, ReadConsumes, WriteAppends};
 ghost use Rattle.line_filter.specs.DeviceCalls.{after_work, after_flush, after_failure};
-ghost use Rattle.line_filter.specs.declared.calls.Calls.{Calls};
+ghost use Rattle.line_filter.specs.declared.device_calls.Calls.{Calls};
 
 use super::device::{NotRead, NotWritten, Reads, Writes};
 use super::recorded::Recorded;

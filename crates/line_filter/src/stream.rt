@@ -12,11 +12,11 @@ ghost use Rattle.line_filter.specs.private.Walk.{GoesOn, IsUnwritten, fault_stop
 
 use super::device::{NotWritten, Reads, Writes};
 use super::finding::find;
+use super::item_outcome::{count_where, keep_where, settle};
 use super::judge::Judge;
 use super::line_reader::{LineFault, LineReader, Next};
 use super::output::release;
-use super::step::{count_where, keep_where, settle};
-use super::stop::Stop;
+use super::run_stop::Stop;
 use super::tally::Tally;
 use std::alloc::Global;
 use std::io::{Read, Write};

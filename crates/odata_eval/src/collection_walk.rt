@@ -11,9 +11,9 @@ use super::scene::Scene;
 use super::stop::EvalStop;
 use super::walk::{likely_stored_at, operand_at};
 use edm_values::Datum;
-use odata_signatures::trees_have_one_type;
 use odata_filter_operations::{EvalFault, among, flags_of};
 use odata_functions::{compare, comparisons_are_decided};
+use odata_signatures::trees_have_one_type;
 use odata_syntax::ComparisonOperator;
 
 /// What `has` evaluates to.

@@ -9,9 +9,9 @@ ghost use Rattle.odata_eval.specs.private.WalkAnswer.{AnswersNumber, AnswersTrut
 use super::kept_operands::found_number_at;
 use super::part::{WalkClass, arithmetic_operator, right_of, spine_bottom};
 use super::scene::Scene;
-use odata_signatures::trees_have_one_type;
 use odata_filter_operations::{calculated, compare_numbers};
 use odata_functions::operands_lie_within_promotion;
+use odata_signatures::trees_have_one_type;
 use odata_syntax::{BinaryOperator, ComparisonOperator};
 
 /// Whether a comparison is true whose left operand is arithmetic over stored numbers, and whose right one is a stored

@@ -13,9 +13,9 @@ use super::part::{right_of, stop_of};
 use super::scene::Scene;
 use edm_values::{Datum, Value};
 use odata_checked_filter::NodeKind;
-use odata_signatures::{Function, calls_have_one_type, trees_have_one_type};
 use odata_filter_operations::{compare_kept, compare_numbers, datum_of, kept_number};
 use odata_functions::{comparisons_are_decided, lower_starts_with, text_length};
+use odata_signatures::{Function, calls_have_one_type, trees_have_one_type};
 use odata_syntax::{BinaryOperator, ComparisonOperator};
 
 /// The value to which a path of at most one step from a property, a literal or a variable leads.

@@ -17,8 +17,8 @@ use super::scene::Scene;
 use super::stop::EvalStop;
 use super::walk::side_at;
 use edm_values::{Datum, Value};
-use odata_signatures::trees_have_one_type;
 use odata_filter_operations::datum_of_truth;
+use odata_signatures::trees_have_one_type;
 use odata_syntax::Quantifier;
 
 /// Whether the body's value at one member leaves the operator undecided.

@@ -22,10 +22,14 @@ ghost use Rattle.odata_eval.specs.SameMeaning.{NormalFormsKeepOutcomes, Canonica
 ghost use Rattle.odata_eval.specs.private.LawsBelow.{OneEach, Promotes, SomeEach};
 
 use edm_entities::{spelled_values_lie_within, what_fits_has_its_type};
-use odata_signatures::{calls_have_one_type, literals_have_one_value, normal_forms_keep_types, quoted_texts_have_one_number, quoting_trees_are_texts, trees_have_one_type, unread_operands_go_by_types};
 use odata_functions::{
     arithmetic_has_one_answer, bits_are_decided, comparisons_are_decided,
     day_numbers_have_one_date, operands_lie_within_promotion, texts_have_one_answer,
+};
+use odata_signatures::{
+    calls_have_one_type, literals_have_one_value, normal_forms_keep_types,
+    quoted_texts_have_one_number, quoting_trees_are_texts, trees_have_one_type,
+    unread_operands_go_by_types,
 };
 use odata_syntax::{canonical_texts_read_back, one_tree};
 use odata_text::one_list_of_any_length;

@@ -9,9 +9,9 @@ use super::part::{
 };
 use super::scene::Scene;
 use super::walk::operand_at;
-use odata_signatures::trees_have_one_type;
 use odata_filter_operations::{EvalFault, calculated, kept_number, negated, number_of};
 use odata_functions::operands_lie_within_promotion;
+use odata_signatures::trees_have_one_type;
 use odata_syntax::{ArithmeticOperator, BinaryOperator};
 
 /// What a node of numbers evaluates to.

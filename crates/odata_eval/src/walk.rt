@@ -23,13 +23,13 @@ use super::scene::Scene;
 use super::stop::EvalStop;
 use edm_values::{Datum, Value};
 use odata_checked_filter::NodeKind;
-use odata_signatures::{Function, calls_have_one_type, trees_have_one_type};
 use odata_filter_operations::{
     EvalFault, any_item_of, called_on_one, called_on_three, called_on_two, compare_kept,
     compare_numbers, count_of, datum_of, datum_of_number, datum_of_truth, kept_truth, step,
     truth_of,
 };
 use odata_functions::{compare, comparisons_are_decided, not3, operands_lie_within_promotion};
+use odata_signatures::{Function, calls_have_one_type, trees_have_one_type};
 use odata_syntax::{BinaryOperator, ComparisonOperator, LogicalOperator};
 
 /// What a node of type Boolean or Null evaluates to on an entity of the filtered type.

@@ -1,13 +1,13 @@
 -- What a fault of a run over rows says of its devices.
 use Rattle.std.specs.Prelude.{ℕ, List, Option, IsSomeAnd}
 use Rattle.edm_values.specs.MomentParts.{MomentParts}
-use Rattle.line_filter.specs.declared.calls.Calls.{Calls}
+use Rattle.line_filter.specs.declared.device_calls.Calls.{Calls}
 use Rattle.line_filter.specs.DeviceCalls.{StaysWell, FailsLast}
 use Rattle.line_filter.specs.Kept.{StopsWith}
 use Rattle.line_filter.specs.LineSource.{LineSource}
 use Rattle.line_filter.specs.LineStreams.{LacksLine, ReadWell, WhyUnread}
 use Rattle.odata_checked_filter.specs.Filter.{Filter}
-use Rattle.odata_filter.specs.declared.command.whole.NotWhole.{NotWhole}
+use Rattle.odata_filter.specs.declared.command.whole_input.NotWhole.{NotWhole}
 use Rattle.odata_filter.specs.declared.run_fault.RunFault.{RunFault}
 use Rattle.odata_filter.specs.RowJudgment.{JudgesRow, rows_of}
 use Rattle.odata_filter.specs.RunStops.{run_stop}

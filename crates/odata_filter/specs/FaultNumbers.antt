@@ -1,14 +1,14 @@
 -- The numbers and names of faults, for callers that have no enums. Names are those by which the faults are shown.
 use Rattle.std.specs.Prelude.{ℕ, zero, suc, List, [], ◌∷◌, Option, Some, None, codes, slice_get, option_and_then}
 use Rattle.std.specs.Option.{option_map}
-use Rattle.csdl_declarations.specs.declared.fault.SchemaFault.{SchemaFault}
+use Rattle.csdl_declarations.specs.declared.schema_fault.SchemaFault.{SchemaFault}
 use Rattle.odata_text.specs.declared.query_fault.QueryFault.{QueryFault}
-use Rattle.odata_text.specs.declared.fault.TextFault.{TextFault}
+use Rattle.odata_text.specs.declared.text_fault.TextFault.{TextFault}
 use Rattle.odata_text.specs.declared.span.Span.{Span}
 use Rattle.odata_syntax.specs.declared.syntax_fault.SyntaxFault.{SyntaxFault}
 use Rattle.odata_signatures.specs.declared.refusal.Refusal.{Refusal}
 use Rattle.odata_signatures.specs.declared.refusal.TypeFaultCode.{TypeFaultCode}
-use Rattle.edm_entities.specs.declared.fault.RowFault.{RowFault}
+use Rattle.edm_entities.specs.declared.row_fault.RowFault.{RowFault}
 use Rattle.odata_filter_operations.specs.declared.fault.EvalFault.{EvalFault}
 use Rattle.odata_filter.specs.RowsOnce.{flaw_told}
 use Rattle.odata_filter.specs.declared.fault_number.FaultKind.{FaultKind}

@@ -2,7 +2,7 @@
 use Rattle.std.specs.Prelude.{◌≡◌, ℕ, List, Option, Some, None, string_bytes}
 use Rattle.line_filter.specs.declared.judge.Judgment.{Judgment}
 use Rattle.edm_entities.specs.FitsPrimitive.{Flaw, missing, wrong_kind, null_not_allowed, out_of_range, bad_text, not_expanded}
-use Rattle.edm_entities.specs.declared.fault.RowFault.{RowFault}
+use Rattle.edm_entities.specs.declared.row_fault.RowFault.{RowFault}
 use Rattle.odata_filter.specs.declared.bad_row.BadRow.{BadRow}
 use Rattle.odata_filter.specs.declared.run_fault.RunFault.{RunFault}
 

@@ -1,7 +1,7 @@
 -- What a fault of a run over rows says.
 use Rattle.std.specs.Prelude.{ℕ, List, Option, Some, None, IsSomeAnd}
 use Rattle.line_filter.specs.Kept.{Items, Stops}
-use Rattle.line_filter.specs.declared.stop.Stop.{Stop}
+use Rattle.line_filter.specs.declared.run_stop.Stop.{Stop}
 use Rattle.odata_filter.specs.declared.bad_row.BadRow.{BadRow}
 use Rattle.odata_filter.specs.declared.run_fault.RunFault.{RunFault}
 

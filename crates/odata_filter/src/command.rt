@@ -2,8 +2,8 @@
 pub mod command_line;
 mod failure;
 pub(crate) mod laws;
+mod output_line;
 pub(crate) mod planner;
 mod rows;
 pub(crate) mod runner;
-mod telling;
-pub(crate) mod whole;
+pub(crate) mod whole_input;

@@ -1,7 +1,7 @@
 //! Laws of rows, as contracts of functions that do nothing but cite others.
 ghost use Rattle.std.specs.Prelude.{◌≡◌, ◌<◌, ℕ, List, Option, Some, Result, length};
 ghost use Rattle.serde_json.specs.Data.{Data};
-ghost use Rattle.line_filter.specs.declared.calls.Calls.{Calls};
+ghost use Rattle.line_filter.specs.declared.device_calls.Calls.{Calls};
 ghost use Rattle.line_filter.specs.declared.line_reader.Course.{Course};
 ghost use Rattle.line_filter.specs.declared.line_reader.LineFault.{LineFault};
 ghost use Rattle.line_filter.specs.LineSource.{LineSource};

@@ -34,7 +34,7 @@ pub use command::command_line;
 pub use command::laws::lines_by_example;
 pub use command::planner::plan;
 pub use command::runner::run;
-pub use command::whole::{NotWhole, read_whole, read_whole_by};
+pub use command::whole_input::{NotWhole, read_whole, read_whole_by};
 pub use fault_number::{FaultKind, Numbered, fault_name, refusal_span, row_fault_path};
 pub use filter::{filter_lines, filter_lines_by, filter_slice};
 pub use filter_rows::FilterRows;

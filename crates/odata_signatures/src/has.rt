@@ -7,7 +7,7 @@ ghost use Rattle.odata_signatures.specs.HasTyped.{AreFlags};
 ghost use Rattle.odata_signatures.specs.TypeView.{expr_type};
 ghost use Rattle.odata_signatures.specs.TypeThere.{IsTypeThere};
 
-use super::comparison::is_same_enumeration;
+use super::comparable_types::is_same_enumeration;
 use super::edm_type::{BOOLEAN, EdmType, ValueType};
 use csdl_schema::{EnumId, Schema};
 

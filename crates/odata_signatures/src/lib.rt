@@ -13,22 +13,22 @@
 
 mod argument_kind;
 mod call;
-mod collection;
-mod comparison;
+mod collection_types;
+mod comparable_types;
 mod edm_type;
 mod function;
 mod has;
 mod laws;
 mod membership;
 mod normal_form_laws;
-mod operator;
+mod operator_types;
 mod refusal;
 mod tree_type_laws;
 
 pub use argument_kind::ArgumentKind;
 pub use call::{CallFault, TypedCall, judged_call};
-pub use collection::{any_item_type, count_type};
-pub use comparison::are_comparable;
+pub use collection_types::{any_item_type, count_type};
+pub use comparable_types::are_comparable;
 pub use edm_type::{BOOLEAN, EdmType, ValueType};
 pub use function::{Function, Signature};
 pub use has::has_type;
@@ -37,7 +37,7 @@ pub use membership::in_path_type;
 pub use normal_form_laws::{
     canonical_texts_keep_types, canonical_texts_need_the_same, normal_forms_keep_types,
 };
-pub use operator::{made_type, negated_type, opposite_type};
+pub use operator_types::{made_type, negated_type, opposite_type};
 pub use refusal::{Refusal, TypeFault, TypeFaultCode};
 pub use tree_type_laws::{
     a_filter_of_items_is_boolean, a_number_is_no_text, children_come_first,

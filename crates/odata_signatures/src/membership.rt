@@ -6,7 +6,7 @@ ghost use Rattle.odata_signatures.specs.Side.{quoting};
 ghost use Rattle.odata_signatures.specs.TypeView.{expr_type};
 ghost use Rattle.odata_signatures.specs.TypeThere.{IsTypeThere};
 
-use super::comparison::are_comparable;
+use super::comparable_types::are_comparable;
 use super::edm_type::{BOOLEAN, EdmType};
 use csdl_schema::Schema;
 

@@ -2,7 +2,7 @@
 -- children.
 use Rattle.std.specs.Prelude.{◌≡◌, ◌≢◌, ℕ, ◌+◌, ◌-◌, ◌≤◌, ◌<◌, List, [], ◌∷◌, Option, None, Some, drop, length, map, reverse, slice_get, take}
 use Rattle.odata_syntax.specs.declared.node.Quantifier.{Quantifier}
-use Rattle.odata_syntax.specs.declared.places.Place.{Place}
+use Rattle.odata_syntax.specs.declared.node_places.Place.{Place}
 use Rattle.odata_syntax.specs.declared.syntax_list.SyntaxKind.{SyntaxKind}
 use Rattle.odata_syntax.specs.declared.syntax_list.SyntaxNode.{SyntaxNode}
 use Rattle.odata_syntax.specs.PostOrder.{child_count}

@@ -15,9 +15,9 @@ mod canonical_laws;
 mod expr;
 pub mod level;
 mod node;
+mod node_places;
 mod normal_form;
 mod parser;
-mod places;
 mod printer;
 mod syntax_fault;
 mod syntax_laws;
@@ -30,9 +30,9 @@ pub use canonical_laws::{canonical_texts_read_back, one_canonical_text, texts_te
 pub use expr::Expr;
 pub use level::operator_level;
 pub use node::{LiteralKind, Node, Quantifier};
+pub use node_places::{NO_NODE, Place};
 pub use normal_form::normal;
 pub use parser::{TextOrSyntaxFault, parse, parse_text};
-pub use places::{NO_NODE, Place};
 pub use printer::{operator_word, print, write_literal};
 pub use syntax_fault::SyntaxFault;
 pub use syntax_laws::{

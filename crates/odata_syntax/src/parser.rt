@@ -19,15 +19,15 @@ ghost use Rattle.odata_syntax.specs.private.Stops.{RefusesOneOf};
 
 mod bracket;
 mod expr_of_list;
-mod frames;
-mod lambda;
+mod lambda_tokens;
+mod next_operator;
+mod open_frames;
 mod operand;
-mod operator;
 mod path;
 mod state;
 mod step;
 mod text_parser;
-mod word;
+mod word_test;
 
 pub(crate) use crate::parser::expr_of_list::Forest;
 use crate::parser::expr_of_list::root_of_list;

@@ -6,17 +6,17 @@ ghost use Rattle.odata_syntax.specs.Tree.{shape_of};
 ghost use Rattle.odata_syntax.specs.TreeView.{tree_of, trees_of};
 ghost use Rattle.odata_syntax.specs.private.Prints.{Writes, after_first, listed, operand, piece_of, plain};
 
-mod enumeration;
-mod literal;
+mod enumeration_text;
+mod literal_text;
 mod node_level;
-mod word;
+mod operator_words;
 
 use crate::level::{BASE, PATH, PRIMARY, UNARY, operator_level};
 use crate::{Expr, Node};
-pub use literal::write_literal;
+pub use literal_text::write_literal;
 use node_level::node_level;
+pub use operator_words::operator_word;
 use std::alloc::{AllocError, Global};
-pub use word::operator_word;
 
 /// What is still to be written.
 #[derive(Clone, Copy, Debug)]

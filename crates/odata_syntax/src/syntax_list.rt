@@ -2,7 +2,7 @@
 ghost use Rattle.std.specs.Prelude.{◌≡◌};
 ghost use Rattle.odata_syntax.specs.Places.{places_of};
 
-use crate::places::Place;
+use crate::node_places::Place;
 use crate::{BinaryOperator, LiteralKind, Quantifier};
 use odata_text::Span;
 use std::marker::Model;
@@ -63,7 +63,7 @@ pub struct SyntaxList {
 impl Model for SyntaxList {
     ghost use Rattle.odata_syntax.specs.Places.{PlacedNodes, places_of};
     ghost use Rattle.odata_syntax.specs.contracts.syntax_list.SyntaxNode as node;
-    ghost use Rattle.odata_syntax.specs.contracts.places.Place as place;
+    ghost use Rattle.odata_syntax.specs.contracts.node_places.Place as place;
     ghost use Rattle.std.specs.Coded.{codes};
 
     ghost Value = { PlacedNodes };

@@ -39,8 +39,8 @@ pub use Rattle.odata_text.specs.Tokens.{IsLongest, NoneSpelled, AreTokensFrom, I
 pub use Rattle.odata_text.specs.declared.byte_class.ByteClass.TheVariants.{Space}
 pub use Rattle.odata_text.specs.declared.byte_test.ByteTest.{ByteTest}
 pub use Rattle.odata_text.specs.declared.byte_test.ByteTest.TheVariants.{Digit, Hyphen, Sign, TimeMark, OffsetMark, Colon, HexDigit, Dot, ExponentMark}
-pub use Rattle.odata_text.specs.declared.fault.TextFault.{TextFault}
-pub use Rattle.odata_text.specs.declared.fault.TextFault.TheVariants.{RunOn, LeftOutLiteral, TooLong, Memory}
+pub use Rattle.odata_text.specs.declared.text_fault.TextFault.{TextFault}
+pub use Rattle.odata_text.specs.declared.text_fault.TextFault.TheVariants.{RunOn, LeftOutLiteral, TooLong, Memory}
 pub use Rattle.odata_text.specs.declared.form.Form.{Form}
 pub use Rattle.odata_text.specs.declared.form.Form.TheVariants.{Token, LeftOut}
 pub use Rattle.odata_text.specs.declared.form.LeftOutKind.TheVariants.{Number, TimeOfDay}

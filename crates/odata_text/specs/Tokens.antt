@@ -7,8 +7,8 @@ use Rattle.odata_text.specs.TokenModel.{TokenModel}
 use Rattle.odata_text.specs.Identifier.{identifier_run}
 use Rattle.odata_text.specs.Spelling.{IsFormed}
 use Rattle.odata_text.specs.declared.byte_class.ByteClass.TheVariants.{Space, Quote}
-use Rattle.odata_text.specs.declared.fault.TextFault.{TextFault}
-use Rattle.odata_text.specs.declared.fault.TextFault.TheVariants.{BadCharacter, UnclosedString, LeftOutLiteral, RunOn, TooLong, Memory}
+use Rattle.odata_text.specs.declared.text_fault.TextFault.{TextFault}
+use Rattle.odata_text.specs.declared.text_fault.TextFault.TheVariants.{BadCharacter, UnclosedString, LeftOutLiteral, RunOn, TooLong, Memory}
 use Rattle.odata_text.specs.declared.form.Form.{Form}
 use Rattle.odata_text.specs.declared.form.Form.TheVariants.{Token, LeftOut}
 use Rattle.odata_text.specs.declared.form.LeftOutKind.{LeftOutKind}

@@ -5,11 +5,11 @@ ghost use Rattle.odata_text.specs.TokenModel.{token_model};
 ghost use Rattle.odata_text.specs.Tokens.{IsFaultAt, IsNoToken, IsTokenAt, is_undelimited};
 
 use super::byte_class::{ByteClass, class_of};
-use super::fault::TextFault;
 use super::form::Form;
 use super::identifier::identifier_run;
 use super::longest::longest;
 use super::span::Span;
+use super::text_fault::TextFault;
 use super::token::{Token, TokenKind};
 
 /// Whether an identifier character directly after such a token is a fault.

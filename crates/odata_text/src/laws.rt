@@ -7,7 +7,7 @@ ghost use Rattle.odata_text.specs.TokenExamples.{enumeration_filter, enumeration
 ghost use Rattle.odata_text.specs.TokenExamples.{guid_filter, guid_tokens, moment_filter, moment_tokens};
 ghost use Rattle.odata_text.specs.TokenExamples.{plain_filter, plain_tokens, run_on_filter};
 ghost use Rattle.odata_text.specs.Tokens.{IsTextFault, IsTokenList, text_limit, token_limit};
-ghost use Rattle.odata_text.specs.declared.fault.TextFault.{TextFault};
+ghost use Rattle.odata_text.specs.declared.text_fault.TextFault.{TextFault};
 
 /// A text has at most one first fault or token list, and never both.
 pub fn one_reading()

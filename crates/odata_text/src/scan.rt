@@ -4,8 +4,8 @@ ghost use Rattle.odata_text.specs.Scanning.{HasRead, IsReading, text_of};
 ghost use Rattle.odata_text.specs.TokenModel.{TokenModel, token_models};
 ghost use Rattle.odata_text.specs.Tokens.{IsTextFault, IsTokenList};
 
-use super::fault::TextFault;
 use super::scanner::{Scanned, Scanner};
+use super::text_fault::TextFault;
 use super::token::Token;
 use std::alloc::Global;
 

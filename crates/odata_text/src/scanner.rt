@@ -8,9 +8,9 @@ ghost use Rattle.odata_text.specs.private.PlainTokens.{IsTokenBetween};
 
 use super::any_token::token_at;
 use super::byte_class::{ByteClass, class_of};
-use super::fault::TextFault;
 use super::plain::plain_token;
 use super::span::Span;
+use super::text_fault::TextFault;
 use super::token::{Token, TokenKind};
 
 /// No text of a filter is longer, in bytes.

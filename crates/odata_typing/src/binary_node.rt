@@ -12,13 +12,15 @@ ghost use Rattle.odata_typing.specs.private.Items.{IsUnreadLeft};
 ghost use Rattle.odata_typing.specs.private.Judging.{AreChildren, IsNodeJudged};
 ghost use Rattle.odata_typing.specs.private.Settings.{IsNodeReady};
 
+use super::judged_list::Walk;
 use super::laws_below::laws_below;
 use super::operand_text::{OperandRead, operand_read};
 use super::setting::{Judged, Setting};
-use super::walk::Walk;
 use csdl_schema::Schema;
 use odata_checked_filter::NodeKind;
-use odata_signatures::{BOOLEAN, EdmType, TypeFaultCode, ValueType, has_type, in_path_type, made_type};
+use odata_signatures::{
+    BOOLEAN, EdmType, TypeFaultCode, ValueType, has_type, in_path_type, made_type,
+};
 use odata_syntax::{BinaryOperator, ComparisonOperator};
 
 /// The types of the two operands, and what they quote.

@@ -10,9 +10,9 @@ ghost use Rattle.odata_typing.specs.private.Judging.{AreChildren, IsNodeJudged};
 ghost use Rattle.odata_typing.specs.private.Rows.{AreInRow};
 ghost use Rattle.odata_typing.specs.private.Settings.{IsNodeReady, name_of};
 
+use super::judged_list::Walk;
 use super::laws_below::laws_below;
 use super::setting::{Judged, Setting};
-use super::walk::Walk;
 use odata_checked_filter::{CheckedNode, NodeKind};
 use odata_signatures::{CallFault, EdmType, Function, TypeFaultCode, judged_call};
 

@@ -11,11 +11,11 @@ ghost use Rattle.odata_typing.specs.private.Settings.{IsReady, IsSetting, whole_
 ghost use Rattle.odata_typing.specs.private.Variables.{scope_of};
 ghost use Rattle.odata_typing.specs.private.Wholes.{IsRefusedFor, IsWalked};
 
+use super::judged_list::Walk;
 use super::laws_below::laws_below;
-use super::node::checked_nodes;
+use super::node_walk::checked_nodes;
 use super::setting::Setting;
 use super::variables::Variables;
-use super::walk::Walk;
 use csdl_schema::{Expansion, Schema, TypeId};
 use odata_checked_filter::{
     Checked, CheckedNode, StoredFilter, a_list_stands_for_one_tree, expansion_of,

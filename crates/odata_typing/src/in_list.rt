@@ -11,10 +11,10 @@ ghost use Rattle.odata_typing.specs.private.Rows.{AreInRow, AreTypesThere, quote
 ghost use Rattle.odata_typing.specs.private.Settings.{IsNodeReady};
 
 use super::binary_node::is_enumeration;
+use super::judged_list::Walk;
 use super::laws_below::laws_below;
 use super::setting::{Judged, Setting};
 use super::text_beside::{Beside, number_beside};
-use super::walk::Walk;
 use csdl_schema::Schema;
 use odata_checked_filter::{CheckedNode, NodeKind};
 use odata_signatures::{BOOLEAN, EdmType, TypeFaultCode, are_comparable};

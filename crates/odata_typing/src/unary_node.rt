@@ -8,11 +8,13 @@ ghost use Rattle.odata_signatures.specs.TypeView.{expr_type};
 ghost use Rattle.odata_typing.specs.private.Judging.{AreChildren, IsNodeJudged};
 ghost use Rattle.odata_typing.specs.private.Settings.{IsNodeReady};
 
+use super::judged_list::Walk;
 use super::laws_below::laws_below;
 use super::setting::{Judged, Setting};
-use super::walk::Walk;
 use odata_checked_filter::NodeKind;
-use odata_signatures::{EdmType, TypeFaultCode, any_item_type, count_type, negated_type, opposite_type};
+use odata_signatures::{
+    EdmType, TypeFaultCode, any_item_type, count_type, negated_type, opposite_type,
+};
 
 /// What is asked of the one operand.
 #[derive(Clone, Copy)]

@@ -2,7 +2,7 @@
 use Rattle.std.proofs.Common.{◌≡◌, ℕ, List, Result, Ok, Err, MatchResult, Some, sym, subst}
 use Rattle.odata_text.specs.Query.{IsFilterOf}
 use Rattle.odfilter_c.specs.FilterCalls.{IsFilterIn, IsFilterMade, IsFilterOfQuery, IsNoFilter, IsNoQueryFilter, IsNotMade}
-use Rattle.odfilter_c.specs.declared.fault.Fault.{Fault}
+use Rattle.odfilter_c.specs.declared.call_fault.Fault.{Fault}
 use Rattle.odfilter_c.specs.declared.handle.Handle.{Handle}
 use Rattle.odfilter_c.specs.HeldType.{EntityType}
 

@@ -11,7 +11,7 @@ use Rattle.odata_filter.specs.declared.bounded_judge.RowStop.{RowStop}
 use Rattle.odata_filter.specs.declared.no_verdict.NoVerdict.{NoVerdict}
 use Rattle.odfilter_c.specs.RowCalls.{IsMomentFor, IsOutcomeAt, IsOutcomeOn, IsRunAt, IsRunOver}
 use Rattle.odfilter_c.specs.private.RowFaults.{row_fault}
-use Rattle.odfilter_c.specs.declared.fault.Fault.{Fault}
+use Rattle.odfilter_c.specs.declared.call_fault.Fault.{Fault}
 
 -- what is said at the moment that was taken, of the filter as it was put together
 pub at_moment : (P : Filter → MomentParts → Type 0) (checked filter : Filter) (given : Option MomentParts) (now : MomentParts)

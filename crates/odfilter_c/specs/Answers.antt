@@ -4,10 +4,10 @@ use Rattle.odata_text.specs.declared.find_fault.FindFault.{FindFault}
 use Rattle.odata_text.specs.declared.query_fault.QueryFault.{QueryFault}
 use Rattle.odata_text.specs.declared.span.Span.{Span}
 use Rattle.odata_signatures.specs.declared.refusal.Refusal.{Refusal}
-use Rattle.edm_entities.specs.declared.fault.RowFault.{RowFault}
+use Rattle.edm_entities.specs.declared.row_fault.RowFault.{RowFault}
 use Rattle.odata_filter.specs.FaultNumbers.{evaluation_number, path_told, query_number, row_number, schema_number, span_told, syntax_number, text_number, type_number}
 use Rattle.odfilter_c.specs.declared.c_types.Answer.{Answer}
-use Rattle.odfilter_c.specs.declared.fault.Fault.{Fault}
+use Rattle.odfilter_c.specs.declared.call_fault.Fault.{Fault}
 
 -- an answer that reports nothing
 abbrev pub empty_answer : Answer

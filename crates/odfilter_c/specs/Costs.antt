@@ -10,7 +10,7 @@ use Rattle.odfilter_c.specs.FilterCalls.{IsNoText}
 use Rattle.odfilter_c.specs.Outcomes.{IsTold}
 use Rattle.odfilter_c.specs.Texts.{IsTooSmall, IsWritten}
 use Rattle.odfilter_c.specs.declared.c_types.Answer.{Answer}
-use Rattle.odfilter_c.specs.declared.fault.Fault.{Fault}
+use Rattle.odfilter_c.specs.declared.call_fault.Fault.{Fault}
 use Rattle.odfilter_c.specs.declared.handle.Handle.{Handle}
 
 -- a number is reported, and nothing else

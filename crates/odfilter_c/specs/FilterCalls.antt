@@ -9,7 +9,7 @@ use Rattle.odata_checked_filter.specs.Explanation.{IsExplanation}
 use Rattle.odata_checked_filter.specs.Filter.{tree_of_filter}
 use Rattle.odata_syntax.specs.CanonicalText.{IsCanonicalText}
 use Rattle.odfilter_c.specs.Kinds.{IsFilterKind, IsType}
-use Rattle.odfilter_c.specs.declared.fault.Fault.{Fault}
+use Rattle.odfilter_c.specs.declared.call_fault.Fault.{Fault}
 use Rattle.odfilter_c.specs.HeldType.{EntityType}
 use Rattle.odfilter_c.specs.declared.handle.Handle.{Handle}
 

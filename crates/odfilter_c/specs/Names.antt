@@ -2,7 +2,7 @@
 use Rattle.std.specs.Prelude.{ℕ, ◌&&◌, List, [], ◌∷◌, cond, eqb, codes, Option, None, Some, Result, Ok, Err}
 use Rattle.odata_filter.specs.FaultNumbers.{name_at, names_of}
 use Rattle.odata_filter.specs.declared.fault_number.FaultKind.{FaultKind}
-use Rattle.odfilter_c.specs.declared.fault.Fault.{Fault}
+use Rattle.odfilter_c.specs.declared.call_fault.Fault.{Fault}
 
 -- what stands beside a number in a list
 abbrev pub beside : {X : Type 0} → List (ℕ × X) → ℕ → Option X

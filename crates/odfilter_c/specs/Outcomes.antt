@@ -2,7 +2,7 @@
 use Rattle.std.specs.Prelude.{◌≡◌, ◌⊎◌, ℕ, Option, None, Some, Result, Ok, Err, MatchResult}
 use Rattle.odfilter_c.specs.Answers.{empty_answer, fault_answer, fault_status}
 use Rattle.odfilter_c.specs.declared.c_types.Answer.{Answer}
-use Rattle.odfilter_c.specs.declared.fault.Fault.{Fault}
+use Rattle.odfilter_c.specs.declared.call_fault.Fault.{Fault}
 use Rattle.odfilter_c.specs.declared.handle.Handle.{Handle}
 
 -- the fault's status and numbers

@@ -1,7 +1,7 @@
 -- What each call about rows reports of what it borrows.
 use Rattle.std.specs.Prelude.{◌≡◌, ◌⊎◌, ℕ, Box, List, length, Option, None, Some, Result, Ok, Err}
 use Rattle.std.specs.declared.alloc.Global.{Global}
-use Rattle.edm_entities.specs.declared.fault.RowFault.{RowFault}
+use Rattle.edm_entities.specs.declared.row_fault.RowFault.{RowFault}
 use Rattle.edm_values.specs.MomentParts.{MomentParts}
 use Rattle.line_filter.specs.declared.tally.Tally.{Tally}
 use Rattle.odata_checked_filter.specs.Calls.{UsesNow}
@@ -13,7 +13,7 @@ use Rattle.odfilter_c.specs.RowCalls.{IsJudgeOf, IsMomentOf, IsNewJudge, IsNoJud
 use Rattle.odfilter_c.specs.RowCalls.{Keeps, last_after, path_kept}
 use Rattle.odfilter_c.specs.Texts.{IsTooSmall, IsWritten, Writes}
 use Rattle.odfilter_c.specs.declared.c_types.Answer.{Answer}
-use Rattle.odfilter_c.specs.declared.fault.Fault.{Fault}
+use Rattle.odfilter_c.specs.declared.call_fault.Fault.{Fault}
 use Rattle.odfilter_c.specs.declared.handle.Handle.{Handle}
 use Rattle.odfilter_c.specs.declared.handle.JudgeHandle.{JudgeHandle}
 use Rattle.odfilter_c.specs.declared.owned.Owned.{Owned}

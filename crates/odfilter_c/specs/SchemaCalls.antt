@@ -1,10 +1,10 @@
 -- The results of reading a schema and of finding a type.
 use Rattle.std.specs.Prelude.{◌≡◌, ◌≢◌, ℕ, IsUtf8, List, [], Some, string_bytes}
-use Rattle.csdl_declarations.specs.declared.fault.SchemaFault.{SchemaFault}
+use Rattle.csdl_declarations.specs.declared.schema_fault.SchemaFault.{SchemaFault}
 use Rattle.csdl_schema.specs.Document.{IsSchemaFault, StandsFor}
 use Rattle.csdl_schema.specs.SchemaModel.{IsEntityAt, index_named}
 use Rattle.odfilter_c.specs.Kinds.{IsSchema}
-use Rattle.odfilter_c.specs.declared.fault.Fault.{Fault}
+use Rattle.odfilter_c.specs.declared.call_fault.Fault.{Fault}
 use Rattle.odfilter_c.specs.declared.handle.Handle.{Handle}
 
 -- the schema that the document stands for

@@ -6,7 +6,7 @@ use Rattle.odfilter_c.specs.Kinds.{IsType}
 use Rattle.odfilter_c.specs.Names.{beside}
 use Rattle.odfilter_c.specs.Texts.{Tells}
 use Rattle.odfilter_c.specs.declared.c_types.Answer.{Answer}
-use Rattle.odfilter_c.specs.declared.fault.Fault.{Fault}
+use Rattle.odfilter_c.specs.declared.call_fault.Fault.{Fault}
 use Rattle.odfilter_c.specs.declared.handle.Handle.{Handle}
 
 -- what is at fault under a status

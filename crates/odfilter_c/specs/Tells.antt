@@ -1,6 +1,6 @@
 -- What each call reports of what it borrows.
 use Rattle.std.specs.Prelude.{◌≡◌, ◌++◌, ◌⊎◌, ℕ, List, codes, length, Option, None, Some, Result, Ok, Err, MatchResult}
-use Rattle.csdl_declarations.specs.declared.fault.SchemaFault.{SchemaFault}
+use Rattle.csdl_declarations.specs.declared.schema_fault.SchemaFault.{SchemaFault}
 use Rattle.odfilter_c.specs.Answers.{fault_answer, fault_status}
 use Rattle.odfilter_c.specs.FilterCalls.{IsCanonicalOf, IsExplanationOf, IsFilterIn, IsFilterOfQuery, IsNoFilter, IsNoQueryFilter, IsNoText}
 use Rattle.odfilter_c.specs.Names.{fault_named, status_named}
@@ -8,7 +8,7 @@ use Rattle.odfilter_c.specs.Outcomes.{Gives, Makes}
 use Rattle.odfilter_c.specs.SchemaCalls.{IsNoSchema, IsNoType, IsSchemaOf, IsTypeOf, first_name, second_name}
 use Rattle.odfilter_c.specs.Texts.{IsTooSmall, IsWritten, Tells, Writes}
 use Rattle.odfilter_c.specs.declared.c_types.Answer.{Answer}
-use Rattle.odfilter_c.specs.declared.fault.Fault.{Fault}
+use Rattle.odfilter_c.specs.declared.call_fault.Fault.{Fault}
 use Rattle.odfilter_c.specs.declared.handle.Handle.{Handle}
 use Rattle.odfilter_c.specs.declared.owned.Owned.{Owned}
 

@@ -3,7 +3,7 @@ use Rattle.std.specs.Prelude.{◌≡◌, ◌<◌, ◌≤◌, ◌⊎◌, ◌++◌
 use Rattle.odfilter_c.specs.Answers.{empty_answer}
 use Rattle.odfilter_c.specs.Outcomes.{IsTold}
 use Rattle.odfilter_c.specs.declared.c_types.Answer.{Answer}
-use Rattle.odfilter_c.specs.declared.fault.Fault.{Fault}
+use Rattle.odfilter_c.specs.declared.call_fault.Fault.{Fault}
 
 -- the text stands at the front of the buffer, and what follows it is as it was
 abbrev pub IsWritten : List ℕ → List ℕ → List ℕ → Type 0

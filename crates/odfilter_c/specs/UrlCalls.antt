@@ -7,7 +7,7 @@ use Rattle.odfilter_c.specs.Kinds.{IsType}
 use Rattle.odfilter_c.specs.Outcomes.{IsTold, Makes}
 use Rattle.odfilter_c.specs.Texts.{IsTooSmall, IsWritten}
 use Rattle.odfilter_c.specs.declared.c_types.Answer.{Answer}
-use Rattle.odfilter_c.specs.declared.fault.Fault.{Fault}
+use Rattle.odfilter_c.specs.declared.call_fault.Fault.{Fault}
 use Rattle.odfilter_c.specs.declared.handle.Handle.{Handle}
 use Rattle.odfilter_c.specs.declared.owned.Owned.{Owned}
 

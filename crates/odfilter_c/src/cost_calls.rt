@@ -5,10 +5,10 @@ ghost use Rattle.odfilter_c.specs.Costs.{ArePaths, ArePathsOf, ReportsLines, lin
 ghost use Rattle.odfilter_c.specs.FilterCalls.{IsNoText};
 
 use crate::c_types::Answer;
-use crate::fault::Fault;
+use crate::call_answers::tell_fault;
+use crate::call_fault::Fault;
 use crate::handle::{FilterHandle, Handle};
 use crate::room::write_text;
-use crate::telling::tell_fault;
 use std::alloc::{AllocError, Global};
 
 /// An answer of a number.

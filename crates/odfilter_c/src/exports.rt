@@ -22,7 +22,7 @@ ghost use Rattle.odfilter_c.specs.Exports.{lent_to_fault_name, left_by_fault_nam
 use crate::c_types::{Answer, Bytes, Room};
 use crate::handle::Handle;
 use crate::owned::Owned;
-use crate::{calls, null_calls};
+use crate::{handle_calls, null_calls};
 use std::alloc::Global;
 use std::slice::{from_raw_parts, from_raw_parts_mut};
 
@@ -63,7 +63,7 @@ pub unsafe extern "C" fn odfilter_read_schema(
         }
     } else {
         unsafe {
-            calls::read_schema(
+            handle_calls::read_schema(
                 alloc,
                 from_raw_parts(document.at, document.length),
                 from_raw_parts_mut(names.at, names.length),
@@ -104,7 +104,7 @@ pub unsafe extern "C" fn odfilter_find_type(
         }
     } else {
         unsafe {
-            calls::find_type(
+            handle_calls::find_type(
                 alloc,
                 &*(schema as *const Handle),
                 from_raw_parts(name.at, name.length),
@@ -149,7 +149,7 @@ pub unsafe extern "C" fn odfilter_check(
         }
     } else {
         unsafe {
-            calls::check(
+            handle_calls::check(
                 alloc,
                 &*(given as *const Handle),
                 from_raw_parts(text.at, text.length),
@@ -195,7 +195,7 @@ pub unsafe extern "C" fn odfilter_check_query(
         }
     } else {
         unsafe {
-            calls::check_query(
+            handle_calls::check_query(
                 alloc,
                 &*(given as *const Handle),
                 from_raw_parts(query.at, query.length),
@@ -220,7 +220,7 @@ pub unsafe extern "C" fn odfilter_needs_moment(filter: *const u8, answer: *mut A
     if answer.is_null() {
         return 1;
     }
-    unsafe { calls::needs_moment(&*(filter as *const Handle), &mut *answer) }
+    unsafe { handle_calls::needs_moment(&*(filter as *const Handle), &mut *answer) }
 }
 
 /// Makes a judge.
@@ -234,7 +234,7 @@ pub unsafe extern "C" fn odfilter_new_judge(alloc: Global, judge: *mut Owned) ->
     if judge.is_null() {
         return 1;
     }
-    unsafe { calls::new_judge(alloc, &mut *judge) }
+    unsafe { handle_calls::new_judge(alloc, &mut *judge) }
 }
 
 /// Sets a judge's moment.
@@ -252,7 +252,7 @@ pub unsafe extern "C" fn odfilter_set_moment(judge: *mut u8, moment: Bytes) -> u
         unsafe { null_calls::set_moment_at_null(&mut *(judge as *mut Handle), moment.length) }
     } else {
         unsafe {
-            calls::set_moment(
+            handle_calls::set_moment(
                 &mut *(judge as *mut Handle),
                 from_raw_parts(moment.at, moment.length),
             )
@@ -271,7 +271,7 @@ pub unsafe extern "C" fn odfilter_set_bound(judge: *mut u8, most: u64) -> u32
     if judge.is_null() {
         return 1;
     }
-    unsafe { calls::set_bound(&mut *(judge as *mut Handle), most) }
+    unsafe { handle_calls::set_bound(&mut *(judge as *mut Handle), most) }
 }
 
 /// Judges a row.
@@ -307,7 +307,7 @@ pub unsafe extern "C" fn odfilter_judge(
         }
     } else {
         unsafe {
-            calls::judge(
+            handle_calls::judge(
                 &*(filter as *const Handle),
                 &mut *(judge as *mut Handle),
                 from_raw_parts(row.at, row.length),
@@ -358,7 +358,7 @@ pub unsafe extern "C" fn odfilter_filter_lines(
         }
     } else {
         unsafe {
-            calls::filter_lines(
+            handle_calls::filter_lines(
                 &*(filter as *const Handle),
                 &mut *(judge as *mut Handle),
                 from_raw_parts(rows.at, rows.length),
@@ -387,7 +387,7 @@ pub unsafe extern "C" fn odfilter_path(judge: *const u8, path: Room, answer: *mu
         return 1;
     }
     unsafe {
-        calls::path(
+        handle_calls::path(
             &*(judge as *const Handle),
             from_raw_parts_mut(path.at, path.length),
             &mut *answer,
@@ -406,7 +406,7 @@ pub unsafe extern "C" fn odfilter_free(alloc: Global, handle: *mut Owned) -> u32
     if handle.is_null() {
         return 1;
     }
-    unsafe { calls::free(alloc, &mut *handle) }
+    unsafe { handle_calls::free(alloc, &mut *handle) }
 }
 
 /// Writes the version.
@@ -423,7 +423,7 @@ pub unsafe extern "C" fn odfilter_version(text: Room, answer: *mut Answer) -> u3
     if answer.is_null() {
         return 1;
     }
-    unsafe { calls::version(from_raw_parts_mut(text.at, text.length), &mut *answer) }
+    unsafe { handle_calls::version(from_raw_parts_mut(text.at, text.length), &mut *answer) }
 }
 
 /// Writes the name of a status.
@@ -441,7 +441,7 @@ pub unsafe extern "C" fn odfilter_status_name(status: u32, text: Room, answer: *
         return 1;
     }
     unsafe {
-        calls::status_name(
+        handle_calls::status_name(
             status,
             from_raw_parts_mut(text.at, text.length),
             &mut *answer,
@@ -469,7 +469,7 @@ pub unsafe extern "C" fn odfilter_fault_name(
         return 1;
     }
     unsafe {
-        calls::fault_name(
+        handle_calls::fault_name(
             status,
             fault,
             from_raw_parts_mut(text.at, text.length),

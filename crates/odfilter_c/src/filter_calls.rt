@@ -6,7 +6,7 @@ ghost use Rattle.odata_filter.specs.RowAnswer.{IsPlanOfFilter};
 ghost use Rattle.odfilter_c.specs.HeldType.{IsPlanOfType};
 ghost use Rattle.odfilter_c.specs.FilterCalls.{IsNoFilter, IsNoQueryFilter, IsNoText, IsNotMade};
 
-use crate::fault::Fault;
+use crate::call_fault::Fault;
 use crate::handle::{FilterHandle, Handle, TypeHandle};
 use edm_entities::RowPlan;
 use odata_filter::row_plan_of;

@@ -14,7 +14,7 @@ ghost use Rattle.odfilter_c.specs.FilterExports.{lent_to_fault_text, left_by_fau
 use crate::c_types::{Answer, Bytes, Room};
 use crate::handle::Handle;
 use crate::owned::Owned;
-use crate::{calls, null_calls};
+use crate::{handle_calls, null_calls};
 use std::alloc::Global;
 use std::slice::{from_raw_parts, from_raw_parts_mut};
 
@@ -61,7 +61,7 @@ pub unsafe extern "C" fn odfilter_check_url(
         }
     } else {
         unsafe {
-            calls::check_url(
+            handle_calls::check_url(
                 alloc,
                 &*(given as *const Handle),
                 from_raw_parts(query.at, query.length),
@@ -96,7 +96,7 @@ pub unsafe extern "C" fn odfilter_canonical(
         return 1;
     }
     unsafe {
-        calls::canonical(
+        handle_calls::canonical(
             alloc,
             &*(filter as *const Handle),
             from_raw_parts_mut(text.at, text.length),
@@ -128,7 +128,7 @@ pub unsafe extern "C" fn odfilter_explain(
         return 1;
     }
     unsafe {
-        calls::explain(
+        handle_calls::explain(
             alloc,
             &*(filter as *const Handle),
             from_raw_parts_mut(text.at, text.length),
@@ -151,7 +151,7 @@ pub unsafe extern "C" fn odfilter_node_count(filter: *const u8, answer: *mut Ans
     if answer.is_null() {
         return 1;
     }
-    unsafe { calls::node_count(&*(filter as *const Handle), &mut *answer) }
+    unsafe { handle_calls::node_count(&*(filter as *const Handle), &mut *answer) }
 }
 
 /// Reports how many lambda operators of a filter stand in one another.
@@ -168,7 +168,7 @@ pub unsafe extern "C" fn odfilter_lambda_depth(filter: *const u8, answer: *mut A
     if answer.is_null() {
         return 1;
     }
-    unsafe { calls::lambda_depth(&*(filter as *const Handle), &mut *answer) }
+    unsafe { handle_calls::lambda_depth(&*(filter as *const Handle), &mut *answer) }
 }
 
 /// Writes the paths of the properties that a filter reads.
@@ -194,7 +194,7 @@ pub unsafe extern "C" fn odfilter_property_paths(
         return 1;
     }
     unsafe {
-        calls::property_paths(
+        handle_calls::property_paths(
             alloc,
             &*(filter as *const Handle),
             from_raw_parts_mut(paths.at, paths.length),
@@ -245,7 +245,7 @@ pub unsafe extern "C" fn odfilter_fault_text(
             }
         } else {
             unsafe {
-                calls::fault_text_alone(
+                handle_calls::fault_text_alone(
                     alloc,
                     status,
                     from_raw_parts(text.at, text.length),
@@ -270,7 +270,7 @@ pub unsafe extern "C" fn odfilter_fault_text(
             }
         } else {
             unsafe {
-                calls::fault_text(
+                handle_calls::fault_text(
                     alloc,
                     &*(given as *const Handle),
                     status,

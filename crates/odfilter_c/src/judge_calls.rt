@@ -15,9 +15,9 @@ ghost use Rattle.odfilter_c.specs.RowTells.{JudgesNext, JudgesOne, JudgesOneBy, 
 ghost use Rattle.odfilter_c.specs.RowTells.{SetsMomentOf, TellsVerdict, verdict_number};
 
 use crate::c_types::Answer;
-use crate::fault::{Fault, path_of};
+use crate::call_answers::tell_fault;
+use crate::call_fault::{Fault, path_of};
 use crate::handle::{FilterHandle, Handle, JudgeHandle, OwnFilter};
-use crate::telling::tell_fault;
 use edm_entities::RowReader;
 use edm_values::{Moment, read_moment};
 use jiff::civil;

@@ -9,7 +9,7 @@ ghost use Rattle.odfilter_c.specs.JudgeExports.{lent_to_judge_next, left_by_judg
 use crate::c_types::{Answer, Bytes};
 use crate::handle::Handle;
 use crate::owned::Owned;
-use crate::{calls, null_calls};
+use crate::{handle_calls, null_calls};
 use std::alloc::Global;
 use std::slice::from_raw_parts;
 
@@ -31,7 +31,7 @@ pub unsafe extern "C" fn odfilter_new_judge_of(
     if judge.is_null() {
         return 1;
     }
-    unsafe { calls::new_judge_of(alloc, &*(filter as *const Handle), &mut *judge) }
+    unsafe { handle_calls::new_judge_of(alloc, &*(filter as *const Handle), &mut *judge) }
 }
 
 /// Judges a row by the judge's own filter.
@@ -54,7 +54,7 @@ pub unsafe extern "C" fn odfilter_judge_next(judge: *mut u8, row: Bytes, answer:
         }
     } else {
         unsafe {
-            calls::judge_next(
+            handle_calls::judge_next(
                 &mut *(judge as *mut Handle),
                 from_raw_parts(row.at, row.length),
                 &mut *answer,

@@ -10,13 +10,14 @@
 #![tactic(auto)]
 
 mod c_types;
-mod calls;
+mod call_answers;
+mod call_fault;
 mod cost_calls;
 pub mod exports;
-mod fault;
 mod filter_calls;
 pub mod filter_exports;
 mod handle;
+mod handle_calls;
 mod judge_calls;
 pub mod judge_exports;
 mod line_calls;
@@ -27,7 +28,6 @@ mod raw;
 mod room;
 mod schema_calls;
 mod sentence_calls;
-mod telling;
 mod url_calls;
 
 pub use c_types::{Answer, Bytes, Room};

@@ -3,11 +3,11 @@ ghost use Rattle.odfilter_c.specs.RowCalls.{IsRunAt, IsRunOver};
 ghost use Rattle.odfilter_c.specs.RowTells.{FiltersBy, FiltersLines, TellsStop, TellsTally};
 
 use crate::c_types::Answer;
-use crate::fault::{Fault, measured};
+use crate::call_answers::tell_fault;
+use crate::call_fault::{Fault, measured};
 use crate::handle::{FilterHandle, Handle, JudgeHandle};
 use crate::judge_calls::{keep_fault, moment_for};
 use crate::room::write_text;
-use crate::telling::tell_fault;
 use edm_values::Moment;
 use odata_filter::{RunFault, Tally, filter_slice};
 use odata_typing::Checked;

@@ -2,7 +2,7 @@
 ghost use Rattle.std.specs.Prelude.{◌≡◌, Ok, Err, MatchResult};
 ghost use Rattle.odfilter_c.specs.Names.{fault_named, kind_under, status_named};
 
-use crate::fault::Fault;
+use crate::call_fault::Fault;
 use odata_filter::{FaultKind, fault_name};
 
 pub(crate) const VERSION: &str = "0.1.0";

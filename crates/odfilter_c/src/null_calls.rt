@@ -8,8 +8,8 @@ ghost use Rattle.odfilter_c.specs.RowTells.{SetsMoment, JudgesOne, JudgesNext, F
 ghost use Rattle.odfilter_c.specs.Sentences.{ReportsSentence, ReportsSentenceFor};
 
 use crate::c_types::Answer;
-use crate::calls;
 use crate::handle::Handle;
+use crate::handle_calls;
 use crate::judge_calls::{put_moment, tell_next};
 use crate::owned::Owned;
 use std::alloc::Global;
@@ -27,7 +27,7 @@ pub(crate) fn read_schema_at_null<'a>(
     if length > 0 {
         return 1;
     }
-    calls::read_schema(alloc, b"".as_slice(), names, schema, answer)
+    handle_calls::read_schema(alloc, b"".as_slice(), names, schema, answer)
 }
 
 pub(crate) fn find_type_at_null<'a>(
@@ -41,7 +41,7 @@ pub(crate) fn find_type_at_null<'a>(
     if length > 0 {
         return 1;
     }
-    calls::find_type(alloc, schema, b"".as_slice(), made)
+    handle_calls::find_type(alloc, schema, b"".as_slice(), made)
 }
 
 pub(crate) fn check_at_null<'a>(
@@ -57,7 +57,7 @@ pub(crate) fn check_at_null<'a>(
     if length > 0 {
         return 1;
     }
-    calls::check(alloc, given, b"".as_slice(), made, answer)
+    handle_calls::check(alloc, given, b"".as_slice(), made, answer)
 }
 
 pub(crate) fn check_query_at_null<'a>(
@@ -73,7 +73,7 @@ pub(crate) fn check_query_at_null<'a>(
     if length > 0 {
         return 1;
     }
-    calls::check_query(alloc, given, b"".as_slice(), made, answer)
+    handle_calls::check_query(alloc, given, b"".as_slice(), made, answer)
 }
 
 pub(crate) fn check_url_at_null<'a>(
@@ -90,7 +90,7 @@ pub(crate) fn check_url_at_null<'a>(
     if length > 0 {
         return 1;
     }
-    calls::check_url(alloc, given, b"".as_slice(), text, made, answer)
+    handle_calls::check_url(alloc, given, b"".as_slice(), text, made, answer)
 }
 
 pub(crate) fn set_moment_at_null<'a>(judge: &'a mut Handle, length: usize) -> u32
@@ -114,7 +114,7 @@ pub(crate) fn judge_at_null<'a>(
     if length > 0 {
         return 1;
     }
-    calls::judge(filter, judge, b"".as_slice(), answer)
+    handle_calls::judge(filter, judge, b"".as_slice(), answer)
 }
 
 pub(crate) fn judge_next_at_null<'a>(
@@ -144,7 +144,7 @@ pub(crate) fn filter_lines_at_null<'a>(
     if length > 0 {
         return 1;
     }
-    calls::filter_lines(filter, judge, b"".as_slice(), kept, answer)
+    handle_calls::filter_lines(filter, judge, b"".as_slice(), kept, answer)
 }
 
 pub(crate) fn fault_text_alone_at_null<'a>(
@@ -161,7 +161,7 @@ pub(crate) fn fault_text_alone_at_null<'a>(
     if length > 0 {
         return 1;
     }
-    calls::fault_text_alone(alloc, status, b"".as_slice(), sentence, fault, answer)
+    handle_calls::fault_text_alone(alloc, status, b"".as_slice(), sentence, fault, answer)
 }
 
 pub(crate) fn fault_text_at_null<'a>(
@@ -179,7 +179,7 @@ pub(crate) fn fault_text_at_null<'a>(
     if length > 0 {
         return 1;
     }
-    calls::fault_text(
+    handle_calls::fault_text(
         alloc,
         given,
         status,

@@ -3,8 +3,8 @@ ghost use Rattle.std.specs.Prelude.{◌++◌, Ok, MatchBool};
 ghost use Rattle.odfilter_c.specs.Texts.{IsTooSmall, IsWritten, Writes};
 
 use crate::c_types::Answer;
-use crate::fault::{Fault, measured};
-use crate::telling::tell_fault;
+use crate::call_answers::tell_fault;
+use crate::call_fault::{Fault, measured};
 
 /// Writes a text at the front of the buffer, whole or not at all, and returns whether it did.
 pub(crate) fn write_text(room: &mut [u8], text: &[u8]) -> bool

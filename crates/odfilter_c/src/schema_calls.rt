@@ -5,7 +5,7 @@ ghost use Rattle.odfilter_c.specs.SchemaCalls.{IsNoSchema, IsNoType, IsSchemaOf,
 ghost use Rattle.odfilter_c.specs.Tells.{TellsNames};
 
 use crate::c_types::Answer;
-use crate::fault::Fault;
+use crate::call_fault::Fault;
 use crate::handle::{Handle, SchemaHandle, TypeHandle};
 use crate::room::write_both;
 use csdl_schema::{Expansion, Schema, SchemaFault, TypeId};

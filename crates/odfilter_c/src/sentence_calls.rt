@@ -3,7 +3,7 @@ ghost use Rattle.std.specs.Prelude.{◌≡◌, IfErr, IsTrue, IsUtf8, MatchResul
 ghost use Rattle.odfilter_c.specs.Sentences.{IsNoSentence, IsNoSentenceFor, IsSentenceFor, class_under, has_fault};
 
 use crate::c_types::Answer;
-use crate::fault::Fault;
+use crate::call_fault::Fault;
 use crate::handle::Handle;
 use fault_sentences::{FaultClass, Report, fault_sentence};
 use odata_text::Span;

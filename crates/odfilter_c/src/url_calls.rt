@@ -4,7 +4,7 @@ ghost use Rattle.odata_text.specs.Find.{found_model};
 ghost use Rattle.odfilter_c.specs.UrlCalls.{IsFoundFor, IsNotFound, ReportsFound};
 
 use crate::c_types::Answer;
-use crate::fault::Fault;
+use crate::call_fault::Fault;
 use crate::handle::Handle;
 use crate::room::write_text;
 use odata_text::{FindFault, FoundFilter, find_filter};

@@ -30,15 +30,15 @@ mod more_expanded;
 #[cfg(test)]
 mod order;
 #[cfg(test)]
-mod places;
+mod place_tests;
 #[cfg(test)]
 mod properties;
 #[cfg(test)]
-mod recorded;
+mod recorded_tests;
 #[cfg(test)]
 mod refused;
 #[cfg(test)]
-mod runs;
+mod run_tests;
 #[cfg(test)]
 mod shop;
 #[cfg(test)]

@@ -1,6 +1,6 @@
 //! Standard output beside standard error: which of them is called first, and that no interrupted call is tried again.
 use crate::items::{A, FIRST, SCHEMA};
-use crate::runs::plan_of;
+use crate::run_tests::plan_of;
 use odata_filter::command_line::Verb;
 use odata_filter::run;
 use std::alloc::Global;

@@ -2,8 +2,8 @@
 //! with ample memory, and prints which of the two; it is asked twice, since after a refusal it answers as ever.
 use std::test::Fail;
 
-mod calls;
-mod runs;
+mod refused_calls;
+mod refused_runs;
 
 /// Prints whether a call was refused an allocation, the first time or the second; fails if it was so both times.
 pub(crate) fn tell(

@@ -10,8 +10,8 @@ use Rattle.edm_entities.specs.private.Faults.{OnFlaw, IsPathText, IsFaultOf, IsT
 use Rattle.edm_entities.specs.declared.flaw.ReadFlaw.{ReadFlaw}
 use Rattle.edm_entities.specs.declared.flaw.ReadFlaw.TheVariants as code
 use Rattle.edm_entities.specs.declared.flaw.ReadFault.{ReadFault}
-use Rattle.edm_entities.specs.declared.fault.RowFault.{RowFault}
-use Rattle.edm_entities.specs.declared.fault.RowFault.TheVariants as fault
+use Rattle.edm_entities.specs.declared.row_fault.RowFault.{RowFault}
+use Rattle.edm_entities.specs.declared.row_fault.RowFault.TheVariants as fault
 
 module _ (slots : Slots) (name : List ℕ) (json : Data) where
   abbrev At : Path → Flaw → Type 0

@@ -7,8 +7,8 @@ use Rattle.edm_entities.specs.RowFaults.{Path}
 use Rattle.edm_entities.specs.declared.flaw.ReadFlaw.{ReadFlaw}
 use Rattle.edm_entities.specs.declared.flaw.ReadFlaw.TheVariants.{Missing, WrongKind, NullNotAllowed, OutOfRange, BadText, NotExpanded, Memory}
 use Rattle.edm_entities.specs.declared.flaw.ReadFault.{ReadFault}
-use Rattle.edm_entities.specs.declared.fault.RowFault.{RowFault}
-use Rattle.edm_entities.specs.declared.fault.RowFault.TheVariants as fault
+use Rattle.edm_entities.specs.declared.row_fault.RowFault.{RowFault}
+use Rattle.edm_entities.specs.declared.row_fault.RowFault.TheVariants as fault
 
 -- P of the flaw that the code reports; running out of memory reports none
 abbrev pub OnFlaw : ReadFlaw → (Flaw → Type 0) → Type 0

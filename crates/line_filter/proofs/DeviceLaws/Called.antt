@@ -1,6 +1,6 @@
 -- How the calls of a run add up.
 use Rattle.std.proofs.Common.{◌≡◌, refl, sym, ap, ◌∙◌, subst}
-use Rattle.line_filter.specs.declared.calls.Calls.{Calls}
+use Rattle.line_filter.specs.declared.device_calls.Calls.{Calls}
 use Rattle.line_filter.specs.DeviceCalls.{after_work, after_flush, after_failure, IsWell, StaysWell, FlushesLast, FailsLast}
 
 pub stays_well_refl : (a : Calls) → StaysWell a a

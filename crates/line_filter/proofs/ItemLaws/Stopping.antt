@@ -5,7 +5,7 @@ use Rattle.line_filter.specs.Kept.{Items, Passes, StopsAt, StopsOn, StopsWithin,
 use Rattle.line_filter.specs.private.Walk.{outcome_of, text_where_kept}
 use Rattle.line_filter.specs.declared.judge.Judgment.{Judgment}
 use Rattle.line_filter.specs.declared.finding.Finding.{Finding}
-use Rattle.line_filter.specs.declared.stop.Stop.{Stop}
+use Rattle.line_filter.specs.declared.run_stop.Stop.{Stop}
 use Rattle.line_filter.specs.declared.tally.Tally.{Tally}
 
 -- ---- the step of one item

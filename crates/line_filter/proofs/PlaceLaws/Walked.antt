@@ -9,7 +9,7 @@ use Rattle.line_filter.specs.private.HeldBack.{WritesBut}
 use Rattle.line_filter.specs.private.Walk.{sum_of, outcome_of, text_where_kept}
 use Rattle.line_filter.specs.declared.judge.Judgment.{Judgment}
 use Rattle.line_filter.specs.declared.finding.Finding.{Finding}
-use Rattle.line_filter.specs.declared.stop.Stop.{Stop}
+use Rattle.line_filter.specs.declared.run_stop.Stop.{Stop}
 use Rattle.line_filter.specs.declared.tally.Tally.{Tally}
 use Rattle.line_filter.proofs.ItemLaws.Walked.{HasWalked, HasWalked-more, HasWalked-failed, HasWalked-stopped}
 use Rattle.line_filter.proofs.PlaceLaws.Placed.{placed_next}

@@ -9,7 +9,7 @@ use Rattle.line_filter.specs.LineItems.{LineJudge, lines}
 use Rattle.line_filter.specs.LineStreams.{LacksLine}
 use Rattle.line_filter.specs.private.HeldBack.{WritesBut}
 use Rattle.line_filter.specs.private.Walk.{GoesWith, GoesOver, GoesOn, Ends}
-use Rattle.line_filter.specs.declared.stop.Stop.{Stop}
+use Rattle.line_filter.specs.declared.run_stop.Stop.{Stop}
 use Rattle.line_filter.specs.declared.tally.Tally.{Tally}
 use Rattle.line_filter.proofs.ItemLaws.Stopping.{Passes-within, StopsWith-within}
 use Rattle.line_filter.proofs.RunLaws.Lacking.{LacksLine-within}

@@ -1,8 +1,8 @@
 -- Which calls of its devices a run made by its end.
 use Rattle.std.proofs.Common.{◌≡◌, ℕ, List, Option, Result, Ok, Err, sym, subst}
 use Rattle.std.specs.Prelude.{MatchResult, IfErr}
-use Rattle.line_filter.specs.declared.calls.Calls.{Calls}
-use Rattle.line_filter.specs.declared.stop.Stop.{Stop}
+use Rattle.line_filter.specs.declared.device_calls.Calls.{Calls}
+use Rattle.line_filter.specs.declared.run_stop.Stop.{Stop}
 use Rattle.line_filter.specs.declared.tally.Tally.{Tally}
 use Rattle.line_filter.specs.DeviceCalls.{StaysWell, FlushesLast}
 use Rattle.line_filter.specs.LineSource.{LineSource}

@@ -1,7 +1,7 @@
 -- What the reads between two lines make of a reader of lines. Private clauses alone cite these.
 use Rattle.std.specs.Prelude.{◌≡◌, ℕ, ◌+◌, List, length, Option}
 use Rattle.std.specs.Io.KnownBytes.{Consumes}
-use Rattle.line_filter.specs.declared.calls.Calls.{Calls}
+use Rattle.line_filter.specs.declared.device_calls.Calls.{Calls}
 use Rattle.line_filter.specs.declared.line_reader.Course.{Course}
 use Rattle.line_filter.specs.declared.line_reader.LineFault.{LineFault}
 use Rattle.line_filter.specs.LineSource.{LineSource}

@@ -3,9 +3,9 @@ use Rattle.std.specs.Prelude.{◌≡◌, ℕ, ◌+◌, List, [], Bool, true, fal
 use Rattle.line_filter.specs.declared.judge.Judgment.{Judgment}
 use Rattle.line_filter.specs.declared.finding.Finding.{Finding}
 use Rattle.line_filter.specs.declared.line_reader.LineFault.{LineFault}
-use Rattle.line_filter.specs.declared.stop.Stop.{Stop}
+use Rattle.line_filter.specs.declared.run_stop.Stop.{Stop}
 use Rattle.line_filter.specs.declared.tally.Tally.{Tally}
-use Rattle.line_filter.specs.declared.calls.Calls.{Calls}
+use Rattle.line_filter.specs.declared.device_calls.Calls.{Calls}
 use Rattle.line_filter.specs.DeviceCalls.{StaysWell, FlushesLast, FailsLast}
 use Rattle.line_filter.specs.Kept.{Items, Filters, StopsWith, is_kept}
 use Rattle.line_filter.specs.LineItems.{LineJudge, lines}

@@ -36,14 +36,24 @@ null_test root now v = paid (gives v) 0 0 refl refl refl
 
 pub some : CostsOnTags text_and_null (over_tags Quantifier.Any is_null) 2
 some root now =
-    paid (gives text_and_null) 0 2 refl refl (primitive PrimitiveType.String, refl,
-    (1, paid (gives (boolean false)) 0 1 (text_is_null root now text_and_null) (null_test root now (text (codes "a")))
-    (0, paid (gives (boolean true)) 0 0 (null_is_null root now text_and_null) (null_test root now null) refl, refl), refl))
+    paid (gives text_and_null) 0 2 refl refl (
+      primitive PrimitiveType.String,
+      refl,
+      (
+        1,
+        paid (gives (boolean false)) 0 1 (text_is_null root now text_and_null) (null_test root now (text (codes "a")))
+            (0, paid (gives (boolean true)) 0 0 (null_is_null root now text_and_null) (null_test root now null) refl, refl),
+        refl,
+      ),
+    )
 
 pub not_all : CostsOnTags text_and_null (over_tags Quantifier.All is_null) 1
 not_all root now =
-    paid (gives text_and_null) 0 1 refl refl (primitive PrimitiveType.String, refl,
-    (0, paid (gives (boolean false)) 0 0 (text_is_null root now text_and_null) (null_test root now (text (codes "a"))) refl, refl))
+    paid (gives text_and_null) 0 1 refl refl (
+      primitive PrimitiveType.String,
+      refl,
+      (0, paid (gives (boolean false)) 0 0 (text_is_null root now text_and_null) (null_test root now (text (codes "a"))) refl, refl),
+    )
 
 pub of_none : (quantifier : Quantifier) (body : Tree) → CostsOnTags (items no_items) (over_tags quantifier body) 0
 of_none quantifier body root now =
@@ -65,20 +75,37 @@ alike_test root now v w = paid (gives w) 0 0 refl refl refl
 
 within_a_text : (root : List ℕ) (now : MomentParts) → Costs tagged_slots root now (tagged text_and_null) (At (text (codes "a"))) all_alike 2
 within_a_text root now =
-    paid (gives text_and_null) 0 2 refl refl (primitive PrimitiveType.String, refl,
-    (1, paid (gives (boolean true)) 0 1 (inr (free _ _, inr (free _ _, (gives (text (codes "a")), (refl, (gives (text (codes "a")), (refl, (tt, (λ is. refl, λ is. refl))))))))) (alike_test root now (text (codes "a")) (text (codes "a")))
-    (0, paid (gives (boolean false)) 0 0 (inr (free _ _, inr (free _ _, (gives null, (refl, (gives (text (codes "a")), (refl, (tt, (λ no. cc, λ no. absurd no))))))))) (alike_test root now (text (codes "a")) null) refl, refl), refl))
+    paid (gives text_and_null) 0 2 refl refl (
+      primitive PrimitiveType.String,
+      refl,
+      (
+        1,
+        paid (gives (boolean true)) 0 1 (inr (free _ _, inr (free _ _, (gives (text (codes "a")), (refl, (gives (text (codes "a")), (refl, (tt, (λ is. refl, λ is. refl))))))))) (alike_test root now (text (codes "a")) (text (codes "a")))
+            (0, paid (gives (boolean false)) 0 0 (inr (free _ _, inr (free _ _, (gives null, (refl, (gives (text (codes "a")), (refl, (tt, (λ no. cc, λ no. absurd no))))))))) (alike_test root now (text (codes "a")) null) refl, refl),
+        refl,
+      ),
+    )
 
 within_a_null : (root : List ℕ) (now : MomentParts) → Costs tagged_slots root now (tagged text_and_null) (At null) all_alike 1
 within_a_null root now =
-    paid (gives text_and_null) 0 1 refl refl (primitive PrimitiveType.String, refl,
-    (0, paid (gives (boolean false)) 0 0 (inr (free _ _, inr (free _ _, (gives (text (codes "a")), (refl, (gives null, (refl, (tt, (λ no. cc, λ no. absurd no))))))))) (alike_test root now null (text (codes "a"))) refl, refl))
+    paid (gives text_and_null) 0 1 refl refl (
+      primitive PrimitiveType.String,
+      refl,
+      (0, paid (gives (boolean false)) 0 0 (inr (free _ _, inr (free _ _, (gives (text (codes "a")), (refl, (gives null, (refl, (tt, (λ no. cc, λ no. absurd no))))))))) (alike_test root now null (text (codes "a"))) refl, refl),
+    )
 
 pub within : CostsOnTags text_and_null (over_tags Quantifier.Any all_alike) 5
 within root now =
-    paid (gives text_and_null) 0 5 refl refl (primitive PrimitiveType.String, refl,
-    (4, paid (gives (boolean false)) 2 2 (within_text root now) (within_a_text root now)
-    (1, paid (gives (boolean false)) 1 0 (within_null root now) (within_a_null root now) refl, refl), refl))
+    paid (gives text_and_null) 0 5 refl refl (
+      primitive PrimitiveType.String,
+      refl,
+      (
+        4,
+        paid (gives (boolean false)) 2 2 (within_text root now) (within_a_text root now)
+            (1, paid (gives (boolean false)) 1 0 (within_null root now) (within_a_null root now) refl, refl),
+        refl,
+      ),
+    )
 
 -- `t in (null,null)`, with `t` at a text
 abbrev Beside : List ℕ → ExprType → Type 0
@@ -100,9 +127,12 @@ listed_is_false root now = (
 
 listed_costs : (root : List ℕ) (now : MomentParts) → Costs tagged_slots root now (tagged text_and_null) (At (text (codes "a"))) is_listed 2
 listed_costs root now =
-    paid (gives (text (codes "a"))) 0 2 refl refl
-    (1, paid (gives (boolean false)) 0 1 (null_differs root now) refl
-    (0, paid (gives (boolean false)) 0 0 (null_differs root now) refl refl, refl), refl)
+    paid (gives (text (codes "a"))) 0 2 refl refl (
+      1,
+      paid (gives (boolean false)) 0 1 (null_differs root now) refl
+          (0, paid (gives (boolean false)) 0 0 (null_differs root now) refl refl, refl),
+      refl,
+    )
 
 pub listed : CostsOnTags text_and_null (over_tags Quantifier.All is_listed) 3
 listed root now = paid (gives text_and_null) 0 3 refl refl (primitive PrimitiveType.String, refl, (2, paid (gives (boolean false)) 2 0 (listed_is_false root now) (listed_costs root now) refl, refl))

@@ -17,7 +17,7 @@ use Rattle.csdl_schema.specs.SchemaModel.{SchemaModel, Slots, expanded, slots_of
 use Rattle.edm_entities.specs.Fits.{Fits}
 use Rattle.edm_entities.specs.Row.{Row}
 use Rattle.edm_entities.specs.RowFaults.{IsRowFault}
-use Rattle.edm_entities.specs.declared.fault.RowFault.{RowFault}
+use Rattle.edm_entities.specs.declared.row_fault.RowFault.{RowFault}
 use Rattle.odata_signatures.specs.HasTyping.{HasTree}
 use Rattle.odata_checked_filter.specs.CanonicalFilters.{AreCoveredAlike, ExpandTheSame, IsOfCanonicalText, OfCanonicalTexts}
 use Rattle.odata_checked_filter.specs.Filter.{Filter, slots_for_filter, tree_of_filter}
@@ -31,7 +31,7 @@ use Rattle.line_filter.specs.Lines.{lines_of, text_of_line, text_of_lines}
 use Rattle.line_filter.specs.Places.{IsJudged, ItemJudge, Placed, place_sieve, placed_from, places}
 use Rattle.line_filter.specs.declared.finding.Finding.{Finding}
 use Rattle.line_filter.specs.declared.judge.Judgment.{Judgment}
-use Rattle.line_filter.specs.declared.stop.Stop.{Stop}
+use Rattle.line_filter.specs.declared.run_stop.Stop.{Stop}
 use Rattle.line_filter.specs.declared.tally.Tally.{Tally}
 use Rattle.odata_filter.specs.CanonicalRows.{HaveSameEntities, HaveSameOutcomes, IsCheckedAgain, KeepSameItems, KeepSameLines, OfBoth, SaySameOfRows, SaySameOfValues, StopAlike, StopCollectionsAlike, AnswerRowsAlike}
 use Rattle.odata_filter.specs.Collection.{OfCollection, StopsCollection, entities_of}

@@ -1,12 +1,12 @@
 -- What a fault of a run says of its devices, by the stop that it reports.
 use Rattle.std.proofs.Common.{◌≡◌, ◌<◌, ◌≤◌, ℕ, List, length, Option, Some, IfSome, inl, inr, refl, sym, subst, arith}
-use Rattle.line_filter.specs.declared.calls.Calls.{Calls}
+use Rattle.line_filter.specs.declared.device_calls.Calls.{Calls}
 use Rattle.line_filter.specs.DeviceCalls.{StaysWell, FailsLast}
 use Rattle.line_filter.specs.LineSource.{LineSource}
 use Rattle.line_filter.specs.LineStreams.{ReadsUntil, WhyUnread, WritesUntil}
 use Rattle.line_filter.specs.declared.line_reader.Course.{Course}
 use Rattle.line_filter.specs.declared.line_reader.LineFault.{LineFault}
-use Rattle.line_filter.specs.declared.stop.Stop.{Stop}
+use Rattle.line_filter.specs.declared.run_stop.Stop.{Stop}
 use Rattle.odata_filter.specs.declared.bad_row.BadRow.{BadRow}
 use Rattle.odata_filter.specs.declared.run_fault.RunFault.{RunFault}
 use Rattle.odata_filter.specs.private.DocumentFaults.{IsUnjudgedBy}

@@ -4,7 +4,7 @@ use Rattle.line_filter.specs.Kept.{Items, Stops, StopsBefore, StopsHeld, StopsOn
 use Rattle.line_filter.specs.LineItems.{LineJudge, lines}
 use Rattle.line_filter.specs.Lines.{lines_of}
 use Rattle.line_filter.specs.LineStreams.{LacksLine}
-use Rattle.line_filter.specs.declared.stop.Stop.{Stop}
+use Rattle.line_filter.specs.declared.run_stop.Stop.{Stop}
 
 module _ {X F : Type 0} (items : Items X F) (Lacks : List ℕ → ℕ → Type 0) (before : (text : List ℕ) (number : ℕ) → Lacks text number → StopsBefore items text number) where
   on_before : (text : List ℕ) (number : ℕ) → StopsOn items text number → StopsBefore items text number

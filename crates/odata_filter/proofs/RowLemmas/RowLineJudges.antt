@@ -5,7 +5,7 @@ use Rattle.odata_checked_filter.specs.Filter.{Filter}
 use Rattle.line_filter.specs.Growth.{Writes}
 use Rattle.line_filter.specs.Kept.{Items, Filters, IsOfItem, Stops, StopsHeld, StopsOn, StopsWith}
 use Rattle.line_filter.specs.LineStreams.{LacksLine}
-use Rattle.line_filter.specs.declared.stop.Stop.{Stop}
+use Rattle.line_filter.specs.declared.run_stop.Stop.{Stop}
 use Rattle.line_filter.specs.declared.tally.Tally.{Tally}
 use Rattle.std.specs.Prelude.{IfErr, IfOk, IsSomeAnd}
 use Rattle.odata_filter.specs.declared.bad_row.BadRow.{BadRow}

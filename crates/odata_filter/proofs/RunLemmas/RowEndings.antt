@@ -8,7 +8,7 @@ use Rattle.line_filter.specs.Kept.{Items, Filters, Passes, Stops, StopsWithin}
 use Rattle.line_filter.specs.Places.{Placed}
 use Rattle.line_filter.specs.declared.finding.Finding.{Finding}
 use Rattle.line_filter.specs.declared.judge.Judgment.{Judgment}
-use Rattle.line_filter.specs.declared.stop.Stop.{Stop}
+use Rattle.line_filter.specs.declared.run_stop.Stop.{Stop}
 use Rattle.line_filter.specs.declared.tally.Tally.{Tally}
 use Rattle.serde_json.specs.Data.{Data}
 use Rattle.odata_checked_filter.specs.Filter.{Filter}

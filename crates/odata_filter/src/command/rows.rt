@@ -11,7 +11,7 @@ ghost use Rattle.odata_filter.specs.private.RunFailures.{IsReadWhole, StopsOver,
 
 use super::command_line::{Plan, Verb};
 use super::failure::Failure;
-use super::whole::{NotWhole, read_whole};
+use super::whole_input::{NotWhole, read_whole};
 use crate::collection::filter_collection;
 use crate::filter::filter_lines;
 use crate::run_fault::RunFault;

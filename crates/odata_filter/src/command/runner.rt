@@ -12,8 +12,8 @@ ghost use Rattle.csdl_schema.specs.SchemaModel.{HoldsType, IsEntityAt, index_nam
 
 use super::command_line::{Plan, Verb};
 use super::failure::Failure;
+use super::output_line::write_line;
 use super::rows::{Asked, filter_rows};
-use super::telling::write_line;
 use crate::run_fault::RunFault;
 use csdl_schema::{Schema, TypeId};
 use edm_values::{Moment, read_moment};

@@ -13,7 +13,7 @@ use Rattle.odata_syntax.specs.declared.node.LiteralKind.{LiteralKind}
 use Rattle.odata_syntax.specs.declared.node.Quantifier.{Quantifier}
 use Rattle.odata_text.specs.declared.token.TokenKind.{TokenKind}
 use Rattle.odata_syntax.specs.declared.parser.operand.Start.{Start}
-use Rattle.odata_syntax.specs.declared.parser.operator.Next.{Next}
+use Rattle.odata_syntax.specs.declared.parser.next_operator.Next.{Next}
 use Rattle.odata_syntax.specs.declared.parser.path.Segment.{Segment}
 use Rattle.odata_text.specs.TokenModel.{TokenModel}
 use Rattle.odata_syntax.specs.Lexeme.{IsA, IsLiteral, IsName, IsOperator, IsQuantifier, SpellsDollar, SpellsLiteral, SpellsWord, operator_word, quantifier_word, reserved_words, same_word}

@@ -7,7 +7,7 @@ use Rattle.odata_syntax.specs.declared.binary_operator.ComparisonOperator.{Compa
 use Rattle.odata_syntax.specs.declared.binary_operator.ArithmeticOperator.{ArithmeticOperator}
 use Rattle.odata_syntax.specs.declared.node.Quantifier.{Quantifier}
 use Rattle.odata_text.specs.declared.token.TokenKind.{TokenKind}
-use Rattle.odata_syntax.specs.declared.parser.operator.Next.{Next}
+use Rattle.odata_syntax.specs.declared.parser.next_operator.Next.{Next}
 use Rattle.odata_text.specs.TokenModel.{TokenModel}
 use Rattle.odata_syntax.specs.Tree.{Tree, node, member, name, start_of}
 use Rattle.odata_syntax.specs.Grammar.{Level, or_level, unary_level, primary_level, operator_level}

@@ -4,7 +4,7 @@ use Rattle.std.specs.Prelude.{nat_le, codes, option_and_then}
 use Rattle.std.proofs.lemmas.Option.{option_and_then_some}
 use Rattle.odata_syntax.specs.declared.node.Quantifier.{Quantifier}
 use Rattle.odata_text.specs.declared.token.TokenKind.{TokenKind}
-use Rattle.odata_syntax.specs.declared.parser.operator.Next.{Next}
+use Rattle.odata_syntax.specs.declared.parser.next_operator.Next.{Next}
 use Rattle.odata_text.specs.TokenModel.{TokenModel}
 use Rattle.odata_syntax.specs.Tree.{Tree, name, member}
 use Rattle.odata_syntax.specs.Grammar.{base_level, or_level, token_tree, tree_to}

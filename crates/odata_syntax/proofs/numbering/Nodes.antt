@@ -5,7 +5,7 @@ use Rattle.std.proofs.lemmas.List.{length-map, length-take-le, map-append, map-s
 use Rattle.std.proofs.lemmas.Option.{slice_get-map, slice_get_read}
 use Rattle.std.proofs.Math.Seq.{map-set_same, take-set-lt}
 use Rattle.odata_text.specs.declared.span.Span.{Span}
-use Rattle.odata_syntax.specs.declared.places.Place.{Place}
+use Rattle.odata_syntax.specs.declared.node_places.Place.{Place}
 use Rattle.odata_syntax.specs.declared.syntax_list.SyntaxKind.{SyntaxKind}
 use Rattle.odata_syntax.specs.declared.syntax_list.SyntaxNode.{SyntaxNode}
 use Rattle.odata_syntax.specs.Places.{AreBefore, ArePlaces, AreSideBySide, BeginsBody, IsPlaced, first_at, first_of, first_over, lambda_at, lambda_of, nodes_before, number_at, number_of, places_of, roots_back, stop_at}

@@ -1,7 +1,7 @@
 -- Numbers in pre-order by how many trees begin before an index.
 use Rattle.std.proofs.Common.{◌≡◌, ◌≢◌, refl, ap, sym, subst, ◌∙◌, ℕ, ◌+◌, ◌-◌, ◌<◌, ◌≤◌, List, [], ◌∷◌, length, length-set, slice_set, arith, inl, inr}
 use Rattle.std.proofs.lemmas.Bool.{cases_eq, cases_lt}
-use Rattle.odata_syntax.specs.declared.places.Place.{Place}
+use Rattle.odata_syntax.specs.declared.node_places.Place.{Place}
 use Rattle.odata_syntax.specs.Places.{first_at, lambda_at, number_at, stop_at}
 use Rattle.odata_syntax.specs.private.PlaceGrowth.{HasRoom, IsNumbered, begun_before}
 use Rattle.odata_syntax.proofs.numbering.Writes.{begun_next, begun_rises, first_set, lambda_set, number_other, number_own}

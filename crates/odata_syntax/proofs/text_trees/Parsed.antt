@@ -1,6 +1,6 @@
 -- What a text's run says of its tree, and of its first fault.
 use Rattle.std.proofs.Common.{◌≡◌, ◌≢◌, refl, ap, sym, subst, ◌∙◌, ℕ, List, length, None, Some, inl}
-use Rattle.odata_text.specs.declared.fault.TextFault.{TextFault}
+use Rattle.odata_text.specs.declared.text_fault.TextFault.{TextFault}
 use Rattle.odata_text.specs.TokenModel.{TokenModel}
 use Rattle.odata_text.specs.Tokens.{IsOverlong, IsTextFault, IsTokenList}
 use Rattle.odata_syntax.specs.declared.parser.state.State.{State}

@@ -1,7 +1,7 @@
 -- The tokens of a text, read one after another, and the machine that takes them.
 use Rattle.std.proofs.Common.{◌≡◌, refl, ap, sym, subst, ◌∙◌, ℕ, ◌+◌, ◌<◌, ◌≤◌, List, [], ◌∷◌, ◌++◌, cond, length, slice_range, Option, None, Some, IsCharBoundary, append-nil, append_assoc, arith}
 use Rattle.std.proofs.lemmas.List.{length_push}
-use Rattle.odata_text.specs.declared.fault.TextFault.{TextFault}
+use Rattle.odata_text.specs.declared.text_fault.TextFault.{TextFault}
 use Rattle.odata_text.specs.declared.scanner.Scanner.{Scanner}
 use Rattle.odata_text.specs.declared.token.Token.{Token}
 use Rattle.odata_text.specs.Scanning.{HasRead, IsFurther, IsReading, text_of, token_of}

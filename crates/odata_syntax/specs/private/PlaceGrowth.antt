@@ -1,6 +1,6 @@
 -- How the places of nodes grow: until all nodes have one, a place's number is how many trees begin with its node.
 use Rattle.std.specs.Prelude.{◌≡◌, ◌≢◌, ℕ, zero, suc, ◌+◌, ◌≤◌, ◌<◌, List, [], ◌∷◌, Some, length, map, slice_get, take}
-use Rattle.odata_syntax.specs.declared.places.Place.{Place}
+use Rattle.odata_syntax.specs.declared.node_places.Place.{Place}
 use Rattle.odata_syntax.specs.declared.syntax_list.SyntaxNode.{SyntaxNode}
 use Rattle.odata_syntax.specs.Places.{BeginsBody, child_roots, first_at, first_over, lambda_at, nodes_before, places_of, roots_back, stop_at}
 use Rattle.odata_syntax.specs.PostOrder.{child_count}

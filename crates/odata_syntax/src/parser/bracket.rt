@@ -9,8 +9,8 @@ ghost use Rattle.odata_syntax.specs.private.ListSteps.{IsSteadyState, IsStepTo};
 ghost use Rattle.odata_syntax.specs.private.ListSteps.{read_tree, waiting_behind, waiting_now};
 ghost use Rattle.odata_syntax.specs.private.PlaceGrowth.{no_place};
 
+use crate::node_places::NO_PLACE;
 use crate::parser::state::{Bracket, Frame, NO_TEXT, Stage, State, Step};
-use crate::places::NO_PLACE;
 use crate::syntax_list::{SyntaxKind, SyntaxNode};
 use odata_text::Span;
 

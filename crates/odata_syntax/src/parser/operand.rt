@@ -12,7 +12,7 @@ ghost use Rattle.odata_syntax.specs.private.ListSteps.{IfTaken, IsExpecting, IsN
 ghost use Rattle.odata_syntax.specs.private.ListSteps.{IsSteadyState, IsStepTo, waiting_now};
 
 use crate::parser::state::{Bracket, Frame, NO_TEXT, Pending, Piece, Stage, State, Step};
-use crate::parser::word::is_word;
+use crate::parser::word_test::is_word;
 use crate::syntax_list::SyntaxKind;
 use crate::{LiteralKind, level};
 use odata_text::TokenKind;

@@ -11,9 +11,9 @@ ghost use Rattle.odata_syntax.specs.private.ListSteps.{HasRead, IfTaken, IsExpec
 ghost use Rattle.odata_syntax.specs.private.ListSteps.{IsStepTo, read_tree, waiting_behind, waiting_now};
 
 use crate::Quantifier;
+use crate::node_places::NO_PLACE;
 use crate::parser::state::{Bracket, Frame, NO_TEXT, Piece, Stage, State, Step};
-use crate::parser::word::is_word;
-use crate::places::NO_PLACE;
+use crate::parser::word_test::is_word;
 use crate::syntax_list::{SyntaxKind, SyntaxNode};
 use odata_text::{Span, TokenKind};
 

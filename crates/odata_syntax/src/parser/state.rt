@@ -7,7 +7,7 @@ ghost use Rattle.odata_syntax.specs.private.MachineView.{machine_of};
 ghost use Rattle.odata_syntax.specs.private.ListSteps.{HasRead, IfTaken, IsNotRefused, IsSteadyState, read_tree};
 ghost use Rattle.odata_syntax.specs.private.PlaceGrowth.{no_place};
 
-use crate::places::NO_PLACE;
+use crate::node_places::NO_PLACE;
 use crate::syntax_list::{SyntaxKind, SyntaxNode};
 use crate::{BinaryOperator, Quantifier};
 use odata_text::{Span, Token};

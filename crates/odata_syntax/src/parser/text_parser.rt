@@ -13,8 +13,8 @@ ghost use Rattle.odata_syntax.specs.private.TextRun.{IsFirstAfter, StopsText, Ta
 
 use super::{Depth, ROOM_LIMIT, unended};
 use crate::SyntaxFault;
+use crate::node_places::put_places;
 use crate::parser::state::{FRAME_ROOM, Piece, State, Step};
-use crate::places::put_places;
 use crate::syntax_list::SyntaxList;
 use odata_text::{Scanned, Scanner, TextFault, one_reading};
 use std::alloc::Global;

@@ -6,7 +6,7 @@ use Rattle.odata_text.proofs.Common.{◌⊎◌, ◌≡◌, inl, inr, ⊎_elim, �
 use Rattle.odata_text.specs.declared.byte_class.ByteClass.TheVariants.{Other, Quote}
 use Rattle.odata_text.specs.Tokens.{IsBadCharacter, IsLongestToken, IsNoToken, IsTextFault}
 use Rattle.odata_text.specs.declared.byte_class.ByteClass.{ByteClass}
-use Rattle.odata_text.specs.declared.fault.TextFault.TheVariants.{BadCharacter, UnclosedString}
+use Rattle.odata_text.specs.declared.text_fault.TextFault.TheVariants.{BadCharacter, UnclosedString}
 use Rattle.odata_text.specs.declared.span.Span.{Span}
 use Rattle.odata_text.proofs.machine.Longest.{formed-some, same_form, solid-start}
 

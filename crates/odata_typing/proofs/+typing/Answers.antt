@@ -15,13 +15,13 @@ use Rattle.odata_typing.proofs.stacks.Loop.{IsLambdaThere, lambda_there, mark_at
 use Rattle.odata_typing.proofs.stacks.Settings.{node_ready}
 use Rattle.odata_typing.proofs.stacks.Steps.{lambda_goes_on, lambda_refuses, node_goes_on, node_refuses}
 use Rattle.odata_typing.proofs.stacks.Walking.{IsWalking, node_children, node_is_plain, ready_still, run_trees, walk_ends}
-use Rattle.odata_typing.proofs.+typing.Goals.{node::checked_nodes-else-lambda-ne-NO_NODE-via-then-lambda-ne-NO_NODE+else-index-from, node::checked_nodes-else-lambda-ne-NO_NODE-via-else-lambda-ne-NO_NODE}
+use Rattle.odata_typing.proofs.+typing.Goals.{node_walk::checked_nodes-else-lambda-ne-NO_NODE-via-then-lambda-ne-NO_NODE+else-index-from, node_walk::checked_nodes-else-lambda-ne-NO_NODE-via-else-lambda-ne-NO_NODE}
 use Rattle.odata_typing.proofs.+typing.Goals as goal
 
 -- A lambda expression whose base is not a collection, or whose variable is in scope.
 
-pub lambda::checked_lambda-returns-in_default : goal.lambda::checked_lambda-returns-in_default
-lambda::checked_lambda-returns-in_default t c = λ judged quantifier base asked.
+pub lambda_node::checked_lambda-returns-in_default : goal.lambda_node::checked_lambda-returns-in_default
+lambda_node::checked_lambda-returns-in_default t c = λ judged quantifier base asked.
     let setting = c.args.setting.now in
     let old = c.args.walk.now in
     let other = c.node_at-lambda.result in
@@ -32,8 +32,8 @@ lambda::checked_lambda-returns-in_default t c = λ judged quantifier base asked.
     (not_collection c.laws_below.ensures setting other old c.refuse.new.self quantifier base body (number_at (places_of setting.nodes.now) (c.args.index - 1)) c.refuse.result stands
     old c.type_at.result.now (c.type_at.ensures stands.found stands.at) c.in_default.not-Collection c.refuse.ensures.stops c.refuse.ensures.fault)
 
-pub lambda::checked_lambda-returns-in-Ok-Some : goal.lambda::checked_lambda-returns-in-Ok-Some
-lambda::checked_lambda-returns-in-Ok-Some t c = λ judged quantifier base asked.
+pub lambda_node::checked_lambda-returns-in-Ok-Some : goal.lambda_node::checked_lambda-returns-in-Ok-Some
+lambda_node::checked_lambda-returns-in-Ok-Some t c = λ judged quantifier base asked.
     let setting = c.args.setting.now in
     let old = c.args.walk.now in
     let other = c.node_at-lambda.result in
@@ -51,8 +51,8 @@ lambda::checked_lambda-returns-in-Ok-Some t c = λ judged quantifier base asked.
 
 -- One whose body is judged.
 
-pub lambda::checked_lambda-close_lambda-requires-clause-children : goal.lambda::checked_lambda-close_lambda-requires-clause-children
-lambda::checked_lambda-close_lambda-requires-clause-children t c =
+pub lambda_node::checked_lambda-close_lambda-requires-clause-children : goal.lambda_node::checked_lambda-close_lambda-requires-clause-children
+lambda_node::checked_lambda-close_lambda-requires-clause-children t c =
     let setting = c.args.setting.now in
     let old = c.args.walk.now in
     let other = c.node_at-lambda.result in
@@ -67,8 +67,8 @@ lambda::checked_lambda-close_lambda-requires-clause-children t c =
           (c.type_at.ensures stands.found stands.at) c.in-Collection.is fresh c.text_in-variable.ensures c.if-checked_nodes.ensures,
     )
 
-pub lambda::checked_lambda-returns-then-checked_nodes : goal.lambda::checked_lambda-returns-then-checked_nodes
-lambda::checked_lambda-returns-then-checked_nodes t c = λ judged quantifier base asked.
+pub lambda_node::checked_lambda-returns-then-checked_nodes : goal.lambda_node::checked_lambda-returns-then-checked_nodes
+lambda_node::checked_lambda-returns-then-checked_nodes t c = λ judged quantifier base asked.
     let setting = c.args.setting.now in
     let old = c.args.walk.now in
     let mid = c.checked_nodes.new.walk in
@@ -90,8 +90,8 @@ lambda::checked_lambda-returns-then-checked_nodes t c = λ judged quantifier bas
     other.number other.stop _ old mid new c.close_lambda.result (record { kept = put.kept; navigates = put.navigates })
     (body_places setting old c.args.from c.args.index other quantifier base ready) (omega arith) closed)
 
-pub lambda::checked_lambda-returns-else-checked_nodes : goal.lambda::checked_lambda-returns-else-checked_nodes
-lambda::checked_lambda-returns-else-checked_nodes t c = λ judged quantifier base asked.
+pub lambda_node::checked_lambda-returns-else-checked_nodes : goal.lambda_node::checked_lambda-returns-else-checked_nodes
+lambda_node::checked_lambda-returns-else-checked_nodes t c = λ judged quantifier base asked.
     let setting = c.args.setting.now in
     let old = c.args.walk.now in
     let new = c.checked_nodes.new.walk in
@@ -110,8 +110,8 @@ lambda::checked_lambda-returns-else-checked_nodes t c = λ judged quantifier bas
 
 -- The loop: a lambda expression.
 
-pub node::checked_nodes-checked_lambda-requires : goal.node::checked_nodes-checked_lambda-requires
-node::checked_nodes-checked_lambda-requires t c =
+pub node_walk::checked_nodes-checked_lambda-requires : goal.node_walk::checked_nodes-checked_lambda-requires
+node_walk::checked_nodes-checked_lambda-requires t c =
     let setting = c.args.setting.now in
     let index = c.loop-index.index in
     let last = mark_at setting index in
@@ -123,8 +123,8 @@ node::checked_nodes-checked_lambda-requires t c =
     let later : c.args.from < index = there.later in
     (omega arith, (there.judged, there.quantifier, last_tree (run_trees setting c.args.from index), there.ready))
 
-pub node::checked_nodes-returns-then-not-checked_lambda : goal.node::checked_nodes-returns-then-not-checked_lambda
-node::checked_nodes-returns-then-not-checked_lambda t c =
+pub node_walk::checked_nodes-returns-then-not-checked_lambda : goal.node_walk::checked_nodes-returns-then-not-checked_lambda
+node_walk::checked_nodes-returns-then-not-checked_lambda t c =
     let setting = c.args.setting.now in
     let index = c.loop-index.index in
     let last = mark_at setting index in
@@ -135,8 +135,8 @@ node::checked_nodes-returns-then-not-checked_lambda t c =
     c.requires.setting c.requires.run c.loop-index.invariant there.later there.over
     (c.if-not-checked_lambda.ensures there.judged there.quantifier (last_tree (run_trees setting c.args.from index)) there.ready)
 
-pub node::checked_nodes-overflow_add-index : goal.node::checked_nodes-overflow_add-index
-node::checked_nodes-overflow_add-index t c =
+pub node_walk::checked_nodes-overflow_add-index : goal.node_walk::checked_nodes-overflow_add-index
+node_walk::checked_nodes-overflow_add-index t c =
     let setting = c.args.setting.now in
     let index = c.loop-index.index in
     let last = mark_at setting index in
@@ -146,8 +146,8 @@ node::checked_nodes-overflow_add-index t c =
     let within : last < c.args.stop = there.within in
     record { fits = omega (arith, c.ranges.stop.fits) }
 
-pub node::checked_nodes-loop-index-smaller-then-index-from : goal.node::checked_nodes-loop-index-smaller-then-index-from
-node::checked_nodes-loop-index-smaller-then-index-from t c =
+pub node_walk::checked_nodes-loop-index-smaller-then-index-from : goal.node_walk::checked_nodes-loop-index-smaller-then-index-from
+node_walk::checked_nodes-loop-index-smaller-then-index-from t c =
     let setting = c.args.setting.now in
     let index = c.loop-index.index in
     let last = mark_at setting index in
@@ -158,8 +158,8 @@ node::checked_nodes-loop-index-smaller-then-index-from t c =
     let within : last < c.args.stop = there.within in
     omega arith
 
-pub node::checked_nodes-loop-index-preserved-then-index-from : goal.node::checked_nodes-loop-index-preserved-then-index-from
-node::checked_nodes-loop-index-preserved-then-index-from t c =
+pub node_walk::checked_nodes-loop-index-preserved-then-index-from : goal.node_walk::checked_nodes-loop-index-preserved-then-index-from
+node_walk::checked_nodes-loop-index-preserved-then-index-from t c =
     let setting = c.args.setting.now in
     let index = c.loop-index.index in
     let last = mark_at setting index in
@@ -172,50 +172,50 @@ node::checked_nodes-loop-index-preserved-then-index-from t c =
 
 -- The loop: any other node.
 
-pub node::checked_nodes-checked_node-requires-clause-ready : goal.node::checked_nodes-checked_node-requires-clause-ready
-node::checked_nodes-checked_node-requires-clause-ready t c =
+pub node_walk::checked_nodes-checked_node-requires-clause-ready : goal.node_walk::checked_nodes-checked_node-requires-clause-ready
+node_walk::checked_nodes-checked_node-requires-clause-ready t c =
     node_ready c.args.setting.now c.loop-index.walk c.loop-index.index c.node_at.result c.requires.setting
     (ready_still c.args.setting.now c.args.from c.args.stop c.loop-index.index c.args.walk.now c.loop-index.walk c.requires.ready c.loop-index.invariant)
     c.node_at.ensures
 
-pub node::checked_nodes-checked_node-requires-clause-text : goal.node::checked_nodes-checked_node-requires-clause-text
-node::checked_nodes-checked_node-requires-clause-text t c = λ has.
+pub node_walk::checked_nodes-checked_node-requires-clause-text : goal.node_walk::checked_nodes-checked_node-requires-clause-text
+node_walk::checked_nodes-checked_node-requires-clause-text t c = λ has.
     c.requires.setting.ranges c.loop-index.index c.node_at.result.node.now c.node_at.ensures.at has
 
-pub node::checked_nodes-checked_node-requires-clause-kind : goal.node::checked_nodes-checked_node-requires-clause-kind
-node::checked_nodes-checked_node-requires-clause-kind t c = λ quantifier is.
+pub node_walk::checked_nodes-checked_node-requires-clause-kind : goal.node_walk::checked_nodes-checked_node-requires-clause-kind
+node_walk::checked_nodes-checked_node-requires-clause-kind t c = λ quantifier is.
     node_is_plain c.args.setting.now c.args.from c.args.stop c.loop-index.index c.args.walk.now c.loop-index.walk c.node_at.result.node.now quantifier
     c.requires.setting c.requires.run c.loop-index.invariant c.loop-index-test.true c.node_at.ensures.at is
 
-pub node::checked_nodes-checked_node-requires-clause-children : goal.node::checked_nodes-checked_node-requires-clause-children
-node::checked_nodes-checked_node-requires-clause-children t c = (
+pub node_walk::checked_nodes-checked_node-requires-clause-children : goal.node_walk::checked_nodes-checked_node-requires-clause-children
+node_walk::checked_nodes-checked_node-requires-clause-children t c = (
   run_trees c.args.setting.now c.args.from c.loop-index.index,
   node_children c.args.setting.now c.args.from c.args.stop c.loop-index.index c.args.walk.now c.loop-index.walk c.node_at.result
       c.requires.setting c.requires.run c.loop-index.invariant c.loop-index-test.true c.node_at.ensures,
 )
 
-pub node::checked_nodes-returns-then-not-checked_node : goal.node::checked_nodes-returns-then-not-checked_node
-node::checked_nodes-returns-then-not-checked_node t c =
+pub node_walk::checked_nodes-returns-then-not-checked_node : goal.node_walk::checked_nodes-returns-then-not-checked_node
+node_walk::checked_nodes-returns-then-not-checked_node t c =
     let setting = c.args.setting.now in
     let index = c.loop-index.index in
     let before : index < c.args.stop = c.loop-index-test.true in
     let unmarked : (lambda_at (places_of setting.nodes.now) index ≡ 0) ⊎ (index ≡ c.args.from) = elim c.else-lambda-ne-NO_NODE.branch [
-      | node::checked_nodes-else-lambda-ne-NO_NODE-via-then-lambda-ne-NO_NODE+else-index-from w ↦ inr w.if-index-from.false
-      | node::checked_nodes-else-lambda-ne-NO_NODE-via-else-lambda-ne-NO_NODE w ↦ inl (none_read setting c.args.from c.args.stop index c.requires.setting c.requires.run before w.if-lambda-ne-NO_NODE.false)
+      | node_walk::checked_nodes-else-lambda-ne-NO_NODE-via-then-lambda-ne-NO_NODE+else-index-from w ↦ inr w.if-index-from.false
+      | node_walk::checked_nodes-else-lambda-ne-NO_NODE-via-else-lambda-ne-NO_NODE w ↦ inl (none_read setting c.args.from c.args.stop index c.requires.setting c.requires.run before w.if-lambda-ne-NO_NODE.false)
     ] in
     let children = node_children setting c.args.from c.args.stop index c.args.walk.now c.loop-index.walk c.node_at.result c.requires.setting c.requires.run c.loop-index.invariant before c.node_at.ensures in
     node_refuses c.laws_below.ensures setting c.args.from c.args.stop index c.args.walk.now c.loop-index.walk c.checked_node.new.walk c.node_at.result
     c.requires.setting c.requires.run c.loop-index.invariant before c.node_at.ensures unmarked
     (c.if-not-checked_node.ensures (run_trees setting c.args.from index) children)
 
-pub node::checked_nodes-loop-index-preserved : goal.node::checked_nodes-loop-index-preserved
-node::checked_nodes-loop-index-preserved t c =
+pub node_walk::checked_nodes-loop-index-preserved : goal.node_walk::checked_nodes-loop-index-preserved
+node_walk::checked_nodes-loop-index-preserved t c =
     let setting = c.args.setting.now in
     let index = c.loop-index.index in
     let before : index < c.args.stop = c.loop-index-test.true in
     let unmarked : (lambda_at (places_of setting.nodes.now) index ≡ 0) ⊎ (index ≡ c.args.from) = elim c.else-lambda-ne-NO_NODE.branch [
-      | node::checked_nodes-else-lambda-ne-NO_NODE-via-then-lambda-ne-NO_NODE+else-index-from w ↦ inr w.if-index-from.false
-      | node::checked_nodes-else-lambda-ne-NO_NODE-via-else-lambda-ne-NO_NODE w ↦ inl (none_read setting c.args.from c.args.stop index c.requires.setting c.requires.run before w.if-lambda-ne-NO_NODE.false)
+      | node_walk::checked_nodes-else-lambda-ne-NO_NODE-via-then-lambda-ne-NO_NODE+else-index-from w ↦ inr w.if-index-from.false
+      | node_walk::checked_nodes-else-lambda-ne-NO_NODE-via-else-lambda-ne-NO_NODE w ↦ inl (none_read setting c.args.from c.args.stop index c.requires.setting c.requires.run before w.if-lambda-ne-NO_NODE.false)
     ] in
     let children = node_children setting c.args.from c.args.stop index c.args.walk.now c.loop-index.walk c.node_at.result c.requires.setting c.requires.run c.loop-index.invariant before c.node_at.ensures in
     node_goes_on c.laws_below.ensures setting c.args.from c.args.stop index c.args.walk.now c.loop-index.walk c.checked_node.new.walk c.node_at.result
@@ -224,8 +224,8 @@ node::checked_nodes-loop-index-preserved t c =
 
 -- The end.
 
-pub node::checked_nodes-returns : goal.node::checked_nodes-returns
-node::checked_nodes-returns t c =
+pub node_walk::checked_nodes-returns : goal.node_walk::checked_nodes-returns
+node_walk::checked_nodes-returns t c =
     let past : c.args.stop ≤ c.loop-index.index = c.loop-index-test.false in
     let within : c.loop-index.index ≤ c.args.stop = c.loop-index.invariant.inside in
     walk_ends c.args.setting.now c.args.from c.args.stop c.args.walk.now c.loop-index.walk c.requires.run

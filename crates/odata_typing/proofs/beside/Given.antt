@@ -12,7 +12,7 @@ use Rattle.odata_checked_filter.specs.declared.checked_node.NodeKind.{NodeKind}
 use Rattle.odata_checked_filter.specs.FlatTree.{FlatTree}
 use Rattle.odata_checked_filter.specs.ListChanges.{IsKeptOutside, number_put}
 use Rattle.odata_checked_filter.specs.Stands.{HasValue, NumberStands, Stands}
-use Rattle.odata_typing.specs.declared.walk.Walk.{Walk}
+use Rattle.odata_typing.specs.declared.judged_list.Walk.{Walk}
 use Rattle.odata_typing.specs.private.Walks.{IsNumberPut}
 use Rattle.odata_typing.proofs.flat.Closing.{get_put, value_kept, value_put}
 use Rattle.odata_typing.proofs.flat.Kept.{same_kept}

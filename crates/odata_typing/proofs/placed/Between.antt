@@ -22,7 +22,7 @@ use Rattle.odata_typing.specs.declared.binary_node.OperandTypes.{OperandTypes}
 use Rattle.odata_typing.specs.declared.operand_text.OperandRead.{OperandRead}
 use Rattle.odata_typing.specs.declared.setting.Judged.{Judged}
 use Rattle.odata_typing.specs.declared.setting.Setting.{Setting}
-use Rattle.odata_typing.specs.declared.walk.Walk.{Walk}
+use Rattle.odata_typing.specs.declared.judged_list.Walk.{Walk}
 use Rattle.odata_typing.specs.private.Forms.{InfixByTypes, InfixReason, InfixTyped, IsInfix, infix_shape}
 use Rattle.odata_typing.specs.private.Judging.{AreChildren, IsNodeJudged, IsStanding}
 use Rattle.odata_typing.specs.private.LawsBelow.{LawsBelow}

@@ -17,7 +17,7 @@ use Rattle.odata_checked_filter.specs.declared.checked_node.NodeKind.{NodeKind}
 use Rattle.odata_checked_filter.specs.Stands.{IsCallNode}
 use Rattle.odata_typing.specs.declared.setting.Judged.{Judged}
 use Rattle.odata_typing.specs.declared.setting.Setting.{Setting}
-use Rattle.odata_typing.specs.declared.walk.Walk.{Walk}
+use Rattle.odata_typing.specs.declared.judged_list.Walk.{Walk}
 use Rattle.odata_typing.specs.private.Judging.{IsNodeJudged}
 use Rattle.odata_typing.specs.private.LawsBelow.{LawsBelow}
 use Rattle.odata_typing.specs.private.Settings.{IsNodeReady}

@@ -10,7 +10,7 @@ use Rattle.odata_checked_filter.specs.declared.checked_node.CheckedNode.{Checked
 use Rattle.odata_checked_filter.specs.FlatTree.{FlatTree}
 use Rattle.odata_checked_filter.specs.ListChanges.{IsKeptOutside}
 use Rattle.odata_typing.specs.declared.in_list.ItemsFit.{ItemsFit}
-use Rattle.odata_typing.specs.declared.walk.Walk.{Walk}
+use Rattle.odata_typing.specs.declared.judged_list.Walk.{Walk}
 use Rattle.odata_typing.specs.private.Items.{AllBeside, AreItemsFit, AreItemsPut, IsItemPut, IsUnreadLeft, worse_fit}
 use Rattle.odata_typing.specs.private.Rows.{AreInRow, AreTypesThere, quoted_beside, quoted_in, row_sides}
 use Rattle.odata_typing.proofs.beside.Items.{fit_more, read_more, unread_fit, unread_refused}

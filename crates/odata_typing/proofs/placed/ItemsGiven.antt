@@ -12,7 +12,7 @@ use Rattle.odata_checked_filter.specs.declared.checked_node.CheckedNode.{Checked
 use Rattle.odata_checked_filter.specs.FlatTree.{FlatTree}
 use Rattle.odata_checked_filter.specs.ListChanges.{IsKeptOutside}
 use Rattle.odata_checked_filter.specs.Stands.{AllStand, BesideStands, ItemsStand, NumberStands, Stands}
-use Rattle.odata_typing.specs.declared.walk.Walk.{Walk}
+use Rattle.odata_typing.specs.declared.judged_list.Walk.{Walk}
 use Rattle.odata_typing.specs.private.Items.{AreItemsRead, IsItemRead, IsUnreadLeft}
 use Rattle.odata_typing.specs.private.Judging.{IsStanding, StandInRow}
 use Rattle.odata_typing.specs.private.LawsBelow.{LawsBelow}

@@ -21,7 +21,7 @@ use Rattle.odata_checked_filter.specs.ListChanges.{with_value}
 use Rattle.odata_checked_filter.specs.Stands.{IsNameNode, variable_names}
 use Rattle.odata_typing.specs.declared.setting.Judged.{Judged}
 use Rattle.odata_typing.specs.declared.setting.Setting.{Setting}
-use Rattle.odata_typing.specs.declared.walk.Walk.{Walk}
+use Rattle.odata_typing.specs.declared.judged_list.Walk.{Walk}
 use Rattle.odata_typing.specs.private.Answer.{IsReading}
 use Rattle.odata_typing.specs.private.Judging.{IsIdle, IsNodeJudged, IsStanding}
 use Rattle.odata_typing.specs.private.LawsBelow.{LawsBelow}

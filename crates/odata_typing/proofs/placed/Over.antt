@@ -10,7 +10,7 @@ use Rattle.odata_checked_filter.specs.declared.checked_node.NodeKind.{NodeKind}
 use Rattle.odata_typing.specs.declared.setting.Judged.{Judged}
 use Rattle.odata_typing.specs.declared.setting.Setting.{Setting}
 use Rattle.odata_typing.specs.declared.unary_node.Unary.{Unary}
-use Rattle.odata_typing.specs.declared.walk.Walk.{Walk}
+use Rattle.odata_typing.specs.declared.judged_list.Walk.{Walk}
 use Rattle.odata_typing.specs.private.Forms.{UnaryTyped, unary_code, unary_kind, unary_shape}
 use Rattle.odata_typing.specs.private.Judging.{AreChildren, IsNodeJudged, IsStanding}
 use Rattle.odata_typing.specs.private.LawsBelow.{LawsBelow}

@@ -10,7 +10,7 @@ use Rattle.odata_signatures.specs.Sides.{quoted_text, sides_of}
 use Rattle.odata_signatures.specs.Typed.{AreTyped, IsTyped, Scope}
 use Rattle.odata_checked_filter.specs.declared.checked_node.CheckedNode.{CheckedNode}
 use Rattle.odata_checked_filter.specs.Stands.{AllStand}
-use Rattle.odata_typing.specs.declared.walk.Walk.{Walk}
+use Rattle.odata_typing.specs.declared.judged_list.Walk.{Walk}
 use Rattle.odata_typing.specs.private.Judging.{IsStanding, StandInRow}
 use Rattle.odata_typing.specs.private.Rows.{AreInRow, AreTypesThere, quoted_in, row_sides}
 use Rattle.odata_typing.proofs.flat.Idle.{AreIdle}

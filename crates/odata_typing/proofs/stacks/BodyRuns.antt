@@ -5,7 +5,7 @@ use Rattle.odata_signatures.specs.TypeThere.{IsTypeThere}
 use Rattle.odata_signatures.specs.declared.edm_type.EdmType.{EdmType}
 use Rattle.odata_typing.specs.declared.setting.Setting.{Setting}
 use Rattle.odata_typing.specs.declared.variables.Variables.{Bound, Variables}
-use Rattle.odata_typing.specs.declared.walk.Walk.{Walk}
+use Rattle.odata_typing.specs.declared.judged_list.Walk.{Walk}
 use Rattle.odata_typing.specs.private.Settings.{IsReady, IsRun, IsSetting}
 use Rattle.odata_typing.proofs.scopes.Scopes.{types_in-Bound}
 

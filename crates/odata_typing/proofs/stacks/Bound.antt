@@ -15,7 +15,7 @@ use Rattle.odata_typing.specs.declared.setting.Judged.{Judged}
 use Rattle.odata_typing.specs.declared.setting.Setting.{Setting}
 use Rattle.odata_typing.specs.declared.variables.NamedVariable.{NamedVariable}
 use Rattle.odata_typing.specs.declared.variables.Variables.{Bound}
-use Rattle.odata_typing.specs.declared.walk.Walk.{Walk}
+use Rattle.odata_typing.specs.declared.judged_list.Walk.{Walk}
 use Rattle.odata_typing.specs.private.Judging.{IsJudged, IsPut, IsStanding}
 use Rattle.odata_typing.specs.private.Lambda.{IsLambdaReady, IsOverBody}
 use Rattle.odata_typing.specs.private.LawsBelow.{LawsBelow}

@@ -3,11 +3,11 @@ use Rattle.std.proofs.Common.{refl, sym, subst, inl, ℕ, zero, suc, ◌≤◌, 
 use Rattle.std.proofs.lemmas.List.{reverse-append}
 use Rattle.odata_syntax.specs.Places.{AreBefore, AreSideBySide, number_at, stop_at}
 use Rattle.odata_syntax.specs.Tree.{Tree}
-use Rattle.odata_syntax.specs.declared.places.Place.{Place}
+use Rattle.odata_syntax.specs.declared.node_places.Place.{Place}
 use Rattle.csdl_schema.specs.SchemaModel.{SchemaModel, slots_of, type_name_at}
 use Rattle.odata_signatures.specs.TypeView.{expr_type}
 use Rattle.odata_signatures.specs.Typed.{Scope}
-use Rattle.odata_typing.specs.declared.walk.Walk.{Walk}
+use Rattle.odata_typing.specs.declared.judged_list.Walk.{Walk}
 use Rattle.odata_typing.specs.private.Judging.{IsStanding, StandInRow}
 use Rattle.odata_typing.specs.private.LawsBelow.{LawsBelow}
 use Rattle.odata_typing.proofs.flat.Kept.{IsOnward, standing_kept}

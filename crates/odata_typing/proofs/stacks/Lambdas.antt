@@ -5,12 +5,12 @@ use Rattle.odata_syntax.specs.PostOrder.{Texts, child_count, last_tree, shape_ov
 use Rattle.odata_syntax.specs.TextTree.{HasText, text_in}
 use Rattle.odata_syntax.specs.Tree.{Shape, Tree, lambda, node}
 use Rattle.odata_syntax.specs.declared.node.Quantifier.{Quantifier}
-use Rattle.odata_syntax.specs.declared.places.Place.{Place}
+use Rattle.odata_syntax.specs.declared.node_places.Place.{Place}
 use Rattle.odata_syntax.specs.declared.syntax_list.SyntaxKind.{SyntaxKind}
 use Rattle.odata_syntax.specs.declared.syntax_list.SyntaxNode.{SyntaxNode}
 use Rattle.odata_typing.specs.declared.setting.Judged.{Judged}
 use Rattle.odata_typing.specs.declared.setting.Setting.{Setting}
-use Rattle.odata_typing.specs.declared.walk.Walk.{Walk}
+use Rattle.odata_typing.specs.declared.judged_list.Walk.{Walk}
 use Rattle.odata_typing.specs.private.Judging.{IsStanding}
 use Rattle.odata_typing.specs.private.Lambda.{IsLambdaReady}
 use Rattle.odata_typing.specs.private.Settings.{IsNodeAt, IsReady, IsRun, IsSetting, run_tree}

@@ -10,7 +10,7 @@ use Rattle.odata_syntax.specs.declared.syntax_list.SyntaxKind.{SyntaxKind}
 use Rattle.odata_syntax.specs.declared.syntax_list.SyntaxNode.{SyntaxNode}
 use Rattle.odata_typing.specs.declared.setting.Judged.{Judged}
 use Rattle.odata_typing.specs.declared.setting.Setting.{Setting}
-use Rattle.odata_typing.specs.declared.walk.Walk.{Walk}
+use Rattle.odata_typing.specs.declared.judged_list.Walk.{Walk}
 use Rattle.odata_typing.specs.private.Lambda.{IsLambdaReady}
 use Rattle.odata_typing.specs.private.Settings.{IsNodeAt, IsReady, IsRun, IsSetting}
 use Rattle.odata_typing.proofs.stacks.Lambdas.{IsOverRuns, lambda_ready, over_runs}

@@ -5,7 +5,7 @@ use Rattle.std.proofs.lemmas.Option.{slice_get_cases, slice_get_within}
 use Rattle.odata_syntax.specs.Places.{ArePlaces, BeginsBody, IsPlaced, first_at, lambda_at, nodes_before, roots_back}
 use Rattle.odata_syntax.specs.PostOrder.{AreFedBack, child_count, tree_count_back}
 use Rattle.odata_syntax.specs.declared.node.Quantifier.{Quantifier}
-use Rattle.odata_syntax.specs.declared.places.Place.{Place}
+use Rattle.odata_syntax.specs.declared.node_places.Place.{Place}
 use Rattle.odata_syntax.specs.declared.syntax_list.SyntaxKind.{SyntaxKind}
 use Rattle.odata_syntax.specs.declared.syntax_list.SyntaxNode.{SyntaxNode}
 use Rattle.odata_typing.proofs.stacks.Children.{roots_count}

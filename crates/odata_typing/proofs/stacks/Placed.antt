@@ -4,7 +4,7 @@ use Rattle.std.proofs.lemmas.List.{drop-append-le, take-append-le}
 use Rattle.std.proofs.lemmas.Option.{slice_get_cases}
 use Rattle.odata_syntax.specs.Places.{ArePlaces, AreBefore, AreSideBySide, IsPlaced, first_at, first_over, nodes_before, number_at, roots_back, stop_at}
 use Rattle.odata_syntax.specs.PostOrder.{AreFedBack, child_count, tree_count_back}
-use Rattle.odata_syntax.specs.declared.places.Place.{Place}
+use Rattle.odata_syntax.specs.declared.node_places.Place.{Place}
 use Rattle.odata_syntax.specs.declared.syntax_list.SyntaxNode.{SyntaxNode}
 use Rattle.odata_typing.proofs.stacks.Children.{roots_count}
 use Rattle.odata_typing.proofs.stacks.Runs.{roots_apart}

@@ -4,7 +4,7 @@ use Rattle.std.specs.List.{slice_range}
 use Rattle.std.proofs.lemmas.List.{nil_from_length, take-append-drop}
 use Rattle.odata_syntax.specs.Places.{ArePlaces, AreSideBySide, number_at, stop_at}
 use Rattle.odata_syntax.specs.PostOrder.{child_count, tree_count_back}
-use Rattle.odata_syntax.specs.declared.places.Place.{Place}
+use Rattle.odata_syntax.specs.declared.node_places.Place.{Place}
 use Rattle.odata_syntax.specs.declared.syntax_list.SyntaxNode.{SyntaxNode}
 use Rattle.odata_typing.proofs.stacks.Children.{roots_count}
 use Rattle.odata_typing.proofs.stacks.Placed.{ArePlacedFrom, placed_run}

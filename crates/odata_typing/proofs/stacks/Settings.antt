@@ -12,7 +12,7 @@ use Rattle.odata_syntax.specs.declared.syntax_list.SyntaxKind.{SyntaxKind}
 use Rattle.odata_syntax.specs.declared.syntax_list.SyntaxNode.{SyntaxNode}
 use Rattle.odata_typing.specs.declared.setting.Judged.{Judged}
 use Rattle.odata_typing.specs.declared.setting.Setting.{Setting}
-use Rattle.odata_typing.specs.declared.walk.Walk.{Walk}
+use Rattle.odata_typing.specs.declared.judged_list.Walk.{Walk}
 use Rattle.odata_typing.specs.private.Settings.{IsNodeAt, IsNodeReady, IsReady, IsRun, IsSetting, run_tree, whole_tree}
 use Rattle.odata_typing.proofs.stacks.Children.{roots_count}
 use Rattle.odata_typing.proofs.stacks.Marks.{IsBodyWithin, earlier_fed_back, few_trees}

@@ -9,7 +9,7 @@ use Rattle.odata_signatures.specs.FirstUntypable.{IsFirstUntypable}
 use Rattle.odata_signatures.specs.declared.refusal.TypeFault.{TypeFault}
 use Rattle.odata_typing.specs.declared.setting.Judged.{Judged}
 use Rattle.odata_typing.specs.declared.setting.Setting.{Setting}
-use Rattle.odata_typing.specs.declared.walk.Walk.{Walk}
+use Rattle.odata_typing.specs.declared.judged_list.Walk.{Walk}
 use Rattle.odata_typing.specs.private.Judging.{IsPut}
 use Rattle.odata_typing.specs.private.Settings.{IsNodeAt, IsRun, IsSetting, name_of, run_tree}
 use Rattle.odata_typing.specs.private.LawsBelow.{LawsBelow}

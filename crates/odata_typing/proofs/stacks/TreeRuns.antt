@@ -6,7 +6,7 @@ use Rattle.odata_syntax.specs.Places.{ArePlaces, first_at, nodes_before, roots_b
 use Rattle.odata_syntax.specs.PostOrder.{AreFedBack, Texts, last_tree, tree_count_back, trees_back}
 use Rattle.odata_syntax.specs.Spans.{IsWithin}
 use Rattle.odata_syntax.specs.Tree.{Tree}
-use Rattle.odata_syntax.specs.declared.places.Place.{Place}
+use Rattle.odata_syntax.specs.declared.node_places.Place.{Place}
 use Rattle.odata_syntax.specs.declared.syntax_list.SyntaxNode.{SyntaxNode}
 use Rattle.odata_typing.proofs.stacks.Children.{trees_count}
 use Rattle.odata_typing.proofs.stacks.Onward.{AllWithin, stays_within}

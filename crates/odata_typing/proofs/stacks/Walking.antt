@@ -7,7 +7,7 @@ use Rattle.odata_syntax.specs.Spans.{IsWithin}
 use Rattle.odata_syntax.specs.TextTree.{text_in}
 use Rattle.odata_syntax.specs.Tree.{Tree, node}
 use Rattle.odata_syntax.specs.declared.node.Quantifier.{Quantifier}
-use Rattle.odata_syntax.specs.declared.places.Place.{Place}
+use Rattle.odata_syntax.specs.declared.node_places.Place.{Place}
 use Rattle.odata_syntax.specs.declared.syntax_list.SyntaxKind.{SyntaxKind}
 use Rattle.odata_syntax.specs.declared.syntax_list.SyntaxNode.{SyntaxNode}
 use Rattle.csdl_schema.specs.SchemaModel.{slots_of, type_name_at}
@@ -16,7 +16,7 @@ use Rattle.odata_signatures.specs.declared.refusal.TypeFault.{TypeFault}
 use Rattle.odata_checked_filter.specs.ListChanges.{IsKeptOutside}
 use Rattle.odata_typing.specs.declared.setting.Judged.{Judged}
 use Rattle.odata_typing.specs.declared.setting.Setting.{Setting}
-use Rattle.odata_typing.specs.declared.walk.Walk.{Walk}
+use Rattle.odata_typing.specs.declared.judged_list.Walk.{Walk}
 use Rattle.odata_typing.specs.private.Judging.{AreLastTrees, IsPut}
 use Rattle.odata_typing.specs.private.Settings.{IsNodeAt, IsReady, IsRun, IsSetting, run_tree, whole_tree}
 use Rattle.odata_typing.specs.private.LawsBelow.{LawsBelow}

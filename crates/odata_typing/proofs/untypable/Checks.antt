@@ -9,12 +9,12 @@ use Rattle.csdl_schema.specs.PathSet.{PropertyPath}
 use Rattle.odata_syntax.specs.TextTree.{HasNoTree, IsFirstFault}
 use Rattle.odata_syntax.specs.declared.parser.text_parser.TextOrSyntaxFault.{TextOrSyntaxFault}
 use Rattle.odata_syntax.specs.declared.syntax_fault.SyntaxFault.{SyntaxFault}
-use Rattle.odata_text.specs.declared.fault.TextFault.{TextFault}
+use Rattle.odata_text.specs.declared.text_fault.TextFault.{TextFault}
 use Rattle.odata_signatures.specs.NeededPaths.{IsNeeded}
 use Rattle.odata_signatures.specs.declared.refusal.Refusal.{Refusal}
 use Rattle.odata_signatures.specs.declared.refusal.TypeFault.{TypeFault}
 use Rattle.odata_signatures.specs.declared.refusal.TypeFaultCode.{TypeFaultCode}
-use Rattle.odata_typing.specs.declared.walk.Walk.{Walk}
+use Rattle.odata_typing.specs.declared.judged_list.Walk.{Walk}
 use Rattle.odata_typing.specs.private.Answer.{IsTypeRefusal, refusal_of}
 use Rattle.odata_typing.specs.private.Judging.{IsStanding}
 use Rattle.odata_signatures.specs.ExprTypes.{IsBooleanOrNull}

@@ -20,7 +20,7 @@ use Rattle.odata_checked_filter.specs.Laws.{OneTree}
 use Rattle.odata_checked_filter.specs.ListChanges.{nothing_yet, with_room}
 use Rattle.odata_checked_filter.specs.declared.checked_node.CheckedNode.{CheckedNode}
 use Rattle.odata_typing.specs.declared.setting.Setting.{Setting}
-use Rattle.odata_typing.specs.declared.walk.Walk.{Walk}
+use Rattle.odata_typing.specs.declared.judged_list.Walk.{Walk}
 use Rattle.odata_typing.specs.private.Answer.{IsTypeRefusal}
 use Rattle.odata_typing.specs.private.Judging.{IsJudged, IsPut, IsStanding, IsTreeJudged}
 use Rattle.odata_typing.specs.private.LawsBelow.{LawsBelow}

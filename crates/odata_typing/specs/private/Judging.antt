@@ -14,7 +14,7 @@ use Rattle.odata_checked_filter.specs.ListChanges.{IsKeptOutside}
 use Rattle.odata_checked_filter.specs.Stands.{SideBySide, Stands}
 use Rattle.odata_typing.specs.declared.setting.Judged.{Judged}
 use Rattle.odata_typing.specs.declared.setting.Setting.{Setting}
-use Rattle.odata_typing.specs.declared.walk.Walk.{Walk}
+use Rattle.odata_typing.specs.declared.judged_list.Walk.{Walk}
 use Rattle.odata_typing.specs.private.Variables.{scope_of}
 
 -- no node of the tree leads over a navigation property

@@ -12,7 +12,7 @@ use Rattle.odata_signatures.specs.declared.edm_type.ValueType.{ValueType}
 use Rattle.odata_signatures.specs.Typed.{variable_type, with_variable}
 use Rattle.odata_typing.specs.declared.setting.Judged.{Judged}
 use Rattle.odata_typing.specs.declared.setting.Setting.{Setting}
-use Rattle.odata_typing.specs.declared.walk.Walk.{Walk}
+use Rattle.odata_typing.specs.declared.judged_list.Walk.{Walk}
 use Rattle.odata_typing.specs.private.Judging.{IsStanding}
 use Rattle.odata_typing.specs.private.Settings.{IsNodeAt, IsNodeReady, IsRun, IsSetting, name_of}
 use Rattle.odata_typing.specs.private.Variables.{scope_of}

@@ -8,7 +8,7 @@ use Rattle.odata_syntax.specs.TextTree.{AreTextRanges, listed_tree, text_in}
 use Rattle.odata_syntax.specs.Tree.{Tree}
 use Rattle.odata_typing.specs.declared.setting.Judged.{Judged}
 use Rattle.odata_typing.specs.declared.setting.Setting.{Setting}
-use Rattle.odata_typing.specs.declared.walk.Walk.{Walk}
+use Rattle.odata_typing.specs.declared.judged_list.Walk.{Walk}
 use Rattle.odata_typing.specs.private.Variables.{AreThere}
 
 -- the text of a node

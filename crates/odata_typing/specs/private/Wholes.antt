@@ -8,7 +8,7 @@ use Rattle.odata_signatures.specs.declared.refusal.Refusal.{Refusal}
 use Rattle.odata_checked_filter.specs.Filter.{HasNeededPaths, IsFilter, filter_of}
 use Rattle.odata_checked_filter.specs.FlatTree.{tree_of_nodes}
 use Rattle.odata_checked_filter.specs.Stands.{Stands}
-use Rattle.odata_typing.specs.declared.walk.Walk.{Walk}
+use Rattle.odata_typing.specs.declared.judged_list.Walk.{Walk}
 
 -- the list of the walk is a filter's, which needs nothing of navigation unless the walk has seen a node that navigates
 pub record IsWalked (schema : SchemaModel) (n : ℕ) (walk : Walk) : Type 0 where

@@ -7,7 +7,7 @@ use Rattle.line_filter.specs.Kept.{StopsWith}
 use Rattle.line_filter.specs.LineStreams.{LacksLine, ReadsUntil}
 use Rattle.line_filter.specs.private.Giving.{Gives, bytes_to_come}
 use Rattle.line_filter.specs.private.HeldBack.{WritesBut}
-use Rattle.line_filter.specs.declared.stop.Stop.{Stop}
+use Rattle.line_filter.specs.declared.run_stop.Stop.{Stop}
 use Rattle.line_filter.proofs.DeviceLaws.Called.{stays_well_refl, stays_well_trans}
 use Rattle.line_filter.proofs.DeviceLaws.Unread.{going_read, reads_well_refl, reads_well_more, reads_on}
 use Rattle.line_filter.proofs.ItemLaws.Passing.{outcome_counts}

@@ -4,9 +4,9 @@ use Rattle.odfilter_c.proofs.Types.{Global, GlobalRow, global_val, global_lowers
 use Rattle.odfilter_c.specs.Loans.{Loan, lent_fault, lent_handle, lent_judge, lent_bytes, lent_room, lent_made, lent_answer, left_judge, left_room, left_made, left_answer, unless_null, holds, of_optional, of_bytes}
 use Rattle.odfilter_c.specs.Exports.{lent_to_new_judge, left_by_new_judge}
 use Rattle.odfilter_c.specs.RowTells.{MakesJudge}
-use Rattle.odfilter_c.specs.contracts.calls.new_judge as g
-use Rattle.odfilter_c.proofs.calls.new_judge.Symbol.{name as #call}
-use Rattle.odfilter_c.proofs.calls.new_judge.Met.{met as met}
+use Rattle.odfilter_c.specs.contracts.handle_calls.new_judge as g
+use Rattle.odfilter_c.proofs.handle_calls.new_judge.Symbol.{name as #call}
+use Rattle.odfilter_c.proofs.handle_calls.new_judge.Met.{met as met}
 use Rattle.odfilter_c.specs.contracts.exports.odfilter_new_judge as f
 use Rattle.odfilter_c.proofs.exports.odfilter_new_judge.Statement.{statement}
 use Rattle.odfilter_c.proofs.exports.odfilter_new_judge.Code as code
@@ -85,4 +85,4 @@ odfilter_new_judge_spec 𝓤 𝓛 𝓜 𝓡 wired =
     qed 𝓛 ((‵ ftrue ⊛ ‵ (owns (types_at f.signature.params κs) a (global_val a.0 ∷ [], (rawptr_vals a.1.0, tt)))) ∷ (raw (fact 𝓤 (Testable a.1.0)) ⊛ (‵ (flft l.lifetime l.share) ⊛ ‵ (lent_to_new_judge l a.1.0))) ∷ []) ∵
     split ! $ drop ! $ fsplit ! $ move ! (1 ∷ []) $ drop ! $ move ! (1 ∷ []) $
     split ! $ heard ! _ (λ may. split ! $
-    runs 𝓛 𝓜.mem 𝓡.returns 𝓣.C 𝓣.Λ (framed 𝓤 𝓛.H 𝓜 𝓣) (met 𝓤 𝓛 𝓜 𝓡 (code.calls-odfilter_c::calls::new_judge 𝓡.env wired)) l a.0 a.1.0 ((global_laws.lawful 𝓛).typed a.0 _ are.0) may))
+    runs 𝓛 𝓜.mem 𝓡.returns 𝓣.C 𝓣.Λ (framed 𝓤 𝓛.H 𝓜 𝓣) (met 𝓤 𝓛 𝓜 𝓡 (code.calls-odfilter_c::handle_calls::new_judge 𝓡.env wired)) l a.0 a.1.0 ((global_laws.lawful 𝓛).typed a.0 _ are.0) may))

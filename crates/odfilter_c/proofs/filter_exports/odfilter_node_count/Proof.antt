@@ -4,9 +4,9 @@ use Rattle.odfilter_c.proofs.Types.{Global, GlobalRow, global_val, global_lowers
 use Rattle.odfilter_c.specs.Loans.{Loan, lent_fault, lent_handle, lent_judge, lent_bytes, lent_room, lent_made, lent_answer, left_judge, left_room, left_made, left_answer, unless_null, holds, of_optional, of_bytes}
 use Rattle.odfilter_c.specs.FilterExports.{lent_to_node_count, left_by_node_count}
 use Rattle.odfilter_c.specs.Costs.{ReportsNodeCount}
-use Rattle.odfilter_c.specs.contracts.calls.node_count as g
-use Rattle.odfilter_c.proofs.calls.node_count.Symbol.{name as #call}
-use Rattle.odfilter_c.proofs.calls.node_count.Met.{met as met}
+use Rattle.odfilter_c.specs.contracts.handle_calls.node_count as g
+use Rattle.odfilter_c.proofs.handle_calls.node_count.Symbol.{name as #call}
+use Rattle.odfilter_c.proofs.handle_calls.node_count.Met.{met as met}
 use Rattle.odfilter_c.specs.contracts.filter_exports.odfilter_node_count as f
 use Rattle.odfilter_c.proofs.filter_exports.odfilter_node_count.Statement.{statement}
 use Rattle.odfilter_c.proofs.filter_exports.odfilter_node_count.Code as code
@@ -96,4 +96,4 @@ odfilter_node_count_spec 𝓤 𝓛 𝓜 𝓡 wired =
     qed 𝓛 (raw (on_entry 𝓛 f.signature κs qs a (rawptr_vals a.0, (rawptr_vals a.1.0, tt))) ∷ (raw (fact 𝓤 (Testable a.0 × Testable a.1.0)) ⊛ (‵ (flft l.lifetime l.share) ⊛ ‵ (lent_to_node_count l a.0 a.1.0))) ∷ []) ∵
     drop ! $
     split ! $ heard ! _ (λ may. split ! $
-    runs 𝓛 𝓜.mem 𝓡.returns 𝓣.C 𝓣.Λ (framed 𝓤 𝓛.H 𝓜 𝓣) (met 𝓤 𝓛 𝓜 𝓡 (code.calls-odfilter_c::calls::node_count 𝓡.env wired)) l a.0 a.1.0 may.0 may.1))
+    runs 𝓛 𝓜.mem 𝓡.returns 𝓣.C 𝓣.Λ (framed 𝓤 𝓛.H 𝓜 𝓣) (met 𝓤 𝓛 𝓜 𝓡 (code.calls-odfilter_c::handle_calls::node_count 𝓡.env wired)) l a.0 a.1.0 may.0 may.1))

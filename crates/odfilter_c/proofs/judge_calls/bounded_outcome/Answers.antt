@@ -1,7 +1,7 @@
 use Rattle.std.proofs.Common.{◌∙◌, Err, Some, ap, sym, subst}
 use Rattle.odata_filter.specs.RowCosts.{ReportsRowWithin}
 use Rattle.odfilter_c.specs.RowCalls.{IsOutcomeAt}
-use Rattle.odfilter_c.specs.declared.fault.Fault.{Fault}
+use Rattle.odfilter_c.specs.declared.call_fault.Fault.{Fault}
 use Rattle.odfilter_c.proofs.RowSteps.{bounded_row}
 use Rattle.odfilter_c.proofs.judge_calls.bounded_outcome.Goals as goal
 

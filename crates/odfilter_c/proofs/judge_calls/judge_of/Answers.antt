@@ -3,7 +3,7 @@ use Rattle.std.specs.Prelude.{Box}
 use Rattle.std.specs.declared.alloc.Global.{Global}
 use Rattle.odata_checked_filter.specs.Filter.{Filter}
 use Rattle.odfilter_c.specs.RowCalls.{IsJudgeOf, IsNewJudge, IsNoJudgeOf, IsNoMemory}
-use Rattle.odfilter_c.specs.declared.fault.Fault.{Fault}
+use Rattle.odfilter_c.specs.declared.call_fault.Fault.{Fault}
 use Rattle.odfilter_c.specs.declared.handle.Handle.{Handle}
 use Rattle.odfilter_c.proofs.judge_calls.judge_of.Goals as goal
 

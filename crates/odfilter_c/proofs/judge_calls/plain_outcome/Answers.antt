@@ -1,7 +1,7 @@
 use Rattle.std.proofs.Common.{Err, None, sym, subst}
 use Rattle.odata_filter.specs.RowAnswer.{TellsRow}
 use Rattle.odfilter_c.specs.RowCalls.{IsOutcomeAt}
-use Rattle.odfilter_c.specs.declared.fault.Fault.{Fault}
+use Rattle.odfilter_c.specs.declared.call_fault.Fault.{Fault}
 use Rattle.odfilter_c.proofs.RowSteps.{plain_row}
 use Rattle.odfilter_c.proofs.judge_calls.plain_outcome.Goals as goal
 

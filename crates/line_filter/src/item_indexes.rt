@@ -1,0 +1,82 @@
+ghost use Rattle.std.specs.Prelude.{◌≡◌, ℕ, List, [], decimal, IfErr, IfOk, OnErr, OnOk};
+ghost use Rattle.line_filter.specs.DeviceCalls.{StaysWell, FailsLast};
+ghost use Rattle.line_filter.specs.Growth.{Writes};
+ghost use Rattle.line_filter.specs.Kept.{StopsWithin, IsOfItem};
+ghost use Rattle.line_filter.specs.Places.{IsJudged, places};
+ghost use Rattle.line_filter.specs.private.HeldBack.{WritesBut};
+ghost use Rattle.line_filter.specs.private.Walk.{GoesOver};
+
+use super::device::{NotWritten, Writes};
+use super::finding::Finding;
+use super::item_outcome::settle;
+use super::judge::JudgeItem;
+use super::output::release;
+use super::run_stop::Stop;
+use super::tally::Tally;
+use itoa::Buffer;
+use std::alloc::{AllocError, Global};
+use std::io::Write;
+
+/// What is found of an item.
+fn find_item<J: JudgeItem>(judge: &J, item: &J::Item) -> Result<Finding<J::Fault>, AllocError>
+    ensures { IfOk result (IsJudged (J.says judge.now) item.now) }
+{
+    let judgment = judge.judge_item(item)?;
+    Ok(Finding::Judged(judgment))
+}
+
+/// Judges the items one by one up to the first fault. The end of the kept text may be held back.
+fn judge_items<J: JudgeItem, W: Write, T: Writes<W>>(
+    judge: &J,
+    items: &[J::Item],
+    out: &mut W,
+    held: &mut Vec<u8>,
+) -> Result<Result<Tally, Stop<J::Fault>>, NotWritten>
+    requires { held.old.items ≡ [] }
+    ensures ok { IfOk result (λ outcome. (text : List ℕ)
+        × WritesBut (W.contents out.old) (W.contents out.new) held.new.items text
+        × GoesOver (places (J.says judge.now) items.now) text outcome) }
+    ensures of_item { IfOk result (λ outcome. IfErr outcome IsOfItem) }
+    ensures err { OnErr result
+        (Writes (W.contents out.old) (W.contents out.new) (StopsWithin (places (J.says judge.now) items.now))) }
+    ensures well { OnOk result (StaysWell (T.calls out.old) (T.calls out.new)) }
+    ensures failed { OnErr result (FailsLast (T.calls out.old) (T.calls out.new)) }
+{
+    let mut place = 0;
+    let mut tally = Tally { rows: 0, kept: 0 };
+    for item in items {
+        let found = find_item(judge, item);
+        let mut buffer = Buffer::new();
+        let text = buffer.format(place);
+        match settle::<J::Fault, W, T>(found, text.as_bytes(), place + 1, out, held)? {
+            Ok(one) => {
+                place += 1;
+                tally.rows += one.rows;
+                tally.kept += one.kept;
+            }
+            Err(stop) => return Ok(Err(stop)),
+        }
+    }
+    Ok(Ok(tally))
+}
+
+/// Judges the items up to the first fault, and writes the indexes of the kept ones.
+pub fn write_kept_places<J: JudgeItem, W: Write, T: Writes<W>>(
+    alloc: Global,
+    judge: &J,
+    items: &[J::Item],
+    out: &mut W,
+) -> Result<Result<Tally, Stop<J::Fault>>, NotWritten>
+    ensures ok { IfOk result (λ outcome. Writes (W.contents out.old) (W.contents out.new)
+        (λ text. GoesOver (places (J.says judge.now) items.now) text outcome)) }
+    ensures of_item { IfOk result (λ outcome. IfErr outcome IsOfItem) }
+    ensures err { OnErr result
+        (Writes (W.contents out.old) (W.contents out.new) (StopsWithin (places (J.says judge.now) items.now))) }
+    ensures well { OnOk result (StaysWell (T.calls out.old) (T.calls out.new)) }
+    ensures failed { OnErr result (FailsLast (T.calls out.old) (T.calls out.new)) }
+{
+    let mut held = Vec::new(alloc);
+    let outcome = judge_items::<J, W, T>(judge, items, out, &mut held)?;
+    release::<W, T>(out, &mut held)?;
+    Ok(outcome)
+}
