@@ -1,15 +1,17 @@
 //! The walk of a whole filter. Most are chains of `and` over Boolean properties and comparisons of a property with a
-//! literal, called plain terms here: such a chain is asked from its leftmost term on, and left at once where a term is
-//! false. This alone takes some 135 of 1,470 instructions off a short row whose second term is false. The plain terms
-//! before the first other one are asked of a scene that is not kept in memory, which takes off another 57 of 1,216.
-ghost use Rattle.std.specs.Prelude.{◌<◌, ℕ, IsTrue};
+//! literal or of arithmetic over such numbers, called plain terms here: such a chain is asked from its leftmost term on,
+//! and left at once where a term is false. This alone takes some 135 of 1,470 instructions off a short row whose second
+//! term is false. The plain terms before the first other one are asked of a scene that is not kept in memory, which
+//! takes off another 57 of 1,216.
+ghost use Rattle.std.specs.Prelude.{◌<◌, ℕ, IfSome, IsTrue, Ok, Some};
 ghost use Rattle.odata_eval.specs.private.Place.{HasOperator, PartStands, TruthStands};
 ghost use Rattle.odata_eval.specs.private.Rest.{IsRest, TellsTerms};
 ghost use Rattle.odata_eval.specs.private.WalkAnswer.{AnswersTruth};
 
+use super::kept_arithmetic::arithmetic_compared_at;
 use super::kept_terms::kept_truth_at;
 use super::logical::decides;
-use super::part::right_of;
+use super::part::{WalkClass, is_class_at, right_of};
 use super::scene::Scene;
 use super::walk::term_at;
 use odata_checked_filter::NodeKind;
@@ -41,22 +43,44 @@ pub(crate) fn ask_plain_terms(scene: &Scene<'_, '_, '_>) -> PlainTerms
     ensures { TellsTerms scene.now result }
 {
     let ands = ands_end(scene);
-    match kept_truth_at(scene, ands) {
-        Some(true) => {}
-        Some(false) => return PlainTerms::Decide(false),
-        None => return PlainTerms::Leave(Rest { term: ands, ands }),
-    }
     let mut at = ands;
-    while 0 < at {
-        at -= 1;
-        let term = right_of(scene, at);
-        match kept_truth_at(scene, term) {
-            Some(true) => {}
-            Some(false) => return PlainTerms::Decide(false),
-            None => return PlainTerms::Leave(Rest { term, ands: at }),
+    let mut term = at;
+    loop {
+        let Some(truth) = plain_term_at(scene, term) else {
+            return PlainTerms::Leave(Rest { term, ands: at });
+        };
+        if !truth {
+            return PlainTerms::Decide(false);
         }
+        if at == 0 {
+            return PlainTerms::Decide(true);
+        }
+        at -= 1;
+        term = right_of(scene, at);
     }
-    PlainTerms::Decide(true)
+}
+
+/// The truth value of a plain term, where that is not null.
+#[inline(always)]
+fn plain_term_at(scene: &Scene<'_, '_, '_>, place: usize) -> Option<bool>
+    requires stands { TruthStands scene.now place }
+    ensures { IfSome result (λ truth. AnswersTruth scene.now place (Ok (Some truth))) }
+{
+    if let Some(truth) = kept_truth_at(scene, place) {
+        return Some(truth);
+    }
+    let NodeKind::Binary { operator } = scene.node(place).kind else {
+        return None;
+    };
+    let BinaryOperator::Comparison(comparison) = operator else {
+        return None;
+    };
+    let _nodes = scene.nodes();
+    if is_class_at(scene, place + 1, WalkClass::Numeric) {
+        arithmetic_compared_at(scene, place, comparison)
+    } else {
+        None
+    }
 }
 
 /// What the chain evaluates to by the terms that are left. Those after a false one are left out together.

@@ -39,9 +39,21 @@ fn found_at<'e>(scene: &Scene<'e, '_, '_>, place: usize) -> Option<&'e Value>
     ensures leaf { IfSome result (λ value. IsClassAt scene.now.list Class.Leaf place) }
 {
     match scene.node(place).kind {
+        NodeKind::Variable { level } => Some(scene.variable(level)),
+        _ => plain_at(scene, place),
+    }
+}
+
+/// The value of a property or a literal, of a scene that needs no address.
+#[inline(always)]
+fn plain_at<'e>(scene: &Scene<'e, '_, '_>, place: usize) -> Option<&'e Value>
+    requires stands { OperandStands scene.now place }
+    ensures answers { IfSome result (λ value. AnswersKept scene.now place value.now) }
+    ensures leaf { IfSome result (λ value. IsClassAt scene.now.list Class.Leaf place) }
+{
+    match scene.node(place).kind {
         NodeKind::Property { slot } => Some(scene.property(slot)),
         NodeKind::Literal { value, .. } => Some(scene.literal(value)),
-        NodeKind::Variable { level } => Some(scene.variable(level)),
         _ => None,
     }
 }
@@ -127,23 +139,9 @@ fn lowered_text_at<'e>(scene: &Scene<'e, '_, '_>, place: usize) -> Option<&'e st
     requires { OperandStands scene.now place }
     ensures { IfSome result (λ given. AnswersLowered scene.now place given.now) }
 {
-    match scene.node(place).kind {
-        NodeKind::Call { function } => lowered_by_call(scene, place, function),
-        _ => None,
-    }
-}
-
-/// The same, where a call stands.
-#[inline(always)]
-fn lowered_by_call<'e>(
-    scene: &Scene<'e, '_, '_>,
-    place: usize,
-    function: Function,
-) -> Option<&'e str>
-    requires stands { PartStands scene.now place }
-    requires here { HasCall scene.now.list place function }
-    ensures { IfSome result (λ given. AnswersLowered scene.now place given.now) }
-{
+    let NodeKind::Call { function } = scene.node(place).kind else {
+        return None;
+    };
     match function {
         Function::ToLower => only_text_at(scene, place, function),
         _ => None,
@@ -196,14 +194,14 @@ fn last_text_at<'e>(scene: &Scene<'e, '_, '_>, place: usize, function: Function)
     kept_text_at(scene, second_place)
 }
 
-/// The number of a property, a literal or a variable.
+/// The number of a property or a literal.
 #[inline(always)]
 pub(crate) fn found_number_at(scene: &Scene<'_, '_, '_>, place: usize) -> Option<Option<i64>>
     requires stands { OperandStands scene.now place }
     ensures answers { IfSome result (λ number. AnswersNumber scene.now place (Ok number)) }
     ensures leaf { IfSome result (λ number. IsClassAt scene.now.list Class.Leaf place) }
 {
-    let Some(value) = found_at(scene, place) else {
+    let Some(value) = plain_at(scene, place) else {
         return None;
     };
     match value {

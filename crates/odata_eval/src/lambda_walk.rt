@@ -93,11 +93,12 @@ fn members_at<'f, B: Counting>(
     ensures spent { SpendsMembers scene.now body.place body.quantifier variable.now members.now
         (B.left budget.old) (B.left budget.new) (stopped_by result) }
 {
+    let mut bound = scene.copy();
     for at in 0..members.len() {
         if !budget.take_one() {
             return Err(EvalStop::TooCostly);
         }
-        let bound = scene.with(variable, &members[at]);
+        bound.bind(scene, variable, &members[at]);
         bound.ends_once();
         match side_at(&bound, body.place, budget) {
             Ok(truth) => {

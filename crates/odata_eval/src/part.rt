@@ -133,15 +133,6 @@ fn leaf_at<'e>(scene: &Scene<'e, '_, '_>, place: usize) -> &'e Value
     }
 }
 
-/// How the walk takes the node at an index.
-#[inline(always)]
-pub(crate) fn class_at(scene: &Scene<'_, '_, '_>, place: usize) -> WalkClass
-    requires { place < length scene.now.list.nodes }
-    ensures { IsClassAt scene.now.list result place }
-{
-    walk_of_kind(scene.node(place).kind)
-}
-
 /// Whether the walk takes the node at an index so. There is none past the end.
 #[inline(always)]
 pub(crate) fn is_class_at(scene: &Scene<'_, '_, '_>, place: usize, class: WalkClass) -> bool

@@ -9,7 +9,7 @@ ghost use Rattle.odata_signatures.specs.declared.edm_type.ValueType.{ValueType};
 ghost use Rattle.odata_eval.specs.private.Frames.{StandsAtLevel, frame_of, names_of};
 ghost use Rattle.odata_eval.specs.private.Lambda.{IsOverMembers, IsVariableOf, Suits};
 ghost use Rattle.odata_eval.specs.private.Scene.{EndsOnceHere, HoldsAt};
-ghost use Rattle.odata_eval.specs.private.SceneModel.{environment_of, with_frame};
+ghost use Rattle.odata_eval.specs.private.SceneModel.{IsBeside, environment_of, with_frame};
 ghost use Rattle.odata_eval.specs.Costs.{item_cost};
 ghost use Rattle.odata_eval.specs.private.Spending.{CostsOnceHere};
 
@@ -103,15 +103,10 @@ impl<'e, 'c, 'r> Scene<'e, 'c, 'r> {
         }
     }
 
-    /// The same with a range variable more, the innermost, at this value.
+    /// A copy, whose variables `bind` sets.
     #[inline(always)]
-    pub(crate) fn with<'f>(
-        &'f self,
-        variable: &'f RangeVariable<'f>,
-        value: &'f Value,
-    ) -> Scene<'f, 'c, 'r>
-        requires { Suits self.now variable.now value.now }
-        ensures { result ≡ with_frame self.entry.now (frame_of variable.entry.now value.entry.now) }
+    pub(crate) fn copy<'f>(&'f self) -> Scene<'f, 'c, 'r>
+        ensures { result ≡ self.entry.now }
     {
         Scene {
             checked: self.checked,
@@ -121,9 +116,24 @@ impl<'e, 'c, 'r> Scene<'e, 'c, 'r> {
             values: self.values,
             slots: self.slots,
             now_value: self.now_value,
-            frames: Frames::Bound(variable, value, &self.frames),
+            frames: self.frames,
             alloc: self.alloc,
         }
+    }
+
+    /// Takes the variables of the scene around it, and one more, the innermost, at this value.
+    #[inline(always)]
+    pub(crate) fn bind(
+        &mut self,
+        outer: &'e Scene<'e, 'c, 'r>,
+        variable: &'e RangeVariable<'e>,
+        value: &'e Value,
+    )
+        requires beside { IsBeside self.old outer.now }
+        requires suits { Suits outer.now variable.now value.now }
+        ensures { self.new ≡ with_frame outer.entry.now (frame_of variable.entry.now value.entry.now) }
+    {
+        self.frames = Frames::Bound(variable, value, &outer.frames);
     }
 
     /// The variable of the lambda operator at an index. It has the type of the members of the operator's base.
@@ -180,28 +190,13 @@ impl<'e, 'c, 'r> Scene<'e, 'c, 'r> {
         &self.nodes()[place]
     }
 
-    /// The values of the filter's literals.
-    pub(crate) fn values(&self) -> &'e [Value]
-        ensures { result.now ≡ self.now.list.values }
-    {
-        self.values
-    }
-
     /// A literal's value.
     pub(crate) fn literal(&self, place: usize) -> &'e Value
         requires { place < length self.now.list.values }
         ensures { slice_get self.now.list.values place ≡ Some result.now }
     {
-        &self.values()[place]
-    }
-
-    /// The entity's values by slot.
-    fn slots(&self) -> &'e [Value]
-        ensures held { (held : Vec Value Global)
-            × ((self.now.row.value ≡ Record held) × (result.now ≡ held.items)) }
-        ensures count { length result.now ≡ length (properties_at self.now.row.schema self.now.row.type_id) }
-    {
-        self.slots
+        let values = self.values;
+        &values[place]
     }
 
     /// The value in a slot of the entity.
@@ -209,7 +204,8 @@ impl<'e, 'c, 'r> Scene<'e, 'c, 'r> {
         requires { slot < length (properties_at self.now.row.schema self.now.row.type_id) }
         ensures { HoldsAt self.now.row slot result.now }
     {
-        &self.slots()[slot]
+        let slots = self.slots;
+        &slots[slot]
     }
 
     /// The entity's value.

@@ -17,7 +17,7 @@ use super::lambda_walk::lambda_at;
 use super::logical::{decides, join};
 use super::number_walk::number_at;
 use super::part::{
-    Part, WalkClass, class_at, logical_operator, part_at, right_of, spine_bottom, stop_of,
+    Part, WalkClass, is_class_at, logical_operator, part_at, right_of, spine_bottom, stop_of,
 };
 use super::scene::Scene;
 use super::stop::EvalStop;
@@ -268,9 +268,10 @@ pub(crate) fn side_at<B: Counting>(
     ensures answers { CountedTruth scene.now place result }
     ensures spent { SpendsAt scene.now place (B.left budget.old) (B.left budget.new) (stopped_by result) }
 {
-    match class_at(scene, place) {
-        WalkClass::Logical => truth_at(scene, place, budget),
-        _ => plain_truth_at(scene, place, budget),
+    if is_class_at(scene, place, WalkClass::Logical) {
+        truth_at(scene, place, budget)
+    } else {
+        plain_truth_at(scene, place, budget)
     }
 }
 

@@ -850,17 +850,24 @@ pub lambda_walk::members_at-loop-at-init : goal.lambda_walk::members_at-loop-at-
 lambda_walk::members_at-loop-at-init g t c = record {
   left = none_yet c.args.scene.now c.args.body.place c.args.body.quantifier c.args.variable.now c.args.members.now;
   paid = none_paid c.args.scene.now c.args.body.place c.args.body.quantifier c.args.variable.now c.args.members.now (g.B.Counting.left c.args.budget.now);
+  beside = record {
+    row_is = ap (λ (s : SceneModel). s.row) c.copy-bound.ensures;
+    moment_is = ap (λ (s : SceneModel). s.moment) c.copy-bound.ensures;
+    list_is = ap (λ (s : SceneModel). s.list) c.copy-bound.ensures;
+  };
 }
 
-pub lambda_walk::members_at-with-bound-requires : goal.lambda_walk::members_at-with-bound-requires
-lambda_walk::members_at-with-bound-requires g t c =
-    each_is (Suits c.args.scene.now c.args.variable.now) c.args.members.now c.loop-at.at c.index-members-at.result c.requires.suit
-    (slice_get_read c.args.members.now (length c.args.members.now) c.loop-at.at c.index-members-at.result refl c.loop-at-test.true c.index-members-at.is)
+pub lambda_walk::members_at-bind-requires : goal.lambda_walk::members_at-bind-requires
+lambda_walk::members_at-bind-requires g t c = record {
+  beside = c.loop-at.invariant.beside;
+  suits = each_is (Suits c.args.scene.now c.args.variable.now) c.args.members.now c.loop-at.at c.index-members-at.result c.requires.suit
+      (slice_get_read c.args.members.now (length c.args.members.now) c.loop-at.at c.index-members-at.result refl c.loop-at-test.true c.index-members-at.is);
+}
 
 pub lambda_walk::members_at-side_at-requires : goal.lambda_walk::members_at-side_at-requires
 lambda_walk::members_at-side_at-requires g t c =
-    let bound = c.with-bound.result in
-    let same : bound ≡ with_frame c.args.scene.now (frame_of c.args.variable.now c.index-members-at.result) = c.with-bound.ensures in
+    let bound = c.bind.new.self in
+    let same : bound ≡ with_frame c.args.scene.now (frame_of c.args.variable.now c.index-members-at.result) = c.bind.ensures in
     let stands : TruthStands bound c.args.body.place = subst (λ (s : SceneModel). TruthStands s c.args.body.place) (sym same) (body_truth c.args.scene.now c.args.variable.now c.args.body.place c.index-members-at.result c.requires.body) in
     let smaller : measure_at bound.list.nodes c.args.body.place rank_counted < measure_at c.args.scene.now.list.nodes c.args.body.place rank_operand =
     subst (λ (s : SceneModel). measure_at s.list.nodes c.args.body.place rank_counted < measure_at c.args.scene.now.list.nodes c.args.body.place rank_operand) (sym same) (omega arith) in
@@ -868,23 +875,28 @@ lambda_walk::members_at-side_at-requires g t c =
 
 pub lambda_walk::members_at-returns-then-not-is_undecided-clause-answers : goal.lambda_walk::members_at-returns-then-not-is_undecided-clause-answers
 lambda_walk::members_at-returns-then-not-is_undecided-clause-answers g t c =
-    decided_at c.args.scene.now c.args.body.place c.args.body.quantifier c.args.variable.now c.args.members.now c.loop-at.at c.loop-at.invariant.left c.loop-at-test.true c.index-members-at.result (sym c.index-members-at.is) c.in-Ok.truth c.undecided.result (subst (λ (s : SceneModel). AnswersTruth s c.args.body.place (Ok c.in-Ok.truth)) c.with-bound.ensures c.in-Ok.ensures.answers) c.undecided.ensures
+    decided_at c.args.scene.now c.args.body.place c.args.body.quantifier c.args.variable.now c.args.members.now c.loop-at.at c.loop-at.invariant.left c.loop-at-test.true c.index-members-at.result (sym c.index-members-at.is) c.in-Ok.truth c.undecided.result (subst (λ (s : SceneModel). AnswersTruth s c.args.body.place (Ok c.in-Ok.truth)) c.bind.ensures c.in-Ok.ensures.answers) c.undecided.ensures
     (λ passes. let e = c.is_undecided.ensures.1 passes in cc)
 
 pub lambda_walk::members_at-loop-at-preserved : goal.lambda_walk::members_at-loop-at-preserved
 lambda_walk::members_at-loop-at-preserved g t c = record {
-  left = undecided_at c.args.scene.now c.args.body.place c.args.body.quantifier c.args.variable.now c.args.members.now c.loop-at.at c.loop-at.invariant.left c.loop-at-test.true c.index-members-at.result (sym c.index-members-at.is) c.in-Ok.truth (subst (λ (s : SceneModel). AnswersTruth s c.args.body.place (Ok c.in-Ok.truth)) c.with-bound.ensures c.in-Ok.ensures.answers)
+  left = undecided_at c.args.scene.now c.args.body.place c.args.body.quantifier c.args.variable.now c.args.members.now c.loop-at.at c.loop-at.invariant.left c.loop-at-test.true c.index-members-at.result (sym c.index-members-at.is) c.in-Ok.truth (subst (λ (s : SceneModel). AnswersTruth s c.args.body.place (Ok c.in-Ok.truth)) c.bind.ensures c.in-Ok.ensures.answers)
       (c.is_undecided.ensures.0 c.if-not-is_undecided.false);
-  paid = body_passes c.args.scene.now c.args.body.place c.args.body.quantifier c.args.variable.now c.args.members.now c.loop-at.at (g.B.Counting.left c.args.budget.now) (g.B.Counting.left c.loop-at.budget) c.loop-at.invariant.paid c.loop-at-test.true c.index-members-at.result (sym c.index-members-at.is) (g.B.Counting.left c.take_one.new.self) (subst (λ (b : Bool). IsTaken b (g.B.Counting.left c.loop-at.budget) (g.B.Counting.left c.take_one.new.self) 1) c.if-not-take_one.false c.take_one.ensures) (g.B.Counting.left c.side_at.new.budget) (subst (λ (s : SceneModel). EndsOnceHere s) c.with-bound.ensures c.ends_once.ensures) c.in-Ok.truth
-      (subst (λ (s : SceneModel). AnswersTruth s c.args.body.place (Ok c.in-Ok.truth)) c.with-bound.ensures c.in-Ok.ensures.answers)
-      (subst (λ (s : SceneModel). SpendsAt s c.args.body.place (g.B.Counting.left c.take_one.new.self) (g.B.Counting.left c.side_at.new.budget) None) c.with-bound.ensures c.in-Ok.ensures.spent) (c.is_undecided.ensures.0 c.if-not-is_undecided.false);
+  paid = body_passes c.args.scene.now c.args.body.place c.args.body.quantifier c.args.variable.now c.args.members.now c.loop-at.at (g.B.Counting.left c.args.budget.now) (g.B.Counting.left c.loop-at.budget) c.loop-at.invariant.paid c.loop-at-test.true c.index-members-at.result (sym c.index-members-at.is) (g.B.Counting.left c.take_one.new.self) (subst (λ (b : Bool). IsTaken b (g.B.Counting.left c.loop-at.budget) (g.B.Counting.left c.take_one.new.self) 1) c.if-not-take_one.false c.take_one.ensures) (g.B.Counting.left c.side_at.new.budget) (subst (λ (s : SceneModel). EndsOnceHere s) c.bind.ensures c.ends_once.ensures) c.in-Ok.truth
+      (subst (λ (s : SceneModel). AnswersTruth s c.args.body.place (Ok c.in-Ok.truth)) c.bind.ensures c.in-Ok.ensures.answers)
+      (subst (λ (s : SceneModel). SpendsAt s c.args.body.place (g.B.Counting.left c.take_one.new.self) (g.B.Counting.left c.side_at.new.budget) None) c.bind.ensures c.in-Ok.ensures.spent) (c.is_undecided.ensures.0 c.if-not-is_undecided.false);
+  beside = record {
+    row_is = ap (λ (s : SceneModel). s.row) c.bind.ensures;
+    moment_is = ap (λ (s : SceneModel). s.moment) c.bind.ensures;
+    list_is = ap (λ (s : SceneModel). s.list) c.bind.ensures;
+  };
 }
 
 pub lambda_walk::members_at-returns-in-Err-clause-answers : goal.lambda_walk::members_at-returns-in-Err-clause-answers
 lambda_walk::members_at-returns-in-Err-clause-answers g t c =
     by_stop (λ s. CountedTruth (with_frame c.args.scene.now (frame_of c.args.variable.now c.index-members-at.result)) c.args.body.place (Err s)) (λ s. CountedMembers c.args.scene.now c.args.body.place c.args.body.quantifier c.args.variable.now c.args.members.now (Err s))
     (λ fault. fault_at c.args.scene.now c.args.body.place c.args.body.quantifier c.args.variable.now c.args.members.now c.loop-at.at c.loop-at.invariant.left c.loop-at-test.true c.index-members-at.result (sym c.index-members-at.is) fault)
-    (λ is. tt) c.in-Err.stop (subst (λ (s : SceneModel). CountedTruth s c.args.body.place (Err c.in-Err.stop)) c.with-bound.ensures c.in-Err.ensures.answers)
+    (λ is. tt) c.in-Err.stop (subst (λ (s : SceneModel). CountedTruth s c.args.body.place (Err c.in-Err.stop)) c.bind.ensures c.in-Err.ensures.answers)
 
 pub lambda_walk::members_at-returns-clause-answers : goal.lambda_walk::members_at-returns-clause-answers
 lambda_walk::members_at-returns-clause-answers g t c = all_undecided c.args.scene.now c.args.body.place c.args.body.quantifier c.args.variable.now c.args.members.now c.loop-at.at c.loop-at.invariant.left c.loop-at-test.false c.undecided-2.result c.undecided-2.ensures
@@ -1156,13 +1168,13 @@ lambda_walk::members_at-returns-then-not-take_one-clause-spent g t c =
 
 pub lambda_walk::members_at-returns-in-Err-clause-spent : goal.lambda_walk::members_at-returns-in-Err-clause-spent
 lambda_walk::members_at-returns-in-Err-clause-spent g t c =
-    body_stops c.args.scene.now c.args.body.place c.args.body.quantifier c.args.variable.now c.args.members.now c.loop-at.at (g.B.Counting.left c.args.budget.now) (g.B.Counting.left c.loop-at.budget) c.loop-at.invariant.paid c.loop-at-test.true c.index-members-at.result (sym c.index-members-at.is) (g.B.Counting.left c.take_one.new.self) (subst (λ (b : Bool). IsTaken b (g.B.Counting.left c.loop-at.budget) (g.B.Counting.left c.take_one.new.self) 1) c.if-not-take_one.false c.take_one.ensures) (g.B.Counting.left c.side_at.new.budget) (subst (λ (s : SceneModel). EndsOnceHere s) c.with-bound.ensures c.ends_once.ensures) c.in-Err.stop
-    (truth_faults (with_frame c.args.scene.now (frame_of c.args.variable.now c.index-members-at.result)) c.args.body.place c.in-Err.stop (subst (λ (s : SceneModel). CountedTruth s c.args.body.place (Err c.in-Err.stop)) c.with-bound.ensures c.in-Err.ensures.answers)) (subst (λ (s : SceneModel). SpendsAt s c.args.body.place (g.B.Counting.left c.take_one.new.self) (g.B.Counting.left c.side_at.new.budget) (Some c.in-Err.stop)) c.with-bound.ensures c.in-Err.ensures.spent)
+    body_stops c.args.scene.now c.args.body.place c.args.body.quantifier c.args.variable.now c.args.members.now c.loop-at.at (g.B.Counting.left c.args.budget.now) (g.B.Counting.left c.loop-at.budget) c.loop-at.invariant.paid c.loop-at-test.true c.index-members-at.result (sym c.index-members-at.is) (g.B.Counting.left c.take_one.new.self) (subst (λ (b : Bool). IsTaken b (g.B.Counting.left c.loop-at.budget) (g.B.Counting.left c.take_one.new.self) 1) c.if-not-take_one.false c.take_one.ensures) (g.B.Counting.left c.side_at.new.budget) (subst (λ (s : SceneModel). EndsOnceHere s) c.bind.ensures c.ends_once.ensures) c.in-Err.stop
+    (truth_faults (with_frame c.args.scene.now (frame_of c.args.variable.now c.index-members-at.result)) c.args.body.place c.in-Err.stop (subst (λ (s : SceneModel). CountedTruth s c.args.body.place (Err c.in-Err.stop)) c.bind.ensures c.in-Err.ensures.answers)) (subst (λ (s : SceneModel). SpendsAt s c.args.body.place (g.B.Counting.left c.take_one.new.self) (g.B.Counting.left c.side_at.new.budget) (Some c.in-Err.stop)) c.bind.ensures c.in-Err.ensures.spent)
 
 pub lambda_walk::members_at-returns-then-not-is_undecided-clause-spent : goal.lambda_walk::members_at-returns-then-not-is_undecided-clause-spent
 lambda_walk::members_at-returns-then-not-is_undecided-clause-spent g t c =
-    body_decides c.args.scene.now c.args.body.place c.args.body.quantifier c.args.variable.now c.args.members.now c.loop-at.at (g.B.Counting.left c.args.budget.now) (g.B.Counting.left c.loop-at.budget) c.loop-at.invariant.paid c.loop-at-test.true c.index-members-at.result (sym c.index-members-at.is) (g.B.Counting.left c.take_one.new.self) (subst (λ (b : Bool). IsTaken b (g.B.Counting.left c.loop-at.budget) (g.B.Counting.left c.take_one.new.self) 1) c.if-not-take_one.false c.take_one.ensures) (g.B.Counting.left c.side_at.new.budget) (subst (λ (s : SceneModel). EndsOnceHere s) c.with-bound.ensures c.ends_once.ensures) c.in-Ok.truth
-    (subst (λ (s : SceneModel). AnswersTruth s c.args.body.place (Ok c.in-Ok.truth)) c.with-bound.ensures c.in-Ok.ensures.answers) (subst (λ (s : SceneModel). SpendsAt s c.args.body.place (g.B.Counting.left c.take_one.new.self) (g.B.Counting.left c.side_at.new.budget) None) c.with-bound.ensures c.in-Ok.ensures.spent) (λ passes. let e = c.is_undecided.ensures.1 passes in cc)
+    body_decides c.args.scene.now c.args.body.place c.args.body.quantifier c.args.variable.now c.args.members.now c.loop-at.at (g.B.Counting.left c.args.budget.now) (g.B.Counting.left c.loop-at.budget) c.loop-at.invariant.paid c.loop-at-test.true c.index-members-at.result (sym c.index-members-at.is) (g.B.Counting.left c.take_one.new.self) (subst (λ (b : Bool). IsTaken b (g.B.Counting.left c.loop-at.budget) (g.B.Counting.left c.take_one.new.self) 1) c.if-not-take_one.false c.take_one.ensures) (g.B.Counting.left c.side_at.new.budget) (subst (λ (s : SceneModel). EndsOnceHere s) c.bind.ensures c.ends_once.ensures) c.in-Ok.truth
+    (subst (λ (s : SceneModel). AnswersTruth s c.args.body.place (Ok c.in-Ok.truth)) c.bind.ensures c.in-Ok.ensures.answers) (subst (λ (s : SceneModel). SpendsAt s c.args.body.place (g.B.Counting.left c.take_one.new.self) (g.B.Counting.left c.side_at.new.budget) None) c.bind.ensures c.in-Ok.ensures.spent) (λ passes. let e = c.is_undecided.ensures.1 passes in cc)
 
 pub collection_walk::listed_at-returns-clause-spent : goal.collection_walk::listed_at-returns-clause-spent
 collection_walk::listed_at-returns-clause-spent g t c =

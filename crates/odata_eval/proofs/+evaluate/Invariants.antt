@@ -1,4 +1,5 @@
 use Rattle.std.proofs.Common.{◌≤◌, ◌-◌}
+use Rattle.odata_eval.specs.private.SceneModel.{IsBeside}
 use Rattle.odata_eval.specs.private.Spending.{CountedDatum, CountedTruth, SpendsAt, Takes, datum_stop, stopped_by}
 use Rattle.odata_eval.specs.private.WalkAnswer.{AnswersNumber}
 use Rattle.odata_eval.proofs.spending.Members.{MembersPaid}
@@ -132,4 +133,5 @@ abbrev pub invariant-lambda_walk::members_at-loop-at : goal.invariant-lambda_wal
 invariant-lambda_walk::members_at-loop-at g l = record {
   left : MembersLeft l.scene l.body.place l.body.quantifier l.variable l.members l.at;
   paid : MembersPaid l.scene l.body.place l.body.quantifier l.variable l.members l.at (g.B.Counting.left l.fn.budget) (g.B.Counting.left l.budget);
+  beside : IsBeside l.bound l.scene;
 }

@@ -24,6 +24,12 @@ scene_in row moment list frames = record { row = row; moment = moment; list = li
 abbrev pub with_frame : SceneModel → Frame → SceneModel
 with_frame scene frame = scene_in scene.row scene.moment scene.list (frame ∷ scene.frames)
 
+-- the two differ in nothing but variables
+pub record IsBeside (scene other : SceneModel) : Type 0 where
+  pub row_is : scene.row ≡ other.row
+  pub moment_is : scene.moment ≡ other.moment
+  pub list_is : scene.list ≡ other.list
+
 -- the variables with their values
 abbrev pub environment_of : SceneModel → Environment
 environment_of scene = environment_in scene.row.schema scene.frames

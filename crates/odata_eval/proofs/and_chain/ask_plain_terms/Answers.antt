@@ -1,65 +1,56 @@
 use Rattle.std.proofs.Common.{◌≡◌, ◌<◌, ◌≤◌, Bool, false, true, Some, Ok, arith, subst}
 use Rattle.odata_eval.specs.private.WalkAnswer.{AnswersTruth}
-use Rattle.odata_eval.proofs.walking.AndChains.{decided_up, false_answers, term_stands, term_there, true_goes_up}
+use Rattle.odata_eval.proofs.walking.AndChains.{decided_up, term_stands, term_there, true_goes_up}
 use Rattle.odata_eval.proofs.and_chain.ask_plain_terms.Goals as goal
 
-pub returns-in-Some-false : goal.returns-in-Some-false
-returns-in-Some-false c =
-    let is : c.in-Some-false.field-0 ≡ false = cc in
-    let term : AnswersTruth c.args.scene.now c.ands_end-ands.result (Ok (Some false)) =
-    subst (λ (b : Bool). AnswersTruth c.args.scene.now c.ands_end-ands.result (Ok (Some b))) is c.in-Some-false.ensures.answers in
-    decided_up c.args.scene.now c.ands_end-ands.result c.ands_end-ands.ensures.ands (Some false) tt c.ands_end-ands.result (omega arith) term
-
-pub returns-in-None : goal.returns-in-None
-returns-in-None c = record {
+pub loop-truth-init : goal.loop-truth-init
+loop-truth-init c = record {
   stands = c.ands_end-ands.ensures.stands;
   ands = c.ands_end-ands.ensures.ands;
   goes_up = λ answer answers. answers;
 }
 
+pub plain_term_at-requires : goal.plain_term_at-requires
+plain_term_at-requires c = record { stands = c.loop-truth.invariant.stands }
+
+pub returns-in_default : goal.returns-in_default
+returns-in_default c = record {
+  stands = c.loop-truth.invariant.stands;
+  ands = c.loop-truth.invariant.ands;
+  goes_up = c.loop-truth.invariant.goes_up;
+}
+
+pub returns-then-not-truth : goal.returns-then-not-truth
+returns-then-not-truth c =
+    let l = c.loop-truth in
+    let term : AnswersTruth c.args.scene.now l.term (Ok (Some false)) =
+    subst (λ (b : Bool). AnswersTruth c.args.scene.now l.term (Ok (Some b))) c.if-not-truth.true c.in-Some.ensures in
+    decided_up c.args.scene.now l.at l.invariant.ands (Some false) tt l.at (omega arith) (l.invariant.goes_up (Ok (Some false)) term)
+
+pub returns-then-at-eq0 : goal.returns-then-at-eq0
+returns-then-at-eq0 c =
+    let l = c.loop-truth in
+    let term : AnswersTruth c.args.scene.now l.term (Ok (Some true)) =
+    subst (λ (b : Bool). AnswersTruth c.args.scene.now l.term (Ok (Some b))) c.if-not-truth.false c.in-Some.ensures in
+    let at : l.at ≡ 0 = omega (arith, c.if-at-eq0.true) in
+    subst (λ k. AnswersTruth c.args.scene.now k (Ok (Some true))) at (l.invariant.goes_up (Ok (Some true)) term)
+
 pub right_of-term-requires : goal.right_of-term-requires
 right_of-term-requires c =
-    let l = c.loop-at in
-    let above : 0 < l.at = omega arith in
-    term_there c.args.scene.now c.ands_end-ands.result c.ands_end-ands.ensures.ands c.requires.stands l.at above l.invariant.within
+    let l = c.loop-truth in
+    let above : 0 < l.at = omega (arith, c.if-at-eq0.false) in
+    let within : l.at ≤ l.at = omega arith in
+    term_there c.args.scene.now l.at l.invariant.ands c.requires.stands l.at above within
 
-pub kept_truth_at-requires-in-loop-at : goal.kept_truth_at-requires-in-loop-at
-kept_truth_at-requires-in-loop-at c =
-    let l = c.loop-at in
-    let above : 0 < l.at = omega arith in
+pub loop-truth-preserved : goal.loop-truth-preserved
+loop-truth-preserved c =
+    let l = c.loop-truth in
+    let above : 0 < l.at = omega (arith, c.if-at-eq0.false) in
+    let within : l.at ≤ l.at = omega arith in
+    let term : AnswersTruth c.args.scene.now l.term (Ok (Some true)) =
+    subst (λ (b : Bool). AnswersTruth c.args.scene.now l.term (Ok (Some b))) c.if-not-truth.false c.in-Some.ensures in
     record {
-      stands = term_stands c.args.scene.now c.ands_end-ands.result c.ands_end-ands.ensures.ands c.requires.stands l.at above l.invariant.within c.right_of-term.result c.right_of-term.ensures;
-    }
-
-pub loop-at-preserved : goal.loop-at-preserved
-loop-at-preserved c =
-    let l = c.loop-at in
-    let above : 0 < l.at = omega arith in
-    let is : c.in-Some-true-kept_truth_at.field-0 ≡ true = cc in
-    let term : AnswersTruth c.args.scene.now c.right_of-term.result (Ok (Some true)) =
-    subst (λ (b : Bool). AnswersTruth c.args.scene.now c.right_of-term.result (Ok (Some b))) is c.in-Some-true-kept_truth_at.ensures.answers in
-    let within : l.at ≤ c.ands_end-ands.result = l.invariant.within in
-    record {
-      within = omega arith;
-      answers = true_goes_up c.args.scene.now c.ands_end-ands.result c.ands_end-ands.ensures.ands c.requires.stands l.at above l.invariant.within c.right_of-term.result c.right_of-term.ensures l.invariant.answers (Ok (Some true)) term;
-    }
-
-pub returns-in-Some-false-kept_truth_at : goal.returns-in-Some-false-kept_truth_at
-returns-in-Some-false-kept_truth_at c =
-    let l = c.loop-at in
-    let above : 0 < l.at = omega arith in
-    let is : c.in-Some-false-kept_truth_at.field-0 ≡ false = cc in
-    let term : AnswersTruth c.args.scene.now c.right_of-term.result (Ok (Some false)) =
-    subst (λ (b : Bool). AnswersTruth c.args.scene.now c.right_of-term.result (Ok (Some b))) is c.in-Some-false-kept_truth_at.ensures.answers in
-    false_answers c.args.scene.now c.ands_end-ands.result c.ands_end-ands.ensures.ands c.requires.stands l.at above l.invariant.within c.right_of-term.result c.right_of-term.ensures (Some true) (λ none. none) l.invariant.answers term
-
-pub returns-in-None-kept_truth_at : goal.returns-in-None-kept_truth_at
-returns-in-None-kept_truth_at c =
-    let l = c.loop-at in
-    let above : 0 < l.at = omega arith in
-    let within : l.at ≤ c.ands_end-ands.result = l.invariant.within in
-    record {
-      stands = term_stands c.args.scene.now c.ands_end-ands.result c.ands_end-ands.ensures.ands c.requires.stands l.at above l.invariant.within c.right_of-term.result c.right_of-term.ensures;
-      ands = λ k before. c.ands_end-ands.ensures.ands k (omega arith);
-      goes_up = true_goes_up c.args.scene.now c.ands_end-ands.result c.ands_end-ands.ensures.ands c.requires.stands l.at above l.invariant.within c.right_of-term.result c.right_of-term.ensures l.invariant.answers;
+      stands = term_stands c.args.scene.now l.at l.invariant.ands c.requires.stands l.at above within c.right_of-term.result c.right_of-term.ensures;
+      ands = λ k before. l.invariant.ands k (omega arith);
+      goes_up = true_goes_up c.args.scene.now l.at l.invariant.ands c.requires.stands l.at above within c.right_of-term.result c.right_of-term.ensures (l.invariant.goes_up (Ok (Some true)) term);
     }

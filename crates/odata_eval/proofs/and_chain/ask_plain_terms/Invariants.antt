@@ -1,12 +1,18 @@
-use Rattle.std.proofs.Common.{◌≤◌, Ok, Some, true}
+use Rattle.std.proofs.Common.{ℕ, ◌<◌, Bool, Option, Result}
+use Rattle.odata_filter_operations.specs.declared.fault.EvalFault.{EvalFault}
+use Rattle.odata_syntax.specs.declared.binary_operator.BinaryOperator.{BinaryOperator}
+use Rattle.odata_syntax.specs.declared.binary_operator.LogicalOperator.{LogicalOperator}
+use Rattle.odata_eval.specs.private.Place.{HasOperator, TruthStands}
 use Rattle.odata_eval.specs.private.WalkAnswer.{AnswersTruth}
 use Rattle.odata_eval.proofs.and_chain.ask_plain_terms.Given as goal
 
-abbrev pub invariant-loop-at : goal.invariant-loop-at
-invariant-loop-at l = record {
-  within : l.at ≤ l.ands;
-  answers : AnswersTruth l.scene l.at (Ok (Some true));
+-- the terms before this one are true
+abbrev pub invariant-loop-truth : goal.invariant-loop-truth
+invariant-loop-truth l = record {
+  stands : TruthStands l.scene l.term;
+  ands : (k : ℕ) → k < l.at → HasOperator l.scene.list k (BinaryOperator.Logical LogicalOperator.And);
+  goes_up : (answer : Result (Option Bool) EvalFault) → AnswersTruth l.scene l.term answer → AnswersTruth l.scene l.at answer;
 }
 
-abbrev pub decreases-loop-at : goal.decreases-loop-at
-decreases-loop-at l = l.at
+abbrev pub decreases-loop-truth : goal.decreases-loop-truth
+decreases-loop-truth l = l.at

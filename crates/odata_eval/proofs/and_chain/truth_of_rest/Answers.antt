@@ -5,6 +5,7 @@ use Rattle.odata_filter_operations.specs.TruthGives.{truth_val}
 use Rattle.odata_eval.specs.private.WalkAnswer.{AnswersTruth}
 use Rattle.odata_eval.specs.private.WalkClass.{IsDecided}
 use Rattle.odata_eval.proofs.walking.AndChains.{decided_up, false_answers, fault_answers, fault_up, null_answers, term_stands, term_there, told_not, true_answers}
+use Rattle.odata_eval.proofs.walking.Spines.{at_top}
 use Rattle.odata_eval.proofs.and_chain.truth_of_rest.Goals as goal
 
 pub returns-in_err-left : goal.returns-in_err-left
@@ -68,8 +69,8 @@ returns-in-Some-false c =
     subst (λ (b : Bool). AnswersTruth c.args.scene.now c.right_of-right_place.result (Ok (Some b))) is c.in-Some-false.ensures.answers in
     false_answers c.args.scene.now c.args.rest.ands c.requires.rest.ands c.requires.stands l.at above l.invariant.within c.right_of-right_place.result c.right_of-right_place.ensures l.left l.invariant.undecided l.invariant.answers term
 
-pub loop-at-preserved-in-None-Some-true : goal.loop-at-preserved-in-None-Some-true
-loop-at-preserved-in-None-Some-true c =
+pub loop-at-preserved-in-Some-true-right : goal.loop-at-preserved-in-Some-true-right
+loop-at-preserved-in-Some-true-right c =
     let l = c.loop-at in
     let above : 0 < l.at = omega arith in
     let is : c.in_ok-right-in-None.right ≡ Some true = cc in
@@ -82,8 +83,8 @@ loop-at-preserved-in-None-Some-true c =
       answers = true_answers c.args.scene.now c.args.rest.ands c.requires.rest.ands c.requires.stands l.at above l.invariant.within c.right_of-right_place.result c.right_of-right_place.ensures l.left l.invariant.undecided l.invariant.answers term;
     }
 
-pub returns-in-None-Some-false : goal.returns-in-None-Some-false
-returns-in-None-Some-false c =
+pub returns-in-Some-false-right : goal.returns-in-Some-false-right
+returns-in-Some-false-right c =
     let l = c.loop-at in
     let above : 0 < l.at = omega arith in
     let is : c.in_ok-right-in-None.right ≡ Some false = cc in
@@ -91,8 +92,8 @@ returns-in-None-Some-false c =
     subst (λ (r : Option Bool). AnswersTruth c.args.scene.now c.right_of-right_place.result (Ok r)) is c.in_ok-right-in-None.ensures in
     false_answers c.args.scene.now c.args.rest.ands c.requires.rest.ands c.requires.stands l.at above l.invariant.within c.right_of-right_place.result c.right_of-right_place.ensures l.left l.invariant.undecided l.invariant.answers term
 
-pub loop-at-preserved-in-None-None : goal.loop-at-preserved-in-None-None
-loop-at-preserved-in-None-None c =
+pub loop-at-preserved : goal.loop-at-preserved
+loop-at-preserved c =
     let l = c.loop-at in
     let above : 0 < l.at = omega arith in
     let is : c.in_ok-right-in-None.right ≡ None = cc in
@@ -111,3 +112,6 @@ returns-in_err-right-in-None c =
     let above : 0 < l.at = omega arith in
     let exit = err_from_is_err_and c.from_residual-in_err-right-in-None.result c.from_residual-in_err-right-in-None.ensures.1 in
     rw (exit.1 ∙ ap Err exit.2) (fault_answers c.args.scene.now c.args.rest.ands c.requires.rest.ands c.requires.stands l.at above l.invariant.within c.right_of-right_place.result c.right_of-right_place.ensures l.left l.invariant.undecided l.invariant.answers c.in_err-right-in-None.field-0.0 c.in_err-right-in-None.ensures)
+
+pub returns : goal.returns
+returns c = at_top (λ k. AnswersTruth c.args.scene.now k (Ok c.loop-at.left)) c.loop-at.at 0 (omega arith) (omega arith) c.loop-at.invariant.answers

@@ -1,14 +1,26 @@
-use Rattle.std.proofs.Common.{◌≡◌, slice_get}
+use Rattle.std.proofs.Common.{◌≡◌, ◌∷◌, [], refl, slice_get, subst, sym}
+use Rattle.edm_values.specs.Val.{text}
 use Rattle.odata_checked_filter.specs.declared.checked_node.CheckedNode.{CheckedNode}
 use Rattle.odata_checked_filter.specs.declared.checked_node.NodeKind.{NodeKind}
-use Rattle.odata_eval.proofs.walking.Parts.{there_found}
 use Rattle.odata_eval.proofs.walking.Operands.{operand_inside, tree_of_kind}
+use Rattle.odata_filter_operations.specs.FunctionGives.{FunctionGives}
+use Rattle.odata_filter_operations.specs.Outcome.{gives}
+use Rattle.odata_functions.specs.LowerCase.{in_lower_case}
+use Rattle.odata_signatures.specs.declared.function.Function.{Function}
+use Rattle.odata_eval.proofs.walking.Parts.{some_weaker, there_found}
 use Rattle.odata_eval.proofs.kept_operands.lowered_text_at.Goals as goal
 
 pub node-requires : goal.node-requires
 node-requires c = operand_inside c.args.scene.now c.args.place c.requires
 
-pub lowered_by_call-requires : goal.lowered_by_call-requires
-lowered_by_call-requires c =
+pub only_text_at-requires : goal.only_text_at-requires
+only_text_at-requires c =
     let here = there_found (λ (f : CheckedNode). f.kind ≡ NodeKind.Call c.in-Call.function) (slice_get c.args.scene.now.list.nodes c.args.place) c.node.result.now c.node.ensures c.in-Call.is in
     record { stands = tree_of_kind c.args.scene.now c.args.place (NodeKind.Call c.in-Call.function) tt here c.requires; here = here }
+
+pub returns-in-ToLower : goal.returns-in-ToLower
+returns-in-ToLower c =
+    some_weaker c.only_text_at.result
+    (λ given answers. answers (gives (text (in_lower_case given.now)))
+    (subst (λ (f : Function). FunctionGives c.args.scene.now.moment f (text given.now ∷ []) (gives (text (in_lower_case given.now)))) (sym c.in-ToLower.is) refl))
+    c.only_text_at.ensures
