@@ -12,7 +12,7 @@ use json_tokens::Key;
 use std::alloc::Global;
 
 /// How many types have plans, and how many slots these have together.
-const TYPES: usize = 256;
+const TYPES: usize = 512;
 
 const SLOTS: usize = 8_192;
 

@@ -12,8 +12,8 @@ use Rattle.edm_entities.specs.private.Passed.{FitsSeen, MayBeAbsent}
 use Rattle.edm_entities.specs.private.RowTokens.{ReadsMembers}
 use Rattle.edm_entities.specs.private.SlotsSoFar.{HoldEachSoFar, HoldsSoFar, SlotsSoFar}
 use Rattle.edm_entities.specs.private.Walk.{FitSlots, FitsSlot, HoldEach, HoldsInSlot}
-use Rattle.edm_entities.proofs.RowLemmas.Plans.{long_set}
-use Rattle.edm_entities.proofs.RowLemmas.SlotsRead.{found_in, others_hold, slot_set, slots_start}
+use Rattle.std.proofs.lemmas.List.{length-set}
+use Rattle.edm_rows.proofs.SlotsHeld.{found_in, others_hold, slot_set, slots_start}
 use Rattle.edm_entities.proofs.SlotLemmas.EachSlot.{null_in_slot}
 use Rattle.json_tokens.specs.private.Lexemes.{PassesSpaces}
 use Rattle.json_tokens.specs.declared.lexeme.Turn.TheVariants.{AfterValue, Fresh}
@@ -84,7 +84,7 @@ module _ (scene : Scene) (type : RowType) (depth : ℕ) where
       let filled = slice_set so_far.filled index true in
       record {
         filled = filled;
-        long = long_set so_far.filled index true ∙ so_far.long;
+        long = length-set so_far.filled index true ∙ so_far.long;
         marks = marks_more seen index so_far.filled (omega (arith, within, so_far.long)) so_far.marks;
         members = member_then depth scene.line from place value end name (λ found. SlotsSoFar slots ps found so_far.filled values) (λ found. SlotsSoFar slots ps found filled (slice_set values index v)) Q
             (λ found json holds is. let both = fits json is in slot_set slots found name json ps so_far.filled values index v distinct named both.0 both.1 holds) so_far.members names reads;

@@ -11,7 +11,7 @@ use Rattle.edm_entities.specs.Row.{val_of}
 use Rattle.edm_entities.specs.private.Passed.{FitsSeen}
 use Rattle.edm_entities.specs.private.Walk.{HoldsInSlot}
 use Rattle.edm_entities.proofs.RowLemmas.SlotTexts.{slot_declared}
-use Rattle.edm_entities.proofs.RowLemmas.SlotsRead.{slot_within}
+use Rattle.edm_rows.proofs.SlotsHeld.{slot_within}
 use Rattle.edm_rows.specs.declared.members.Found.{Found}
 use Rattle.edm_rows.specs.declared.passed_value.Scene.{Scene}
 use Rattle.edm_rows.specs.declared.row_types.RowSlot.{RowSlot}

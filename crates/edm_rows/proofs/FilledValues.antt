@@ -18,10 +18,10 @@ use Rattle.edm_entities.specs.private.RowTokens.{FitsHoweverNullable, append_ite
 use Rattle.edm_entities.specs.private.Walk.{FitList, FitSlots, HoldInItems}
 use Rattle.edm_entities.proofs.RowLemmas.Leaves.{not_null_fits, null_token as null_read}
 use Rattle.edm_entities.proofs.RowLemmas.Parts.{fit_push, list_held, record_held}
-use Rattle.edm_entities.proofs.RowLemmas.Plans.{take_none, take_set}
+use Rattle.std.proofs.lemmas.List.{take_more_set}
+use Rattle.edm_rows.proofs.Indexes.{take_none}
 use Rattle.edm_entities.proofs.SlotLemmas.EachSlot.{holds_push, list_held as list_holds, member_holds, null_holds, primitive_holds, slots_held}
 use Rattle.edm_entities.proofs.SlotLemmas.FoundWalk.{val_of-Null}
-use Rattle.json_tokens.proofs.LexemeLemmas.{stay}
 use Rattle.json_tokens.specs.private.Lexemes.{PassesSpaces}
 use Rattle.json_tokens.specs.declared.lexeme.Turn.TheVariants.{AfterValue}
 use Rattle.json_room.specs.Lexemes.{StandsTo, tokens_at}
@@ -194,17 +194,17 @@ module _ (scene : Scene) (slot : RowSlot) where
 
   module _ (some : IsSingle slot.item) (depth from place end : ℕ) (before held : List Value) (count : ℕ) (v : Value) (kept : take count held ≡ take count before) (within : count < length held) where
     pushed : take (count + 1) (slice_set held count v) ≡ take count before ++ v ∷ []
-    pushed = take_set held count v within ∙ ap (λ vs. vs ++ v ∷ []) kept
+    pushed = take_more_set held count v within ∙ ap (λ vs. vs ++ v ∷ []) kept
 
     more : (found : Jsons) (json : Data) → AreFilled (slots_behind_node scene slot.node) slot.is_nullable (type_of (kinds_of scene.schema.now scene.plan.now.plans.items slot) slot.item) (take count before) found → IsFilledIn scene slot slot.item v json
         → AreFilled (slots_behind_node scene slot.node) slot.is_nullable (type_of (kinds_of scene.schema.now scene.plan.now.plans.items slot) slot.item) (take (count + 1) (slice_set held count v)) (append_items found (item json no_items))
     more found json fits here = subst (λ vs. AreFilled node_slots slot.is_nullable item_type vs (append_items found (item json no_items))) (sym pushed) (one_more some found json (take count before) v fits here)
 
-    pub list_comma : (comma : ℕ) → ListUpTo depth from place (take count before) → FillsValue scene slot slot.item depth v place end → PassesSpaces scene.line end comma → comma < length scene.line → get_or scene.line comma 32 ≡ 44
-        → ListUpTo depth from (comma + 1) (take (count + 1) (slice_set held count v))
-    list_comma comma so_far value passed inside is =
-        item_and_comma depth scene.line from place end comma (comma + 1) (AreFilled node_slots slot.is_nullable item_type (take count before)) (AreFilled node_slots slot.is_nullable item_type (take (count + 1) (slice_set held count v)))
-        (IsFilledIn scene slot slot.item v) more so_far value.0 passed inside is (stay scene.line (comma + 1) (omega (arith, inside)))
+    pub list_comma : (comma next : ℕ) → ListUpTo depth from place (take count before) → FillsValue scene slot slot.item depth v place end → PassesSpaces scene.line end comma → comma < length scene.line → get_or scene.line comma 32 ≡ 44 → PassesSpaces scene.line (comma + 1) next
+        → ListUpTo depth from next (take (count + 1) (slice_set held count v))
+    list_comma comma next so_far value passed inside is more_spaces =
+        item_and_comma depth scene.line from place end comma next (AreFilled node_slots slot.is_nullable item_type (take count before)) (AreFilled node_slots slot.is_nullable item_type (take (count + 1) (slice_set held count v)))
+        (IsFilledIn scene slot slot.item v) more so_far value.0 passed inside is more_spaces
 
     pub list_bracket : (bracket : ℕ) → ListUpTo depth from place (take count before) → FillsValue scene slot slot.item depth v place end → PassesSpaces scene.line end bracket → bracket < length scene.line → get_or scene.line bracket 32 ≡ 93
         → FillsItems scene slot depth (take (count + 1) (slice_set held count v)) from (bracket + 1)

@@ -2,7 +2,6 @@
 use Rattle.std.proofs.Common.{◌≡◌, ◌≢◌, ◌⊎◌, inl, inr, ⊎_elim, ℕ, zero, suc, ◌+◌, ◌-◌, ◌*◌, ◌^◌, ◌<◌, ◌≤◌, List, [], ◌∷◌, length, map, slice_get, slice_set, get_or, Bool, true, false, Option, None, Some, IfSome, refl, sym, ap, ◌∙◌, subst, arith}
 use Rattle.std.specs.Int.{bit_at}
 use Rattle.std.specs.Prelude.{MatchBool, bit_and, bit_or, max, min, replicate}
-use Rattle.std.specs.List.{AllByRecursion}
 use Rattle.std.proofs.lemmas.Bool.{cases_lt, true≢false}
 use Rattle.std.proofs.lemmas.Nat.Bits.{and_pow, bit_at-lt, bit_at-pow_other, bit_at-pow_same, bit_at-zero, bit_at_and, bit_at_ones, bit_at_or}
 use Rattle.serde_json.specs.Data.{Data, Members, no_members, object, put}
@@ -15,8 +14,8 @@ use Rattle.edm_entities.specs.Row.{ValAtType, val_of}
 use Rattle.edm_entities.specs.private.Passed.{FitSlotsBut, FitSomeSlots, FitsSeen, FitsSomeProperty, MayBeAbsent, PassedSoFar, SlotsSoFarBut, every_name}
 use Rattle.edm_entities.specs.private.RowTokens.{ReadsMembers}
 use Rattle.edm_entities.proofs.RowLemmas.Passing.{all_passed, others_passed, passed_set, passed_start, some_values}
-use Rattle.edm_entities.proofs.RowLemmas.Plans.{long_set}
-use Rattle.edm_entities.proofs.RowLemmas.SlotsRead.{apart, found_in, mark_set}
+use Rattle.std.proofs.lemmas.List.{length-set}
+use Rattle.edm_rows.proofs.SlotsHeld.{apart, found_in, mark_set}
 use Rattle.json_tokens.specs.private.Lexemes.{PassesSpaces}
 use Rattle.json_tokens.specs.declared.lexeme.Turn.TheVariants.{AfterValue, Fresh}
 use Rattle.json_room.specs.Lexemes.{tokens_at}
@@ -32,18 +31,12 @@ use Rattle.edm_rows.proofs.Places.{MembersRead, MembersUpTo, brace_then, comma_t
 
 -- ---- names and marks
 
--- a name after others is another
-behind_first : (first name : List ℕ) (ps : List PropertyModel) (n : ℕ) → AllByRecursion (λ q. q.name ≢ first) ps → slice_get (map (λ p. p.name) ps) n ≡ Some name → first ≢ name
-behind_first first name [] n others at = absurd (cc)
-behind_first first name (p ∷ ps) zero others at = let named : p.name ≡ name = cc in λ same. others.0 (named ∙ sym same)
-behind_first first name (p ∷ ps) (suc n) others at = behind_first first name ps n others.1 at
-
 -- two slots have two names
 names_apart : (ps : List PropertyModel) (i j : ℕ) (a b : List ℕ) → HasDistinctNames ps → slice_get (map (λ p. p.name) ps) i ≡ Some a → slice_get (map (λ p. p.name) ps) j ≡ Some b → i ≢ j → a ≢ b
 names_apart [] i j a b distinct at_a at_b other = absurd (cc)
 names_apart (p ∷ ps) zero zero a b distinct at_a at_b other = absurd (other refl)
-names_apart (p ∷ ps) zero (suc j) a b distinct at_a at_b other = let named : p.name ≡ a = cc in λ same. behind_first p.name b ps j distinct.0 at_b (named ∙ same)
-names_apart (p ∷ ps) (suc i) zero a b distinct at_a at_b other = let named : p.name ≡ b = cc in λ same. behind_first p.name a ps i distinct.0 at_a (named ∙ sym same)
+names_apart (p ∷ ps) zero (suc j) a b distinct at_a at_b other = let named : p.name ≡ a = cc in λ same. apart b p.name ps j distinct.0 at_b (named ∙ same)
+names_apart (p ∷ ps) (suc i) zero a b distinct at_a at_b other = let named : p.name ≡ b = cc in λ same. apart a p.name ps i distinct.0 at_a (named ∙ sym same)
 names_apart (p ∷ ps) (suc i) (suc j) a b distinct at_a at_b other = names_apart ps i j a b distinct.1 at_a at_b (λ same. other (ap suc same))
 
 item_at : {X : Type 0} (xs : List X) (n : ℕ) → n < length xs → (x : X) × (slice_get xs n ≡ Some x)
@@ -87,7 +80,7 @@ pub marks_more : (seen index : ℕ) (filled : List Bool) → index < length fill
 marks_more seen index filled within same =
     record {
       set = λ k is inside. ⊎_elim (λ here. subst (λ i. get_or (slice_set filled index true) i false ≡ true) (sym here) (mark_set filled index within))
-          (λ other. set_other filled index k other ∙ same.set k (old k other is) (omega (arith, inside, long_set filled index true))) (same_number k index);
+          (λ other. set_other filled index k other ∙ same.set k (old k other is) (omega (arith, inside, length-set filled index true))) (same_number k index);
       not_set = λ k is. ⊎_elim (λ here. absurd (omega (arith, is, ap (λ i. bit_at (bit_or seen (2 ^ index)) i) here, bit_set seen index)))
           (λ other. set_other filled index k other ∙ same.not_set k (omega (arith, bit_more seen index k, is))) (same_number k index);
     }
@@ -143,7 +136,7 @@ module _ (scene : Scene) (rows : List RowSlot) where
         let filled = slice_set so_far.filled slot.index true in
         record {
           filled = filled;
-          long = long_set so_far.filled slot.index true ∙ so_far.long;
+          long = length-set so_far.filled slot.index true ∙ so_far.long;
           marks = marks_more seen slot.index so_far.filled (omega (arith, within, so_far.long)) so_far.marks;
           members = member_then 126 scene.line from place value end name (SoFar scene rows is_left_out seen so_far.filled old) (SoFar scene rows next more filled new) Q (λ found json holds is. by so_far.filled found json holds is) so_far.members names reads;
         }
@@ -251,7 +244,7 @@ module _ (scene : Scene) (rows : List RowSlot) where
           name = before.name;
           named = before.named;
           json = before.json;
-          is_found = get_member-put_other before.name name json found (λ same. behind_first name before.name ps before.slot.index others before.named (sym same)) ∙ before.is_found;
+          is_found = get_member-put_other before.name name json found (λ same. apart before.name name ps before.slot.index others before.named (sym same)) ∙ before.is_found;
           rejected = before.rejected;
         },
       )

@@ -13,7 +13,7 @@ use Rattle.edm_entities.specs.Row.{ValAtType, field_of, val_of}
 use Rattle.edm_entities.specs.private.Passed.{FitSlotsBut, FitsSeen, FitsSlotBut, FitsSoFarBut, MayBeAbsent, SlotsSoFarBut, every_name}
 use Rattle.edm_entities.specs.private.SlotsSoFar.{HoldEachSoFar}
 use Rattle.edm_entities.specs.private.Walk.{FitsSlot, FitSlots, HoldEach, HoldsInSlot}
-use Rattle.edm_entities.proofs.RowLemmas.SlotsRead.{apart, found_in}
+use Rattle.edm_rows.proofs.SlotsHeld.{apart, found_in}
 use Rattle.edm_entities.proofs.SlotLemmas.EachSlot.{null_in_slot}
 use Rattle.edm_rows.specs.private.KeptRows.{RowConforms}
 
@@ -41,7 +41,7 @@ module _ (slots : Slots) (kept : Members) (name : List ℕ) (json : Data) where
       let others = subst (λ (s : List ℕ). AllByRecursion (λ q. q.name ≢ s) ps) named distinct.0 in
       ((subst (λ (o : Option Data). FitsSeen (slots_behind slots p.name) p.nullable p.type_of o (val_of v)) there fits.0, fits.1), others_fit ps values others hold.1)
   kept_set (p ∷ ps) (w ∷ values) (suc n) v distinct at fits hold =
-      (other_fits p w (apart slots kept name json p.name ps n distinct.0 at) hold.0, kept_set ps values n v distinct.1 at fits hold.1)
+      (other_fits p w (apart name p.name ps n distinct.0 at) hold.0, kept_set ps values n v distinct.1 at fits hold.1)
 
 both : {A : Type 0} (o : Option A) (P Q : A → Type 0) → IfSome o P → IfSome o Q → IfSome o (λ a. P a × Q a)
 both None P Q p q = tt

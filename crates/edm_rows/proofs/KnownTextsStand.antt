@@ -60,7 +60,7 @@ pub some_member : (schema : SchemaModel) (id : ℕ) (text : List ℕ) (r : Optio
 some_member schema id text None found by_name value within = absurd (true≢false found)
 some_member schema id text (Some n) found by_name value within = (member n, (n, subst (λ (e : Option EnumerationModel). IsValueIn e text n) by_name value, subst (λ (e : Option EnumerationModel). IsOfUnderlying e n) by_name within, refl))
 
-inside_by : (s : List ℕ) (n : ℕ) → get_or s n 0 ≡ 34 → n < length s
+pub inside_by : (s : List ℕ) (n : ℕ) → get_or s n 0 ≡ 34 → n < length s
 inside_by [] n is = absurd (omega (arith, is))
 inside_by (x ∷ s) zero is = omega arith
 inside_by (x ∷ s) (suc n) is = omega (arith, inside_by s n is)
@@ -82,3 +82,9 @@ known_is schema id n text s front mask few same is plain quote long each bits =
       mask = bits;
       long = long;
     }
+
+-- the first bytes of a text with its quote
+pub front_first : (text w front : List ℕ) (n : ℕ) → w ≡ take (n + 1) text → n < length text → n < 16 → ((k : ℕ) → k < 16 → k < length w → get_or front k 0 ≡ get_or w k 0) → (k : ℕ) → k < n + 1 → get_or front k 0 ≡ get_or text k 0
+front_first text w front n is inside few first k below =
+    let long : length w ≡ n + 1 = ap length is ∙ length-take-le (n + 1) text (omega (arith, inside)) in
+    first k (omega (arith, below, few)) (omega (arith, below, long)) ∙ ap (λ (xs : List ℕ). get_or xs k 0) is ∙ get_or-take (n + 1) text k 0 below

@@ -19,6 +19,7 @@ use Rattle.edm_values.specs.declared.sieve.Sieve.{Sieve}
 use Rattle.edm_values.specs.declared.value.Value.{Value, Bool as BoolValue, Enum, Int, Text, the_lemmas}
 use Rattle.edm_entities.specs.FitsPrimitive.{FitsPrimitive, IsTextValue}
 use Rattle.edm_entities.specs.Row.{val_of}
+use Rattle.edm_entities.specs.private.Passed.{FitsSomeHowever}
 use Rattle.edm_entities.specs.private.RowTokens.{FitsHoweverNullable}
 use Rattle.edm_entities.proofs.FitLemmas.Numbers.{none_some, val_of-Bool, val_of-Enum, val_of-Text}
 use Rattle.edm_entities.proofs.RowLemmas.Leaves.{boolean_token, number_token, string_token}
@@ -27,7 +28,7 @@ use Rattle.json_room.specs.Lexemes.{StandsTo}
 use Rattle.json_room.proofs.Standing.{string_stands}
 use Rattle.edm_rows.specs.private.Held.{ReadsTo}
 use Rattle.edm_rows.specs.private.KeptLeaves.{HoldsText, IsLeafRejected, PutsLeaf, PutsMember}
-use Rattle.edm_rows.proofs.Places.{token_to}
+use Rattle.edm_rows.proofs.Places.{reads_to_as, token_to}
 use Rattle.edm_rows.proofs.Values.{number_fits, text_fits}
 
 pub val_of-Int : (slots : Slots) (type : ExprType) (n : ℤ) → val_of (Int n) slots.properties type ≡ whole n
@@ -90,6 +91,17 @@ member_puts slots name s line from to n further stands value within =
           token_to depth line from to (Token.string s) (FitsHoweverNullable slots (single (enumeration name)) (Enum n)) (string_stands line from to s further stands.within stands.lexed)
           (record { json = string s; is_read = λ d rest. string_token s d rest; no_null = refl; holds = fits }),
     )
+
+-- ---- what is put fits
+
+however : (slots : Slots) (depth : ℕ) (line : List ℕ) (type : SingleType) (v : Value) (from to : ℕ) → ReadsTo depth line from to (FitsHoweverNullable slots (single type) v) → ReadsTo depth line from to (FitsSomeHowever slots (single type))
+however slots depth line type v from to = reads_to_as depth line from to (FitsHoweverNullable slots (single type) v) (FitsSomeHowever slots (single type)) (λ json fits nullable. (val_of v slots.properties (single type), fits nullable))
+
+pub leaf_fits : (slots : Slots) (depth : ℕ) (line : List ℕ) (type : SingleType) (v : Value) (from to : ℕ) → PutsLeaf line type v from to → ReadsTo depth line from to (FitsSomeHowever slots (single type))
+leaf_fits slots depth line type v from to puts = however slots depth line type v from to (puts.1 slots depth)
+
+pub member_fits : (slots : Slots) (name : List ℕ) (depth : ℕ) (line : List ℕ) (v : Value) (from to : ℕ) → PutsMember line slots name v from to → ReadsTo depth line from to (FitsSomeHowever slots (single (enumeration name)))
+member_fits slots name depth line v from to puts = however slots depth line (enumeration name) v from to (puts.1 depth)
 
 -- ---- JSON of a primitive type has one value
 

@@ -1,13 +1,14 @@
-mod AbsentCleared
 mod FilledMembers
 mod FilledSteps
 mod FilledValues
+mod Indexes
 mod KeptMembers
 mod KeptSlots
 mod KnownTextsStand
 mod LeavesKept
 mod NextMembers
 mod Places
+mod RootEnds
 mod RowSteps
 mod RowTypes
 mod RowsRead
@@ -16,6 +17,7 @@ mod SceneLemmas
 mod SeenMembers
 mod SlotMarks
 mod SlotsFilled
+mod SlotsHeld
 mod TypesChanged
 mod UnseenNull
 mod Values

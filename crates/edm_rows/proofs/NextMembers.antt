@@ -12,7 +12,8 @@ use Rattle.edm_row_plans.specs.declared.type_plan.SlotPlan.{SlotPlan}
 use Rattle.edm_row_plans.specs.declared.type_plan.TypePlan.{TypePlan}
 use Rattle.edm_entities.specs.private.Passed.{FitsSeen, FitsSomeProperty}
 use Rattle.edm_entities.proofs.RowLemmas.Passes.{slot_seen}
-use Rattle.edm_entities.proofs.RowLemmas.Plans.{each_at, slot_planned}
+use Rattle.edm_rows.proofs.Indexes.{each_at}
+use Rattle.edm_entities.proofs.RowLemmas.Plans.{slot_planned}
 use Rattle.edm_rows.specs.declared.row_types.RowSlot.{RowSlot}
 use Rattle.edm_rows.specs.declared.row_types.RowType.{RowType}
 use Rattle.edm_rows.specs.private.Held.{ReadsTo}

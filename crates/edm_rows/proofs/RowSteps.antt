@@ -27,7 +27,7 @@ use Rattle.edm_rows.specs.private.RowSlots.{AreRowTypes, IsRowSlot, IsRowType, k
 use Rattle.edm_rows.specs.private.Scenes.{FindsMember, FindsSlot, IsScene, PassesValue, slots_behind_node}
 use Rattle.edm_rows.specs.private.KeptSoFar.{FillsAbsent, IsReadTo, KeptRead, KeptUpTo}
 use Rattle.edm_rows.proofs.KeptMembers.{bit_none, kept_brace, kept_empty, other_taken, passed_left_out, passed_unkept, rejected_now, taken}
-use Rattle.edm_rows.proofs.AbsentCleared.{rows_long}
+use Rattle.edm_rows.proofs.RootEnds.{rows_long}
 use Rattle.edm_rows.proofs.KeptSlots.{conforms_set, slot_stays}
 use Rattle.edm_rows.proofs.NextMembers.{at_within, slot_there}
 use Rattle.edm_rows.proofs.Places.{reads_to_as}

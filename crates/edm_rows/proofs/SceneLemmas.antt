@@ -5,13 +5,12 @@ use Rattle.serde_json.specs.Data.{Items, object}
 use Rattle.csdl_schema.specs.ExpansionView.{StepModel}
 use Rattle.csdl_schema.specs.ExprType.{single, collection, structured}
 use Rattle.csdl_schema.specs.SchemaModel.{SchemaModel, HasDistinctNames, properties_at, type_name_at}
-use Rattle.json_tokens.proofs.LexemeLemmas.{stay}
 use Rattle.json_tokens.specs.private.Lexemes.{PassesSpaces}
 use Rattle.edm_values.specs.Val.{no_items as no_values}
 use Rattle.edm_row_plans.specs.declared.type_plan.TypePlan.{TypePlan}
 use Rattle.edm_entities.specs.private.Passed.{FitSomeItems, FitSomeSlots, FitsSome}
 use Rattle.edm_entities.proofs.RowLemmas.Passes.{array_some, item_some, object_some}
-use Rattle.edm_entities.proofs.RowLemmas.SlotsRead.{slot_within}
+use Rattle.edm_rows.proofs.SlotsHeld.{slot_within}
 use Rattle.edm_rows.specs.declared.members.After.{After}
 use Rattle.edm_rows.specs.declared.passed_value.Scene.{Scene}
 use Rattle.edm_rows.specs.declared.row_types.RowSlot.{RowSlot}
@@ -101,15 +100,14 @@ pub held_start : (scene : Scene) (slot : RowSlot) (depth from place : ℕ) → P
 held_start scene slot depth from place passed =
     items_begin depth scene.line from place (FitSomeItems (slots_behind_node scene slot.node) slot.is_nullable (type_of (kinds_of scene.schema.now scene.plan.now.plans.items slot) slot.item)) passed (no_values, tt)
 
-pub held_comma : (scene : Scene) (slot : RowSlot) (depth from place end comma : ℕ) → IsSingle slot.item → HeldUpTo scene slot depth from place → PassesValue scene slot slot.item depth place end → PassesSpaces scene.line end comma
-    → comma < length scene.line → get_or scene.line comma 32 ≡ 44 → HeldUpTo scene slot depth from (comma + 1)
-held_comma scene slot depth from place end comma some so_far value passed within is =
+pub held_comma : (scene : Scene) (slot : RowSlot) (depth from place end comma next : ℕ) → IsSingle slot.item → HeldUpTo scene slot depth from place → PassesValue scene slot slot.item depth place end → PassesSpaces scene.line end comma
+    → comma < length scene.line → get_or scene.line comma 32 ≡ 44 → PassesSpaces scene.line (comma + 1) next → HeldUpTo scene slot depth from next
+held_comma scene slot depth from place end comma next some so_far value passed within is more =
     let slots = slots_behind_node scene slot.node in
     let kinds = kinds_of scene.schema.now scene.plan.now.plans.items slot in
     let P : (Items → Type 0) = FitSomeItems slots slot.is_nullable (type_of kinds slot.item) in
-    item_and_comma depth scene.line from place end comma (comma + 1) P P (IsHeldTo slots kinds slot.is_nullable slot.item slot.item)
-    (λ found json fits held. item_some slots slot.is_nullable (type_of kinds slot.item) found json fits (of_single slots kinds slot.is_nullable slot.item slot.item json some held)) so_far value passed within is
-    (stay scene.line (comma + 1) (omega (arith, within)))
+    item_and_comma depth scene.line from place end comma next P P (IsHeldTo slots kinds slot.is_nullable slot.item slot.item)
+    (λ found json fits held. item_some slots slot.is_nullable (type_of kinds slot.item) found json fits (of_single slots kinds slot.is_nullable slot.item slot.item json some held)) so_far value passed within is more
 
 pub held_bracket : (scene : Scene) (slot : RowSlot) (depth from place end bracket : ℕ) → IsSingle slot.item → HeldUpTo scene slot depth from place → PassesValue scene slot slot.item depth place end → PassesSpaces scene.line end bracket
     → bracket < length scene.line → get_or scene.line bracket 32 ≡ 93 → PassesItems scene slot depth from (bracket + 1)

@@ -14,8 +14,8 @@ use Rattle.edm_values.specs.declared.value.Value.{Null}
 use Rattle.edm_entities.specs.private.Passed.{FitSomeSlots, FitsSeen, FitsSomeProperty, MayBeAbsent, PassedSoFar, every_name}
 use Rattle.edm_entities.specs.private.RowTokens.{ReadsMembers}
 use Rattle.edm_entities.proofs.RowLemmas.Passing.{all_passed, others_passed, passed_set, passed_start, some_values}
-use Rattle.edm_entities.proofs.RowLemmas.Plans.{long_set}
-use Rattle.edm_entities.proofs.RowLemmas.SlotsRead.{found_in, mark_kept, mark_set}
+use Rattle.std.proofs.lemmas.List.{length-set}
+use Rattle.edm_rows.proofs.SlotsHeld.{found_in, mark_kept, mark_set}
 use Rattle.edm_rows.specs.declared.members.After.{After}
 use Rattle.edm_rows.specs.private.Held.{ReadsTo}
 use Rattle.edm_rows.specs.private.Members.{EndsMember, NamesTo, PassesOther}
@@ -78,7 +78,7 @@ module _ (slots : Slots) (ps : List PropertyModel) (depth : ℕ) (line : List �
   seen_slot place value end seen index name Q distinct within at fits so_far named reads =
       record {
         filled = slice_set so_far.filled index true;
-        long = long_set so_far.filled index true ∙ so_far.long;
+        long = length-set so_far.filled index true ∙ so_far.long;
         marks = marked seen index so_far.filled (omega (arith, so_far.long, within)) so_far.marks;
         members = member_then depth line from place value end name (λ found. PassedSoFar slots ps found so_far.filled) (λ found. PassedSoFar slots ps found (slice_set so_far.filled index true)) Q
             (λ found json holds here.

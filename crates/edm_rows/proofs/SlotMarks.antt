@@ -3,7 +3,7 @@ use Rattle.std.proofs.Common.{◌≡◌, ◌≢◌, ◌⊎◌, ◌↔◌, ⊎_el
 use Rattle.std.proofs.lemmas.Bool.{true≢false}
 use Rattle.std.specs.List.{All, AllByRecursion}
 use Rattle.csdl_schema.specs.SchemaModel.{HasDistinctNames, PropertyModel, slot_named}
-use Rattle.edm_entities.proofs.RowLemmas.Plans.{other_kept}
+use Rattle.edm_rows.proofs.Indexes.{other_kept}
 use Rattle.edm_entities.proofs.RowLemmas.SlotNames.{no_slot_is_named, slot_is_named}
 use Rattle.edm_values.specs.declared.sieve.Sieve.{Sieve}
 use Rattle.edm_rows.proofs.KeptMembers.{same_number}

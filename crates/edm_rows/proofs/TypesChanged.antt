@@ -9,7 +9,8 @@ use Rattle.edm_row_plans.specs.declared.type_plan.SlotPlan.{SlotPlan}
 use Rattle.edm_row_plans.specs.declared.type_plan.TypePlan.{TypePlan}
 use Rattle.edm_row_plans.specs.Expanded.{slots_at}
 use Rattle.edm_entities.specs.private.Passed.{MayBeAbsent}
-use Rattle.edm_entities.proofs.RowLemmas.Plans.{long_set, other_kept}
+use Rattle.std.proofs.lemmas.List.{length-set}
+use Rattle.edm_rows.proofs.Indexes.{other_kept}
 use Rattle.edm_rows.proofs.KeptMembers.{same_number}
 use Rattle.edm_rows.specs.declared.row_types.RowSlot.{RowSlot}
 use Rattle.edm_rows.specs.declared.row_types.RowType.{RowType}
@@ -59,7 +60,7 @@ module _ (schema : SchemaModel) (steps : List StepModel) (plans : List TypePlan)
   pub type_stays : (p : TypePlan) (type changed : RowType) (n : ℕ) (slot : RowSlot) (kept : Bool) (sieve : Sieve) → slice_get type.slots.items n ≡ Some slot → changed.slots.items ≡ slice_set type.slots.items n (slot_as slot kept sieve) → changed.type_id ≡ type.type_id
       → changed.node ≡ type.node → changed.all ≡ type.all → changed.optional ≡ type.optional → changed.order ≡ type.order → IsRowType schema steps plans p type → IsRowType schema steps plans p changed
   type_stays p type changed n slot kept sieve at same id node all optional order is =
-      let long : length changed.slots.items ≡ length type.slots.items = ap length same ∙ long_set type.slots.items n (slot_as slot kept sieve) in
+      let long : length changed.slots.items ≡ length type.slots.items = ap length same ∙ length-set type.slots.items n (slot_as slot kept sieve) in
       record {
         is_plan = is.is_plan;
         of_type = (id ∙ is.of_type.0, node ∙ is.of_type.1);

@@ -1,4 +1,4 @@
--- Slots of a record that were not seen become null, one after the other.
+-- Slots that were not seen become null, one after the other.
 use Rattle.std.proofs.Common.{◌≡◌, ◌≢◌, inl, inr, ⊎_elim, ℕ, ◌+◌, ◌-◌, ◌^◌, ◌<◌, List, length, slice_get, slice_set, bit_and, bit_or, Some, IfSome, refl, sym, ap, ◌∙◌, subst, arith}
 use Rattle.std.specs.Int.{bit_at}
 use Rattle.std.proofs.lemmas.Nat.Bits.{bit_at_ones, bit_at_or}
@@ -6,40 +6,51 @@ use Rattle.csdl_schema.specs.ExpansionView.{StepModel}
 use Rattle.csdl_schema.specs.SchemaModel.{SchemaModel}
 use Rattle.edm_values.specs.declared.value.Value.{Value, Null}
 use Rattle.edm_row_plans.specs.declared.type_plan.TypePlan.{TypePlan}
-use Rattle.edm_entities.proofs.RowLemmas.Plans.{long_set, other_kept}
+use Rattle.std.proofs.lemmas.List.{length-set}
+use Rattle.edm_rows.proofs.Indexes.{both_at, other_kept, set_there}
 use Rattle.edm_rows.specs.declared.row_types.RowType.{RowType}
-use Rattle.edm_rows.specs.private.Filled.{FillsSlots}
+use Rattle.edm_rows.specs.private.Filled.{FillsSlots, GoOnConforming}
+use Rattle.edm_rows.specs.private.KeptRows.{RowConforms}
 use Rattle.edm_rows.specs.private.RowSlots.{IsRowSlot, IsRowType}
-use Rattle.edm_rows.proofs.AbsentCleared.{both_at, set_there}
 use Rattle.edm_rows.proofs.KeptMembers.{bit_none, none_bit, same_number, two_bits}
+use Rattle.edm_rows.proofs.KeptSlots.{conforms_null, slot_stays}
 
--- the slots that were seen stay, and those below a place that were not are null
+-- the slots that were seen stay, and those below a place that were not are null; if each that was not may be absent,
+-- values that conform go on to conform
 pub record NullsBelow (seen place : ℕ) (old new : List Value) : Type 0 where
   pub long : length new ≡ length old
   pub stay : (k : ℕ) → bit_at seen k ≡ 1 → slice_get new k ≡ slice_get old k
   pub nulls : (k : ℕ) → k < place → bit_at seen k ≡ 0 → slice_get new k ≡ Some Null
+  pub conforms : GoOnConforming seen old new
 
 pub nulls_none : (seen : ℕ) (values : List Value) → NullsBelow seen 0 values values
-nulls_none seen values = record { long = refl; stay = λ k is. refl; nulls = λ k less. absurd (omega (arith, less)) }
+nulls_none seen values = record { long = refl; stay = λ k is. refl; nulls = λ k less. absurd (omega (arith, less)); conforms = λ slots ps distinct long may conforms. conforms }
 
 pub nulls_next : (seen place bit : ℕ) (old values : List Value) (v w : Value) → bit ≡ 2 ^ place → slice_get values place ≡ Some w → place < length values → NullsBelow seen place old values → (bit_and seen bit ≡ 0 → v ≡ Null) → (bit_and seen bit ≢ 0 → v ≡ w)
     → NullsBelow seen (place + 1) old (slice_set values place v)
 nulls_next seen place bit old values v w is there within so_far null stays =
     record {
-      long = long_set values place v ∙ so_far.long;
+      long = length-set values place v ∙ so_far.long;
       stay = λ k set. ⊎_elim (λ here. stays_here k here set) (λ other. other_kept values place k v other ∙ so_far.stay k set) (same_number k place);
       nulls = λ k less none. ⊎_elim (λ here. null_here k here none) (λ other. other_kept values place k v other ∙ so_far.nulls k (omega (arith, less, other)) none) (same_number k place);
+      conforms = λ slots ps distinct long may conforms.
+          let before = so_far.conforms slots ps distinct long may conforms in
+          ⊎_elim (λ none. conforms_null slots ps distinct values place v (null (no_bit none)) (omega (arith, within, long, so_far.long)) (may place (omega (arith, within, long, so_far.long)) none) before)
+          (λ set. subst (RowConforms slots ps) (sym (slot_stays values place v (there ∙ ap Some (sym (same set))))) before) (two_bits seen place);
     }
   where
+    no_bit : bit_at seen place ≡ 0 → bit_and seen bit ≡ 0
+    no_bit none = subst (λ b. bit_and seen b ≡ 0) (sym is) (none_bit seen place none)
+
+    same : bit_at seen place ≡ 1 → v ≡ w
+    same set = stays (λ none. omega (arith, bit_none seen place (subst (λ b. bit_and seen b ≡ 0) is none), set))
+
     stays_here : (k : ℕ) → k ≡ place → bit_at seen k ≡ 1 → slice_get (slice_set values place v) k ≡ slice_get old k
     stays_here k here set =
-        let same : v ≡ w = stays (λ none. omega (arith, bit_none seen place (subst (λ b. bit_and seen b ≡ 0) is none), ap (bit_at seen) here, set)) in
-        ap (slice_get (slice_set values place v)) here ∙ set_there values place v within ∙ ap Some same ∙ sym there ∙ ap (slice_get values) (sym here) ∙ so_far.stay k set
+        ap (slice_get (slice_set values place v)) here ∙ set_there values place v within ∙ ap Some (same (subst (λ j. bit_at seen j ≡ 1) here set)) ∙ sym there ∙ ap (slice_get values) (sym here) ∙ so_far.stay k set
 
     null_here : (k : ℕ) → k ≡ place → bit_at seen k ≡ 0 → slice_get (slice_set values place v) k ≡ Some Null
-    null_here k here none =
-        ap (slice_get (slice_set values place v)) here ∙ set_there values place v within
-        ∙ ap Some (null (subst (λ b. bit_and seen b ≡ 0) (sym is) (none_bit seen place (subst (λ j. bit_at seen j ≡ 0) here none))))
+    null_here k here none = ap (slice_get (slice_set values place v)) here ∙ set_there values place v within ∙ ap Some (null (no_bit (subst (λ j. bit_at seen j ≡ 0) here none)))
 
 module _ (type : RowType) (all : type.all ≡ 2 ^ length type.slots.items - 1) (seen : ℕ) where
   each_bit : (k : ℕ) → k < length type.slots.items → bit_at type.all k ≡ 1
@@ -53,6 +64,7 @@ module _ (type : RowType) (all : type.all ≡ 2 ^ length type.slots.items - 1) (
         long = refl;
         stay = λ k is. refl;
         nulls = λ k inside none. absurd (omega (arith, none, ap (λ (n : ℕ). bit_at n k) same, each_bit k inside));
+        conforms = λ slots ps distinct long may conforms. conforms;
       }
 
   -- those that were not may be absent
@@ -63,6 +75,7 @@ module _ (type : RowType) (all : type.all ≡ 2 ^ length type.slots.items - 1) (
         long = below.long;
         stay = below.stay;
         nulls = below.nulls;
+        conforms = below.conforms;
       }
     where
       optional : (k : ℕ) → k < length type.slots.items → bit_at seen k ≡ 0 → bit_at type.optional k ≡ 1

@@ -9,7 +9,7 @@ ghost use Rattle.edm_rows.specs.private.KeptLeaves.{HoldsText, PutsLeaf, PutsMem
 ghost use Rattle.edm_rows.specs.private.RowSlots.{HasPrimitive, name_at};
 
 use super::known_texts::Cache;
-use super::literals::literal_of;
+use super::literals::{literal_at, member_at};
 use super::passed_value::{Scene, typed_number_at};
 use super::row_types::{RowSlot, Task};
 use edm_values::{Prim, Value};
@@ -217,11 +217,8 @@ pub(crate) fn take_literal(
     ensures taken { IfSome result (PutsLeaf line.now (primitive slot.now.prim) value.new place) }
     ensures depth { cache.new.depth ≡ cache.old.depth }
 {
-    let Some((text, end)) = any_text_at(line, place, &mut cache.decoded) else {
-        return None;
-    };
-    match literal_of(slot.prim, text) {
-        Some(read) => {
+    match literal_at(&mut cache.decoded, line, slot.prim, place) {
+        Some((read, end)) => {
             *value = read;
             Some(end)
         }
@@ -245,11 +242,8 @@ pub(crate) fn take_member(
     let Some(id) = slot.member_of else {
         return None;
     };
-    let Some((text, end)) = any_text_at(&scene.line, place, &mut cache.decoded) else {
-        return None;
-    };
-    match scene.schema.enum_value(id, text) {
-        Some(number) => {
+    match member_at(&mut cache.decoded, scene.schema, &scene.line, id, place) {
+        Some((number, end)) => {
             *value = Value::Enum(number);
             Some(end)
         }

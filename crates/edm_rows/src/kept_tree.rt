@@ -1,13 +1,14 @@
 //! Values with parts that are kept: they are filled again where they are, with all that they hold.
-ghost use Rattle.std.specs.Prelude.{◌≡◌, ◌≢◌, ◌-◌, ◌^◌, ◌<◌, ◌≤◌, ℕ, length, slice_get, bit_and, true, IfSome, IsTrue};
+ghost use Rattle.std.specs.Prelude.{◌≡◌, ◌<◌, ◌≤◌, ℕ, length, true, IfSome};
 ghost use Rattle.json.specs.Token.{null};
 ghost use Rattle.json_room.specs.Lexemes.{StandsTo};
-ghost use Rattle.edm_rows.specs.private.Filled.{FillsItems, FillsMembers, FillsSlots, FillsValue};
+ghost use Rattle.edm_rows.specs.private.Filled.{FillsItems, FillsMembers, FillsValue};
 ghost use Rattle.edm_rows.specs.private.Filled.{IsFilledTo, IsFilledUpTo};
 ghost use Rattle.edm_rows.specs.private.Held.{IsSingle, ReadsTo};
 ghost use Rattle.edm_rows.specs.private.RowSlots.{IsSlotOf, IsTaskOf, IsTypeOf};
 ghost use Rattle.edm_rows.specs.private.Scenes.{FindsMember, IsScene};
 
+use super::absent_slots::ends_object;
 use super::kept_leaf::{
     Taken, take_any_text, take_digits, take_literal, take_member, take_number, take_text,
     take_truth,
@@ -299,7 +300,7 @@ fn fill_items(
         count += 1;
         place = past_blanks(line, end);
         match line.byte(place) {
-            b',' => place += 1,
+            b',' => place = past_blanks(line, place + 1),
             b']' => {
                 cache.spares.cut(slot.spare(), items, count);
                 return Some(place + 1);
@@ -331,7 +332,7 @@ fn fill_members(
     let line = &scene.line;
     let first = past_blanks(line, from);
     if line.byte(first) == b'}' {
-        return if fill_absent(plan, 0, values) {
+        return if ends_object(plan, 0, values.as_mut_slice()) {
             Some(first + 1)
         } else {
             None
@@ -353,12 +354,11 @@ fn fill_members(
             Some(After::Comma(next)) => {
                 so_far = Progress {
                     place: next,
-                    seen: read.seen,
-                    order: read.order,
+                    ..read
                 };
             }
             Some(After::Brace(next)) => {
-                return if fill_absent(plan, read.seen, values) {
+                return if ends_object(plan, read.seen, values.as_mut_slice()) {
                     Some(next)
                 } else {
                     None
@@ -394,8 +394,7 @@ fn fill_found(
     let Some(slot) = found.slot else {
         return Some(Progress {
             place: found.place,
-            seen: so_far.seen,
-            order: so_far.order,
+            ..so_far
         });
     };
     match fill_value(
@@ -412,45 +411,5 @@ fn fill_found(
             order: slot.order,
         }),
         None => None,
-    }
-}
-
-/// Whether the slots that were not seen may be absent; they become null.
-#[inline(always)]
-fn fill_absent(plan: &RowType, seen: u64, values: &mut Vec<Value>) -> bool
-    requires as_many { length values.old.items ≡ length plan.now.slots.items }
-    requires all { plan.now.all ≡ 2 ^ length plan.now.slots.items - 1 }
-    requires bits { (k : ℕ) → IfSome (slice_get plan.now.slots.items k) (λ slot. slot.bit ≡ 2 ^ k) }
-    ensures { IsTrue result → FillsSlots plan.now seen values.old.items values.new.items }
-{
-    if seen == plan.all {
-        return true;
-    }
-    fill_nulls(plan, seen, values)
-}
-
-#[inline(never)]
-fn fill_nulls(plan: &RowType, seen: u64, values: &mut Vec<Value>) -> bool
-    requires as_many { length values.old.items ≡ length plan.now.slots.items }
-    requires all { plan.now.all ≡ 2 ^ length plan.now.slots.items - 1 }
-    requires bits { (k : ℕ) → IfSome (slice_get plan.now.slots.items k) (λ slot. slot.bit ≡ 2 ^ k) }
-    ensures { IsTrue result → FillsSlots plan.now seen values.old.items values.new.items }
-{
-    if seen | plan.optional != plan.all {
-        return false;
-    }
-    for slot in 0..plan.slots.len() {
-        null_unseen(&plan.slots[slot], seen, &mut values[slot]);
-    }
-    true
-}
-
-/// The value of a slot that was not seen becomes null.
-fn null_unseen(slot: &RowSlot, seen: u64, value: &mut Value)
-    ensures null { bit_and seen slot.now.bit ≡ 0 → value.new ≡ Value.Null }
-    ensures stays { bit_and seen slot.now.bit ≢ 0 → value.new ≡ value.old }
-{
-    if seen & slot.bit == 0 {
-        *value = Value::Null;
     }
 }

@@ -1,11 +1,12 @@
 //! The members of a row itself, of which those that are kept become values.
-ghost use Rattle.std.specs.Prelude.{◌≡◌, ◌≢◌, ◌⊎◌, ◌^◌, ◌<◌, ◌≤◌, ℕ, length, slice_get, bit_and, bit_or, true, false, List, IfSome, IsTrue};
+ghost use Rattle.std.specs.Prelude.{◌≡◌, ◌≢◌, ◌<◌, ◌≤◌, ℕ, length, bit_and, bit_or, true, false, List, IfSome};
 ghost use Rattle.edm_rows.specs.private.KeptRows.{GoesOn, IsRootSlot, IsRootType, RowConforms};
-ghost use Rattle.edm_rows.specs.private.KeptRows.{ClearsAbsent, TakesRow, TakesValue, root_properties, root_slots};
-ghost use Rattle.edm_rows.specs.private.KeptSoFar.{FillsAbsent, IsReadTo, IsUpTo, StepsFrom, StepsTo};
+ghost use Rattle.edm_rows.specs.private.KeptRows.{TakesRow, TakesValue, root_properties, root_slots};
+ghost use Rattle.edm_rows.specs.private.KeptSoFar.{IsReadTo, IsUpTo, StepsFrom, StepsTo};
 ghost use Rattle.edm_rows.specs.private.RowSlots.{HasPrimitive};
 ghost use Rattle.edm_rows.specs.private.Scenes.{FindsMember, IsScene, PassesValue};
 
+use super::absent_slots::ends_object;
 use super::kept_leaf::{Taken, take_digits, take_text, take_truth};
 use super::kept_tree::fill_value;
 use super::known_texts::Cache;
@@ -171,12 +172,11 @@ pub(crate) fn take_members(
             Some(After::Comma(next)) => {
                 so_far = Progress {
                     place: next,
-                    seen: read.seen,
-                    order: read.order,
+                    ..read
                 };
             }
             Some(After::Brace(next)) => {
-                if !ends_row(plan, read.seen, values) {
+                if !ends_object(plan, read.seen, values) {
                     return Taken::Nothing;
                 }
                 return Taken::Put(next);
@@ -200,7 +200,7 @@ fn take_empty(scene: &Scene<'_>, plan: &RowType, from: usize, values: &mut [Valu
     if line.byte(brace) != b'}' {
         return Taken::Nothing;
     }
-    if !ends_row(plan, 0, values) {
+    if !ends_object(plan, 0, values) {
         return Taken::Nothing;
     }
     Taken::Put(brace + 1)
@@ -232,8 +232,7 @@ fn take_found(
     let Some(slot) = found.slot else {
         return Step::Read(Progress {
             place: found.place,
-            seen: so_far.seen,
-            order: so_far.order,
+            ..so_far
         });
     };
     if !slot.is_kept {
@@ -282,7 +281,7 @@ fn pass_rest(
         let place = match after_member(&scene.line, read.place) {
             Some(After::Comma(next)) => next,
             Some(After::Brace(next)) => {
-                if !ends_row(plan, read.seen, values) {
+                if !ends_object(plan, read.seen, values) {
                     return Taken::Nothing;
                 }
                 return Taken::Rejected(next);
@@ -292,17 +291,7 @@ fn pass_rest(
         let Some(found) = next_member(cache, scene, plan, read.order, place) else {
             return Taken::Nothing;
         };
-        let Some(next) = pass_next(
-            cache,
-            scene,
-            plan,
-            found,
-            Progress {
-                place,
-                seen: read.seen,
-                order: read.order,
-            },
-        ) else {
+        let Some(next) = pass_next(cache, scene, plan, found, Progress { place, ..read }) else {
             return Taken::Nothing;
         };
         read = next;
@@ -333,8 +322,7 @@ fn pass_next(
     let Some(slot) = found.slot else {
         return Some(Progress {
             place: found.place,
-            seen: so_far.seen,
-            order: so_far.order,
+            ..so_far
         });
     };
     if comes_again(slot, so_far.seen) {
@@ -377,51 +365,5 @@ fn pass_found(
             order: slot.order,
         }),
         None => None,
-    }
-}
-
-/// Whether a row may end with these slots; those that are kept and were not seen become null.
-#[inline(always)]
-fn ends_row(plan: &RowType, seen: u64, values: &mut [Value]) -> bool
-    requires as_many { length values.old ≡ length plan.now.slots.items }
-    requires bits { (k : ℕ) → IfSome (slice_get plan.now.slots.items k) (λ slot. slot.bit ≡ 2 ^ k) }
-    ensures fills { (scene : Scene) → IsRootType scene plan.now
-        → IsTrue result → FillsAbsent scene plan.now.slots.items seen values.old values.new }
-    ensures conforms { (scene : Scene) → IsRootType scene plan.now
-        → RowConforms (root_slots scene) (root_properties scene) values.old
-        → RowConforms (root_slots scene) (root_properties scene) values.new }
-{
-    if seen == plan.all {
-        return true;
-    }
-    take_absent(plan, seen, values)
-}
-
-/// Whether the slots that were not seen may be absent; those that are kept become null.
-#[inline(never)]
-fn take_absent(plan: &RowType, seen: u64, values: &mut [Value]) -> bool
-    requires as_many { length values.old ≡ length plan.now.slots.items }
-    requires bits { (k : ℕ) → IfSome (slice_get plan.now.slots.items k) (λ slot. slot.bit ≡ 2 ^ k) }
-    ensures all { IsTrue result → bit_or seen plan.now.optional ≡ plan.now.all }
-    ensures cleared { IsTrue result → ClearsAbsent plan.now.slots.items seen (length plan.now.slots.items) values.old
-        values.new }
-    ensures none { result ≡ false → values.new ≡ values.old }
-{
-    if seen | plan.optional != plan.all {
-        return false;
-    }
-    for slot in 0..plan.slots.len() {
-        clear(&plan.slots[slot], seen, &mut values[slot]);
-    }
-    true
-}
-
-/// The value of a slot that is kept and was not seen becomes null.
-fn clear(slot: &RowSlot, seen: u64, value: &mut Value)
-    ensures cleared { slot.now.is_kept ≡ true → bit_and seen slot.now.bit ≡ 0 → value.new ≡ Value.Null }
-    ensures stays { (value.new ≡ value.old) ⊎ ((bit_and seen slot.now.bit ≡ 0) × (value.new ≡ Value.Null)) }
-{
-    if slot.is_kept && seen & slot.bit == 0 {
-        *value = Value::Null;
     }
 }

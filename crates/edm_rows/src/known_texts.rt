@@ -10,7 +10,7 @@ ghost use Rattle.edm_rows.specs.private.RowSlots.{name_at};
 
 use super::row_types::PLACES;
 use csdl_schema::{EnumId, Schema};
-use json_room::{DecodeBuffer, RoomyLine, are_front, text_at};
+use json_room::{DecodeBuffer, RoomyLine, are_front, front_of, mask_of, text_at};
 use spare_values::Spares;
 use std::alloc::Global;
 use std::simd::prelude::*;
@@ -193,7 +193,7 @@ fn known_text(schema: &Schema, noted: &Noted) -> Option<KnownText>
     Some(KnownText {
         id: Some(noted.id),
         length: noted.length,
-        front: front_of(&noted.text, noted.length + 1),
+        front: front_of(&noted.text[..noted.length + 1]),
         mask: mask_of(noted.length + 1),
     })
 }
@@ -210,29 +210,4 @@ fn is_plain_text(bytes: &[u8; 16], count: usize) -> bool
         }
     }
     bytes[count] == b'"'
-}
-
-/// So many first bytes, and zeros after them.
-fn front_of(bytes: &[u8; 16], count: usize) -> [u8; 16]
-    requires { count ≤ 16 }
-    ensures long { length result ≡ 16 }
-    ensures each { (k : ℕ) → k < count → get_or result k 0 ≡ get_or bytes.now k 0 }
-{
-    let mut front = [0; 16];
-    for k in 0..count {
-        front[k] = bytes[k];
-    }
-    front
-}
-
-/// All bits of so many bytes, and of no other.
-fn mask_of(count: usize) -> [u8; 16]
-    requires { count ≤ 16 }
-    ensures { (k : ℕ) → k < count → get_or result k 0 ≡ 255 }
-{
-    let mut mask = [0; 16];
-    for k in 0..count {
-        mask[k] = 0xff;
-    }
-    mask
 }

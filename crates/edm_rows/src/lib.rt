@@ -2,6 +2,7 @@
 //! that a filter names become values.
 #![tactic(auto)]
 
+mod absent_slots;
 mod held_schema;
 mod kept_leaf;
 mod kept_tree;

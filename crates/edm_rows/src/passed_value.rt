@@ -1,9 +1,8 @@
 //! Values that are held to their types where they stand, and do not become values.
 ghost use Rattle.std.specs.Prelude.{◌≡◌, ◌<◌, ◌≤◌, ℕ, List, length, IfSome};
 ghost use Rattle.json.specs.Token.{number};
-ghost use Rattle.csdl_schema.specs.ExprType.{ExprType, SingleType, enumeration, primitive, single};
-ghost use Rattle.csdl_schema.specs.SchemaModel.{Slots, slots_of, type_name_at};
-ghost use Rattle.json_tokens.specs.private.Lexemes.{IsTextAt};
+ghost use Rattle.csdl_schema.specs.ExprType.{SingleType, enumeration, primitive, single};
+ghost use Rattle.csdl_schema.specs.SchemaModel.{Slots, slots_of};
 ghost use Rattle.json_room.specs.Lexemes.{StandsTo};
 ghost use Rattle.edm_entities.specs.private.Passed.{FitsSome, FitsSomeHowever};
 ghost use Rattle.edm_rows.specs.private.Held.{IsIntegerText, IsSingle, ReadsTo};
@@ -11,15 +10,15 @@ ghost use Rattle.edm_rows.specs.private.RowSlots.{IsSlotOf, IsTaskOf, name_at};
 ghost use Rattle.edm_rows.specs.private.Scenes.{IsScene, PassesItems, PassesValue};
 
 use super::known_texts::{Cache, KnownTexts, Noted};
-use super::literals::literal_of;
+use super::literals::{literal_at, member_at};
 use super::members::pass_members;
 use super::passed_any::{any_end, any_number_end};
 use super::row_types::{RowSlot, RowType, Task};
-use csdl_schema::{EnumId, Schema};
+use csdl_schema::Schema;
 use edm_row_plans::RowPlan;
 use json_room::{
-    DecodeBuffer, RoomyLine, any_text_at, digits_up_to, escaped_text_end, null_end, number_at,
-    past_blanks, text_end, truth_end,
+    DecodeBuffer, RoomyLine, digits_up_to, escaped_text_end, null_end, number_at, past_blanks,
+    text_end, truth_end,
 };
 use json_tokens::number_of_text;
 use room_literals::{day_end, guid_end, moment_end};
@@ -278,11 +277,8 @@ fn literal_end(
     ensures { (slots : Slots) (depth : ℕ) → IfSome result (λ to. ReadsTo depth line.now place to
         (FitsSomeHowever slots (single (primitive slot.now.prim)))) }
 {
-    let Some((text, end)) = any_text_at(line, place, buffer) else {
-        return None;
-    };
-    match literal_of(slot.prim, text) {
-        Some(_value) => Some(end),
+    match literal_at(buffer, line, slot.prim, place) {
+        Some((_value, end)) => Some(end),
         None => None,
     }
 }
@@ -303,32 +299,11 @@ fn member_text_end(
     let Some(id) = slot.member_of else {
         return None;
     };
-    match text_of_end(&mut cache.decoded, scene.schema, &scene.line, id, place) {
-        Some(end) => {
+    match member_at(&mut cache.decoded, scene.schema, &scene.line, id, place) {
+        Some((_, end)) => {
             cache.noted = Noted::of(id, &scene.line, place);
             Some(end)
         }
-        None => None,
-    }
-}
-
-/// The place after a text of an enumeration.
-fn text_of_end(
-    buffer: &mut DecodeBuffer,
-    schema: &Schema,
-    line: &RoomyLine<'_>,
-    id: EnumId,
-    place: usize,
-) -> Option<usize>
-    requires { place ≤ length line.now }
-    ensures { (depth : ℕ) → IfSome result (λ to. ReadsTo depth line.now place to (FitsSomeHowever
-        (slots_of schema.now) (single (enumeration (type_name_at schema.now id))))) }
-{
-    let Some((text, end)) = any_text_at(line, place, buffer) else {
-        return None;
-    };
-    match schema.enum_value(id, text) {
-        Some(_) => Some(end),
         None => None,
     }
 }
@@ -355,7 +330,7 @@ fn items_end(cache: &mut Cache, scene: &Scene<'_>, slot: &RowSlot, from: usize) 
         };
         place = past_blanks(line, end);
         match line.byte(place) {
-            b',' => place += 1,
+            b',' => place = past_blanks(line, place + 1),
             b']' => return Some(place + 1),
             _ => return None,
         }

@@ -1,10 +1,11 @@
 //! A member's name as it is spelled in a line (RFC 8259, sections 4 and 7).
-ghost use Rattle.std.specs.Prelude.{◌≡◌, ℕ, ◌+◌, ◌<◌, ◌≤◌, ◌^◌, length, get_or, IfSome, IsTrue};
+ghost use Rattle.std.specs.Prelude.{◌≡◌, ℕ, ◌+◌, ◌<◌, ◌≤◌, ◌^◌, length, IfSome, IsTrue};
 ghost use Rattle.json_tokens.specs.Keys.{name_with_colon};
 ghost use Rattle.json_tokens.specs.LexemesAt.{BeginsKey};
 ghost use Rattle.json_room.specs.private.WordBytes.{StandsByte};
 
 use super::blanks::past_blanks;
+use super::fronts::{are_front, front_of, mask_of};
 use super::roomy_line::RoomyLine;
 use json_tokens::Key;
 use std::alloc::Global;
@@ -131,41 +132,4 @@ fn word_stands(line: &RoomyLine<'_>, place: usize, word: &[u8], from: usize) -> 
         }
     }
     true
-}
-
-/// The first sixteen bytes, with zeros where there are fewer.
-fn front_of(spelled: &[u8]) -> [u8; 16]
-    ensures { (k : ℕ) → k < 16 → k < length spelled.now → get_or result k 0 ≡ get_or spelled.now k 0 }
-{
-    let mut front = [0; 16];
-    for k in 0..spelled.len().min(16) {
-        front[k] = spelled[k];
-    }
-    front
-}
-
-/// All bits of so many bytes, at most sixteen, and none of the others.
-fn mask_of(count: usize) -> [u8; 16]
-    ensures { (k : ℕ) → k < 16 → k < count → get_or result k 0 ≡ 255 }
-{
-    let mut mask = [0; 16];
-    for k in 0..count.min(16) {
-        mask[k] = 0xff;
-    }
-    mask
-}
-
-/// Whether sixteen bytes are these, where the mask has all bits.
-#[inline(always)]
-pub fn are_front(lanes: u8x16, mask: u8x16, front: u8x16) -> bool
-    ensures { IsTrue result → (k : ℕ) → k < 16 → get_or mask k 0 ≡ 255 → get_or lanes k 0 ≡ get_or front k 0 }
-{
-    are_equal_16(lanes & mask, front)
-}
-
-#[inline(always)]
-fn are_equal_16(lanes: u8x16, others: u8x16) -> bool
-    ensures { IsTrue result → lanes ≡ others }
-{
-    lanes.simd_eq(others).to_bitmask() == 0xffff
 }

@@ -13,7 +13,10 @@ use std::alloc::{AllocError, Global};
 use std::io::Read;
 use std::marker::Model;
 
-/// The most bytes that one read is asked for, and the least that the buffer grows by.
+/// For how many bytes there is room at first, and the least that the buffer grows by.
+const FIRST_ROOM: usize = 32_768;
+
+/// The most bytes that one read is asked for.
 pub const ONE_READ: usize = 65_536;
 
 /// The most bytes that the buffer has: a line that is not yet too long, and one read.
@@ -182,7 +185,7 @@ impl Buffer {
         if self.filled < self.bytes.len() {
             return Ok(());
         }
-        let wanted = (self.filled + self.filled.max(ONE_READ)).min(MOST_HELD);
+        let wanted = (self.filled + self.filled.max(FIRST_ROOM)).min(MOST_HELD);
         self.bytes.resize(wanted, 0)
     }
 

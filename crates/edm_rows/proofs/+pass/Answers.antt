@@ -209,9 +209,9 @@ passed_value::items_end-items-preserved t c =
     let comma = c.past_blanks-place-in-items.result in
     let here = sym c.byte-in-items.ensures.here ∙ c.in-44.is in (
       c.value_end.ensures.depth ∙ l.invariant.0,
-      held_comma scene slot depth c.args.from l.place c.in-Some.end comma c.requires.single l.invariant.1
+      held_comma scene slot depth c.args.from l.place c.in-Some.end comma c.past_blanks-place-in-44.result c.requires.single l.invariant.1
           (subst (λ n. PassesValue scene slot slot.item n l.place c.in-Some.end) l.invariant.0 c.in-Some.ensures.passed) c.past_blanks-place-in-items.ensures
-          (within_byte d comma 44 here (λ e. omega arith)) (other_default d comma 44 here (λ e. omega arith)),
+          (within_byte d comma 44 here (λ e. omega arith)) (other_default d comma 44 here (λ e. omega arith)) c.past_blanks-place-in-44.ensures,
     )
 
 pub passed_value::items_end-returns-in-93-clause-passed : goal.passed_value::items_end-returns-in-93-clause-passed

@@ -1,10 +1,11 @@
 -- For private clauses: values with parts that are filled again where they are.
-use Rattle.std.specs.Prelude.{◌≡◌, ◌⊎◌, ◌<◌, ℕ, List, length, slice_get, Bool, Some}
+use Rattle.std.specs.Prelude.{◌≡◌, ◌⊎◌, ◌<◌, ℕ, List, length, slice_get, Bool, Some, IfSome}
 use Rattle.std.specs.Int.{bit_at}
 use Rattle.serde_json.specs.Data.{Data, Items, object}
 use Rattle.csdl_schema.specs.ExprType.{SingleType}
-use Rattle.csdl_schema.specs.SchemaModel.{Slots, properties_at}
+use Rattle.csdl_schema.specs.SchemaModel.{HasDistinctNames, PropertyModel, Slots, properties_at}
 use Rattle.edm_values.specs.declared.value.Value.{Value, Null}
+use Rattle.edm_entities.specs.private.Passed.{MayBeAbsent}
 use Rattle.edm_entities.specs.private.RowTokens.{ReadsItems, ReadsMembers}
 use Rattle.edm_entities.specs.private.SlotsSoFar.{SlotsSoFar}
 use Rattle.edm_entities.specs.private.Walk.{FitList, FitSlots, HoldInItems}
@@ -16,6 +17,7 @@ use Rattle.edm_rows.specs.declared.row_types.RowSlot.{RowSlot}
 use Rattle.edm_rows.specs.declared.row_types.RowType.{RowType}
 use Rattle.edm_rows.specs.declared.row_types.Task.{Task}
 use Rattle.edm_rows.specs.private.Held.{FilledAs, PassesTo, ReadsTo, type_of}
+use Rattle.edm_rows.specs.private.KeptRows.{RowConforms}
 use Rattle.edm_rows.specs.private.KeptSoFar.{SameMarks}
 use Rattle.edm_rows.specs.private.MembersSoFar.{MembersRead, MembersUpTo}
 use Rattle.edm_rows.specs.private.RowSlots.{kinds_of}
@@ -83,9 +85,17 @@ IsFilledUpTo scene type depth from values so_far = FilledUpTo scene type depth f
 abbrev pub IsFilledTo : Scene → RowType → ℕ → ℕ → List Value → Progress → Type 0
 IsFilledTo scene type depth from values read = FilledRead scene type depth from read.place read.seen values
 
+-- values that conform to properties go on to conform, where each slot that was not seen may be absent
+abbrev pub GoOnConforming : ℕ → List Value → List Value → Type 0
+GoOnConforming seen old new =
+    (slots : Slots) (properties : List PropertyModel) → HasDistinctNames properties → length properties ≡ length old
+    → ((k : ℕ) → k < length properties → bit_at seen k ≡ 0 → IfSome (slice_get properties k) (MayBeAbsent slots))
+    → RowConforms slots properties old → RowConforms slots properties new
+
 -- at the end each slot was seen or may be absent; those that were seen stay, and the others are null
 pub record FillsSlots (type : RowType) (seen : ℕ) (old new : List Value) : Type 0 where
   pub may : (k : ℕ) → k < length type.slots.items → (bit_at seen k ≡ 1) ⊎ (bit_at type.optional k ≡ 1)
   pub long : length new ≡ length old
   pub stay : (k : ℕ) → bit_at seen k ≡ 1 → slice_get new k ≡ slice_get old k
   pub nulls : (k : ℕ) → k < length type.slots.items → bit_at seen k ≡ 0 → slice_get new k ≡ Some Null
+  pub conforms : GoOnConforming seen old new

@@ -1,15 +1,13 @@
 -- For private clauses: a row that is filled again, while the members of a line are read into it.
-use Rattle.std.specs.Prelude.{◌≡◌, ◌⊎◌, ◌<◌, ℕ, List, length, get_or, Bool, true, false, Some, IfSome, MatchBool, Option, map, slice_get}
-use Rattle.std.specs.Int.{bit_at}
-use Rattle.json.specs.Token.{null}
-use Rattle.json_room.specs.Lexemes.{StandsTo, tokens_at}
+use Rattle.std.specs.Prelude.{◌≡◌, ◌⊎◌, ℕ, List, Bool, true, false, Some, IfSome, MatchBool, map, slice_get}
+use Rattle.json_room.specs.Lexemes.{tokens_at}
 use Rattle.serde_json.specs.Data.{Data, Members, object}
 use Rattle.serde_json.specs.Find.{get_member}
-use Rattle.csdl_schema.specs.SchemaModel.{HasDistinctNames, PropertyModel, Slots, properties_at, slots_behind}
+use Rattle.csdl_schema.specs.SchemaModel.{PropertyModel, Slots, properties_at, slots_behind}
 use Rattle.edm_values.specs.SieveMeaning.{Rejects}
 use Rattle.edm_values.specs.Val.{FieldVal, Val, present}
 use Rattle.edm_values.specs.declared.sieve.Sieve.{Sieve}
-use Rattle.edm_values.specs.declared.value.Value.{Value, Null}
+use Rattle.edm_values.specs.declared.value.Value.{Value}
 use Rattle.edm_row_plans.specs.Expanded.{slots_at}
 use Rattle.edm_row_plans.specs.PassedNames.{Names}
 use Rattle.edm_row_plans.specs.Plans.{IsPlanOf, IsSlotPlan}
@@ -17,7 +15,7 @@ use Rattle.edm_row_plans.specs.declared.type_plan.SlotPlan.{SlotPlan}
 use Rattle.edm_row_plans.specs.declared.type_plan.TypePlan.{TypePlan}
 use Rattle.edm_entities.specs.Fits.{FitsProperty}
 use Rattle.edm_entities.specs.Row.{ValAtType, val_of}
-use Rattle.edm_entities.specs.private.Passed.{FitSlotsBut, FitSomeSlots, FitsSeen, MayBeAbsent}
+use Rattle.edm_entities.specs.private.Passed.{FitSlotsBut, FitSomeSlots, FitsSeen}
 use Rattle.edm_entities.specs.private.RowTokens.{ReadsMembers}
 use Rattle.json_tokens.specs.declared.lexeme.Turn.TheVariants.{AfterValue, Fresh}
 use Rattle.edm_entities.specs.private.Walk.{FitSlots, HoldsInSlot}
@@ -107,18 +105,6 @@ names_unkept_in properties slots name =
 -- the values fit the members of some object whole
 abbrev pub RowConforms : Slots → List PropertyModel → List Value → Type 0
 RowConforms slots properties values = (kept : Members) × FitSlots slots (object kept) properties values
-
--- the slots that were seen stay, and those below a place that are kept and were not are null; if each that was not may
--- be absent, the values go on to conform
-pub record ClearsAbsent (rows : List RowSlot) (seen place : ℕ) (old new : List Value) : Type 0 where
-  pub long : length new ≡ length old
-  pub stay : (k : ℕ) → bit_at seen k ≡ 1 → slice_get new k ≡ slice_get old k
-  pub cleared : (k : ℕ) → k < place → bit_at seen k ≡ 0 → slice_get (map (λ s. s.is_kept) rows) k ≡ Some true
-      → slice_get new k ≡ Some Null
-  pub conforms : (slots : Slots) (properties : List PropertyModel) → HasDistinctNames properties
-      → length properties ≡ length old
-      → ((k : ℕ) → k < length properties → bit_at seen k ≡ 0 → IfSome (slice_get properties k) (MayBeAbsent slots))
-      → RowConforms slots properties old → RowConforms slots properties new
 
 -- values fit the members that were found, of which a slot's sieve rejects one
 pub record IsRowRejected (scene : Scene) (slots : List RowSlot) (found : Members) : Type 0 where

@@ -1,26 +1,20 @@
-use Rattle.std.proofs.Common.{ℤ, Option, ℕ, sym, subst, rules}
+use Rattle.std.proofs.Common.{ℕ, ℤ, Option, sym, subst, rules}
 use Rattle.std.proofs.lemmas.Int.{to_z-of_z}
 use Rattle.std.specs.Prelude.{FitsSigned}
 use Rattle.std.specs.Int.{w64}
-use Rattle.csdl_schema.specs.EnumerationText.{IsOfUnderlying, IsValueIn}
-use Rattle.csdl_schema.specs.SchemaModel.{slots_of, type_name_at}
+use Rattle.csdl_schema.specs.SchemaModel.{slots_of}
 use Rattle.edm_values.specs.declared.value.Value.{Enum}
 use Rattle.edm_rows.specs.private.KeptLeaves.{PutsMember}
 use Rattle.edm_rows.specs.private.RowSlots.{name_at}
-use Rattle.edm_rows.proofs.LeavesKept.{member_puts}
 use Rattle.edm_rows.proofs.kept_leaf.take_member.Goals as goal
 
-pub returns-in-Some-enum_value-clause-taken : goal.returns-in-Some-enum_value-clause-taken
-returns-in-Some-enum_value-clause-taken c =
+pub returns-in-Some-member_at-clause-taken : goal.returns-in-Some-member_at-clause-taken
+returns-in-Some-member_at-clause-taken c =
     let schema = c.args.scene.now.schema.now in
     let slots = slots_of schema in
-    let n = c.in-Some-enum_value.number in
-    let id = c.in-Some.id in
+    let found = c.in-Some-member_at in
     let line = c.args.scene.now.line in
-    let there = c.in-Some-any_text_at in
-    let value = subst (λ e. IsValueIn e there.text.now n) c.enum_value.ensures.by_name c.in-Some-enum_value.ensures.value in
-    let within = subst (λ e. IsOfUnderlying e n) c.enum_value.ensures.by_name c.in-Some-enum_value.ensures.within in
-    let fits : FitsSigned w64 n = search rules in
-    subst (λ (z : ℤ). PutsMember line slots (name_at schema c.args.slot.now.member_of) (Enum z) c.args.place there.end) (sym (to_z-of_z w64 n fits))
-    (subst (λ (o : Option ℕ). PutsMember line slots (name_at schema o) (Enum n) c.args.place there.end) (sym c.in-Some.is)
-    (member_puts slots (type_name_at schema id) there.text.now line c.args.place there.end n there.ensures.further there.ensures.text value within))
+    let name = name_at schema c.args.slot.now.member_of in
+    let fits : FitsSigned w64 found.number = search rules in
+    subst (λ (z : ℤ). PutsMember line slots name (Enum z) c.args.place found.end) (sym (to_z-of_z w64 found.number fits))
+    (subst (λ (o : Option ℕ). PutsMember line slots (name_at schema o) (Enum found.number) c.args.place found.end) (sym c.in-Some.is) found.ensures)

@@ -1,8 +1,8 @@
-use Rattle.std.proofs.Common.{◌≡◌, ◌+◌, ◌-◌, ◌<◌, ◌≤◌, ℕ, length, get_or, slice_get, take, Some, IfSome, refl, sym, ap, ◌∙◌, subst, rules, arith}
+use Rattle.std.proofs.Common.{◌≡◌, ◌+◌, ◌-◌, ◌<◌, ◌≤◌, ℕ, length, get_or, slice_get, take, drop, Some, IfSome, refl, sym, ap, ◌∙◌, subst, rules, arith}
 use Rattle.std.proofs.lemmas.Option.{slice_get_read}
 use Rattle.csdl_schema.specs.ExprType.{primitive}
 use Rattle.csdl_schema.specs.SchemaModel.{properties_at}
-use Rattle.edm_entities.proofs.RowLemmas.Plans.{long_set}
+use Rattle.std.proofs.lemmas.List.{length-set, take_at}
 use Rattle.edm_values.specs.declared.primitive.PrimitiveType.TheVariants as prim
 use Rattle.json_room.proofs.RoomLemmas.{other_default, within_byte}
 use Rattle.edm_values.specs.declared.value.Value.{List as ListOf, Record as RecordOf}
@@ -10,7 +10,7 @@ use Rattle.edm_rows.specs.declared.kept_leaf.Taken.TheVariants.{Put}
 use Rattle.edm_rows.specs.declared.members.After.{After}
 use Rattle.edm_rows.specs.declared.row_types.RowType.{RowType}
 use Rattle.edm_rows.specs.declared.row_types.Task.TheVariants as task
-use Rattle.edm_rows.specs.private.Filled.{FillsItems, FillsMembers, FillsValue, IsFilledTo, IsFilledUpTo}
+use Rattle.edm_rows.specs.private.Filled.{FillsItems, FillsMembers, FillsSlots, FillsValue, IsFilledTo, IsFilledUpTo}
 use Rattle.edm_rows.specs.private.Held.{IsSingle}
 use Rattle.edm_rows.specs.private.KeptLeaves.{PutsLeaf}
 use Rattle.edm_rows.specs.private.Members.{EndsMember}
@@ -191,10 +191,10 @@ fill_items-items-preserved t c =
     let comma = c.past_blanks-place-in-items.result in
     let here = sym c.byte-in-items.ensures.here ∙ c.in-44.is in (
       c.fill_value.ensures.depth ∙ l.invariant.0,
-      list_comma scene slot c.requires.single depth c.args.from l.place c.in-Some.end l.items.items held l.count v c.has_item.ensures.kept within comma l.invariant.1
+      list_comma scene slot c.requires.single depth c.args.from l.place c.in-Some.end l.items.items held l.count v c.has_item.ensures.kept within comma c.past_blanks-place-in-44.result l.invariant.1
           (subst (λ n. FillsValue scene slot slot.item n v l.place c.in-Some.end) l.invariant.0 c.in-Some.ensures.filled) c.past_blanks-place-in-items.ensures
-          (within_byte d comma 44 here (λ e. omega arith)) (other_default d comma 44 here (λ e. omega arith)),
-      omega (arith, long_set held l.count v, within),
+          (within_byte d comma 44 here (λ e. omega arith)) (other_default d comma 44 here (λ e. omega arith)) c.past_blanks-place-in-44.ensures,
+      omega (arith, length-set held l.count v, within),
     )
 
 pub fill_items-returns-in-93-clause-filled : goal.fill_items-returns-in-93-clause-filled
@@ -292,8 +292,8 @@ fill_members-members-smaller t c =
     let ends : EndsMember c.args.scene.now.line read.place (After.Comma c.in-Some-Comma.next) = subst (EndsMember c.args.scene.now.line read.place) c.in-Some-Comma.field-0-is c.in-Some-Comma.ensures in
     omega (arith, c.in-Some-fill_found.ensures.further.0, ends.0, ends.1)
 
-pub fill_members-returns-then-fill_absent-clause-filled : goal.fill_members-returns-then-fill_absent-clause-filled
-fill_members-returns-then-fill_absent-clause-filled t c =
+pub fill_members-returns-then-ends_object-clause-filled : goal.fill_members-returns-then-ends_object-clause-filled
+fill_members-returns-then-ends_object-clause-filled t c =
     let scene = c.args.scene.now in
     let type = c.args.plan.now in
     let d = scene.line in
@@ -302,28 +302,37 @@ fill_members-returns-then-fill_absent-clause-filled t c =
     let within = within_byte d brace 125 here (λ e. omega arith) in
     let count = as_many scene.schema.now scene.plan.now.expansion scene.plan.now.plans.items c.requires.plan.0 type c.requires.plan.1 in
     let fitted = c.fit_count.ensures c.if-not-fit_count.false in
-    let long : length c.fit_count.new.values.items ≡ length c.args.plan.now.slots.items = omega (arith, fitted) in (
+    let long : length c.fit_count.new.values.items ≡ length c.args.plan.now.slots.items = omega (arith, fitted) in
+    let old = c.fit_count.new.values in
+    let new = c.ends_object.new.values in
+    let back = c.as_mut_slice.ensures in
+    let fills = subst (λ vs. FillsSlots type 0 vs new) back.value (c.ends_object.ensures.fills c.if-ends_object.true) in
+    let as_long : length new ≡ old.len = fills.long ∙ sym (ap length back.value) ∙ back.len in
+    subst (λ vs. FillsMembers scene type c.args.cache.now.depth vs c.args.from (brace + 1)) (sym (take_at new (drop (length new) old.items) old.len as_long)) (
       (omega (arith, c.past_blanks-first.ensures.bounds.0), omega (arith, within)),
-      filled_empty scene type c.args.cache.now.depth c.requires.plan.1.optional count 0 c.fit_count.new.values.items c.fill_absent.new.values.items (c.fill_absent.ensures c.if-fill_absent.true) (long ∙ count) c.args.from brace refl c.past_blanks-first.ensures within
-          (other_default d brace 125 here (λ e. omega arith)),
+      filled_empty scene type c.args.cache.now.depth c.requires.plan.1.optional count 0 old.items new fills (long ∙ count) c.args.from brace refl c.past_blanks-first.ensures within (other_default d brace 125 here (λ e. omega arith)),
     )
 
-pub fill_members-returns-then-fill_absent-2-clause-filled : goal.fill_members-returns-then-fill_absent-2-clause-filled
-fill_members-returns-then-fill_absent-2-clause-filled t c =
+pub fill_members-returns-then-ends_object-2-clause-filled : goal.fill_members-returns-then-ends_object-2-clause-filled
+fill_members-returns-then-ends_object-2-clause-filled t c =
     let l = c.members in
     let scene = c.args.scene.now in
     let type = c.args.plan.now in
     let depth = c.args.cache.now.depth in
     let read = c.in-Some-fill_found.read in
-    let values = c.fill_found.new.values.items in
+    let old = c.fill_found.new.values in
+    let new = c.ends_object-in-Some-Brace.new.values in
+    let back = c.as_mut_slice-in-Some-Brace.ensures in
     let count = as_many scene.schema.now scene.plan.now.expansion scene.plan.now.plans.items c.requires.plan.0 type c.requires.plan.1 in
     let now = c.next_member.ensures.depth ∙ l.invariant.0 in
     let up_to = subst (λ n. IsFilledUpTo scene type n c.args.from l.values.items l.so_far) (sym now) l.invariant.2 in
-    let read_to = subst (λ n. IsFilledTo scene type n c.args.from values read) now (c.in-Some-fill_found.ensures.filled c.args.from up_to) in
-    let ends : EndsMember scene.line read.place (After.Brace c.in-Some-Brace.next) = subst (EndsMember scene.line read.place) c.in-Some-Brace.field-0-is c.in-Some-Brace.ensures in (
+    let read_to = subst (λ n. IsFilledTo scene type n c.args.from old.items read) now (c.in-Some-fill_found.ensures.filled c.args.from up_to) in
+    let ends : EndsMember scene.line read.place (After.Brace c.in-Some-Brace.next) = subst (EndsMember scene.line read.place) c.in-Some-Brace.field-0-is c.in-Some-Brace.ensures in
+    let fills = subst (λ vs. FillsSlots type read.seen vs new) back.value (c.ends_object-in-Some-Brace.ensures.fills c.if-ends_object-2.true) in
+    let as_long : length new ≡ old.len = fills.long ∙ sym (ap length back.value) ∙ back.len in
+    subst (λ vs. FillsMembers scene type depth vs c.args.from c.in-Some-Brace.next) (sym (take_at new (drop (length new) old.items) old.len as_long)) (
       (omega (arith, read_to.members.bounds.0, ends.0), ends.1),
-      filled_brace scene type depth c.requires.plan.1.optional count read.seen values c.fill_absent-in-Some-Brace.new.values.items (c.fill_absent-in-Some-Brace.ensures c.if-fill_absent-2.true) (c.fill_found.ensures.long ∙ l.invariant.3 ∙ count) c.args.from
-          read.place c.in-Some-Brace.next read_to ends,
+      filled_brace scene type depth c.requires.plan.1.optional count read.seen old.items new fills (c.fill_found.ensures.long ∙ l.invariant.3 ∙ count) c.args.from read.place c.in-Some-Brace.next read_to ends,
     )
 
 pub fill_members-after_member-requires : goal.fill_members-after_member-requires
@@ -333,8 +342,8 @@ fill_members-after_member-requires t c =
     let up_to = subst (λ n. IsFilledUpTo c.args.scene.now c.args.plan.now n c.args.from l.values.items l.so_far) (sym now) l.invariant.2 in
     (c.in-Some-fill_found.ensures.filled c.args.from up_to).members.bounds.1
 
-pub fill_members-fill_absent-requires : goal.fill_members-fill_absent-requires
-fill_members-fill_absent-requires t c =
+pub fill_members-ends_object-requires : goal.fill_members-ends_object-requires
+fill_members-ends_object-requires t c =
     let scene = c.args.scene.now in
     let bits = type_bits scene.schema.now scene.plan.now.expansion scene.plan.now.plans.items c.requires.plan.0 c.args.plan.now c.requires.plan.1 in
     let all = c.requires.plan.1.all in
@@ -342,8 +351,8 @@ fill_members-fill_absent-requires t c =
     let long : length c.fit_count.new.values.items ≡ length c.args.plan.now.slots.items = omega (arith, fitted) in
     search rules
 
-pub fill_members-fill_absent-requires-in-Some-Brace : goal.fill_members-fill_absent-requires-in-Some-Brace
-fill_members-fill_absent-requires-in-Some-Brace t c =
+pub fill_members-ends_object-requires-in-Some-Brace : goal.fill_members-ends_object-requires-in-Some-Brace
+fill_members-ends_object-requires-in-Some-Brace t c =
     let scene = c.args.scene.now in
     let bits = type_bits scene.schema.now scene.plan.now.expansion scene.plan.now.plans.items c.requires.plan.0 c.args.plan.now c.requires.plan.1 in
     let all = c.requires.plan.1.all in

@@ -2,7 +2,7 @@ use Rattle.std.proofs.Common.{true, sym, ◌∙◌, subst, arith}
 use Rattle.edm_rows.specs.declared.members.After.{After}
 use Rattle.edm_rows.specs.private.Members.{EndsMember}
 use Rattle.edm_rows.specs.private.KeptRows.{root_properties}
-use Rattle.edm_rows.proofs.AbsentCleared.{root_bits, rows_long}
+use Rattle.edm_rows.proofs.RootEnds.{fills_absent, root_bits, rows_long}
 use Rattle.edm_rows.proofs.KeptMembers.{kept_comma}
 use Rattle.edm_rows.proofs.KeptSlots.{held_long}
 use Rattle.edm_rows.proofs.RowSteps.{row_ends}
@@ -11,18 +11,22 @@ use Rattle.edm_rows.proofs.kept_value.pass_rest.Goals as goal
 pub members-init : goal.members-init
 members-init c = (c.requires.within, c.requires.order, c.requires.depth, λ from read. read, c.requires.conforms)
 
-pub ends_row-requires-clause-as_many : goal.ends_row-requires-clause-as_many
-ends_row-requires-clause-as_many c = held_long _ (root_properties c.args.scene.now) c.members.values c.members.invariant.4.1 ∙ sym (rows_long c.args.scene.now c.args.plan.now c.requires.plan)
+pub ends_object-requires-clause-as_many : goal.ends_object-requires-clause-as_many
+ends_object-requires-clause-as_many c = held_long _ (root_properties c.args.scene.now) c.members.values c.members.invariant.4.1 ∙ sym (rows_long c.args.scene.now c.args.plan.now c.requires.plan)
 
-pub ends_row-requires-clause-bits : goal.ends_row-requires-clause-bits
-ends_row-requires-clause-bits c = root_bits c.args.scene.now c.args.plan.now c.requires.plan
+pub ends_object-requires-clause-all : goal.ends_object-requires-clause-all
+ends_object-requires-clause-all c = c.requires.plan.is.all
+
+pub ends_object-requires-clause-bits : goal.ends_object-requires-clause-bits
+ends_object-requires-clause-bits c = root_bits c.args.scene.now c.args.plan.now c.requires.plan
 
 pub returns-in-Some-Brace-clause-read : goal.returns-in-Some-Brace-clause-read
 returns-in-Some-Brace-clause-read c from rejected =
     let scene = c.args.scene.now in
     let plan = c.args.plan.now in
-    row_ends scene plan true from c.in-Some-Brace.next c.members.read c.members.values c.ends_row.new.values c.requires.plan (c.members.invariant.3 from rejected)
-    (c.ends_row.ensures.fills scene c.requires.plan c.if-not-ends_row.false) (subst (EndsMember scene.line c.members.read.place) c.in-Some-Brace.field-0-is c.in-Some-Brace.ensures)
+    row_ends scene plan true from c.in-Some-Brace.next c.members.read c.members.values c.ends_object.new.values c.requires.plan (c.members.invariant.3 from rejected)
+    (fills_absent scene c.args.plan.now c.requires.plan c.members.read.seen c.members.values c.ends_object.new.values (c.ends_object.ensures.fills c.if-not-ends_object.false)
+    (held_long _ (root_properties scene) c.members.values c.members.invariant.4.1 ∙ sym (rows_long scene c.args.plan.now c.requires.plan))) (subst (EndsMember scene.line c.members.read.place) c.in-Some-Brace.field-0-is c.in-Some-Brace.ensures)
 
 pub members-preserved : goal.members-preserved
 members-preserved c =

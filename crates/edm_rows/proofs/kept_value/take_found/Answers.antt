@@ -1,6 +1,6 @@
 use Rattle.std.proofs.Common.{◌≡◌, ◌<◌, false, inl, List, Some, length, get_or, slice_get, arith}
 use Rattle.std.proofs.lemmas.Option.{slice_get-get_or}
-use Rattle.edm_rows.proofs.AbsentCleared.{rows_long}
+use Rattle.edm_rows.proofs.RootEnds.{rows_long}
 use Rattle.edm_rows.proofs.RowSteps.{conforms_on, none_in, passed_at, put_read, rejected_on, slot_in}
 use Rattle.edm_rows.proofs.kept_value.take_found.Goals as goal
 

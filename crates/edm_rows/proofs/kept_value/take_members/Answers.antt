@@ -3,7 +3,7 @@ use Rattle.json_tokens.proofs.LexemeLemmas.{stay}
 use Rattle.edm_rows.specs.declared.members.After.{After}
 use Rattle.edm_rows.specs.private.Members.{EndsMember}
 use Rattle.edm_rows.specs.private.KeptRows.{root_properties}
-use Rattle.edm_rows.proofs.AbsentCleared.{root_bits, rows_long}
+use Rattle.edm_rows.proofs.RootEnds.{fills_absent, root_bits, rows_long}
 use Rattle.edm_rows.proofs.KeptMembers.{kept_comma, kept_none}
 use Rattle.edm_rows.proofs.KeptSlots.{held_long}
 use Rattle.edm_rows.proofs.RowSteps.{row_ends}
@@ -46,19 +46,23 @@ members-preserved c =
       c.in-Read.ensures.conforms c.members.invariant.4 (λ e. absurd (cc)),
     )
 
-pub ends_row-requires-clause-as_many : goal.ends_row-requires-clause-as_many
-ends_row-requires-clause-as_many c =
+pub ends_object-requires-clause-as_many : goal.ends_object-requires-clause-as_many
+ends_object-requires-clause-as_many c =
     held_long _ (root_properties c.args.scene.now) c.take_found.new.values (c.in-Read.ensures.conforms c.members.invariant.4 (λ e. absurd (cc))).1 ∙ sym (rows_long c.args.scene.now c.args.plan.now c.requires.plan)
 
-pub ends_row-requires-clause-bits : goal.ends_row-requires-clause-bits
-ends_row-requires-clause-bits c = root_bits c.args.scene.now c.args.plan.now c.requires.plan
+pub ends_object-requires-clause-all : goal.ends_object-requires-clause-all
+ends_object-requires-clause-all c = c.requires.plan.is.all
+
+pub ends_object-requires-clause-bits : goal.ends_object-requires-clause-bits
+ends_object-requires-clause-bits c = root_bits c.args.scene.now c.args.plan.now c.requires.plan
 
 pub returns-in-Some-Brace-clause-read : goal.returns-in-Some-Brace-clause-read
 returns-in-Some-Brace-clause-read c =
     let scene = c.args.scene.now in
     let plan = c.args.plan.now in
-    row_ends scene plan false c.args.from c.in-Some-Brace.next c.in-Read.read c.take_found.new.values c.ends_row.new.values c.requires.plan (c.in-Read.ensures.read c.args.from c.members.invariant.3)
-    (c.ends_row.ensures.fills scene c.requires.plan c.if-not-ends_row.false) (subst (EndsMember scene.line c.in-Read.read.place) c.in-Some-Brace.field-0-is c.in-Some-Brace.ensures)
+    row_ends scene plan false c.args.from c.in-Some-Brace.next c.in-Read.read c.take_found.new.values c.ends_object.new.values c.requires.plan (c.in-Read.ensures.read c.args.from c.members.invariant.3)
+    (fills_absent scene c.args.plan.now c.requires.plan c.in-Read.read.seen c.take_found.new.values c.ends_object.new.values (c.ends_object.ensures.fills c.if-not-ends_object.false)
+    (held_long _ (root_properties scene) c.take_found.new.values (c.in-Read.ensures.conforms c.members.invariant.4 (λ e. absurd (cc))).1 ∙ sym (rows_long scene c.args.plan.now c.requires.plan))) (subst (EndsMember scene.line c.in-Read.read.place) c.in-Some-Brace.field-0-is c.in-Some-Brace.ensures)
 
 pub pass_rest-requires-clause-within : goal.pass_rest-requires-clause-within
 pass_rest-requires-clause-within c = (c.in-Rejected.ensures.read c.args.from c.members.invariant.3).members.bounds.1

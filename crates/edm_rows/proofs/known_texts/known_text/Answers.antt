@@ -1,5 +1,5 @@
-use Rattle.std.proofs.Common.{◌≡◌, false, is_none, rules, arith}
-use Rattle.edm_rows.proofs.KnownTextsStand.{known_is, some_member}
+use Rattle.std.proofs.Common.{◌≡◌, ◌<◌, false, is_none, refl, rules, arith}
+use Rattle.edm_rows.proofs.KnownTextsStand.{front_first, inside_by, known_is, some_member}
 use Rattle.edm_rows.proofs.known_texts.known_text.Goals as goal
 
 pub returns-clause-known : goal.returns-clause-known
@@ -8,5 +8,10 @@ returns-clause-known c =
     let v = c.enum_value.ensures in
     let plain = c.is_plain_text.ensures in
     let done = c.if-not-is_plain_text.false in
-    known_is c.args.schema.now c.args.noted.now.id c.args.noted.now.length c.args.noted.now.text c.in-Ok.text.now c.front_of.result c.mask_of.result (omega (arith, c.if-noted-ge-TOO_LONG.false)) c.in-Ok.ensures.cases.0
-    (some_member c.args.schema.now c.args.noted.now.id c.in-Ok.text.now c.enum_value.result found v.by_name v.value v.within) (plain.plain done) (plain.quote done) c.front_of.ensures.long c.front_of.ensures.each c.mask_of.ensures
+    let text = c.args.noted.now.text in
+    let n = c.args.noted.now.length in
+    let few : n < 16 = omega (arith, c.if-noted-ge-TOO_LONG.false) in
+    let first = front_first text _ c.front_of.result n refl (inside_by text n (plain.quote done)) few c.front_of.ensures.first in
+    known_is c.args.schema.now c.args.noted.now.id n text c.in-Ok.text.now c.front_of.result c.mask_of.result few c.in-Ok.ensures.cases.0
+    (some_member c.args.schema.now c.args.noted.now.id c.in-Ok.text.now c.enum_value.result found v.by_name v.value v.within) (plain.plain done) (plain.quote done) c.front_of.ensures.long first
+    (λ k inside. c.mask_of.ensures.first k (omega (arith, inside, few)) inside)

@@ -1,13 +1,15 @@
 use Rattle.std.proofs.Common.{sym, subst}
 use Rattle.csdl_schema.specs.ExprType.{enumeration, single}
-use Rattle.csdl_schema.specs.SchemaModel.{slots_of}
+use Rattle.csdl_schema.specs.SchemaModel.{slots_of, type_name_at}
 use Rattle.edm_entities.specs.private.Passed.{FitsSomeHowever}
 use Rattle.edm_rows.specs.private.Held.{ReadsTo}
 use Rattle.edm_rows.specs.private.RowSlots.{name_at}
+use Rattle.edm_rows.proofs.LeavesKept.{member_fits}
 use Rattle.edm_rows.proofs.passed_value.member_text_end.Goals as goal
 
-pub returns-in-Some-text_of_end-clause-read : goal.returns-in-Some-text_of_end-clause-read
-returns-in-Some-text_of_end-clause-read c depth =
+pub returns-in-Some-member_at-clause-read : goal.returns-in-Some-member_at-clause-read
+returns-in-Some-member_at-clause-read c depth =
     let schema = c.args.scene.now.schema.now in
-    subst (λ o. ReadsTo depth c.args.scene.now.line c.args.place c.in-Some-text_of_end.end (FitsSomeHowever (slots_of schema) (single (enumeration (name_at schema o))))) (sym c.in-Some.is)
-    (c.in-Some-text_of_end.ensures depth)
+    let found = c.in-Some-member_at in
+    subst (λ o. ReadsTo depth c.args.scene.now.line c.args.place found.end (FitsSomeHowever (slots_of schema) (single (enumeration (name_at schema o))))) (sym c.in-Some.is)
+    (member_fits (slots_of schema) (type_name_at schema c.in-Some.id) depth c.args.scene.now.line _ c.args.place found.end found.ensures)

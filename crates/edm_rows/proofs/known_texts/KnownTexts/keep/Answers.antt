@@ -1,5 +1,5 @@
 use Rattle.std.proofs.Common.{◌<◌, ◌∙◌}
-use Rattle.edm_entities.proofs.RowLemmas.Plans.{long_set}
+use Rattle.std.proofs.lemmas.List.{length-set}
 use Rattle.edm_rows.proofs.KnownTextsStand.{each_set}
 use Rattle.edm_rows.specs.private.KnownTexts.{IsKnown}
 use Rattle.edm_rows.proofs.known_texts.KnownTexts.keep.Goals as goal
@@ -10,6 +10,6 @@ returns-in-Some c =
     let n = c.place_of.result in
     let known = c.in-Some.known in
     record {
-      count = long_set kept n known ∙ c.requires.count;
+      count = length-set kept n known ∙ c.requires.count;
       each = λ at. each_set kept n at known (λ k. k.length < 16 → IsKnown c.args.schema.now k) (λ _. c.in-Some.ensures.known) (c.requires.each at);
     }

@@ -1,6 +1,6 @@
 use Rattle.edm_rows.proofs.UnseenNull.{NullsBelow}
-use Rattle.edm_rows.proofs.kept_tree.fill_nulls.Given as goal
+use Rattle.edm_rows.proofs.absent_slots.null_absent.Given as goal
 
 -- the slots so far that were not seen are null
 abbrev pub invariant-loop-slot : goal.invariant-loop-slot
-invariant-loop-slot l = NullsBelow l.seen l.slot l.initial.values.items l.values.items
+invariant-loop-slot l = NullsBelow l.seen l.slot l.initial.values l.values

@@ -1,5 +1,5 @@
 use Rattle.json_room.proofs.KeysStand.{masked_lane}
-use Rattle.json_room.proofs.spelled_key.are_front.Goals as goal
+use Rattle.json_room.proofs.fronts.are_front.Goals as goal
 
 pub returns : goal.returns
 returns c done k few bits = masked_lane c.args.lanes c.args.mask c.args.front c.fits-lanes.0 c.fits-lanes.1 c.fits-mask.0 (c.are_equal_16.ensures done) k few bits
