@@ -1,6 +1,6 @@
 -- What a filter costs on a row, and what is reported about a row within a bound (OData JSON Format 4.01, sections 4.5
 -- and 7; OData URL Conventions 4.01, section 5.1.1).
-use Rattle.std.specs.Prelude.{◌≡◌, ◌<◌, ◌≤◌, ℕ, List, [], Result, Ok, Err}
+use Rattle.std.specs.Prelude.{◌≡◌, ◌<◌, ◌≤◌, ℕ, List, [], Option, Some, None, Result, Ok, Err}
 use Rattle.serde_json.specs.Data.{Data}
 use Rattle.edm_values.specs.MomentParts.{MomentParts}
 use Rattle.edm_values.specs.Val.{Val}
@@ -12,7 +12,6 @@ use Rattle.odata_eval.specs.Costs.{Costs}
 use Rattle.odata_eval.specs.declared.verdict.Verdict.{Verdict}
 use Rattle.odata_filter.specs.RowAnswer.{TellsRow}
 use Rattle.odata_filter.specs.declared.bad_row.BadRow.{BadRow}
-use Rattle.odata_filter.specs.declared.bounded_judge.RowStop.{RowStop}
 use Rattle.odata_filter.specs.declared.no_verdict.NoVerdict.{NoVerdict}
 
 -- what a filter costs on a value of its type
@@ -37,13 +36,13 @@ pub record RowCostIs (filter : Filter) (now : MomentParts) (row : List ℕ) (Hol
   pub is_json : IsJsonOf row json
   pub cost_is : CostIs filter now json Holds
 
--- a verdict, or a fault of arithmetic, only where the cost is within the bound; `TooCostly` only where it is not; what
--- is no entity has no cost
-abbrev pub ReportsRowWithin : Filter → MomentParts → List ℕ → ℕ → Result Verdict RowStop → Type 0
-ReportsRowWithin filter now row most (Ok verdict) =
+-- a verdict, or a fault of arithmetic, only where the cost is within the bound; none only where it is not; what is no
+-- entity has no cost
+abbrev pub ReportsRowWithin : Filter → MomentParts → List ℕ → ℕ → Result (Option Verdict) NoVerdict → Type 0
+ReportsRowWithin filter now row most (Ok (Some verdict)) =
     TellsRow filter now row (Ok verdict) × RowCostIs filter now row (λ cost. cost ≤ most)
-ReportsRowWithin filter now row most (Err RowStop.TooCostly) = RowCostIs filter now row (λ cost. most < cost)
-ReportsRowWithin filter now row most (Err (RowStop.NoVerdict (NoVerdict.Bad (BadRow.NoValue fault)))) =
+ReportsRowWithin filter now row most (Ok None) = RowCostIs filter now row (λ cost. most < cost)
+ReportsRowWithin filter now row most (Err (NoVerdict.Bad (BadRow.NoValue fault))) =
     TellsRow filter now row (Err (NoVerdict.Bad (BadRow.NoValue fault)))
     × RowCostIs filter now row (λ cost. cost ≤ most)
-ReportsRowWithin filter now row most (Err (RowStop.NoVerdict other)) = TellsRow filter now row (Err other)
+ReportsRowWithin filter now row most (Err other) = TellsRow filter now row (Err other)

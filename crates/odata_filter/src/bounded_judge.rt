@@ -24,18 +24,6 @@ use odata_eval::{EvalStop, Verdict, evaluate_within};
 use odata_typing::Checked;
 use serde_json::Value;
 use std::alloc::Global;
-use thiserror::Error;
-
-/// Why a row has no verdict within a bound.
-#[derive(Debug, Drop, Error)]
-pub enum RowStop {
-    /// It has none without a bound either.
-    #[error("{0}")]
-    NoVerdict(NoVerdict),
-    /// The filter costs more on the row than the bound allows.
-    #[error("TooCostly")]
-    TooCostly,
-}
 
 /// Judges rows by a filter, each within a bound on its cost. The bound is on the bodies of lambda operators, and the
 /// items of lists within them, that the filter evaluates on the row. The plan is that of the filter
@@ -49,8 +37,9 @@ pub struct BoundedJudge<'c, 's> {
 }
 
 impl BoundedJudge<'_, '_> {
-    /// Judges a row, one JSON object, as [`judge_row`](crate::judge_row) does without a bound.
-    pub fn judge(&self, reader: &mut RowReader, row: &[u8]) -> Result<Verdict, RowStop>
+    /// Judges a row, one JSON object, as [`judge_row`](crate::judge_row) does without a bound. `None` if the filter costs
+    /// more on the row than the bound allows.
+    pub fn judge(&self, reader: &mut RowReader, row: &[u8]) -> Result<Option<Verdict>, NoVerdict>
         requires { IsPlanOfFilter self.now.checked.now self.now.plan.now }
         ensures { ReportsRowWithin self.now.checked.now self.now.moment.now row.now self.now.most result }
     {
@@ -84,7 +73,11 @@ impl BoundedJudge<'_, '_> {
     }
 
     /// Judges the row that was read last where it stood.
-    pub(crate) fn judge_held(&self, alloc: Global, rows: &TypeRows<'_>) -> Result<Verdict, RowStop>
+    pub(crate) fn judge_held(
+        &self,
+        alloc: Global,
+        rows: &TypeRows<'_>,
+    ) -> Result<Option<Verdict>, NoVerdict>
         requires rows { KeepsNames self.now.checked.now rows.now }
         requires ready { rows.now.is_ready ≡ true }
         requires whole { rows.now.is_whole ≡ true }
@@ -110,41 +103,41 @@ impl BoundedJudge<'_, '_> {
     }
 
     /// Judges a row through a tree.
-    fn judge_by_tree(&self, alloc: Global, row: &[u8]) -> Result<Verdict, RowStop>
+    fn judge_by_tree(&self, alloc: Global, row: &[u8]) -> Result<Option<Verdict>, NoVerdict>
         ensures { ReportsRowWithin self.now.checked.now self.now.moment.now row.now self.now.most result }
     {
         match Value::from_slice(alloc, row) {
             Ok(json) => self.judge_value(alloc, &json),
             Err(error) => {
                 if error.is_memory() {
-                    Err(RowStop::NoVerdict(NoVerdict::Memory))
+                    Err(NoVerdict::Memory)
                 } else {
-                    Err(RowStop::NoVerdict(NoVerdict::Bad(BadRow::NotJson)))
+                    Err(NoVerdict::Bad(BadRow::NotJson))
                 }
             }
         }
     }
 
     /// Judges a JSON value.
-    fn judge_value(&self, alloc: Global, json: &Value) -> Result<Verdict, RowStop>
+    fn judge_value(&self, alloc: Global, json: &Value) -> Result<Option<Verdict>, NoVerdict>
         ensures { ReportsValueWithin self.now.checked.now self.now.moment.now (view json.now) self.now.most result }
     {
         let (schema, type_id) = (self.checked.schema(), self.checked.filtered_type());
         match Entity::expanded_from_json(alloc, schema, type_id, self.checked.expansion(), json) {
             Ok(entity) => reported(self.judge_entity(alloc, &entity)),
-            Err(RowFault::Memory) => Err(RowStop::NoVerdict(NoVerdict::Memory)),
-            Err(fault) => Err(RowStop::NoVerdict(NoVerdict::Bad(BadRow::NoEntity(fault)))),
+            Err(RowFault::Memory) => Err(NoVerdict::Memory),
+            Err(fault) => Err(NoVerdict::Bad(BadRow::NoEntity(fault))),
         }
     }
 }
 
-/// What a filter's answer to an entity reports about its row.
-fn reported(answer: Result<Verdict, EvalStop>) -> Result<Verdict, RowStop>
+/// What a filter's answer to an entity reports about its row: none where it costs too much.
+fn reported(answer: Result<Verdict, EvalStop>) -> Result<Option<Verdict>, NoVerdict>
     ensures { result ≡ stop_reported answer }
 {
     match answer {
-        Ok(verdict) => Ok(verdict),
-        Err(EvalStop::Fault(fault)) => Err(RowStop::NoVerdict(told_fault(fault))),
-        Err(EvalStop::TooCostly) => Err(RowStop::TooCostly),
+        Ok(verdict) => Ok(Some(verdict)),
+        Err(EvalStop::Fault(fault)) => Err(told_fault(fault)),
+        Err(EvalStop::TooCostly) => Ok(None),
     }
 }

@@ -6,7 +6,7 @@ ghost use Rattle.odata_filter.specs.FilterRows.{AreRowsOfFilter};
 ghost use Rattle.odata_filter.specs.RowAnswer.{TellsRow};
 ghost use Rattle.odata_filter.specs.RowCosts.{ReportsRowWithin};
 
-use crate::bounded_judge::{BoundedJudge, RowStop};
+use crate::bounded_judge::BoundedJudge;
 use crate::no_verdict::NoVerdict;
 use crate::row_judge::RowJudge;
 use crate::row_verdict::row_plan_of;
@@ -85,15 +85,15 @@ impl<'s> FilterRows<'s> {
         answer
     }
 
-    /// Judges a row as [`BoundedJudge::judge`] does, within a bound on what it costs. The filter is that for which this
-    /// was made.
+    /// Judges a row as [`BoundedJudge::judge`] does, within a bound on what it costs: `None` if that is not enough. The
+    /// filter is that for which this was made.
     pub fn judge_within(
         &mut self,
         checked: &Checked<'_>,
         now: &Moment,
         most: u64,
         row: &[u8],
-    ) -> Result<Verdict, RowStop>
+    ) -> Result<Option<Verdict>, NoVerdict>
         requires { AreRowsOfFilter checked.now self.old }
         ensures verdict { ReportsRowWithin checked.now now.now row.now most result }
         ensures rows { AreRowsOfFilter checked.now self.new }

@@ -28,7 +28,7 @@ mod rows_in_place;
 mod run_fault;
 
 pub use bad_row::BadRow;
-pub use bounded_judge::{BoundedJudge, RowStop};
+pub use bounded_judge::BoundedJudge;
 pub use collection::{filter_collection, filter_collection_by};
 pub use command::command_line;
 pub use command::laws::lines_by_example;

@@ -5,9 +5,9 @@ ghost use Rattle.odata_filter.specs.RowJudgment.{JudgesRow};
 use crate::bad_row::BadRow;
 use crate::row_judge::{RowJudge, judged_by, judgment_of, told_fault};
 use crate::row_verdict::row_plan_of;
-use crate::rows_in_place::{begin_after, copy_with_room, type_rows_of};
+use crate::rows_in_place::{begin_after, copy_with_room, reads_copy, type_rows_of};
 use edm_entities::{RowPlan, RowReader};
-use edm_rows::TypeRows;
+use edm_rows::{Reading, TypeRows};
 use edm_values::Moment;
 use json_room::has_room;
 use line_filter::{Judge, Judgment};
@@ -22,6 +22,10 @@ pub struct RowLineJudge<'c, 's> {
     plan: RowPlan,
     reader: RowReader,
     type_rows: TypeRows<'s>,
+    /// How many lines were not read where they stand.
+    unread: u64,
+    /// Whether the filter had a fault on a line that was read there.
+    has_fault: bool,
     /// The last line that had no room after it, in a copy that has.
     room: Vec<u8>,
 }
@@ -61,6 +65,8 @@ impl<'c, 's> RowLineJudge<'c, 's> {
             type_rows: type_rows_of(alloc, checked),
             plan: row_plan_of(alloc, checked),
             reader: RowReader::new(alloc),
+            unread: 0,
+            has_fault: false,
             room: Vec::new(alloc),
         }
     }
@@ -90,17 +96,37 @@ impl Judge for RowLineJudge<'_, '_> {
 
     #[inline(always)]
     fn keeps(&mut self, bytes: &[u8], count: usize, is_ascii: bool) -> Option<bool> {
-        match self
-            .rows
-            .keeps_in_place(&mut self.type_rows, bytes, count, is_ascii)
-        {
-            Some(is_kept) => Some(is_kept),
-            None => self.keeps_copy(bytes, count),
+        match self.type_rows.read(bytes, count, is_ascii) {
+            Reading::Row => match self.rows.keeps_held(&self.type_rows) {
+                Some(is_kept) => Some(is_kept),
+                None => {
+                    self.has_fault = true;
+                    None
+                }
+            },
+            Reading::LeftOut => {
+                self.rows.leaves_out(&self.type_rows);
+                Some(false)
+            }
+            Reading::Unread => self.keeps_copy(bytes, count),
         }
     }
 
     #[inline(never)]
     fn judge(&mut self, line: &[u8]) -> Result<Judgment<BadRow>, AllocError> {
+        // The filter has a fault on this line, which is a row: it is read once more to report that.
+        if self.has_fault {
+            self.has_fault = false;
+            if reads_copy(&mut self.type_rows, &mut self.room, line) {
+                return judgment_of(self.rows.judge_held(&self.type_rows));
+            }
+            return judgment_of(self.rows.judge_by_tree(line));
+        }
+        // The first unread line begins the row that later lines fill. A second one is most likely at fault.
+        self.unread = self.unread.saturating_add(1);
+        if self.unread == 2 {
+            return judgment_of(self.rows.judge_by_tree(line));
+        }
         let judged = match self.rows.judge_read(&self.plan, &mut self.reader, line) {
             Some(Ok(verdict)) => Ok(judged_by(verdict)),
             Some(Err(fault)) => judgment_of(Err(told_fault(fault))),

@@ -182,7 +182,7 @@ impl RowJudge<'_, '_> {
 
     /// Whether the row that was read last is kept, where its verdict comes without a fault.
     #[inline(never)]
-    fn keeps_held(&self, rows: &TypeRows<'_>) -> Option<bool>
+    pub(crate) fn keeps_held(&self, rows: &TypeRows<'_>) -> Option<bool>
         requires rows { AreRowsOf self.now.checked.now rows.now }
         requires ready { rows.now.is_ready ≡ true }
         requires whole { rows.now.is_whole ≡ true }
@@ -211,7 +211,7 @@ impl RowJudge<'_, '_> {
 
     /// A law: the filter leaves out each line of which a slot's sieve rejects the value.
     #[inline(always)]
-    fn leaves_out(&self, rows: &TypeRows<'_>)
+    pub(crate) fn leaves_out(&self, rows: &TypeRows<'_>)
         requires rows { AreRowsOf self.now.checked.now rows.now }
         requires whole { rows.now.is_whole ≡ true }
         ensures { (line : List ℕ) → IsLeftOut line rows.now

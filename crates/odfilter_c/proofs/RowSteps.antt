@@ -7,7 +7,6 @@ use Rattle.odata_eval.specs.declared.verdict.Verdict.{Verdict}
 use Rattle.odata_filter.specs.RowAnswer.{TellsRow}
 use Rattle.odata_filter.specs.RowCosts.{ReportsRowWithin}
 use Rattle.odata_filter.specs.declared.bad_row.BadRow.{BadRow}
-use Rattle.odata_filter.specs.declared.bounded_judge.RowStop.{RowStop}
 use Rattle.odata_filter.specs.declared.no_verdict.NoVerdict.{NoVerdict}
 use Rattle.odfilter_c.specs.RowCalls.{IsMomentFor, IsOutcomeAt, IsOutcomeOn, IsRunAt, IsRunOver}
 use Rattle.odfilter_c.specs.private.RowFaults.{row_fault}
@@ -75,7 +74,7 @@ plain_row filter now row (NoVerdict.Bad (BadRow.NoValue fault)) told = (refl, (t
 plain_row filter now row NoVerdict.Memory told = tt
 
 pub bounded_row : (filter : Filter) (now : MomentParts) (row : List ℕ) (most : ℕ) (why : NoVerdict)
-    → ReportsRowWithin filter now row most (Err (RowStop.NoVerdict why)) → IsOutcomeAt filter now (Some most) row (Err (row_fault why))
+    → ReportsRowWithin filter now row most (Err why) → IsOutcomeAt filter now (Some most) row (Err (row_fault why))
 bounded_row filter now row most (NoVerdict.Bad BadRow.NotJson) told = (refl, told)
 bounded_row filter now row most (NoVerdict.Bad (BadRow.NoEntity fault)) told = (refl, told)
 bounded_row filter now row most (NoVerdict.Bad (BadRow.NoValue fault)) told = (refl, told)

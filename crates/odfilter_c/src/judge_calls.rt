@@ -22,7 +22,7 @@ use edm_entities::RowReader;
 use edm_values::{Moment, read_moment};
 use jiff::civil;
 use odata_eval::Verdict;
-use odata_filter::{BadRow, BoundedJudge, FilterRows, NoVerdict, RowStop, judge_row};
+use odata_filter::{BadRow, BoundedJudge, FilterRows, NoVerdict, judge_row};
 use odata_typing::Checked;
 use std::alloc::{AllocError, Global};
 use std::sync::Arc;
@@ -151,14 +151,16 @@ fn plain_outcome(told: Result<Verdict, NoVerdict>) -> Result<Verdict, Fault>
 }
 
 /// What a filter says of a row within a bound, as a call reports it.
-fn bounded_outcome(told: Result<Verdict, RowStop>) -> Result<Verdict, Fault>
+fn bounded_outcome(told: Result<Option<Verdict>, NoVerdict>) -> Result<Verdict, Fault>
     ensures { (filter : Filter) → (now : MomentParts) → (row : List ℕ) → (most : ℕ)
         → ReportsRowWithin filter now row most told → IsOutcomeAt filter now (Some most) row result }
 {
     match told {
-        Ok(verdict) => Ok(verdict),
-        Err(RowStop::NoVerdict(why)) => Err(row_fault(why)),
-        Err(RowStop::TooCostly) => Err(Fault::TooCostly),
+        Ok(found) => match found {
+            Some(verdict) => Ok(verdict),
+            None => Err(Fault::TooCostly),
+        },
+        Err(why) => Err(row_fault(why)),
     }
 }
 

@@ -7,9 +7,10 @@ use crate::trouble::Trouble;
 use crate::values::push_slots;
 use csdl_schema::{Expansion, Schema, TypeId};
 use edm_entities::{Entity, RowFault, RowPlan, RowReader};
+use edm_values::Moment;
 use odata_eval::Verdict;
 use odata_filter::{NoVerdict, judge_row, row_plan_of};
-use odata_typing::check_to_store;
+use odata_typing::{Checked, check_to_store};
 use serde_json::Value;
 use std::alloc::Global;
 
@@ -67,22 +68,31 @@ fn by_both(alloc: Global, schema: &Schema, id: TypeId, line: &[u8]) -> Result<St
     }
 }
 
-/// What a line is as a row that is judged by itself, by a filter that is true: `fits`, or its fault.
-fn by_itself(alloc: Global, schema: &Schema, id: TypeId, line: &[u8]) -> Result<String, Trouble>
-    requires { HoldsType schema.now id }
-{
-    let now = moment_of(None)?;
-    let Ok(stored) = check_to_store(alloc, schema, id, "true") else {
-        return Err(Trouble::Memory);
-    };
-    let checked = stored.with_schema(schema);
-    let plan = row_plan_of(alloc, &checked);
+/// What a row is that is judged by itself, by a filter that is true: `fits`, or its fault.
+fn row_answer(
+    alloc: Global,
+    checked: &Checked<'_>,
+    line: &[u8],
+    now: &Moment,
+) -> Result<String, Trouble> {
+    let plan = row_plan_of(alloc, checked);
     let mut reader = RowReader::new(alloc);
-    match &judge_row(&checked, &now, &plan, &mut reader, line) {
+    match &judge_row(checked, now, &plan, &mut reader, line) {
         Ok(Verdict::True) => Ok(String::from_str(alloc, "fits")?),
         Ok(_) => Ok(String::from_str(alloc, "no true")?),
         Err(NoVerdict::Memory) => Err(Trouble::Memory),
         Err(NoVerdict::Bad(fault)) => Ok(format!(in alloc; "{fault}")?),
+    }
+}
+
+/// What a line is as a row that is judged by itself.
+fn by_itself(alloc: Global, schema: &Schema, id: TypeId, line: &[u8]) -> Result<String, Trouble>
+    requires { HoldsType schema.now id }
+{
+    let now = moment_of(None)?;
+    match check_to_store(alloc, schema, id, "true") {
+        Ok(stored) => row_answer(alloc, &stored.with_schema(schema), line, &now),
+        Err(_) => Err(Trouble::Memory),
     }
 }
 

@@ -15,8 +15,8 @@ use edm_values::{Moment, read_moment};
 use jiff::civil;
 use odata_eval::{EvalFault, Verdict, evaluate};
 use odata_filter::{
-    BadRow, BoundedJudge, FaultKind, FilterRows, NoVerdict, Numbered, RowStop, RunFault, Tally,
-    fault_name, filter_slice, judge_row, row_plan_of,
+    BadRow, BoundedJudge, FaultKind, FilterRows, NoVerdict, Numbered, RunFault, Tally, fault_name,
+    filter_slice, judge_row, row_plan_of,
 };
 use odata_typing::{Checked, check_to_store};
 use serde_json::Value;
@@ -288,11 +288,11 @@ fn within(by: &BoundedJudge<'_, '_>, reader: &mut RowReader, line: &[u8]) -> Opt
 }
 
 /// What is reported about a row within a bound, if that is enough.
-fn spelled_within(told: Result<Verdict, RowStop>) -> Option<&'static str> {
+fn spelled_within(told: Result<Option<Verdict>, NoVerdict>) -> Option<&'static str> {
     match told {
-        Ok(verdict) => Some(spelled(Ok(verdict))),
-        Err(RowStop::NoVerdict(why)) => Some(spelled_row(&Err(why))),
-        Err(RowStop::TooCostly) => None,
+        Ok(Some(verdict)) => Some(spelled(Ok(verdict))),
+        Ok(None) => None,
+        Err(why) => Some(spelled_row(&Err(why))),
     }
 }
 

@@ -1,5 +1,5 @@
 -- From what is known of an entity within a bound to what is reported about its row.
-use Rattle.std.proofs.Common.{◌<◌, ◌≤◌, ℕ, List, Result, Ok, Err, IfSome}
+use Rattle.std.proofs.Common.{◌<◌, ◌≤◌, ℕ, List, Option, Some, None, Result, Ok, Err, IfSome}
 use Rattle.serde_json.specs.Data.{Data}
 use Rattle.edm_values.specs.MomentParts.{MomentParts}
 use Rattle.csdl_schema.specs.JsonText.{IsJsonOf}
@@ -13,7 +13,6 @@ use Rattle.odata_eval.specs.declared.stop.EvalStop.{EvalStop}
 use Rattle.odata_eval.specs.declared.verdict.Verdict.{Verdict}
 use Rattle.odata_filter.specs.RowCosts.{CostIs, ReportsRowWithin, RowCostIs}
 use Rattle.odata_filter.specs.declared.bad_row.BadRow.{BadRow}
-use Rattle.odata_filter.specs.declared.bounded_judge.RowStop.{RowStop}
 use Rattle.odata_filter.specs.declared.no_verdict.NoVerdict.{NoVerdict}
 use Rattle.odata_filter.specs.private.ValueCosts.{ReportsValueWithin, stop_reported}
 use Rattle.odata_filter.proofs.RowLemmas.CostsBut.{IsRowCosting, cost_of_row}
@@ -39,15 +38,15 @@ answer_within_row filter now json row most (Err (EvalStop.Fault EvalFault.Divide
 answer_within_row filter now json row most (Err (EvalStop.Fault EvalFault.Memory)) is_row told bound = tt
 
 -- what is reported about the JSON that a row is, is reported about the row
-pub row_within : (filter : Filter) (now : MomentParts) (row : List ℕ) (json : Data) (most : ℕ) (answer : Result Verdict RowStop) → IsJsonOf row json
+pub row_within : (filter : Filter) (now : MomentParts) (row : List ℕ) (json : Data) (most : ℕ) (answer : Result (Option Verdict) NoVerdict) → IsJsonOf row json
     → ReportsValueWithin filter now json most answer → ReportsRowWithin filter now row most answer
-row_within filter now row json most (Ok verdict) is reports =
+row_within filter now row json most (Ok (Some verdict)) is reports =
     (row_told filter now row json (Ok verdict) is reports.0, record { json = json; is_json = is; cost_is = reports.1 })
-row_within filter now row json most (Err RowStop.TooCostly) is reports = record { json = json; is_json = is; cost_is = reports }
-row_within filter now row json most (Err (RowStop.NoVerdict (NoVerdict.Bad (BadRow.NoValue fault)))) is reports =
+row_within filter now row json most (Ok None) is reports = record { json = json; is_json = is; cost_is = reports }
+row_within filter now row json most (Err (NoVerdict.Bad (BadRow.NoValue fault))) is reports =
     (row_told filter now row json (Err (NoVerdict.Bad (BadRow.NoValue fault))) is reports.0, record { json = json; is_json = is; cost_is = reports.1 })
-row_within filter now row json most (Err (RowStop.NoVerdict (NoVerdict.Bad BadRow.NotJson))) is reports =
+row_within filter now row json most (Err (NoVerdict.Bad BadRow.NotJson)) is reports =
     row_told filter now row json (Err (NoVerdict.Bad BadRow.NotJson)) is reports
-row_within filter now row json most (Err (RowStop.NoVerdict (NoVerdict.Bad (BadRow.NoEntity fault)))) is reports =
+row_within filter now row json most (Err (NoVerdict.Bad (BadRow.NoEntity fault))) is reports =
     row_told filter now row json (Err (NoVerdict.Bad (BadRow.NoEntity fault))) is reports
-row_within filter now row json most (Err (RowStop.NoVerdict NoVerdict.Memory)) is reports = tt
+row_within filter now row json most (Err NoVerdict.Memory) is reports = tt

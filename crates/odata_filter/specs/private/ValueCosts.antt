@@ -1,5 +1,5 @@
 -- What is reported about a JSON value within a bound. Private clauses alone cite these.
-use Rattle.std.specs.Prelude.{◌<◌, ◌≤◌, ℕ, Result, Ok, Err}
+use Rattle.std.specs.Prelude.{◌<◌, ◌≤◌, ℕ, Option, Some, None, Result, Ok, Err}
 use Rattle.serde_json.specs.Data.{Data}
 use Rattle.edm_values.specs.MomentParts.{MomentParts}
 use Rattle.odata_checked_filter.specs.Filter.{Filter}
@@ -7,21 +7,20 @@ use Rattle.odata_eval.specs.declared.stop.EvalStop.{EvalStop}
 use Rattle.odata_eval.specs.declared.verdict.Verdict.{Verdict}
 use Rattle.odata_filter.specs.RowCosts.{CostIs}
 use Rattle.odata_filter.specs.declared.bad_row.BadRow.{BadRow}
-use Rattle.odata_filter.specs.declared.bounded_judge.RowStop.{RowStop}
 use Rattle.odata_filter.specs.declared.no_verdict.NoVerdict.{NoVerdict}
 use Rattle.odata_filter.specs.private.ValueAnswer.{TellsValue, fault_told}
 
-abbrev pub ReportsValueWithin : Filter → MomentParts → Data → ℕ → Result Verdict RowStop → Type 0
-ReportsValueWithin filter now json most (Ok verdict) =
+abbrev pub ReportsValueWithin : Filter → MomentParts → Data → ℕ → Result (Option Verdict) NoVerdict → Type 0
+ReportsValueWithin filter now json most (Ok (Some verdict)) =
     TellsValue filter now json (Ok verdict) × CostIs filter now json (λ cost. cost ≤ most)
-ReportsValueWithin filter now json most (Err RowStop.TooCostly) = CostIs filter now json (λ cost. most < cost)
-ReportsValueWithin filter now json most (Err (RowStop.NoVerdict (NoVerdict.Bad (BadRow.NoValue fault)))) =
+ReportsValueWithin filter now json most (Ok None) = CostIs filter now json (λ cost. most < cost)
+ReportsValueWithin filter now json most (Err (NoVerdict.Bad (BadRow.NoValue fault))) =
     TellsValue filter now json (Err (NoVerdict.Bad (BadRow.NoValue fault)))
     × CostIs filter now json (λ cost. cost ≤ most)
-ReportsValueWithin filter now json most (Err (RowStop.NoVerdict other)) = TellsValue filter now json (Err other)
+ReportsValueWithin filter now json most (Err other) = TellsValue filter now json (Err other)
 
 -- what a filter's answer to an entity reports
-abbrev pub stop_reported : Result Verdict EvalStop → Result Verdict RowStop
-stop_reported (Ok verdict) = Ok verdict
-stop_reported (Err (EvalStop.Fault fault)) = Err (RowStop.NoVerdict (fault_told fault))
-stop_reported (Err EvalStop.TooCostly) = Err RowStop.TooCostly
+abbrev pub stop_reported : Result Verdict EvalStop → Result (Option Verdict) NoVerdict
+stop_reported (Ok verdict) = Ok (Some verdict)
+stop_reported (Err (EvalStop.Fault fault)) = Err (fault_told fault)
+stop_reported (Err EvalStop.TooCostly) = Ok None
