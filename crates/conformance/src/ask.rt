@@ -7,14 +7,16 @@ use crate::case_schemas::{document_of, joined};
 use edm_values::Moment;
 use odata_text::{filter_of_query, is_identifier};
 use serde_json::Value;
-use spelled_answers::entities::line_and_row_answer;
-use spelled_answers::filters::{AskedOfFilter, TypeOf, answer_of, moment_of};
-use spelled_answers::literals::{instant_of, value_of};
-use spelled_answers::schemas::fault_of;
-use spelled_answers::texts::{AskedOfText, answer_of as answer_of_text, token_count, tokens_of};
-use spelled_answers::token_pieces::{bytes_of, items_of, pair_of, text_of, word_of};
-use spelled_answers::trouble::Trouble;
 use std::alloc::Global;
+use suite_driver::entities::line_and_row_answer;
+use suite_driver::filters::{AskedOfFilter, TypeOf, answer_of, moment_of};
+use suite_driver::schemas::fault_of;
+use suite_driver::spelled_literals::{instant_of, value_of};
+use suite_driver::spelled_texts::{
+    AskedOfText, answer_of as answer_of_text, token_count, tokens_of,
+};
+use suite_driver::token_pieces::{bytes_of, items_of, pair_of, text_of, word_of};
+use suite_driver::trouble::Trouble;
 
 /// The type that a case names.
 pub(crate) fn type_of<'c>(case: &Case<'c>) -> Result<TypeOf<'c>, Trouble> {
@@ -108,48 +110,48 @@ fn schema_answer(alloc: Global, document: &Value) -> Result<String, Trouble> {
 }
 
 fn identifier_answer(alloc: Global, text: &Value) -> Result<String, Trouble> {
-    let told = if is_identifier(word_of(text)?) {
+    let reported = if is_identifier(word_of(text)?) {
         "true"
     } else {
         "false"
     };
-    Ok(String::from_str(alloc, told)?)
+    Ok(String::from_str(alloc, reported)?)
 }
 
 /// What the line of a row is: `fits` with its values, or the fault.
-fn told_row(case: &Case<'_>, row: &Value) -> Result<String, Trouble> {
+fn reported_row(case: &Case<'_>, row: &Value) -> Result<String, Trouble> {
     let line = row.to_vec(case.alloc)?;
     line_and_row_answer(case.alloc, type_of(case)?, line.as_slice())
 }
 
 fn row_answer(case: &Case<'_>, row: &Value) -> Result<String, Trouble> {
     let row = row_of(case, row)?;
-    told_row(case, &row)
+    reported_row(case, &row)
 }
 
 fn changed_answer(case: &Case<'_>, with: &Value) -> Result<String, Trouble> {
     let row = changed_row(case, with)?;
-    told_row(case, &row)
+    reported_row(case, &row)
 }
 
-fn told_line(case: &Case<'_>, line: &Value) -> Result<String, Trouble> {
+fn reported_line(case: &Case<'_>, line: &Value) -> Result<String, Trouble> {
     let line = bytes_of(case.alloc, line)?;
     line_and_row_answer(case.alloc, type_of(case)?, line.as_slice())
 }
 
 /// `true` of what fits, instead of its values.
-fn without_values(alloc: Global, told: String) -> Result<String, Trouble> {
-    if told.as_str().starts_with("fits ") {
+fn without_values(alloc: Global, reported: String) -> Result<String, Trouble> {
+    if reported.as_str().starts_with("fits ") {
         Ok(String::from_str(alloc, "true")?)
     } else {
-        Ok(told)
+        Ok(reported)
     }
 }
 
 /// Whether a line fits.
 fn conforms(case: &Case<'_>, line: &Value) -> Result<String, Trouble> {
-    let told = told_line(case, line)?;
-    let word = if told.as_str().starts_with("fits ") {
+    let reported = reported_line(case, line)?;
+    let word = if reported.as_str().starts_with("fits ") {
         "true"
     } else {
         "false"
@@ -162,7 +164,7 @@ fn answer_of_row(case: &Case<'_>, asked: Asked, given: &Value) -> Result<String,
     match asked {
         Asked::Fits => without_values(case.alloc, row_answer(case, given)?),
         Asked::WhatChangedFits => without_values(case.alloc, changed_answer(case, given)?),
-        Asked::LineFits => without_values(case.alloc, told_line(case, given)?),
+        Asked::LineFits => without_values(case.alloc, reported_line(case, given)?),
         Asked::Conforms => conforms(case, given),
         Asked::Values => row_answer(case, given),
         _ => Err(Trouble::OtherForm),

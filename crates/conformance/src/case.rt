@@ -1,8 +1,8 @@
 use crate::library::Library;
 use serde_json::{Map, Value};
-use spelled_answers::token_pieces::{items_of, text_of, word_of};
-use spelled_answers::trouble::Trouble;
 use std::alloc::Global;
+use suite_driver::token_pieces::{items_of, text_of, word_of};
+use suite_driver::trouble::Trouble;
 
 /// A case, and the files that it may name.
 #[derive(Clone, Copy)]

@@ -11,9 +11,9 @@ use crate::matrix::{
     compare_schema_beginnings, compare_types,
 };
 use serde_json::{Map, Value};
-use spelled_answers::trouble::Trouble;
 use std::alloc::Global;
 use std::collections::BTreeSet;
+use suite_driver::trouble::Trouble;
 
 /// Compares what the look-ups of a schema answer, of a document or of a named one.
 fn look_up(case: &Case<'_>, report: &mut Report) -> Result<(), Trouble> {
@@ -147,7 +147,7 @@ fn judge_members(
     match ask_named(&case, names, report) {
         Ok(()) => Ok(()),
         Err(Trouble::Memory) => Err(Trouble::Memory),
-        Err(trouble) => report.tell_trouble(trouble),
+        Err(trouble) => report.report_trouble(trouble),
     }
 }
 

@@ -1,12 +1,12 @@
 use serde_json::Value;
-use spelled_answers::trouble::Trouble;
 use std::alloc::Global;
+use suite_driver::trouble::Trouble;
 
 /// What came of the cases so far.
 #[derive(Drop)]
 pub struct Report {
     /// A line for each difference.
-    pub told: String,
+    pub reported: String,
     /// What stands before each difference of the current case.
     heading: String,
     has_failed: bool,
@@ -17,7 +17,7 @@ pub struct Report {
 impl Report {
     pub(crate) fn new(alloc: Global) -> Report {
         Report {
-            told: String::new(alloc),
+            reported: String::new(alloc),
             heading: String::new(alloc),
             has_failed: false,
             passed: 0,
@@ -45,15 +45,15 @@ impl Report {
     /// Reports what is wrong with the current case.
     pub(crate) fn tell(&mut self, what: &str) -> Result<(), Trouble> {
         self.has_failed = true;
-        self.told.push_str(self.heading.as_str())?;
-        self.told.push_str(what)?;
-        self.told.push_str("\n")?;
+        self.reported.push_str(self.heading.as_str())?;
+        self.reported.push_str(what)?;
+        self.reported.push_str("\n")?;
         Ok(())
     }
 
     /// The same of a case that cannot be asked.
-    pub(crate) fn tell_trouble(&mut self, trouble: Trouble) -> Result<(), Trouble> {
-        let what = format!(in *self.told.allocator(); "{trouble}")?;
+    pub(crate) fn report_trouble(&mut self, trouble: Trouble) -> Result<(), Trouble> {
+        let what = format!(in *self.reported.allocator(); "{trouble}")?;
         self.tell(what.as_str())
     }
 
@@ -62,7 +62,7 @@ impl Report {
         if wanted == got {
             return Ok(());
         }
-        let what = format!(in *self.told.allocator(); "wanted {wanted}, got {got}, at {at}")?;
+        let what = format!(in *self.reported.allocator(); "wanted {wanted}, got {got}, at {at}")?;
         self.tell(what.as_str())
     }
 
@@ -76,7 +76,7 @@ impl Report {
         if wanted == got {
             return Ok(());
         }
-        let at = at.to_string(*self.told.allocator())?;
+        let at = at.to_string(*self.reported.allocator())?;
         self.compare(at.as_str(), wanted, got)
     }
 }

@@ -1,9 +1,9 @@
 //! Rows that a case names or gives, and their changes.
 use crate::case::Case;
 use serde_json::Value;
-use spelled_answers::token_pieces::{items_of, word_of};
-use spelled_answers::trouble::Trouble;
 use std::alloc::Global;
+use suite_driver::token_pieces::{items_of, word_of};
+use suite_driver::trouble::Trouble;
 
 /// The row that is given, or that has the given name.
 pub(crate) fn row_given(case: &Case<'_>, row: &Value) -> Result<Value, Trouble> {

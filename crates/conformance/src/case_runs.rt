@@ -5,9 +5,9 @@ use crate::case_rows::{put_all, row_given};
 use odata_filter::command_line::{Plan, PlanFault};
 use odata_filter::{plan, run};
 use serde_json::Value;
-use spelled_answers::token_pieces::{bytes_of, items_of, push_piece, word_of};
-use spelled_answers::trouble::Trouble;
 use std::alloc::Global;
+use suite_driver::token_pieces::{bytes_of, items_of, push_piece, word_of};
+use suite_driver::trouble::Trouble;
 
 /// What a run says. Where the words are refused by `clap`, nothing is known of its texts.
 #[derive(Drop)]
@@ -100,13 +100,13 @@ fn carry_out(case: &Case<'_>, plan: &Plan<'_>) -> Result<Said, Trouble> {
 
 /// What is said where there is no plan.
 fn refused(alloc: Global, fault: &PlanFault) -> Result<Said, Trouble> {
-    let (told, status) = match fault {
+    let (reported, status) = match fault {
         PlanFault::Clap(error) => ("", if error.use_stderr() { 2 } else { 0 }),
         PlanFault::OneOf => ("usage give one of filter and query\n", 2),
         PlanFault::Memory => return Err(Trouble::Memory),
     };
     let mut err = Vec::new(alloc);
-    err.extend_from_slice(told.as_bytes())?;
+    err.extend_from_slice(reported.as_bytes())?;
     Ok(Said {
         out: Vec::new(alloc),
         err,

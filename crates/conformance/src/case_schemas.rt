@@ -2,13 +2,13 @@
 use crate::case_report::Report;
 use csdl_schema::{Schema, TypeId};
 use serde_json::{Map, Value};
-use spelled_answers::filters::schema_of;
-use spelled_answers::schemas::{
-    is_entity_type, told_slots, type_of, whole_enumeration_name, whole_type_name,
-};
-use spelled_answers::token_pieces::{bytes_of, items_of, pair_of, word_of};
-use spelled_answers::trouble::Trouble;
 use std::alloc::Global;
+use suite_driver::filters::schema_of;
+use suite_driver::schemas::{
+    is_entity_type, reported_slots, type_of, whole_enumeration_name, whole_type_name,
+};
+use suite_driver::token_pieces::{bytes_of, items_of, pair_of, word_of};
+use suite_driver::trouble::Trouble;
 
 /// The bytes of a document: an object as it stands, or its text.
 pub(crate) fn document_of(alloc: Global, given: &Value) -> Result<Vec<u8>, Trouble> {
@@ -81,7 +81,7 @@ fn compare_slots(
     for row in rows {
         let (name, wanted) = pair_of(row)?;
         let wanted = joined(alloc, items_of(wanted)?)?;
-        let found = told_slots(alloc, schema, type_of(schema, word_of(name)?)?)?;
+        let found = reported_slots(alloc, schema, type_of(schema, word_of(name)?)?)?;
         report.compare_at(name, wanted.as_str(), found.as_str())?;
     }
     Ok(())

@@ -1,6 +1,6 @@
-use spelled_answers::trouble::Trouble;
 use std::alloc::Global;
 use std::collections::BTreeMap;
+use suite_driver::trouble::Trouble;
 
 /// The files that cases name, by their paths.
 #[derive(Drop)]

@@ -17,9 +17,9 @@ mod matrix;
 use crate::case_judge::{Cases, judge_file};
 use crate::case_report::Report;
 use crate::library::Library;
-use spelled_answers::trouble::Trouble;
 use std::process::ExitCode;
 use std::{env, fs, io};
+use suite_driver::trouble::Trouble;
 
 /// Takes a file of the suite: judges its cases, or keeps it for those of later files.
 fn take(
@@ -77,7 +77,7 @@ fn take_all(rt: &HostRuntime, words: Vec<String>, report: &mut Report) -> Result
 
 /// Prints the differences and the counts, and answers the status.
 fn tell(rt: &HostRuntime, report: &Report) -> io::Result<u8> {
-    print!(rt; "{}", report.told)?;
+    print!(rt; "{}", report.reported)?;
     println!(rt; "{} failed", report.failed)?;
     eprintln!(rt; "{} passed, {} failed", report.passed, report.failed)?;
     Ok(if report.failed == 0 { 0 } else { 1 })

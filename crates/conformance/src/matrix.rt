@@ -4,12 +4,12 @@ use crate::case::Case;
 use crate::case_report::Report;
 use crate::case_rows::row_of;
 use serde_json::Value;
-use spelled_answers::entities::line_answer;
-use spelled_answers::filters::{AskedOfFilter, TypeOf, answer_of};
-use spelled_answers::schemas::fault_of;
-use spelled_answers::token_pieces::{items_of, pair_of, word_of};
-use spelled_answers::trouble::Trouble;
 use std::alloc::Global;
+use suite_driver::entities::line_answer;
+use suite_driver::filters::{AskedOfFilter, TypeOf, answer_of};
+use suite_driver::schemas::fault_of;
+use suite_driver::token_pieces::{items_of, pair_of, word_of};
+use suite_driver::trouble::Trouble;
 
 /// What is asked of each filter of a matrix, and what stands before and after it.
 #[derive(Clone, Copy)]

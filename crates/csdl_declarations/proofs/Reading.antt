@@ -58,12 +58,12 @@ declared_kept name k d ms same kept =
 -- ---- faults
 
 -- a refusal that reports the first of some faults
-pub tells_first : (told : Option Fault) (fault : Fault) (faults later : List Fault) → IfSome told (λ t. t ≡ fault) → faults ≡ fault ∷ later → IsFirstOf faults told
-tells_first None fault faults later is first = tt
-tells_first (Some t) fault faults later is first = (later, first ∙ ap (λ f. f ∷ later) (sym is))
+pub reports_first : (reported : Option Fault) (fault : Fault) (faults later : List Fault) → IfSome reported (λ t. t ≡ fault) → faults ≡ fault ∷ later → IsFirstOf faults reported
+reports_first None fault faults later is first = tt
+reports_first (Some t) fault faults later is first = (later, first ∙ ap (λ f. f ∷ later) (sym is))
 
 -- the first of some faults is that of more
-pub first_of_more : (told : Option Fault) (faults more : List Fault) → IsFirstOf faults told → IsFirstOf (faults ++ more) told
+pub first_of_more : (reported : Option Fault) (faults more : List Fault) → IsFirstOf faults reported → IsFirstOf (faults ++ more) reported
 first_of_more None faults more h = tt
 first_of_more (Some t) faults more h = (h.0 ++ more, ap (λ fs. fs ++ more) h.1)
 
@@ -82,15 +82,15 @@ pub at_index : {X : Type 0} (xs : List X) (i : ℕ) (x : X) → i < length xs �
 at_index xs i x within is = rw (add-one, drop-cons xs i x within) (ap (λ y. y ∷ drop (suc i) xs) (sym is))
 
 -- a fault of the first item is the first of all that are left
-pub found_among : {X : Type 0} (faults : X → List Fault) (told : Option Fault) (x : X) (rest : List X) (all : List Fault) → flat_map faults (x ∷ rest) ≡ all
-    → IsFirstOf (faults x) told → IsFirstOf all told
-found_among faults told x rest all same h =
-    let P : List Fault → Type 0 = λ fs. IsFirstOf fs told in
-    subst P same (first_of_more told (faults x) (flat_map faults rest) h)
+pub found_among : {X : Type 0} (faults : X → List Fault) (reported : Option Fault) (x : X) (rest : List X) (all : List Fault) → flat_map faults (x ∷ rest) ≡ all
+    → IsFirstOf (faults x) reported → IsFirstOf all reported
+found_among faults reported x rest all same h =
+    let P : List Fault → Type 0 = λ fs. IsFirstOf fs reported in
+    subst P same (first_of_more reported (faults x) (flat_map faults rest) h)
 
 -- where a test fails, its fault is the first
-pub unless_first : (b : Bool) (fault : Fault) (told : Option Fault) → b ≡ false → IfSome told (λ t. t ≡ fault) → IsFirstOf (unless b fault) told
-unless_first b fault told fails is = tells_first told fault (unless b fault) [] is (ap (λ v. unless v fault) fails)
+pub unless_first : (b : Bool) (fault : Fault) (reported : Option Fault) → b ≡ false → IfSome reported (λ t. t ≡ fault) → IsFirstOf (unless b fault) reported
+unless_first b fault reported fails is = reports_first reported fault (unless b fault) [] is (ap (λ v. unless v fault) fails)
 
 pub unless_none : (b : Bool) (fault : Fault) → b ≡ true → unless b fault ≡ []
 unless_none b fault holds = ap (λ v. unless v fault) holds

@@ -94,4 +94,5 @@ member_faults owner type m = unless (is_some (member_number type m)) (bad_enum_m
 -- an enumeration's own shape, then its members in the byte order of their names
 abbrev pub enumeration_faults : List ℕ → Data → List Fault
 enumeration_faults owner d =
-    unless (is_enumeration_object d) (bad_type owner) ++ flat_map (member_faults owner (underlying_of d)) (declared_in d)
+    unless (is_enumeration_object d) (bad_type owner) ++ flat_map (member_faults owner (underlying_of d))
+    (declared_in d)

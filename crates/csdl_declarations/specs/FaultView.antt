@@ -19,8 +19,8 @@ fault_of code.TooLarge = Some too_large
 fault_of code.Memory = None
 
 -- the refusal reports this fault, or running out of memory
-abbrev pub TellsFault : SchemaFault → Fault → Type 0
-TellsFault e fault = IfSome (fault_of e) (λ told. told ≡ fault)
+abbrev pub ReportsFault : SchemaFault → Fault → Type 0
+ReportsFault e fault = IfSome (fault_of e) (λ reported. reported ≡ fault)
 
 -- the refusal is the first of the faults
 abbrev pub IsFirstOf : List Fault → Option Fault → Type 0

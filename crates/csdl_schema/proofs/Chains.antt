@@ -14,7 +14,7 @@ use Rattle.csdl_declarations.specs.FaultView.{IsFirstOf}
 use Rattle.csdl_declarations.specs.DeclaredType.{TypeBody, DeclaredType, structured, enumeration, definition}
 use Rattle.csdl_schema.specs.Resolution.{base_of}
 use Rattle.csdl_schema.specs.BaseFaults.{base_text, onto, bases_within, bases_of, base_limit, property_limit, own_properties, own_names, owns, names_again, names_twice, lesser_name, first_name, twice_faults, property_count, is_base_known, chain_faults, inherited_faults, base_faults, all_base_faults}
-use Rattle.csdl_schema.specs.private.Placed.{Finder, IsIndexOf, kinds_from, placed_property, PlacedType, base_place, found_base, body_with, placed_base, placed_own, own_of, base_at, own_at, onto_place, places_within, owns_at, names_at, names_owned, names_again_at, firsts_from, lesser_of, told_at, first_told, all_places, count_at, chain_faults_at, inherited_faults_at, base_faults_at, faults_from}
+use Rattle.csdl_schema.specs.private.Placed.{Finder, IsIndexOf, kinds_from, placed_property, PlacedType, base_place, found_base, body_with, placed_base, placed_own, own_of, base_at, own_at, onto_place, places_within, owns_at, names_at, names_owned, names_again_at, firsts_from, lesser_of, reported_at, first_reported, all_places, count_at, chain_faults_at, inherited_faults_at, base_faults_at, faults_from}
 use Rattle.csdl_schema.proofs.Placing.{IsBase, is_base, at_indexes, length-map}
 use Rattle.csdl_schema.proofs.Properties.{placed_names}
 use Rattle.csdl_schema.proofs.Inheritance.{shortened}
@@ -91,8 +91,8 @@ firsts_at types k (t ∷ ts) (suc n) =
     let moved : suc k + n ≡ k + suc n = omega arith in
     firsts_at types (suc k) ts n ∙ ap (λ m. option_map (λ t. first_name (names_again_at types m)) (slice_get ts n)) moved
 
-pub told_is : (types : List PlacedType) (n : ℕ) → told_at (firsts_from types 0 types) n ≡ first_name (names_again_at types n)
-told_is types n =
+pub reported_is : (types : List PlacedType) (n : ℕ) → reported_at (firsts_from types 0 types) n ≡ first_name (names_again_at types n)
+reported_is types n =
     let here : 0 + n ≡ n = omega arith in
     ap (option_and_then (λ o. o)) (firsts_at types 0 types n ∙ ap (λ m. option_map (λ t. first_name (names_again_at types m)) (slice_get types n)) here)
     ∙ by (slice_get types n) refl
@@ -101,10 +101,10 @@ told_is types n =
     by (Some t) at = refl
     by None at = sym (ap (λ own. first_name (names_owned types (places_within base_limit types n) (map (λ e. e.0) (own_of own)))) at)
 
-pub first_told_is : (types : List PlacedType) (places : List ℕ) → first_told (firsts_from types 0 types) places ≡ first_name (flat_map (names_again_at types) places)
-first_told_is types [] = refl
-first_told_is types (n ∷ places) =
-    (λ j. lesser_of (told_is types n j) (first_told_is types places j)) ∙ sym (first_of_append (names_again_at types n) (flat_map (names_again_at types) places))
+pub first_reported_is : (types : List PlacedType) (places : List ℕ) → first_reported (firsts_from types 0 types) places ≡ first_name (flat_map (names_again_at types) places)
+first_reported_is types [] = refl
+first_reported_is types (n ∷ places) =
+    (λ j. lesser_of (reported_is types n j) (first_reported_is types places j)) ∙ sym (first_of_append (names_again_at types n) (flat_map (names_again_at types) places))
 
 any-map : {A B : Type 0} (p : B → Bool) (f : A → B) (xs : List A) → list_any (λ x. p (f x)) xs ≡ list_any p (map f xs)
 any-map p f [] = refl
@@ -138,7 +138,7 @@ none_first [] (y ∷ ys) same none =
     absurd (cc)
 none_first (x ∷ xs) ys same none = absurd (cc)
 
-pub first_kept : (told : Option Fault) (xs ys : List Fault) → first_fault xs ≡ first_fault ys → IsFirstOf xs told → IsFirstOf ys told
+pub first_kept : (reported : Option Fault) (xs ys : List Fault) → first_fault xs ≡ first_fault ys → IsFirstOf xs reported → IsFirstOf ys reported
 first_kept None xs ys same h = tt
 first_kept (Some fault) [] ys same h =
     let clash : [] ≡ fault ∷ h.0 = h.1 in
@@ -147,7 +147,7 @@ first_kept (Some fault) (x ∷ xs) [] same h =
     let clash : Some x ≡ None = same in
     absurd (cc)
 first_kept (Some fault) (x ∷ xs) (y ∷ ys) same h =
-    let told : x ∷ xs ≡ fault ∷ h.0 = h.1 in
+    let reported : x ∷ xs ≡ fault ∷ h.0 = h.1 in
     let first : Some x ≡ Some y = same in
     let is : y ≡ fault = cc in
     (ys, ap (λ z. z ∷ ys) is)

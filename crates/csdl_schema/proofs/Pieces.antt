@@ -8,7 +8,7 @@ use Rattle.csdl_schema.specs.PropertyView.{AreFirstOf}
 use Rattle.csdl_schema.specs.SchemaModel.{PropertyModel, properties_at, name_in}
 use Rattle.csdl_schema.specs.private.Placed.{PlacedType, base_at, own_at}
 use Rattle.csdl_schema.specs.private.SchemaView.{chain_in, inherited_properties, model_of, names_of, property_model, AreChained, IsThere}
-use Rattle.csdl_schema.specs.private.SlotWalk.{BeginsWith}
+use Rattle.csdl_schema.specs.private.Slots.{BeginsWith}
 use Rattle.csdl_schema.proofs.LookUps.{read_as}
 use Rattle.csdl_schema.proofs.SlotSteps.{in_front, heir_or_bare, joined, own_models, slots_count, IsHeir, IsBare}
 

@@ -12,7 +12,7 @@ use Rattle.csdl_schema.specs.SchemaModel.{PropertyModel, SchemaModel, properties
 use Rattle.csdl_schema.specs.BaseFaults.{property_limit}
 use Rattle.csdl_schema.specs.private.Placed.{PlacedType, PlacedBody, placed_structured, placed_enumeration, placed_definition, placed_base, placed_own, own_of, base_at, own_at}
 use Rattle.csdl_schema.specs.private.SchemaView.{chain_in, model_of, names_of, property_model, inherited_properties, IsBaseBelow, IsChainedBody, AreChained}
-use Rattle.csdl_schema.specs.private.SlotWalk.{own_slot_in, if_structured, structured_in, BeginsWith}
+use Rattle.csdl_schema.specs.private.Slots.{own_slot_in, if_structured, structured_in, BeginsWith}
 use Rattle.csdl_schema.proofs.Placing.{length-map, position-map}
 
 -- the first one that is found

@@ -9,8 +9,8 @@ use Rattle.csdl_declarations.specs.Fault.{Fault, unless, too_large}
 use Rattle.csdl_declarations.specs.FaultView.{IsFirstOf}
 use Rattle.csdl_schema.specs.declared.property.Property.{Property}
 use Rattle.csdl_schema.specs.BaseFaults.{first_name, lesser_name, twice_faults, property_limit}
-use Rattle.csdl_schema.specs.private.Placed.{PlacedType, entry_view, base_at, onto_place, places_within, owns_by, owns_at, names_owned, names_again_at, first_told, firsts_from, count_at, own_at, inherited_faults_at}
-use Rattle.csdl_schema.proofs.Chains.{first_told_is}
+use Rattle.csdl_schema.specs.private.Placed.{PlacedType, entry_view, base_at, onto_place, places_within, owns_by, owns_at, names_owned, names_again_at, first_reported, firsts_from, count_at, own_at, inherited_faults_at}
+use Rattle.csdl_schema.proofs.Chains.{first_reported_is}
 
 -- ---- lists
 
@@ -36,23 +36,23 @@ pushed_map {A} {B} f xs new x y rest all added same whole = ap (λ zs. map f zs 
 
 -- ---- faults
 
-pub tells_first : (told : Option Fault) (fault : Fault) (faults later : List Fault) → IfSome told (λ t. t ≡ fault) → faults ≡ fault ∷ later → IsFirstOf faults told
-tells_first None fault faults later is first = tt
-tells_first (Some t) fault faults later is first = (later, first ∙ ap (λ f. f ∷ later) (sym is))
+pub reports_first : (reported : Option Fault) (fault : Fault) (faults later : List Fault) → IfSome reported (λ t. t ≡ fault) → faults ≡ fault ∷ later → IsFirstOf faults reported
+reports_first None fault faults later is first = tt
+reports_first (Some t) fault faults later is first = (later, first ∙ ap (λ f. f ∷ later) (sym is))
 
-pub first_of_more : (told : Option Fault) (faults more : List Fault) → IsFirstOf faults told → IsFirstOf (faults ++ more) told
+pub first_of_more : (reported : Option Fault) (faults more : List Fault) → IsFirstOf faults reported → IsFirstOf (faults ++ more) reported
 first_of_more None faults more h = tt
 first_of_more (Some t) faults more h = (h.0 ++ more, ap (λ fs. fs ++ more) h.1)
 
-pub unless_first : (b : Bool) (fault : Fault) (told : Option Fault) → b ≡ false → IfSome told (λ t. t ≡ fault) → IsFirstOf (unless b fault) told
-unless_first b fault told fails is = tells_first told fault (unless b fault) [] is (ap (λ v. unless v fault) fails)
+pub unless_first : (b : Bool) (fault : Fault) (reported : Option Fault) → b ≡ false → IfSome reported (λ t. t ≡ fault) → IsFirstOf (unless b fault) reported
+unless_first b fault reported fails is = reports_first reported fault (unless b fault) [] is (ap (λ v. unless v fault) fails)
 
 pub unless_none : (b : Bool) (fault : Fault) → b ≡ true → unless b fault ≡ []
 unless_none b fault holds = ap (λ v. unless v fault) holds
 
 -- a fault after tests that hold
-pub behind_none : (told : Option Fault) (none faults : List Fault) → none ≡ [] → IsFirstOf faults told → IsFirstOf (none ++ faults) told
-behind_none told none faults is h = subst (λ fs. IsFirstOf (fs ++ faults) told) (sym is) h
+pub behind_none : (reported : Option Fault) (none faults : List Fault) → none ≡ [] → IsFirstOf faults reported → IsFirstOf (none ++ faults) reported
+behind_none reported none faults is h = subst (λ fs. IsFirstOf (fs ++ faults) reported) (sym is) h
 
 -- ---- numbers
 
@@ -106,9 +106,9 @@ owned_step types places es n e b at is =
     by false = refl
 
 -- what is reported about a chain is its first name that stands twice
-pub twice_told : (types : List PlacedType) (firsts : List (Option (List ℕ))) (places : List ℕ) (told : Option (List ℕ)) → firsts ≡ firsts_from types 0 types → told ≡ first_told firsts places
-    → told ≡ first_name (flat_map (names_again_at types) places)
-twice_told types firsts places told same is = is ∙ ap (λ fs. first_told fs places) same ∙ first_told_is types places
+pub twice_reported : (types : List PlacedType) (firsts : List (Option (List ℕ))) (places : List ℕ) (reported : Option (List ℕ)) → firsts ≡ firsts_from types 0 types → reported ≡ first_reported firsts places
+    → reported ≡ first_name (flat_map (names_again_at types) places)
+twice_reported types firsts places reported same is = is ∙ ap (λ fs. first_reported fs places) same ∙ first_reported_is types places
 
 -- ---- inherited properties
 
@@ -122,8 +122,8 @@ module _ (types : List PlacedType) (name : List ℕ) (n : ℕ) (places : List �
   pub total_is : total ≡ length (own_at types n) + count_at types places
   total_is = sum_by-cons (λ m. length (own_at types m)) n places
 
-  pub none_twice : (told : Option (List ℕ)) → told ≡ None → told ≡ twice → twice_faults name twice ≡ []
-  none_twice told none is = ap (twice_faults name) (sym is ∙ none)
+  pub none_twice : (reported : Option (List ℕ)) → reported ≡ None → reported ≡ twice → twice_faults name twice ≡ []
+  none_twice reported none is = ap (twice_faults name) (sym is ∙ none)
 
   pub too_many : nat_lt property_limit total ≡ true → twice_faults name twice ≡ [] → (later : List Fault) × (inherited_faults_at types name n places ≡ too_large ∷ later)
   too_many many none = ([], (λ j. none j ++ unless (not (many j)) too_large))

@@ -2,4 +2,4 @@
 pub mod Placed
 pub mod PlacedView
 pub mod SchemaView
-pub mod SlotWalk
+pub mod Slots

@@ -1,12 +1,12 @@
 //! Refusals with the names that they report, or `Memory` where these cannot be stored.
 ghost use Rattle.csdl_declarations.specs.Fault as fault;
-ghost use Rattle.csdl_declarations.specs.FaultView.{TellsFault};
+ghost use Rattle.csdl_declarations.specs.FaultView.{ReportsFault};
 
 use csdl_declarations::SchemaFault;
 use std::alloc::Global;
 
 pub(crate) fn unknown_base(alloc: Global, owner: &str) -> SchemaFault
-    ensures { TellsFault result (fault.unknown_base owner.now) }
+    ensures { ReportsFault result (fault.unknown_base owner.now) }
 {
     match owner.to_owned(alloc) {
         Ok(owner) => SchemaFault::UnknownBase { owner },
@@ -15,7 +15,7 @@ pub(crate) fn unknown_base(alloc: Global, owner: &str) -> SchemaFault
 }
 
 pub(crate) fn base_cycle(alloc: Global, owner: &str) -> SchemaFault
-    ensures { TellsFault result (fault.base_cycle owner.now) }
+    ensures { ReportsFault result (fault.base_cycle owner.now) }
 {
     match owner.to_owned(alloc) {
         Ok(owner) => SchemaFault::BaseCycle { owner },
@@ -24,7 +24,7 @@ pub(crate) fn base_cycle(alloc: Global, owner: &str) -> SchemaFault
 }
 
 pub(crate) fn property_twice(alloc: Global, owner: &str, name: &str) -> SchemaFault
-    ensures { TellsFault result (fault.property_twice owner.now name.now) }
+    ensures { ReportsFault result (fault.property_twice owner.now name.now) }
 {
     match owner.to_owned(alloc) {
         Ok(owner) => match name.to_owned(alloc) {

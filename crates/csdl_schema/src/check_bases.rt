@@ -45,7 +45,7 @@ fn check_length(
     places: &[usize],
     types: usize,
 ) -> Result<(), SchemaFault>
-    ensures told { Reads result (length_faults name.now (length places.now) types) (λ _. ⊤) }
+    ensures reported { Reads result (length_faults name.now (length places.now) types) (λ _. ⊤) }
     ensures no_memory { length places.now < types → IfErr result (λ fault. fault ≡ SchemaFault.TooLarge) }
 {
     if places.len() >= types {

@@ -2,7 +2,7 @@
 ghost use Rattle.std.specs.Prelude.{◌≡◌, ◌∷◌, IfOk, IfErr, map, option_map};
 ghost use Rattle.std.specs.List.{flat_map};
 ghost use Rattle.csdl_schema.specs.BaseFaults.{first_name, lesser_name};
-ghost use Rattle.csdl_schema.specs.private.Placed.{entry_view, first_told, firsts_from, lesser_of, names_again_at, names_owned, told_at};
+ghost use Rattle.csdl_schema.specs.private.Placed.{entry_view, first_reported, firsts_from, lesser_of, names_again_at, names_owned, reported_at};
 ghost use Rattle.csdl_schema.specs.private.PlacedView.{placed_of};
 
 use super::chain::{bases_of, is_owned};
@@ -101,24 +101,24 @@ fn lesser_of<'t>(name: Option<&'t str>, other: Option<&'t str>) -> Option<&'t st
     }
 }
 
-fn told_at<'t>(firsts: &[Option<&'t str>], index: usize) -> Option<&'t str>
+fn reported_at<'t>(firsts: &[Option<&'t str>], index: usize) -> Option<&'t str>
     ensures { option_map (λ s. s.now) result
-        ≡ told_at (map (option_map (λ s. s.now)) firsts.now) index }
+        ≡ reported_at (map (option_map (λ s. s.now)) firsts.now) index }
 {
     match firsts.get(index) {
-        Some(told) => *told,
+        Some(reported) => *reported,
         None => None,
     }
 }
 
 /// The first of the names that are reported for the types at the indexes.
-fn first_told<'t>(firsts: &[Option<&'t str>], places: &[usize]) -> Option<&'t str>
+fn first_reported<'t>(firsts: &[Option<&'t str>], places: &[usize]) -> Option<&'t str>
     ensures { option_map (λ s. s.now) result
-        ≡ first_told (map (option_map (λ s. s.now)) firsts.now) places.now }
+        ≡ first_reported (map (option_map (λ s. s.now)) firsts.now) places.now }
 {
     let mut first = None;
     for place in places {
-        first = lesser_of(first, told_at(firsts, *place));
+        first = lesser_of(first, reported_at(firsts, *place));
     }
     first
 }
@@ -130,7 +130,7 @@ pub(crate) fn first_twice<'t>(
     bases: &[usize],
 ) -> Option<&'t str>
     ensures { option_map (λ s. s.now) result
-        ≡ first_told (map (option_map (λ s. s.now)) firsts.now) (index ∷ bases.now) }
+        ≡ first_reported (map (option_map (λ s. s.now)) firsts.now) (index ∷ bases.now) }
 {
-    lesser_of(told_at(firsts, index), first_told(firsts, bases))
+    lesser_of(reported_at(firsts, index), first_reported(firsts, bases))
 }

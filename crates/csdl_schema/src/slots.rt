@@ -5,7 +5,7 @@ ghost use Rattle.csdl_schema.specs.SchemaModel.{name_in, properties_at, slot_nam
 ghost use Rattle.csdl_schema.specs.private.Placed.{entry_view, own_at};
 ghost use Rattle.csdl_schema.specs.private.PlacedView.{placed_of, structured_view};
 ghost use Rattle.csdl_schema.specs.private.SchemaView.{chain_in, model_of, names_of, property_model, AreChained, IsThere};
-ghost use Rattle.csdl_schema.specs.private.SlotWalk.{own_slot_in, structured_in, BeginsWith};
+ghost use Rattle.csdl_schema.specs.private.Slots.{own_slot_in, structured_in, BeginsWith};
 
 use super::chain::{Chain, base_at};
 use super::named_type::{NamedBody, NamedType, StructuredType};

@@ -8,7 +8,7 @@ pub mod ItemWalk
 pub mod LentSlots
 pub mod ObjectMembers
 pub mod ReadEntities
-pub mod RowTold
+pub mod RowReported
 pub mod SlotWalk
 pub mod SlotsByName
 pub mod ValueWalk

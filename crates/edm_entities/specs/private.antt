@@ -1,12 +1,12 @@
 -- Definitions that private clauses alone cite.
 pub mod Faults
 pub mod KeptRows
-pub mod Lent
-pub mod Members
+pub mod MemberWalk
 pub mod NextMember
 pub mod Passed
+pub mod PropertyCursor
 pub mod RowTokens
-pub mod Rows
+pub mod RowWalk
 pub mod Scalars
 pub mod SlotsSoFar
 pub mod Walk

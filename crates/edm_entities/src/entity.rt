@@ -6,7 +6,7 @@ use super::json_walk::read_slots;
 use super::kept_row::KeptRow;
 use super::row_fault::RowFault;
 use csdl_schema::{Expansion, Schema, TypeId};
-use edm_row_plans::WalkScene;
+use edm_row_plans::WalkContext;
 use edm_values::Value;
 use std::alloc::Global;
 use std::marker::Model;
@@ -86,12 +86,12 @@ impl<'s> Entity<'s> {
         ensures first_fault { IfErr result (λ fault. ¬ (IsMemory fault) → IsRowFault
             (expanded_by schema.now expansion.now) (type_name_at schema.now type_id) (view row.now) fault) }
     {
-        let scene = WalkScene {
+        let context = WalkContext {
             alloc,
             schema,
             expansion,
         };
-        match read_slots(&scene, type_id, Some(0), row) {
+        match read_slots(&context, type_id, Some(0), row) {
             Ok(values) => match expansion.copy(alloc) {
                 Ok(copy) => {
                     let kept = KeptRow::Own(copy, Value::Record(values));
@@ -114,7 +114,7 @@ impl<'s> Entity<'s> {
         requires { IsEntity (row_with schema.now type_id expansion.now value.now) }
         ensures { result ≡ row_with schema.now type_id expansion.now value.now }
     {
-        Entity::of_row(schema, type_id, KeptRow::Lent(expansion, value))
+        Entity::of_row(schema, type_id, KeptRow::Borrowed(expansion, value))
     }
 
     /// The entity of that type with this value, where that is expanded.

@@ -1,6 +1,6 @@
 //! What is wrong with a JSON value, and the way to it, as the walk finds them.
 ghost use Rattle.std.specs.Prelude.{◌≡◌, None, IfOk, decimal};
-ghost use Rattle.edm_entities.specs.private.Faults.{IsBelow, IsPathBelow, IsToldAs};
+ghost use Rattle.edm_entities.specs.private.Faults.{IsBelow, IsPathBelow, IsReportedAs};
 
 use super::row_fault::RowFault;
 use std::alloc::{AllocError, Global};
@@ -79,7 +79,7 @@ fn path_below(alloc: Global, step: &str, path: &Option<String>) -> Result<String
 
 /// The fault of a row, from that of its value.
 pub(crate) fn row_fault(fault: ReadFault) -> RowFault
-    ensures { IsToldAs fault result }
+    ensures { IsReportedAs fault result }
 {
     let flaw = fault.flaw;
     match fault.path {

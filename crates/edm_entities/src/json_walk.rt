@@ -16,48 +16,48 @@ ghost use Rattle.edm_entities.specs.private.Walk.{FitSlots, FitList, HoldsInSlot
 
 use super::flaw::{ReadFault, ReadFlaw, fault_below, fault_here, fault_in_item};
 use super::leaf::{absent_value, leaf_read, null_value, read_member, read_primitive};
-use super::lent_piece::first_piece;
 use super::member_walk::members_of;
+use super::property_cursor::first_piece;
 use super::scalar::scalar_of;
 use csdl_schema::{Property, TypeId};
 use edm_row_plans::{
-    WalkScene, Wanted, expanded_target, may_hold_null, navigates, node_behind, wanted_with,
+    WalkContext, Wanted, expanded_target, may_hold_null, navigates, node_behind, wanted_with,
 };
 use edm_values::Value;
 
 /// The values of the properties of a type in slot order, from a JSON object.
 #[cycle(walk)]
 pub(crate) fn read_slots(
-    scene: &WalkScene<'_>,
+    context: &WalkContext<'_>,
     type_id: TypeId,
     node: Option<usize>,
     json: &serde_json::Value,
 ) -> Result<Vec<Value>, ReadFault>
     ensures object { IfOk result (λ _. IsSome (as_object (view json.now))) }
-    ensures distinct { IfOk result (λ _. HasDistinctNames (properties_at scene.now.schema.now type_id)) }
-    ensures fits { IfOk result (λ values. FitSlots (slots_in scene.now node) (view json.now)
-        (properties_at scene.now.schema.now type_id) values.items) }
-    ensures fault { IfErr result (IsFaultOf (λ path flaw. IsValueFault (slots_in scene.now node) false path
-        (single (structured (type_name_at scene.now.schema.now type_id))) (view json.now) flaw)) }
+    ensures distinct { IfOk result (λ _. HasDistinctNames (properties_at context.now.schema.now type_id)) }
+    ensures fits { IfOk result (λ values. FitSlots (slots_in context.now node) (view json.now)
+        (properties_at context.now.schema.now type_id) values.items) }
+    ensures fault { IfErr result (IsFaultOf (λ path flaw. IsValueFault (slots_in context.now node) false path
+        (single (structured (type_name_at context.now.schema.now type_id))) (view json.now) flaw)) }
 {
     let Some(mut members) = members_of(json) else {
         return Err(fault_here(ReadFlaw::WrongKind));
     };
-    let count = scene.schema.slots(type_id);
-    let Ok(mut values) = Vec::with_capacity(scene.alloc, count) else {
+    let count = context.schema.slots(type_id);
+    let Ok(mut values) = Vec::with_capacity(context.alloc, count) else {
         return Err(fault_here(ReadFlaw::Memory));
     };
-    let mut lent = first_piece(scene.schema, type_id);
+    let mut cursor = first_piece(context.schema, type_id);
     for slot in 0..count {
-        let (name, property) = lent.at(scene.schema, type_id, slot);
-        let inner = node_behind(scene, node, name);
-        match read_property(scene, property, inner, members.find(json, name)) {
+        let (name, property) = cursor.at(context.schema, type_id, slot);
+        let inner = node_behind(context, node, name);
+        match read_property(context, property, inner, members.find(json, name)) {
             Ok(value) => {
                 if values.push(value).is_err() {
                     return Err(fault_here(ReadFlaw::Memory));
                 }
             }
-            Err(fault) => return Err(fault_below(scene.alloc, name, fault)),
+            Err(fault) => return Err(fault_below(context.alloc, name, fault)),
         }
     }
     Ok(values)
@@ -67,28 +67,29 @@ pub(crate) fn read_slots(
 /// as null.
 #[cycle(walk)]
 fn read_property(
-    scene: &WalkScene<'_>,
+    context: &WalkContext<'_>,
     property: &Property,
     node: Option<usize>,
     found: Option<&serde_json::Value>,
 ) -> Result<Value, ReadFault>
-    ensures fits { IfOk result (λ v. FitsProperty (slots_in scene.now node) property.now.nullable
-        (property_type scene.now.schema.now property.now) (option_map (λ json. view json.now) found.entry)
-        (field_of (slots_in scene.now node).properties (property_type scene.now.schema.now property.now) (val_of v))) }
-    ensures holds { IfOk result (HoldsInSlot (slots_in scene.now node)
-        (property_type scene.now.schema.now property.now)) }
-    ensures fault { IfErr result (IsFaultOf (IsPropertyFault (slots_in scene.now node) property.now.nullable
-        (property_type scene.now.schema.now property.now) (option_map (λ json. view json.now) found.entry))) }
+    ensures fits { IfOk result (λ v. FitsProperty (slots_in context.now node) property.now.nullable
+        (property_type context.now.schema.now property.now) (option_map (λ json. view json.now) found.entry)
+        (field_of (slots_in context.now node).properties (property_type context.now.schema.now property.now)
+        (val_of v))) }
+    ensures holds { IfOk result (HoldsInSlot (slots_in context.now node)
+        (property_type context.now.schema.now property.now)) }
+    ensures fault { IfErr result (IsFaultOf (IsPropertyFault (slots_in context.now node) property.now.nullable
+        (property_type context.now.schema.now property.now) (option_map (λ json. view json.now) found.entry))) }
 {
-    let target = expanded_target(scene, property, node);
+    let target = expanded_target(context, property, node);
     let Some(wanted) = wanted_with(property, target) else {
         return Ok(Value::Null);
     };
     match found {
         Some(json) => if property.many {
-            read_items(scene, &wanted, node, may_hold_null(property), json)
+            read_items(context, &wanted, node, may_hold_null(property), json)
         } else {
-            read_single(scene, &wanted, node, property.nullable, json)
+            read_single(context, &wanted, node, property.nullable, json)
         },
         None => if navigates(property) {
             Err(fault_here(ReadFlaw::NotExpanded))
@@ -101,50 +102,50 @@ fn read_property(
 /// A single value, or an item; null, if it may be.
 #[cycle(walk)]
 fn read_single(
-    scene: &WalkScene<'_>,
+    context: &WalkContext<'_>,
     wanted: &Wanted,
     node: Option<usize>,
     nullable: bool,
     json: &serde_json::Value,
 ) -> Result<Value, ReadFault>
     ensures fits { (items : Bool) → IfOk result (λ v. FitsFound (Some (view json.now)) nullable
-        (val_of v (slots_in scene.now node).properties (single (wanted_single scene.now.schema.now wanted.now)))
-        (λ found. FitsType (slots_in scene.now node) items
-        (single (wanted_single scene.now.schema.now wanted.now)) found
-        (val_of v (slots_in scene.now node).properties (single (wanted_single scene.now.schema.now wanted.now))))) }
+        (val_of v (slots_in context.now node).properties (single (wanted_single context.now.schema.now wanted.now)))
+        (λ found. FitsType (slots_in context.now node) items
+        (single (wanted_single context.now.schema.now wanted.now)) found
+        (val_of v (slots_in context.now node).properties (single (wanted_single context.now.schema.now wanted.now))))) }
     ensures holds { IfOk result
-        (λ v. HoldsEachSlot v (slots_in scene.now node) (single (wanted_single scene.now.schema.now wanted.now))) }
+        (λ v. HoldsEachSlot v (slots_in context.now node) (single (wanted_single context.now.schema.now wanted.now))) }
     ensures fault { (items : Bool) → IfErr result (IsFaultOf (λ path flaw. IsFoundFault (Some (view json.now)) nullable
-        path flaw (λ found. IsValueFault (slots_in scene.now node) items path
-        (single (wanted_single scene.now.schema.now wanted.now)) found flaw))) }
+        path flaw (λ found. IsValueFault (slots_in context.now node) items path
+        (single (wanted_single context.now.schema.now wanted.now)) found flaw))) }
 {
     if json.is_null() {
         return null_value(nullable);
     }
-    read_value(scene, wanted, node, json)
+    read_value(context, wanted, node, json)
 }
 
 /// A value that is not null.
 #[cycle(walk)]
 fn read_value(
-    scene: &WalkScene<'_>,
+    context: &WalkContext<'_>,
     wanted: &Wanted,
     node: Option<usize>,
     json: &serde_json::Value,
 ) -> Result<Value, ReadFault>
-    ensures fits { (nullable : Bool) → IfOk result (λ v. FitsType (slots_in scene.now node) nullable
-        (single (wanted_single scene.now.schema.now wanted.now)) (view json.now)
-        (val_of v (slots_in scene.now node).properties (single (wanted_single scene.now.schema.now wanted.now)))) }
+    ensures fits { (nullable : Bool) → IfOk result (λ v. FitsType (slots_in context.now node) nullable
+        (single (wanted_single context.now.schema.now wanted.now)) (view json.now)
+        (val_of v (slots_in context.now node).properties (single (wanted_single context.now.schema.now wanted.now)))) }
     ensures holds { IfOk result
-        (λ v. HoldsEachSlot v (slots_in scene.now node) (single (wanted_single scene.now.schema.now wanted.now))) }
-    ensures fault { (nullable : Bool) → IfErr result (IsFaultOf (λ path flaw. IsValueFault (slots_in scene.now node)
-        nullable path (single (wanted_single scene.now.schema.now wanted.now)) (view json.now) flaw)) }
+        (λ v. HoldsEachSlot v (slots_in context.now node) (single (wanted_single context.now.schema.now wanted.now))) }
+    ensures fault { (nullable : Bool) → IfErr result (IsFaultOf (λ path flaw. IsValueFault (slots_in context.now node)
+        nullable path (single (wanted_single context.now.schema.now wanted.now)) (view json.now) flaw)) }
 {
     match *wanted {
-        Wanted::Prim(prim) => leaf_read(read_primitive(scene.alloc, prim, scalar_of(json))),
-        Wanted::Enum(id) => leaf_read(read_member(scene.schema, id, scalar_of(json))),
+        Wanted::Prim(prim) => leaf_read(read_primitive(context.alloc, prim, scalar_of(json))),
+        Wanted::Enum(id) => leaf_read(read_member(context.schema, id, scalar_of(json))),
         Wanted::Complex(id) => {
-            let values = read_slots(scene, id, node, json)?;
+            let values = read_slots(context, id, node, json)?;
             Ok(Value::Record(values))
         }
     }
@@ -153,22 +154,24 @@ fn read_value(
 /// The value of an array.
 #[cycle(walk)]
 fn read_items(
-    scene: &WalkScene<'_>,
+    context: &WalkContext<'_>,
     wanted: &Wanted,
     node: Option<usize>,
     nullable: bool,
     json: &serde_json::Value,
 ) -> Result<Value, ReadFault>
     ensures fits { IfOk result (λ v. FitsFound (Some (view json.now)) false
-        (val_of v (slots_in scene.now node).properties (collection (wanted_single scene.now.schema.now wanted.now)))
-        (λ found. FitsType (slots_in scene.now node) nullable
-        (collection (wanted_single scene.now.schema.now wanted.now)) found
-        (val_of v (slots_in scene.now node).properties (collection (wanted_single scene.now.schema.now wanted.now))))) }
+        (val_of v (slots_in context.now node).properties (collection (wanted_single context.now.schema.now wanted.now)))
+        (λ found. FitsType (slots_in context.now node) nullable
+        (collection (wanted_single context.now.schema.now wanted.now)) found
+        (val_of v (slots_in context.now node).properties
+        (collection (wanted_single context.now.schema.now wanted.now))))) }
     ensures holds { IfOk result
-        (λ v. HoldsEachSlot v (slots_in scene.now node) (collection (wanted_single scene.now.schema.now wanted.now))) }
+        (λ v. HoldsEachSlot v (slots_in context.now node)
+        (collection (wanted_single context.now.schema.now wanted.now))) }
     ensures fault { IfErr result (IsFaultOf (λ path flaw. IsFoundFault (Some (view json.now)) false path flaw
-        (λ found. IsValueFault (slots_in scene.now node) nullable path
-        (collection (wanted_single scene.now.schema.now wanted.now)) found flaw))) }
+        (λ found. IsValueFault (slots_in context.now node) nullable path
+        (collection (wanted_single context.now.schema.now wanted.now)) found flaw))) }
 {
     if json.is_null() {
         return Err(fault_here(ReadFlaw::NullNotAllowed));
@@ -176,37 +179,38 @@ fn read_items(
     let Some(items) = json.as_array() else {
         return Err(fault_here(ReadFlaw::WrongKind));
     };
-    let values = read_list(scene, wanted, node, nullable, items.as_slice())?;
+    let values = read_list(context, wanted, node, nullable, items.as_slice())?;
     Ok(Value::List(values))
 }
 
 /// The values of an array's items, in order.
 #[cycle(walk)]
 fn read_list(
-    scene: &WalkScene<'_>,
+    context: &WalkContext<'_>,
     wanted: &Wanted,
     node: Option<usize>,
     nullable: bool,
     items: &[serde_json::Value],
 ) -> Result<Vec<Value>, ReadFault>
-    ensures fits { IfOk result (λ values. FitList (slots_in scene.now node) nullable
-        (wanted_single scene.now.schema.now wanted.now) (items_view items.now) values.items) }
+    ensures fits { IfOk result (λ values. FitList (slots_in context.now node) nullable
+        (wanted_single context.now.schema.now wanted.now) (items_view items.now) values.items) }
     ensures holds { IfOk result
-        (λ values. HoldInItems (slots_in scene.now node) (wanted_single scene.now.schema.now wanted.now) values.items) }
-    ensures fault { IfErr result (IsFaultOf (λ path flaw. IsValueFault (slots_in scene.now node) nullable path
-        (collection (wanted_single scene.now.schema.now wanted.now)) (array (items_view items.now)) flaw)) }
+        (λ values. HoldInItems (slots_in context.now node)
+        (wanted_single context.now.schema.now wanted.now) values.items) }
+    ensures fault { IfErr result (IsFaultOf (λ path flaw. IsValueFault (slots_in context.now node) nullable path
+        (collection (wanted_single context.now.schema.now wanted.now)) (array (items_view items.now)) flaw)) }
 {
-    let Ok(mut values) = Vec::with_capacity(scene.alloc, items.len()) else {
+    let Ok(mut values) = Vec::with_capacity(context.alloc, items.len()) else {
         return Err(fault_here(ReadFlaw::Memory));
     };
     for index in 0..items.len() {
-        match read_single(scene, wanted, node, nullable, &items[index]) {
+        match read_single(context, wanted, node, nullable, &items[index]) {
             Ok(value) => {
                 if values.push(value).is_err() {
                     return Err(fault_here(ReadFlaw::Memory));
                 }
             }
-            Err(fault) => return Err(fault_in_item(scene.alloc, index, fault)),
+            Err(fault) => return Err(fault_in_item(context.alloc, index, fault)),
         }
     }
     Ok(values)

@@ -9,7 +9,7 @@ use edm_values::Value;
 #[derive(Drop)]
 pub(crate) enum KeptRow<'s> {
     Own(Expansion, Value),
-    Lent(&'s Expansion, &'s Value),
+    Borrowed(&'s Expansion, &'s Value),
 }
 
 impl KeptRow<'_> {
@@ -18,7 +18,7 @@ impl KeptRow<'_> {
     {
         match self {
             KeptRow::Own(expansion, _) => expansion,
-            KeptRow::Lent(expansion, _) => *expansion,
+            KeptRow::Borrowed(expansion, _) => *expansion,
         }
     }
 
@@ -28,7 +28,7 @@ impl KeptRow<'_> {
     {
         match self {
             KeptRow::Own(_, value) => value,
-            KeptRow::Lent(_, value) => *value,
+            KeptRow::Borrowed(_, value) => *value,
         }
     }
 }

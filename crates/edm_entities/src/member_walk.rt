@@ -3,7 +3,7 @@ ghost use Rattle.std.specs.Prelude.{◌≡◌, is_some, Some, IfSome, option_map
 ghost use Rattle.serde_json.specs.Data.{Data};
 ghost use Rattle.serde_json.specs.Find.{as_object, get};
 ghost use Rattle.serde_json.specs.View.{view};
-ghost use Rattle.edm_entities.specs.private.Members.{IsWalkOf};
+ghost use Rattle.edm_entities.specs.private.MemberWalk.{IsWalkOf};
 
 use serde_json::Value;
 use std::collections::btree_map::Iter;

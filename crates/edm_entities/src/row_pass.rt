@@ -21,7 +21,7 @@ use super::row_leaf::{Leaf, leaf_put, take_enumeration, take_primitive};
 use super::row_member::{Member, find_member};
 use super::row_skip::skip_value;
 use super::row_slots::may_be_absent;
-use super::row_walk::{OneValue, RowScene};
+use super::row_walk::{OneValue, ReadContext};
 use csdl_schema::PropertyKind;
 use edm_row_plans::{SlotPlan, TypePlan, Wanted, may_hold_null, plan_at, wanted_with};
 use edm_values::{Prim, Value};
@@ -31,14 +31,15 @@ use json_tokens::{KeyMarks, MARKS, TokenReader};
 #[cycle(pass)]
 fn pass_members(
     cache: &mut RowCache,
-    scene: &RowScene<'_>,
+    context: &ReadContext<'_>,
     plan: &TypePlan,
     reader: &mut TokenReader<'_>,
 ) -> bool
-    requires plans { ArePlans scene.now.schema.now scene.now.expansion.now scene.now.plans.now }
-    requires plan { IsPlan scene.now.schema.now scene.now.expansion.now plan.now }
-    ensures { IsTrue result → ReadsMembers scene.now.depth reader.old reader.new (λ found. FitSomeSlots
-        (slots_below scene.now plan.now.node) (properties_at scene.now.schema.now plan.now.type_id) (object found)) }
+    requires plans { ArePlans context.now.schema.now context.now.expansion.now context.now.plans.now }
+    requires plan { IsPlan context.now.schema.now context.now.expansion.now plan.now }
+    ensures { IsTrue result → ReadsMembers context.now.depth reader.old reader.new (λ found. FitSomeSlots
+        (slots_below context.now plan.now.node) (properties_at context.now.schema.now plan.now.type_id)
+        (object found)) }
 {
     if plan.slots.len() > MARKS {
         return false;
@@ -46,12 +47,12 @@ fn pass_members(
     let mut filled = KeyMarks::new();
     cache.order.begin(plan.slots.len());
     'members: loop {
-        let Some(member) = pass_member(cache, scene, plan, reader) else {
+        let Some(member) = pass_member(cache, context, plan, reader) else {
             return false;
         };
         match member {
             Member::OfSlot(slot) => {
-                filled.pass(slot);
+                filled.set(slot);
                 cache.order.pass(plan.slots.len(), slot);
             }
             Member::Other => {}
@@ -98,20 +99,20 @@ fn are_others_absent(plan: &TypePlan, filled: &KeyMarks) -> bool
 #[cycle(pass)]
 fn pass_member(
     cache: &mut RowCache,
-    scene: &RowScene<'_>,
+    context: &ReadContext<'_>,
     plan: &TypePlan,
     reader: &mut TokenReader<'_>,
 ) -> Option<Member>
-    requires plans { ArePlans scene.now.schema.now scene.now.expansion.now scene.now.plans.now }
-    requires plan { IsPlan scene.now.schema.now scene.now.expansion.now plan.now }
-    ensures { IfSome result (PassesMember scene.now.depth (slots_below scene.now plan.now.node)
-        (properties_at scene.now.schema.now plan.now.type_id) reader.old reader.new) }
+    requires plans { ArePlans context.now.schema.now context.now.expansion.now context.now.plans.now }
+    requires plan { IsPlan context.now.schema.now context.now.expansion.now plan.now }
+    ensures { IfSome result (PassesMember context.now.depth (slots_below context.now plan.now.node)
+        (properties_at context.now.schema.now plan.now.type_id) reader.old reader.new) }
 {
     let likely = cache.order.likely();
     if likely < plan.slots.len() {
         let slot_plan = &plan.slots[likely];
         if reader.take_key(&slot_plan.key) {
-            if !pass_property(cache, scene, slot_plan, reader) {
+            if !pass_property(cache, context, slot_plan, reader) {
                 return None;
             }
             return Some(Member::OfSlot(likely));
@@ -119,7 +120,7 @@ fn pass_member(
     } else if reader.take_end_object() {
         return Some(Member::End);
     }
-    if pass_named_member(cache, scene, plan, reader) {
+    if pass_named_member(cache, context, plan, reader) {
         Some(cache.found)
     } else {
         None
@@ -131,27 +132,27 @@ fn pass_member(
 #[cycle(pass)]
 fn pass_named_member(
     cache: &mut RowCache,
-    scene: &RowScene<'_>,
+    context: &ReadContext<'_>,
     plan: &TypePlan,
     reader: &mut TokenReader<'_>,
 ) -> bool
-    requires plans { ArePlans scene.now.schema.now scene.now.expansion.now scene.now.plans.now }
-    requires plan { IsPlan scene.now.schema.now scene.now.expansion.now plan.now }
-    ensures { IsTrue result → PassesMember scene.now.depth (slots_below scene.now plan.now.node)
-        (properties_at scene.now.schema.now plan.now.type_id) reader.old reader.new cache.new.found }
+    requires plans { ArePlans context.now.schema.now context.now.expansion.now context.now.plans.now }
+    requires plan { IsPlan context.now.schema.now context.now.expansion.now plan.now }
+    ensures { IsTrue result → PassesMember context.now.depth (slots_below context.now plan.now.node)
+        (properties_at context.now.schema.now plan.now.type_id) reader.old reader.new cache.new.found }
 {
-    if !find_member(cache, scene.schema, plan.type_id, reader) {
+    if !find_member(cache, context.schema, plan.type_id, reader) {
         return false;
     }
     match cache.found {
         Member::OfSlot(slot) => {
-            if !pass_property(cache, scene, &plan.slots[slot], reader) {
+            if !pass_property(cache, context, &plan.slots[slot], reader) {
                 return false;
             }
             cache.found = Member::OfSlot(slot);
             true
         }
-        Member::Other => skip_value(&mut cache.scratch, reader, scene.depth),
+        Member::Other => skip_value(&mut cache.scratch, reader, context.depth),
         Member::End => true,
     }
 }
@@ -161,22 +162,22 @@ fn pass_named_member(
 #[cycle(pass)]
 fn pass_property(
     cache: &mut RowCache,
-    scene: &RowScene<'_>,
+    context: &ReadContext<'_>,
     plan: &SlotPlan,
     reader: &mut TokenReader<'_>,
 ) -> bool
-    requires plans { ArePlans scene.now.schema.now scene.now.expansion.now scene.now.plans.now }
-    requires leads { plan.now.target ≡ target_at scene.now.expansion.now plan.now.node plan.now.property }
-    ensures { IsTrue result → Reads scene.now.depth reader.old reader.new (λ json. FitsSomeProperty
-        (slots_below scene.now plan.now.node) plan.now.property.nullable
-        (property_type scene.now.schema.now plan.now.property) (Some json)) }
+    requires plans { ArePlans context.now.schema.now context.now.expansion.now context.now.plans.now }
+    requires leads { plan.now.target ≡ target_at context.now.expansion.now plan.now.node plan.now.property }
+    ensures { IsTrue result → Reads context.now.depth reader.old reader.new (λ json. FitsSomeProperty
+        (slots_below context.now plan.now.node) plan.now.property.nullable
+        (property_type context.now.schema.now plan.now.property) (Some json)) }
 {
     if let PropertyKind::Prim(prim) = plan.property.kind {
         if !plan.property.many {
             return pass_scalar(cache, prim, plan.property.nullable, reader);
         }
     }
-    pass_other_property(cache, scene, plan, reader)
+    pass_other_property(cache, context, plan, reader)
 }
 
 /// The same of any property.
@@ -184,18 +185,18 @@ fn pass_property(
 #[cycle(pass)]
 pub(crate) fn pass_other_property(
     cache: &mut RowCache,
-    scene: &RowScene<'_>,
+    context: &ReadContext<'_>,
     plan: &SlotPlan,
     reader: &mut TokenReader<'_>,
 ) -> bool
-    requires plans { ArePlans scene.now.schema.now scene.now.expansion.now scene.now.plans.now }
-    requires leads { plan.now.target ≡ target_at scene.now.expansion.now plan.now.node plan.now.property }
-    ensures { IsTrue result → Reads scene.now.depth reader.old reader.new (λ json. FitsSomeProperty
-        (slots_below scene.now plan.now.node) plan.now.property.nullable
-        (property_type scene.now.schema.now plan.now.property) (Some json)) }
+    requires plans { ArePlans context.now.schema.now context.now.expansion.now context.now.plans.now }
+    requires leads { plan.now.target ≡ target_at context.now.expansion.now plan.now.node plan.now.property }
+    ensures { IsTrue result → Reads context.now.depth reader.old reader.new (λ json. FitsSomeProperty
+        (slots_below context.now plan.now.node) plan.now.property.nullable
+        (property_type context.now.schema.now plan.now.property) (Some json)) }
 {
     let Some(wanted) = wanted_with(&plan.property, plan.target) else {
-        return skip_value(&mut cache.scratch, reader, scene.depth);
+        return skip_value(&mut cache.scratch, reader, context.depth);
     };
     let (node, record) = (plan.node, plan.record);
     if plan.property.many {
@@ -205,7 +206,7 @@ pub(crate) fn pass_other_property(
             node,
             record,
         };
-        return pass_array(cache, scene, &one, reader);
+        return pass_array(cache, context, &one, reader);
     }
     let one = OneValue {
         wanted,
@@ -213,7 +214,7 @@ pub(crate) fn pass_other_property(
         node,
         record,
     };
-    pass_single(cache, scene, &one, reader)
+    pass_single(cache, context, &one, reader)
 }
 
 /// Passes a single value, or an item.
@@ -221,19 +222,19 @@ pub(crate) fn pass_other_property(
 #[cycle(pass)]
 fn pass_single(
     cache: &mut RowCache,
-    scene: &RowScene<'_>,
+    context: &ReadContext<'_>,
     one: &OneValue,
     reader: &mut TokenReader<'_>,
 ) -> bool
-    requires { ArePlans scene.now.schema.now scene.now.expansion.now scene.now.plans.now }
-    ensures { IsTrue result → Reads scene.now.depth reader.old reader.new (FitsSome
-        (slots_below scene.now one.now.node) one.now.nullable one.now.nullable
-        (single (wanted_single scene.now.schema.now one.now.wanted))) }
+    requires { ArePlans context.now.schema.now context.now.expansion.now context.now.plans.now }
+    ensures { IsTrue result → Reads context.now.depth reader.old reader.new (FitsSome
+        (slots_below context.now one.now.node) one.now.nullable one.now.nullable
+        (single (wanted_single context.now.schema.now one.now.wanted))) }
 {
     match one.wanted {
         Wanted::Prim(prim) => pass_scalar(cache, prim, one.nullable, reader),
-        Wanted::Complex(id) => match plan_at(scene.plans, one.record, id, one.node) {
-            Some(plan) => match pass_record(cache, scene, plan, reader) {
+        Wanted::Complex(id) => match plan_at(context.plans, one.record, id, one.node) {
+            Some(plan) => match pass_record(cache, context, plan, reader) {
                 Leaf::Read => true,
                 Leaf::Other => pass_null(one.nullable, reader),
                 Leaf::Refused => false,
@@ -242,7 +243,7 @@ fn pass_single(
         },
         Wanted::Enum(id) => {
             let mut place = Value::Null;
-            match take_enumeration(&mut cache.scratch, scene.schema, id, reader, &mut place) {
+            match take_enumeration(&mut cache.scratch, context.schema, id, reader, &mut place) {
                 Leaf::Read => true,
                 Leaf::Other => pass_null(one.nullable, reader),
                 Leaf::Refused => false,
@@ -309,29 +310,29 @@ fn pass_null(nullable: bool, reader: &mut TokenReader<'_>) -> bool
 #[cycle(pass)]
 fn pass_record(
     cache: &mut RowCache,
-    scene: &RowScene<'_>,
+    context: &ReadContext<'_>,
     plan: &TypePlan,
     reader: &mut TokenReader<'_>,
 ) -> Leaf
-    requires plans { ArePlans scene.now.schema.now scene.now.expansion.now scene.now.plans.now }
-    requires plan { IsPlan scene.now.schema.now scene.now.expansion.now plan.now }
-    ensures read { result ≡ Leaf.Read → Reads scene.now.depth reader.old reader.new (FitsSomeHowever
-        (slots_below scene.now plan.now.node)
-        (single (structured (type_name_at scene.now.schema.now plan.now.type_id)))) }
+    requires plans { ArePlans context.now.schema.now context.now.expansion.now context.now.plans.now }
+    requires plan { IsPlan context.now.schema.now context.now.expansion.now plan.now }
+    ensures read { result ≡ Leaf.Read → Reads context.now.depth reader.old reader.new (FitsSomeHowever
+        (slots_below context.now plan.now.node)
+        (single (structured (type_name_at context.now.schema.now plan.now.type_id)))) }
     ensures kept { result ≡ Leaf.Other → reader.new ≡ reader.old }
 {
     if !reader.take_begin_object() {
         return Leaf::Other;
     }
-    if scene.depth == 0 {
+    if context.depth == 0 {
         return Leaf::Refused;
     }
-    let inner = RowScene {
-        schema: scene.schema,
-        expansion: scene.expansion,
-        plans: scene.plans,
-        passed: scene.passed,
-        depth: scene.depth - 1,
+    let inner = ReadContext {
+        schema: context.schema,
+        expansion: context.expansion,
+        plans: context.plans,
+        passed: context.passed,
+        depth: context.depth - 1,
     };
     leaf_put(pass_members(cache, &inner, plan, reader))
 }
@@ -341,24 +342,24 @@ fn pass_record(
 #[cycle(pass)]
 fn pass_array(
     cache: &mut RowCache,
-    scene: &RowScene<'_>,
+    context: &ReadContext<'_>,
     one: &OneValue,
     reader: &mut TokenReader<'_>,
 ) -> bool
-    requires { ArePlans scene.now.schema.now scene.now.expansion.now scene.now.plans.now }
-    ensures { IsTrue result → Reads scene.now.depth reader.old reader.new (FitsSome
-        (slots_below scene.now one.now.node) false one.now.nullable
-        (collection (wanted_single scene.now.schema.now one.now.wanted))) }
+    requires { ArePlans context.now.schema.now context.now.expansion.now context.now.plans.now }
+    ensures { IsTrue result → Reads context.now.depth reader.old reader.new (FitsSome
+        (slots_below context.now one.now.node) false one.now.nullable
+        (collection (wanted_single context.now.schema.now one.now.wanted))) }
 {
-    if scene.depth == 0 || !reader.take_begin_array() {
+    if context.depth == 0 || !reader.take_begin_array() {
         return false;
     }
-    let inner = RowScene {
-        schema: scene.schema,
-        expansion: scene.expansion,
-        plans: scene.plans,
-        passed: scene.passed,
-        depth: scene.depth - 1,
+    let inner = ReadContext {
+        schema: context.schema,
+        expansion: context.expansion,
+        plans: context.plans,
+        passed: context.passed,
+        depth: context.depth - 1,
     };
     'items: while !reader.take_end_array() {
         if !pass_single(cache, &inner, one, reader) {

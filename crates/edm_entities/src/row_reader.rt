@@ -15,7 +15,7 @@ use super::entity::Entity;
 use super::kept_row::KeptRow;
 use super::row_cache::RowCache;
 use super::row_root::take_row_members;
-use super::row_walk::{RowScene, record_in};
+use super::row_walk::{ReadContext, record_in};
 use csdl_schema::{Schema, TypeId};
 use edm_row_plans::{RowPlan, plan_at};
 use edm_values::Value;
@@ -61,14 +61,14 @@ impl RowReader {
         let Some(text) = text_of_line(line) else {
             return None;
         };
-        let scene = RowScene {
+        let context = ReadContext {
             schema,
             expansion: &plan.expansion,
             plans: plan.plans.as_slice(),
             passed: plan.passed.as_slice(),
             depth: DEPTH - 1,
         };
-        if !take_row(&mut self.cache, &scene, plan.type_id, text, &mut self.row) {
+        if !take_row(&mut self.cache, &context, plan.type_id, text, &mut self.row) {
             return None;
         }
         Some(mem::replace(&mut self.row, Value::Null))
@@ -98,17 +98,17 @@ impl RowReader {
             return None;
         };
         let passed = plan.passed.as_slice();
-        let scene = RowScene {
+        let context = ReadContext {
             schema,
             expansion: &plan.expansion,
             plans: plan.plans.as_slice(),
             passed,
             depth: DEPTH - 1,
         };
-        if !take_row(&mut self.cache, &scene, plan.type_id, text, &mut self.row) {
+        if !take_row(&mut self.cache, &context, plan.type_id, text, &mut self.row) {
             return None;
         }
-        let kept = KeptRow::Lent(&plan.expansion, &self.row);
+        let kept = KeptRow::Borrowed(&plan.expansion, &self.row);
         Some(Entity::of_row(schema, plan.type_id, kept))
     }
 }
@@ -116,21 +116,21 @@ impl RowReader {
 /// Puts the value of a whole text into its place.
 fn take_row(
     cache: &mut RowCache,
-    scene: &RowScene<'_>,
+    context: &ReadContext<'_>,
     type_id: TypeId,
     text: &str,
     place: &mut Value,
 ) -> bool
-    requires plans { ArePlans scene.now.schema.now scene.now.expansion.now scene.now.plans.now }
-    requires depth { scene.now.depth ≡ 126 }
-    ensures distinct { IsTrue result → HasDistinctNames (properties_at scene.now.schema.now type_id) }
+    requires plans { ArePlans context.now.schema.now context.now.expansion.now context.now.plans.now }
+    requires depth { context.now.depth ≡ 126 }
+    ensures distinct { IsTrue result → HasDistinctNames (properties_at context.now.schema.now type_id) }
     ensures fits { IsTrue result → (values : Vec Value GlobalModel) × (place.new ≡ Value.Record values)
         × ((found : Members) × (read text.now ≡ Some (object found))
-        × FitsRow (slots_below scene.now (Some 0))
-        (passed_names (properties_at scene.now.schema.now type_id) scene.now.passed.now)
-        (properties_at scene.now.schema.now type_id) values.items found) }
+        × FitsRow (slots_below context.now (Some 0))
+        (passed_names (properties_at context.now.schema.now type_id) context.now.passed.now)
+        (properties_at context.now.schema.now type_id) values.items found) }
 {
-    let Some(plan) = plan_at(scene.plans, 0, type_id, Some(0)) else {
+    let Some(plan) = plan_at(context.plans, 0, type_id, Some(0)) else {
         return false;
     };
     let mut reader = TokenReader::new(text);
@@ -140,7 +140,7 @@ fn take_row(
     cache.begin_record(place);
     match record_in(place) {
         Some(values) => {
-            if !take_row_members(cache, scene, plan, &mut reader, values) {
+            if !take_row_members(cache, context, plan, &mut reader, values) {
                 return false;
             }
             reader.is_at_end()

@@ -16,7 +16,7 @@ use super::row_member::{Member, find_member};
 use super::row_pass::pass_other_property;
 use super::row_skip::skip_value;
 use super::row_slots::{begin_slots, fill_slots};
-use super::row_walk::{RowScene, list_in, take_property};
+use super::row_walk::{ReadContext, list_in, take_property};
 use edm_row_plans::{SlotPlan, TypePlan, wanted_with};
 use edm_values::Value;
 use json_tokens::{KeyMarks, TokenReader};
@@ -31,17 +31,17 @@ struct RowSlot<'w> {
 /// Fills the slots of a row, whatever stood in them, from its members and its closing brace.
 pub(crate) fn take_row_members(
     cache: &mut RowCache,
-    scene: &RowScene<'_>,
+    context: &ReadContext<'_>,
     plan: &TypePlan,
     reader: &mut TokenReader<'_>,
     values: &mut Vec<Value>,
 ) -> bool
-    requires plans { ArePlans scene.now.schema.now scene.now.expansion.now scene.now.plans.now }
-    requires plan { IsPlan scene.now.schema.now scene.now.expansion.now plan.now }
-    ensures { IsTrue result → ReadsMembers scene.now.depth reader.old reader.new (FitsRow
-        (slots_below scene.now plan.now.node)
-        (passed_names (properties_at scene.now.schema.now plan.now.type_id) scene.now.passed.now)
-        (properties_at scene.now.schema.now plan.now.type_id) values.new.items) }
+    requires plans { ArePlans context.now.schema.now context.now.expansion.now context.now.plans.now }
+    requires plan { IsPlan context.now.schema.now context.now.expansion.now plan.now }
+    ensures { IsTrue result → ReadsMembers context.now.depth reader.old reader.new (FitsRow
+        (slots_below context.now plan.now.node)
+        (passed_names (properties_at context.now.schema.now plan.now.type_id) context.now.passed.now)
+        (properties_at context.now.schema.now plan.now.type_id) values.new.items) }
 {
     if !begin_slots(cache, values, plan.slots.len()) {
         return false;
@@ -49,12 +49,12 @@ pub(crate) fn take_row_members(
     let mut filled = KeyMarks::new();
     cache.order.begin(plan.slots.len());
     'members: loop {
-        let Some(member) = take_row_member(cache, scene, plan, reader, values) else {
+        let Some(member) = take_row_member(cache, context, plan, reader, values) else {
             return false;
         };
         match member {
             Member::OfSlot(slot) => {
-                filled.pass(slot);
+                filled.set(slot);
                 cache.order.pass(plan.slots.len(), slot);
             }
             Member::Other => {}
@@ -71,24 +71,24 @@ pub(crate) fn take_row_members(
 #[inline(always)]
 fn take_row_member(
     cache: &mut RowCache,
-    scene: &RowScene<'_>,
+    context: &ReadContext<'_>,
     plan: &TypePlan,
     reader: &mut TokenReader<'_>,
     values: &mut Vec<Value>,
 ) -> Option<Member>
-    requires plans { ArePlans scene.now.schema.now scene.now.expansion.now scene.now.plans.now }
-    requires plan { IsPlan scene.now.schema.now scene.now.expansion.now plan.now }
+    requires plans { ArePlans context.now.schema.now context.now.expansion.now context.now.plans.now }
+    requires plan { IsPlan context.now.schema.now context.now.expansion.now plan.now }
     requires values { length values.old.items ≡ length plan.now.slots.items }
-    ensures { IfSome result (TakesRowMember scene.now.depth (slots_below scene.now plan.now.node)
-        (passed_names (properties_at scene.now.schema.now plan.now.type_id) scene.now.passed.now)
-        (properties_at scene.now.schema.now plan.now.type_id) reader.old reader.new values.old.items
+    ensures { IfSome result (TakesRowMember context.now.depth (slots_below context.now plan.now.node)
+        (passed_names (properties_at context.now.schema.now plan.now.type_id) context.now.passed.now)
+        (properties_at context.now.schema.now plan.now.type_id) reader.old reader.new values.old.items
         values.new.items) }
 {
     let likely = cache.order.likely();
     if likely < plan.slots.len() {
         if reader.take_key(&plan.slots[likely].key) {
-            let slot = slot_at(scene, plan, likely);
-            if !take_slot(cache, scene, &slot, reader, &mut values[likely]) {
+            let slot = slot_at(context, plan, likely);
+            if !take_slot(cache, context, &slot, reader, &mut values[likely]) {
                 return None;
             }
             return Some(Member::OfSlot(likely));
@@ -96,7 +96,7 @@ fn take_row_member(
     } else if reader.take_end_object() {
         return Some(Member::End);
     }
-    if take_named_row_member(cache, scene, plan, reader, values) {
+    if take_named_row_member(cache, context, plan, reader, values) {
         Some(cache.found)
     } else {
         None
@@ -107,45 +107,45 @@ fn take_row_member(
 #[inline(never)]
 fn take_named_row_member(
     cache: &mut RowCache,
-    scene: &RowScene<'_>,
+    context: &ReadContext<'_>,
     plan: &TypePlan,
     reader: &mut TokenReader<'_>,
     values: &mut Vec<Value>,
 ) -> bool
-    requires plans { ArePlans scene.now.schema.now scene.now.expansion.now scene.now.plans.now }
-    requires plan { IsPlan scene.now.schema.now scene.now.expansion.now plan.now }
+    requires plans { ArePlans context.now.schema.now context.now.expansion.now context.now.plans.now }
+    requires plan { IsPlan context.now.schema.now context.now.expansion.now plan.now }
     requires values { length values.old.items ≡ length plan.now.slots.items }
-    ensures { IsTrue result → TakesRowMember scene.now.depth (slots_below scene.now plan.now.node)
-        (passed_names (properties_at scene.now.schema.now plan.now.type_id) scene.now.passed.now)
-        (properties_at scene.now.schema.now plan.now.type_id) reader.old reader.new values.old.items
+    ensures { IsTrue result → TakesRowMember context.now.depth (slots_below context.now plan.now.node)
+        (passed_names (properties_at context.now.schema.now plan.now.type_id) context.now.passed.now)
+        (properties_at context.now.schema.now plan.now.type_id) reader.old reader.new values.old.items
         values.new.items cache.new.found }
 {
-    if !find_member(cache, scene.schema, plan.type_id, reader) {
+    if !find_member(cache, context.schema, plan.type_id, reader) {
         return false;
     }
     match cache.found {
         Member::OfSlot(place) => {
-            let slot = slot_at(scene, plan, place);
-            if !take_slot(cache, scene, &slot, reader, &mut values[place]) {
+            let slot = slot_at(context, plan, place);
+            if !take_slot(cache, context, &slot, reader, &mut values[place]) {
                 return false;
             }
             // Within its value others may have been found.
             cache.found = Member::OfSlot(place);
             true
         }
-        Member::Other => skip_value(&mut cache.scratch, reader, scene.depth),
+        Member::Other => skip_value(&mut cache.scratch, reader, context.depth),
         Member::End => true,
     }
 }
 
 /// The slot of a row's type at that index.
 #[inline(always)]
-fn slot_at<'w>(scene: &RowScene<'_>, plan: &'w TypePlan, slot: usize) -> RowSlot<'w>
+fn slot_at<'w>(context: &ReadContext<'_>, plan: &'w TypePlan, slot: usize) -> RowSlot<'w>
     requires { slot < length plan.now.slots.items }
     ensures plan { slice_get plan.now.slots.items slot ≡ Some result.plan.now }
-    ensures passed { result.is_passed ≡ get_or scene.now.passed.now slot false }
+    ensures passed { result.is_passed ≡ get_or context.now.passed.now slot false }
 {
-    let passed = scene.passed;
+    let passed = context.passed;
     RowSlot {
         plan: &plan.slots[slot],
         is_passed: slot < passed.len() && passed[slot],
@@ -157,24 +157,25 @@ fn slot_at<'w>(scene: &RowScene<'_>, plan: &'w TypePlan, slot: usize) -> RowSlot
 #[inline(always)]
 fn take_slot(
     cache: &mut RowCache,
-    scene: &RowScene<'_>,
+    context: &ReadContext<'_>,
     slot: &RowSlot<'_>,
     reader: &mut TokenReader<'_>,
     place: &mut Value,
 ) -> bool
-    requires plans { ArePlans scene.now.schema.now scene.now.expansion.now scene.now.plans.now }
+    requires plans { ArePlans context.now.schema.now context.now.expansion.now context.now.plans.now }
     requires leads { slot.now.plan.now.target
-        ≡ target_at scene.now.expansion.now slot.now.plan.now.node slot.now.plan.now.property }
-    ensures read { IsTrue result → Reads scene.now.depth reader.old reader.new (TakesSlot
-        (slots_below scene.now slot.now.plan.now.node) (slot.now.is_passed ≡ true)
-        slot.now.plan.now.property.nullable (property_type scene.now.schema.now slot.now.plan.now.property) place.new) }
-    ensures holds { IsTrue result → HoldsInSlot (slots_below scene.now slot.now.plan.now.node)
-        (property_type scene.now.schema.now slot.now.plan.now.property) place.new }
+        ≡ target_at context.now.expansion.now slot.now.plan.now.node slot.now.plan.now.property }
+    ensures read { IsTrue result → Reads context.now.depth reader.old reader.new (TakesSlot
+        (slots_below context.now slot.now.plan.now.node) (slot.now.is_passed ≡ true)
+        slot.now.plan.now.property.nullable
+        (property_type context.now.schema.now slot.now.plan.now.property) place.new) }
+    ensures holds { IsTrue result → HoldsInSlot (slots_below context.now slot.now.plan.now.node)
+        (property_type context.now.schema.now slot.now.plan.now.property) place.new }
 {
     if slot.plan.property.many && slot.is_passed {
-        return pass_collection(cache, scene, slot.plan, reader, place);
+        return pass_collection(cache, context, slot.plan, reader, place);
     }
-    take_property(cache, scene, slot.plan, reader, place)
+    take_property(cache, context, slot.plan, reader, place)
 }
 
 /// Takes all values out of a list; their memory is filled again.
@@ -189,32 +190,32 @@ fn empty(cache: &mut RowCache, values: &mut Vec<Value>)
 #[inline(never)]
 fn pass_collection(
     cache: &mut RowCache,
-    scene: &RowScene<'_>,
+    context: &ReadContext<'_>,
     plan: &SlotPlan,
     reader: &mut TokenReader<'_>,
     place: &mut Value,
 ) -> bool
-    requires plans { ArePlans scene.now.schema.now scene.now.expansion.now scene.now.plans.now }
-    requires leads { plan.now.target ≡ target_at scene.now.expansion.now plan.now.node plan.now.property }
+    requires plans { ArePlans context.now.schema.now context.now.expansion.now context.now.plans.now }
+    requires leads { plan.now.target ≡ target_at context.now.expansion.now plan.now.node plan.now.property }
     requires many { plan.now.property.many ≡ true }
-    ensures read { IsTrue result → Reads scene.now.depth reader.old reader.new (λ json. FitsSomeProperty
-        (slots_below scene.now plan.now.node) plan.now.property.nullable
-        (property_type scene.now.schema.now plan.now.property) (Some json)) }
-    ensures kept { IsTrue result → (other : Data) × FitsSeen (slots_below scene.now plan.now.node)
-        plan.now.property.nullable (property_type scene.now.schema.now plan.now.property) (Some other)
+    ensures read { IsTrue result → Reads context.now.depth reader.old reader.new (λ json. FitsSomeProperty
+        (slots_below context.now plan.now.node) plan.now.property.nullable
+        (property_type context.now.schema.now plan.now.property) (Some json)) }
+    ensures kept { IsTrue result → (other : Data) × FitsSeen (slots_below context.now plan.now.node)
+        plan.now.property.nullable (property_type context.now.schema.now plan.now.property) (Some other)
         (val_of place.new) }
-    ensures holds { IsTrue result → HoldsInSlot (slots_below scene.now plan.now.node)
-        (property_type scene.now.schema.now plan.now.property) place.new }
+    ensures holds { IsTrue result → HoldsInSlot (slots_below context.now plan.now.node)
+        (property_type context.now.schema.now plan.now.property) place.new }
 {
     let Some(_wanted) = wanted_with(&plan.property, plan.target) else {
         *place = Value::Null;
-        return pass_other_property(cache, scene, plan, reader);
+        return pass_other_property(cache, context, plan, reader);
     };
     cache.begin_list(place);
     match list_in(place) {
         Some(values) => {
             empty(cache, values);
-            pass_other_property(cache, scene, plan, reader)
+            pass_other_property(cache, context, plan, reader)
         }
         None => false,
     }

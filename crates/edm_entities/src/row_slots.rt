@@ -87,7 +87,7 @@ fn fill_absent(
         return false;
     }
     cache.retire(mem::replace(&mut values[slot], Value::Null));
-    filled.pass(slot);
+    filled.set(slot);
     true
 }
 

@@ -16,7 +16,7 @@ ghost use Rattle.edm_entities.specs.HoldsEachSlot.{HoldsEachSlot};
 ghost use Rattle.edm_entities.specs.Row.{field_of, val_of};
 ghost use Rattle.edm_row_plans.specs.Plans.{ArePlans, IsPlan, target_at};
 ghost use Rattle.edm_entities.specs.private.RowTokens.{Reads, ReadsItems, ReadsMembers, FitsNullable, FitsHoweverNullable};
-ghost use Rattle.edm_entities.specs.private.Rows.{list_row};
+ghost use Rattle.edm_entities.specs.private.RowWalk.{list_row};
 ghost use Rattle.edm_entities.specs.private.SlotsSoFar.{TakesMember, slots_below};
 ghost use Rattle.edm_entities.specs.private.Walk.{FitList, FitSlots, HoldsInSlot, HoldInItems, wanted_single};
 
@@ -33,7 +33,7 @@ use std::mem;
 
 /// What a walk goes by: the types, and how deep values may nest. It is borrowed, and made anew one level down.
 #[derive(Drop)]
-pub(crate) struct RowScene<'w> {
+pub(crate) struct ReadContext<'w> {
     pub(crate) schema: &'w Schema,
     pub(crate) expansion: &'w Expansion,
     pub(crate) plans: &'w [TypePlan],
@@ -56,15 +56,15 @@ pub(crate) struct OneValue {
 #[cycle(row)]
 pub(crate) fn take_members(
     cache: &mut RowCache,
-    scene: &RowScene<'_>,
+    context: &ReadContext<'_>,
     plan: &TypePlan,
     reader: &mut TokenReader<'_>,
     values: &mut Vec<Value>,
 ) -> bool
-    requires plans { ArePlans scene.now.schema.now scene.now.expansion.now scene.now.plans.now }
-    requires plan { IsPlan scene.now.schema.now scene.now.expansion.now plan.now }
-    ensures { IsTrue result → ReadsMembers scene.now.depth reader.old reader.new (λ found. FitSlots
-        (slots_below scene.now plan.now.node) (object found) (properties_at scene.now.schema.now plan.now.type_id)
+    requires plans { ArePlans context.now.schema.now context.now.expansion.now context.now.plans.now }
+    requires plan { IsPlan context.now.schema.now context.now.expansion.now plan.now }
+    ensures { IsTrue result → ReadsMembers context.now.depth reader.old reader.new (λ found. FitSlots
+        (slots_below context.now plan.now.node) (object found) (properties_at context.now.schema.now plan.now.type_id)
         values.new.items) }
 {
     if !begin_slots(cache, values, plan.slots.len()) {
@@ -73,12 +73,12 @@ pub(crate) fn take_members(
     let mut filled = KeyMarks::new();
     cache.order.begin(plan.slots.len());
     'members: loop {
-        let Some(member) = take_member(cache, scene, plan, reader, values) else {
+        let Some(member) = take_member(cache, context, plan, reader, values) else {
             return false;
         };
         match member {
             Member::OfSlot(slot) => {
-                filled.pass(slot);
+                filled.set(slot);
                 cache.order.pass(plan.slots.len(), slot);
             }
             Member::Other => {}
@@ -97,22 +97,22 @@ pub(crate) fn take_members(
 #[cycle(row)]
 fn take_member(
     cache: &mut RowCache,
-    scene: &RowScene<'_>,
+    context: &ReadContext<'_>,
     plan: &TypePlan,
     reader: &mut TokenReader<'_>,
     values: &mut Vec<Value>,
 ) -> Option<Member>
-    requires plans { ArePlans scene.now.schema.now scene.now.expansion.now scene.now.plans.now }
-    requires plan { IsPlan scene.now.schema.now scene.now.expansion.now plan.now }
+    requires plans { ArePlans context.now.schema.now context.now.expansion.now context.now.plans.now }
+    requires plan { IsPlan context.now.schema.now context.now.expansion.now plan.now }
     requires values { length values.old.items ≡ length plan.now.slots.items }
-    ensures { IfSome result (TakesMember scene.now.depth (slots_below scene.now plan.now.node)
-        (properties_at scene.now.schema.now plan.now.type_id) reader.old reader.new values.old.items values.new.items) }
+    ensures { IfSome result (TakesMember context.now.depth (slots_below context.now plan.now.node)
+        (properties_at context.now.schema.now plan.now.type_id) reader.old reader.new values.old.items values.new.items) }
 {
     let likely = cache.order.likely();
     if likely < plan.slots.len() {
         let slot_plan = &plan.slots[likely];
         if reader.take_key(&slot_plan.key) {
-            if !take_property(cache, scene, slot_plan, reader, &mut values[likely]) {
+            if !take_property(cache, context, slot_plan, reader, &mut values[likely]) {
                 return None;
             }
             return Some(Member::OfSlot(likely));
@@ -120,7 +120,7 @@ fn take_member(
     } else if reader.take_end_object() {
         return Some(Member::End);
     }
-    if take_named_member(cache, scene, plan, reader, values) {
+    if take_named_member(cache, context, plan, reader, values) {
         Some(cache.found)
     } else {
         None
@@ -132,31 +132,31 @@ fn take_member(
 #[cycle(row)]
 fn take_named_member(
     cache: &mut RowCache,
-    scene: &RowScene<'_>,
+    context: &ReadContext<'_>,
     plan: &TypePlan,
     reader: &mut TokenReader<'_>,
     values: &mut Vec<Value>,
 ) -> bool
-    requires plans { ArePlans scene.now.schema.now scene.now.expansion.now scene.now.plans.now }
-    requires plan { IsPlan scene.now.schema.now scene.now.expansion.now plan.now }
+    requires plans { ArePlans context.now.schema.now context.now.expansion.now context.now.plans.now }
+    requires plan { IsPlan context.now.schema.now context.now.expansion.now plan.now }
     requires values { length values.old.items ≡ length plan.now.slots.items }
-    ensures { IsTrue result → TakesMember scene.now.depth (slots_below scene.now plan.now.node)
-        (properties_at scene.now.schema.now plan.now.type_id) reader.old reader.new values.old.items values.new.items
+    ensures { IsTrue result → TakesMember context.now.depth (slots_below context.now plan.now.node)
+        (properties_at context.now.schema.now plan.now.type_id) reader.old reader.new values.old.items values.new.items
         cache.new.found }
 {
-    if !find_member(cache, scene.schema, plan.type_id, reader) {
+    if !find_member(cache, context.schema, plan.type_id, reader) {
         return false;
     }
     match cache.found {
         Member::OfSlot(slot) => {
-            if !take_property(cache, scene, &plan.slots[slot], reader, &mut values[slot]) {
+            if !take_property(cache, context, &plan.slots[slot], reader, &mut values[slot]) {
                 return false;
             }
             // Within its value others may have been found.
             cache.found = Member::OfSlot(slot);
             true
         }
-        Member::Other => skip_value(&mut cache.scratch, reader, scene.depth),
+        Member::Other => skip_value(&mut cache.scratch, reader, context.depth),
         Member::End => true,
     }
 }
@@ -167,27 +167,27 @@ fn take_named_member(
 #[cycle(row)]
 pub(crate) fn take_property(
     cache: &mut RowCache,
-    scene: &RowScene<'_>,
+    context: &ReadContext<'_>,
     plan: &SlotPlan,
     reader: &mut TokenReader<'_>,
     place: &mut Value,
 ) -> bool
-    requires plans { ArePlans scene.now.schema.now scene.now.expansion.now scene.now.plans.now }
-    requires leads { plan.now.target ≡ target_at scene.now.expansion.now plan.now.node plan.now.property }
-    ensures read { IsTrue result → Reads scene.now.depth reader.old reader.new (λ json. FitsProperty
-        (slots_below scene.now plan.now.node) plan.now.property.nullable
-        (property_type scene.now.schema.now plan.now.property) (Some json)
-        (field_of (slots_below scene.now plan.now.node).properties
-        (property_type scene.now.schema.now plan.now.property) (val_of place.new))) }
-    ensures holds { IsTrue result → HoldsInSlot (slots_below scene.now plan.now.node)
-        (property_type scene.now.schema.now plan.now.property) place.new }
+    requires plans { ArePlans context.now.schema.now context.now.expansion.now context.now.plans.now }
+    requires leads { plan.now.target ≡ target_at context.now.expansion.now plan.now.node plan.now.property }
+    ensures read { IsTrue result → Reads context.now.depth reader.old reader.new (λ json. FitsProperty
+        (slots_below context.now plan.now.node) plan.now.property.nullable
+        (property_type context.now.schema.now plan.now.property) (Some json)
+        (field_of (slots_below context.now plan.now.node).properties
+        (property_type context.now.schema.now plan.now.property) (val_of place.new))) }
+    ensures holds { IsTrue result → HoldsInSlot (slots_below context.now plan.now.node)
+        (property_type context.now.schema.now plan.now.property) place.new }
 {
     if let PropertyKind::Prim(prim) = plan.property.kind {
         if !plan.property.many {
             return take_scalar(cache, prim, plan.property.nullable, reader, place);
         }
     }
-    take_other_property(cache, scene, plan, reader, place)
+    take_other_property(cache, context, plan, reader, place)
 }
 
 /// The same of any property, called apart, so that `take_property` is small enough to stand at both its callers. One
@@ -196,24 +196,24 @@ pub(crate) fn take_property(
 #[cycle(row)]
 fn take_other_property(
     cache: &mut RowCache,
-    scene: &RowScene<'_>,
+    context: &ReadContext<'_>,
     plan: &SlotPlan,
     reader: &mut TokenReader<'_>,
     place: &mut Value,
 ) -> bool
-    requires plans { ArePlans scene.now.schema.now scene.now.expansion.now scene.now.plans.now }
-    requires leads { plan.now.target ≡ target_at scene.now.expansion.now plan.now.node plan.now.property }
-    ensures read { IsTrue result → Reads scene.now.depth reader.old reader.new (λ json. FitsProperty
-        (slots_below scene.now plan.now.node) plan.now.property.nullable
-        (property_type scene.now.schema.now plan.now.property) (Some json)
-        (field_of (slots_below scene.now plan.now.node).properties
-        (property_type scene.now.schema.now plan.now.property) (val_of place.new))) }
-    ensures holds { IsTrue result → HoldsInSlot (slots_below scene.now plan.now.node)
-        (property_type scene.now.schema.now plan.now.property) place.new }
+    requires plans { ArePlans context.now.schema.now context.now.expansion.now context.now.plans.now }
+    requires leads { plan.now.target ≡ target_at context.now.expansion.now plan.now.node plan.now.property }
+    ensures read { IsTrue result → Reads context.now.depth reader.old reader.new (λ json. FitsProperty
+        (slots_below context.now plan.now.node) plan.now.property.nullable
+        (property_type context.now.schema.now plan.now.property) (Some json)
+        (field_of (slots_below context.now plan.now.node).properties
+        (property_type context.now.schema.now plan.now.property) (val_of place.new))) }
+    ensures holds { IsTrue result → HoldsInSlot (slots_below context.now plan.now.node)
+        (property_type context.now.schema.now plan.now.property) place.new }
 {
     let Some(wanted) = wanted_with(&plan.property, plan.target) else {
         *place = Value::Null;
-        return skip_value(&mut cache.scratch, reader, scene.depth);
+        return skip_value(&mut cache.scratch, reader, context.depth);
     };
     let (node, record) = (plan.node, plan.record);
     if plan.property.many {
@@ -223,7 +223,7 @@ fn take_other_property(
             node,
             record,
         };
-        return take_array(cache, scene, &one, reader, place);
+        return take_array(cache, context, &one, reader, place);
     }
     let one = OneValue {
         wanted,
@@ -231,7 +231,7 @@ fn take_other_property(
         node,
         record,
     };
-    take_single(cache, scene, &one, reader, place)
+    take_single(cache, context, &one, reader, place)
 }
 
 /// Puts a single value, or an item, into its place; null, if it may be, which is looked for last: that saves twenty
@@ -240,22 +240,22 @@ fn take_other_property(
 #[cycle(row)]
 fn take_single(
     cache: &mut RowCache,
-    scene: &RowScene<'_>,
+    context: &ReadContext<'_>,
     one: &OneValue,
     reader: &mut TokenReader<'_>,
     place: &mut Value,
 ) -> bool
-    requires { ArePlans scene.now.schema.now scene.now.expansion.now scene.now.plans.now }
-    ensures read { IsTrue result → Reads scene.now.depth reader.old reader.new (FitsNullable
-        (slots_below scene.now one.now.node) one.now.nullable one.now.nullable
-        (single (wanted_single scene.now.schema.now one.now.wanted)) place.new) }
-    ensures holds { IsTrue result → HoldsEachSlot place.new (slots_below scene.now one.now.node)
-        (single (wanted_single scene.now.schema.now one.now.wanted)) }
+    requires { ArePlans context.now.schema.now context.now.expansion.now context.now.plans.now }
+    ensures read { IsTrue result → Reads context.now.depth reader.old reader.new (FitsNullable
+        (slots_below context.now one.now.node) one.now.nullable one.now.nullable
+        (single (wanted_single context.now.schema.now one.now.wanted)) place.new) }
+    ensures holds { IsTrue result → HoldsEachSlot place.new (slots_below context.now one.now.node)
+        (single (wanted_single context.now.schema.now one.now.wanted)) }
 {
     match one.wanted {
         Wanted::Prim(prim) => take_scalar(cache, prim, one.nullable, reader, place),
-        Wanted::Complex(id) => match plan_at(scene.plans, one.record, id, one.node) {
-            Some(plan) => match take_record(cache, scene, plan, reader, place) {
+        Wanted::Complex(id) => match plan_at(context.plans, one.record, id, one.node) {
+            Some(plan) => match take_record(cache, context, plan, reader, place) {
                 Leaf::Read => true,
                 Leaf::Other => take_null_instead(cache, one.nullable, reader, place),
                 Leaf::Refused => false,
@@ -264,7 +264,7 @@ fn take_single(
         },
         Wanted::Enum(id) => match take_enumeration(
             &mut cache.scratch,
-            scene.schema,
+            context.schema,
             id,
             reader,
             place,
@@ -319,32 +319,32 @@ fn take_null_instead(
 #[cycle(row)]
 fn take_record(
     cache: &mut RowCache,
-    scene: &RowScene<'_>,
+    context: &ReadContext<'_>,
     plan: &TypePlan,
     reader: &mut TokenReader<'_>,
     place: &mut Value,
 ) -> Leaf
-    requires plans { ArePlans scene.now.schema.now scene.now.expansion.now scene.now.plans.now }
-    requires plan { IsPlan scene.now.schema.now scene.now.expansion.now plan.now }
-    ensures read { result ≡ Leaf.Read → Reads scene.now.depth reader.old reader.new (FitsHoweverNullable
-        (slots_below scene.now plan.now.node)
-        (single (structured (type_name_at scene.now.schema.now plan.now.type_id))) place.new) }
-    ensures holds { result ≡ Leaf.Read → HoldsEachSlot place.new (slots_below scene.now plan.now.node)
-        (single (structured (type_name_at scene.now.schema.now plan.now.type_id))) }
+    requires plans { ArePlans context.now.schema.now context.now.expansion.now context.now.plans.now }
+    requires plan { IsPlan context.now.schema.now context.now.expansion.now plan.now }
+    ensures read { result ≡ Leaf.Read → Reads context.now.depth reader.old reader.new (FitsHoweverNullable
+        (slots_below context.now plan.now.node)
+        (single (structured (type_name_at context.now.schema.now plan.now.type_id))) place.new) }
+    ensures holds { result ≡ Leaf.Read → HoldsEachSlot place.new (slots_below context.now plan.now.node)
+        (single (structured (type_name_at context.now.schema.now plan.now.type_id))) }
     ensures kept { result ≡ Leaf.Other → reader.new ≡ reader.old }
 {
     if !reader.take_begin_object() {
         return Leaf::Other;
     }
-    if scene.depth == 0 {
+    if context.depth == 0 {
         return Leaf::Refused;
     }
-    let inner = RowScene {
-        schema: scene.schema,
-        expansion: scene.expansion,
-        plans: scene.plans,
-        passed: scene.passed,
-        depth: scene.depth - 1,
+    let inner = ReadContext {
+        schema: context.schema,
+        expansion: context.expansion,
+        plans: context.plans,
+        passed: context.passed,
+        depth: context.depth - 1,
     };
     cache.begin_record(place);
     match record_in(place) {
@@ -370,27 +370,27 @@ pub(crate) fn record_in(place: &mut Value) -> Option<&mut Vec<Value>>
 #[cycle(row)]
 fn take_array(
     cache: &mut RowCache,
-    scene: &RowScene<'_>,
+    context: &ReadContext<'_>,
     one: &OneValue,
     reader: &mut TokenReader<'_>,
     place: &mut Value,
 ) -> bool
-    requires { ArePlans scene.now.schema.now scene.now.expansion.now scene.now.plans.now }
-    ensures read { IsTrue result → Reads scene.now.depth reader.old reader.new (FitsNullable
-        (slots_below scene.now one.now.node) false one.now.nullable
-        (collection (wanted_single scene.now.schema.now one.now.wanted)) place.new) }
-    ensures holds { IsTrue result → HoldsEachSlot place.new (slots_below scene.now one.now.node)
-        (collection (wanted_single scene.now.schema.now one.now.wanted)) }
+    requires { ArePlans context.now.schema.now context.now.expansion.now context.now.plans.now }
+    ensures read { IsTrue result → Reads context.now.depth reader.old reader.new (FitsNullable
+        (slots_below context.now one.now.node) false one.now.nullable
+        (collection (wanted_single context.now.schema.now one.now.wanted)) place.new) }
+    ensures holds { IsTrue result → HoldsEachSlot place.new (slots_below context.now one.now.node)
+        (collection (wanted_single context.now.schema.now one.now.wanted)) }
 {
-    if scene.depth == 0 || !reader.take_begin_array() {
+    if context.depth == 0 || !reader.take_begin_array() {
         return false;
     }
-    let inner = RowScene {
-        schema: scene.schema,
-        expansion: scene.expansion,
-        plans: scene.plans,
-        passed: scene.passed,
-        depth: scene.depth - 1,
+    let inner = ReadContext {
+        schema: context.schema,
+        expansion: context.expansion,
+        plans: context.plans,
+        passed: context.passed,
+        depth: context.depth - 1,
     };
     cache.begin_list(place);
     match list_in(place) {
@@ -426,24 +426,25 @@ fn has_place(values: &mut Vec<Value>, count: usize) -> bool
 #[cycle(row)]
 fn take_items(
     cache: &mut RowCache,
-    scene: &RowScene<'_>,
+    context: &ReadContext<'_>,
     one: &OneValue,
     reader: &mut TokenReader<'_>,
     values: &mut Vec<Value>,
 ) -> bool
-    requires { ArePlans scene.now.schema.now scene.now.expansion.now scene.now.plans.now }
-    ensures read { IsTrue result → ReadsItems scene.now.depth reader.old reader.new (λ jsons. FitList
-        (slots_below scene.now one.now.node) one.now.nullable (wanted_single scene.now.schema.now one.now.wanted) jsons
+    requires { ArePlans context.now.schema.now context.now.expansion.now context.now.plans.now }
+    ensures read { IsTrue result → ReadsItems context.now.depth reader.old reader.new (λ jsons. FitList
+        (slots_below context.now one.now.node) one.now.nullable
+        (wanted_single context.now.schema.now one.now.wanted) jsons
         values.new.items) }
-    ensures holds { IsTrue result → HoldInItems (slots_below scene.now one.now.node)
-        (wanted_single scene.now.schema.now one.now.wanted) values.new.items }
+    ensures holds { IsTrue result → HoldInItems (slots_below context.now one.now.node)
+        (wanted_single context.now.schema.now one.now.wanted) values.new.items }
 {
     let mut count = 0;
     'items: while !reader.take_end_array() {
         if !has_place(values, count) {
             return false;
         }
-        if !take_single(cache, scene, one, reader, &mut values[count]) {
+        if !take_single(cache, context, one, reader, &mut values[count]) {
             return false;
         }
         count += 1;

@@ -4,7 +4,7 @@ use Rattle.std.specs.declared.alloc.Global.{Global}
 use Rattle.std.specs.Cmp.Lexicographic.{pointwise}
 use Rattle.std.specs.List.{AllByRecursion}
 use Rattle.edm_enumerations.specs.EnumerationModel.{EnumerationModel, number_in, with_member}
-use Rattle.edm_enumerations.specs.private.EnumerationView.{member_model}
+use Rattle.edm_enumerations.specs.private.Enumeration.{member_model}
 use Rattle.std.specs.Map.{lookup}
 
 -- the map finds what the members have

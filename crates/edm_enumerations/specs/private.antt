@@ -1,2 +1,2 @@
 -- Definitions that private clauses alone cite.
-pub mod EnumerationView
+pub mod Enumeration

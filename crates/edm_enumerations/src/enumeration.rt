@@ -22,7 +22,7 @@ impl Model for Enumeration {
 
     ghost Value = { EnumerationModel };
 
-    ghost use Rattle.edm_enumerations.specs.private.EnumerationView.{enumeration_model, IsKeptEnumeration};
+    ghost use Rattle.edm_enumerations.specs.private.Enumeration.{enumeration_model, IsKeptEnumeration};
 
     ghost view = { enumeration_model };
 

@@ -6,7 +6,7 @@ use Rattle.csdl_schema.specs.SchemaModel.{SchemaModel, Slots, expanded, slots_of
 use Rattle.csdl_schema.specs.declared.property.PropertyKind.{PropertyKind}
 use Rattle.csdl_schema.specs.declared.property.PropertyKind.TheVariants as kind
 pub use Rattle.edm_row_plans.specs.ExpandedNodes.{node_behind, target_if}
-use Rattle.edm_row_plans.specs.declared.expansion_node.WalkScene.{WalkScene}
+use Rattle.edm_row_plans.specs.declared.expansion_node.WalkContext.{WalkContext}
 use Rattle.edm_row_plans.specs.declared.wanted.Wanted.{Wanted}
 use Rattle.edm_row_plans.specs.declared.wanted.Wanted.TheVariants.{Prim, Enum, Complex}
 
@@ -14,8 +14,8 @@ use Rattle.edm_row_plans.specs.declared.wanted.Wanted.TheVariants.{Prim, Enum, C
 abbrev pub slots_at : SchemaModel → List StepModel → Option ℕ → Slots
 slots_at schema steps node = expanded (slots_of schema) (paths_at steps node)
 
-abbrev pub slots_in : WalkScene → Option ℕ → Slots
-slots_in scene node = slots_at scene.schema.now scene.expansion.now node
+abbrev pub slots_in : WalkContext → Option ℕ → Slots
+slots_in context node = slots_at context.schema.now context.expansion.now node
 
 abbrev pub wanted_target : Option ℕ → Option Wanted
 wanted_target None = None

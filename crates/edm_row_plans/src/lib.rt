@@ -15,7 +15,7 @@ mod row_plan;
 mod type_plan;
 mod wanted;
 
-pub use expansion_node::{WalkScene, expanded_target, node_behind};
+pub use expansion_node::{WalkContext, expanded_target, node_behind};
 pub use row_plan::RowPlan;
 pub use type_plan::{SlotPlan, TypePlan, plan_at};
 pub use wanted::{Wanted, may_hold_null, navigates, wanted_with};

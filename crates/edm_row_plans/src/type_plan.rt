@@ -5,7 +5,7 @@ ghost use Rattle.csdl_schema.specs.ExpansionView.{StepModel};
 ghost use Rattle.csdl_schema.specs.SchemaModel.{SchemaModel, properties_at};
 ghost use Rattle.edm_row_plans.specs.Plans.{ArePlanned, ArePlans, IsPlan, IsSlotPlan, target_at};
 
-use super::expansion_node::{WalkScene, expanded_target, node_behind};
+use super::expansion_node::{WalkContext, expanded_target, node_behind};
 use super::wanted::{Wanted, wanted_with};
 use csdl_schema::{Expansion, Property, Schema, TypeId};
 use json_tokens::Key;
@@ -81,12 +81,12 @@ fn place_for(types: &mut Vec<NeededType>, type_id: TypeId, node: Option<usize>) 
 
 /// Where the plan of a property's type is to be.
 fn record_of(
-    scene: &WalkScene<'_>,
+    context: &WalkContext<'_>,
     property: &Property,
     node: Option<usize>,
     types: &mut Vec<NeededType>,
 ) -> Option<usize> {
-    let target = expanded_target(scene, property, node);
+    let target = expanded_target(context, property, node);
     let Some(wanted) = wanted_with(property, target) else {
         return Some(0);
     };
@@ -124,49 +124,49 @@ fn slot_of(
 
 /// The slot of a property after a node.
 fn slot_behind(
-    scene: &WalkScene<'_>,
+    context: &WalkContext<'_>,
     key: Option<Key>,
     property: &Property,
     node: Option<usize>,
     types: &mut Vec<NeededType>,
 ) -> Option<SlotPlan>
     ensures { IfSome result (λ plan. (key ≡ Some plan.key) × (plan.property ≡ property.now) × (plan.node ≡ node)
-        × (plan.target ≡ target_at scene.now.expansion.now node property.now)) }
+        × (plan.target ≡ target_at context.now.expansion.now node property.now)) }
 {
-    let record = record_of(scene, property, node, types);
-    let target = expanded_target(scene, property, node);
+    let record = record_of(context, property, node, types);
+    let target = expanded_target(context, property, node);
     slot_of(key, *property, node, target, record)
 }
 
 fn slot_plan(
-    scene: &WalkScene<'_>,
+    context: &WalkContext<'_>,
     type_id: TypeId,
     node: Option<usize>,
     slot: usize,
     types: &mut Vec<NeededType>,
 ) -> Option<SlotPlan>
-    requires { slot < length (properties_at scene.now.schema.now type_id) }
-    ensures { IfSome result (IsSlotPlan scene.now.schema.now scene.now.expansion.now type_id node slot) }
+    requires { slot < length (properties_at context.now.schema.now type_id) }
+    ensures { IfSome result (IsSlotPlan context.now.schema.now context.now.expansion.now type_id node slot) }
 {
-    let name = scene.schema.slot_name(type_id, slot);
-    let behind = node_behind(scene, node, name);
-    let key = Key::new(scene.alloc, name);
-    let property = scene.schema.property(type_id, slot);
-    slot_behind(scene, key, property, behind, types)
+    let name = context.schema.slot_name(type_id, slot);
+    let behind = node_behind(context, node, name);
+    let key = Key::new(context.alloc, name);
+    let property = context.schema.property(type_id, slot);
+    slot_behind(context, key, property, behind, types)
 }
 
 fn slot_plans(
-    scene: &WalkScene<'_>,
+    context: &WalkContext<'_>,
     type_id: TypeId,
     node: Option<usize>,
     types: &mut Vec<NeededType>,
 ) -> Option<Vec<SlotPlan>>
     ensures { IfSome result (λ slots.
-        ArePlanned scene.now.schema.now scene.now.expansion.now type_id node slots.items) }
+        ArePlanned context.now.schema.now context.now.expansion.now type_id node slots.items) }
 {
-    let mut slots = Vec::new(scene.alloc);
-    for slot in 0..scene.schema.slots(type_id) {
-        let Some(plan) = slot_plan(scene, type_id, node, slot, types) else {
+    let mut slots = Vec::new(context.alloc);
+    for slot in 0..context.schema.slots(type_id) {
+        let Some(plan) = slot_plan(context, type_id, node, slot, types) else {
             return None;
         };
         if slots.push(plan).is_err() {
@@ -178,18 +178,18 @@ fn slot_plans(
 
 /// The plan of a type of at most that many slots.
 fn type_plan(
-    scene: &WalkScene<'_>,
+    context: &WalkContext<'_>,
     type_id: TypeId,
     node: Option<usize>,
     most: usize,
     types: &mut Vec<NeededType>,
 ) -> Option<TypePlan>
-    ensures { IfSome result (IsPlan scene.now.schema.now scene.now.expansion.now) }
+    ensures { IfSome result (IsPlan context.now.schema.now context.now.expansion.now) }
 {
-    if scene.schema.slots(type_id) > most {
+    if context.schema.slots(type_id) > most {
         return None;
     }
-    match slot_plans(scene, type_id, node, types) {
+    match slot_plans(context, type_id, node, types) {
         Some(slots) => Some(TypePlan {
             type_id,
             node,
@@ -209,7 +209,7 @@ pub fn type_plans(
 ) -> Vec<TypePlan>
     ensures { ArePlans schema.now expansion.now result.items }
 {
-    let scene = WalkScene {
+    let context = WalkContext {
         alloc,
         schema,
         expansion,
@@ -229,7 +229,7 @@ pub fn type_plans(
             return plans;
         }
         let (needed, node) = (types[place].type_id, types[place].node);
-        let Some(plan) = type_plan(&scene, needed, node, most, &mut types) else {
+        let Some(plan) = type_plan(&context, needed, node, most, &mut types) else {
             return plans;
         };
         most = most.saturating_sub(plan.slots.len());

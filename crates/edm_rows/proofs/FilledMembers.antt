@@ -19,12 +19,12 @@ use Rattle.json_tokens.specs.private.Lexemes.{PassesSpaces}
 use Rattle.json_tokens.specs.declared.lexeme.Turn.TheVariants.{AfterValue, Fresh}
 use Rattle.json_room.specs.Lexemes.{tokens_at}
 use Rattle.edm_rows.specs.declared.members.After.{After}
-use Rattle.edm_rows.specs.declared.passed_value.Scene.{Scene}
+use Rattle.edm_rows.specs.declared.passed_value.ReadContext.{ReadContext}
 use Rattle.edm_rows.specs.declared.row_types.RowType.{RowType}
 use Rattle.edm_rows.specs.private.Filled.{FilledRead, FilledUpTo, FillsSlots}
 use Rattle.edm_rows.specs.private.Held.{ReadsTo}
 use Rattle.edm_rows.specs.private.Members.{EndsMember, NamesTo, PassesOther}
-use Rattle.edm_rows.specs.private.Scenes.{slots_behind_node}
+use Rattle.edm_rows.specs.private.Contexts.{slots_behind_node}
 use Rattle.edm_rows.proofs.KeptMembers.{marks_more, no_marks, none_long, none_set, two_bits}
 use Rattle.edm_rows.proofs.Places.{brace_then, comma_then, member_then, members_begin, no_members_read}
 
@@ -57,64 +57,64 @@ past_end P [] (suc k) past = tt
 past_end P (x ∷ xs) zero past = absurd (omega (arith, past))
 past_end P (x ∷ xs) (suc k) past = past_end P xs k (omega (arith, past))
 
-module _ (scene : Scene) (type : RowType) (depth : ℕ) where
+module _ (context : ReadContext) (type : RowType) (depth : ℕ) where
   abbrev slots : Slots
-  slots = slots_behind_node scene type.node
+  slots = slots_behind_node context type.node
 
   abbrev ps : List PropertyModel
-  ps = properties_at scene.schema.now type.type_id
+  ps = properties_at context.schema.now type.type_id
 
-  pub filled_none : (from place : ℕ) (values : List Value) → PassesSpaces scene.line from place → length values ≡ length (properties_at scene.schema.now type.type_id) → FilledUpTo scene type depth from place 0 values
+  pub filled_none : (from place : ℕ) (values : List Value) → PassesSpaces context.line from place → length values ≡ length (properties_at context.schema.now type.type_id) → FilledUpTo context type depth from place 0 values
   filled_none from place values passed long =
-      let n = length (properties_at scene.schema.now type.type_id) in
+      let n = length (properties_at context.schema.now type.type_id) in
       record {
         filled = replicate n false;
         long = none_long n;
         marks = no_marks n;
-        members = members_begin depth scene.line from place (λ found. SlotsSoFar slots ps found (replicate n false) values) passed (slots_start slots ps n (replicate n false) values refl (omega arith) long);
+        members = members_begin depth context.line from place (λ found. SlotsSoFar slots ps found (replicate n false) values) passed (slots_start slots ps n (replicate n false) values refl (omega arith) long);
       }
 
   -- a member of a slot
-  pub filled_slot : (from place value end seen index : ℕ) (name : List ℕ) (values : List Value) (v : Value) (Q : Data → Type 0) → HasDistinctNames (properties_at scene.schema.now type.type_id)
-      → index < length (properties_at scene.schema.now type.type_id) → slice_get (map (λ p. p.name) (properties_at scene.schema.now type.type_id)) index ≡ Some name
-      → ((json : Data) → Q json → IfSome (slice_get (properties_at scene.schema.now type.type_id) index) (λ p. FitsSeen (slots_behind (slots_behind_node scene type.node) p.name) p.nullable p.type_of (Some json) (val_of v))
-      × IfSome (slice_get (properties_at scene.schema.now type.type_id) index) (λ p. HoldsInSlot (slots_behind (slots_behind_node scene type.node) p.name) p.type_of v))
-      → FilledUpTo scene type depth from place seen values → NamesTo scene.line place name value → ReadsTo depth scene.line value end Q → FilledRead scene type depth from end (bit_or seen (2 ^ index)) (slice_set values index v)
+  pub filled_slot : (from place value end seen index : ℕ) (name : List ℕ) (values : List Value) (v : Value) (Q : Data → Type 0) → HasDistinctNames (properties_at context.schema.now type.type_id)
+      → index < length (properties_at context.schema.now type.type_id) → slice_get (map (λ p. p.name) (properties_at context.schema.now type.type_id)) index ≡ Some name
+      → ((json : Data) → Q json → IfSome (slice_get (properties_at context.schema.now type.type_id) index) (λ p. FitsSeen (slots_behind (slots_behind_node context type.node) p.name) p.nullable p.type_of (Some json) (val_of v))
+      × IfSome (slice_get (properties_at context.schema.now type.type_id) index) (λ p. HoldsInSlot (slots_behind (slots_behind_node context type.node) p.name) p.type_of v))
+      → FilledUpTo context type depth from place seen values → NamesTo context.line place name value → ReadsTo depth context.line value end Q → FilledRead context type depth from end (bit_or seen (2 ^ index)) (slice_set values index v)
   filled_slot from place value end seen index name values v Q distinct within named fits so_far names reads =
       let filled = slice_set so_far.filled index true in
       record {
         filled = filled;
         long = length-set so_far.filled index true ∙ so_far.long;
         marks = marks_more seen index so_far.filled (omega (arith, within, so_far.long)) so_far.marks;
-        members = member_then depth scene.line from place value end name (λ found. SlotsSoFar slots ps found so_far.filled values) (λ found. SlotsSoFar slots ps found filled (slice_set values index v)) Q
+        members = member_then depth context.line from place value end name (λ found. SlotsSoFar slots ps found so_far.filled values) (λ found. SlotsSoFar slots ps found filled (slice_set values index v)) Q
             (λ found json holds is. let both = fits json is in slot_set slots found name json ps so_far.filled values index v distinct named both.0 both.1 holds) so_far.members names reads;
       }
 
   -- a member of no slot
-  pub filled_other : (from place end seen : ℕ) (values : List Value) → FilledUpTo scene type depth from place seen values → PassesOther depth scene.line (properties_at scene.schema.now type.type_id) place end → FilledRead scene type depth from end seen values
+  pub filled_other : (from place end seen : ℕ) (values : List Value) → FilledUpTo context type depth from place seen values → PassesOther depth context.line (properties_at context.schema.now type.type_id) place end → FilledRead context type depth from end seen values
   filled_other from place end seen values so_far (name, value, named, others, reads) =
       record {
         filled = so_far.filled;
         long = so_far.long;
         marks = so_far.marks;
-        members = member_then depth scene.line from place value end name (λ found. SlotsSoFar slots ps found so_far.filled values) (λ found. SlotsSoFar slots ps found so_far.filled values) (λ json. Unit {0})
+        members = member_then depth context.line from place value end name (λ found. SlotsSoFar slots ps found so_far.filled values) (λ found. SlotsSoFar slots ps found so_far.filled values) (λ json. Unit {0})
             (λ found json holds _. others_hold slots found name json ps so_far.filled values others holds) so_far.members named reads;
       }
 
-  pub filled_comma : (from end next seen : ℕ) (values : List Value) → FilledRead scene type depth from end seen values → EndsMember scene.line end (After.Comma next) → FilledUpTo scene type depth from next seen values
+  pub filled_comma : (from end next seen : ℕ) (values : List Value) → FilledRead context type depth from end seen values → EndsMember context.line end (After.Comma next) → FilledUpTo context type depth from next seen values
   filled_comma from end next seen values read ends =
       record {
         filled = read.filled;
         long = read.long;
         marks = read.marks;
-        members = comma_then depth scene.line from end next (λ found. SlotsSoFar slots ps found read.filled values) read.members ends;
+        members = comma_then depth context.line from end next (λ found. SlotsSoFar slots ps found read.filled values) read.members ends;
       }
 
   -- ---- at the brace
 
-  module _ (may : (k : ℕ) → bit_at type.optional k ≡ 1 → IfSome (slice_get (properties_at scene.schema.now type.type_id) k) (MayBeAbsent (slots_behind_node scene type.node)))
-      (as_many : length type.slots.items ≡ length (properties_at scene.schema.now type.type_id)) (seen : ℕ) (old new : List Value) (fills : FillsSlots type seen old new) (long : length old ≡ length (properties_at scene.schema.now type.type_id)) where
-    absent_at : (k : ℕ) → bit_at seen k ≡ 0 → IfSome (slice_get (properties_at scene.schema.now type.type_id) k) (λ p. MayBeAbsent (slots_behind_node scene type.node) p × (slice_get new k ≡ Some Null))
+  module _ (may : (k : ℕ) → bit_at type.optional k ≡ 1 → IfSome (slice_get (properties_at context.schema.now type.type_id) k) (MayBeAbsent (slots_behind_node context type.node)))
+      (as_many : length type.slots.items ≡ length (properties_at context.schema.now type.type_id)) (seen : ℕ) (old new : List Value) (fills : FillsSlots type seen old new) (long : length old ≡ length (properties_at context.schema.now type.type_id)) where
+    absent_at : (k : ℕ) → bit_at seen k ≡ 0 → IfSome (slice_get (properties_at context.schema.now type.type_id) k) (λ p. MayBeAbsent (slots_behind_node context type.node) p × (slice_get new k ≡ Some Null))
     absent_at k none =
         ⊎_elim (λ inside.
         let there : k < length type.slots.items = omega (arith, inside, as_many) in
@@ -125,25 +125,25 @@ module _ (scene : Scene) (type : RowType) (depth : ℕ) where
         with_null None a null = tt
         with_null (Some p) a null = (a, null)
 
-    pub filled_brace : (from end next : ℕ) → FilledRead scene type depth from end seen old → EndsMember scene.line end (After.Brace next)
-        → ReadsMembers depth (tokens_at Fresh scene.line from) (tokens_at AfterValue scene.line next) (λ found. FitSlots (slots_behind_node scene type.node) (object found) (properties_at scene.schema.now type.type_id) new)
+    pub filled_brace : (from end next : ℕ) → FilledRead context type depth from end seen old → EndsMember context.line end (After.Brace next)
+        → ReadsMembers depth (tokens_at Fresh context.line from) (tokens_at AfterValue context.line next) (λ found. FitSlots (slots_behind_node context type.node) (object found) (properties_at context.schema.now type.type_id) new)
     filled_brace from end next read ends =
-        brace_then depth scene.line from end next (λ found. SlotsSoFar slots ps found read.filled old) (λ found. FitSlots slots (object found) ps new)
+        brace_then depth context.line from end next (λ found. SlotsSoFar slots ps found read.filled old) (λ found. FitSlots slots (object found) ps new)
         (λ found holds. filled_over slots (found_in found) ps read.filled old new (fills.long ∙ long) (λ k is. fills.stay k (set k is))
         (λ k is. ⊎_elim (λ inside. absent_at k (no_bit k inside is)) (λ past. past_end (λ p. MayBeAbsent slots p × (slice_get new k ≡ Some Null)) ps k past) (cases_lt k (length ps))) holds) read.members ends
       where
         set : (k : ℕ) → get_or read.filled k false ≡ true → bit_at seen k ≡ 1
         set k is = ⊎_elim (λ none. absurd (true≢false (sym is ∙ read.marks.not_set k none))) (λ one. one) (two_bits seen k)
 
-        no_bit : (k : ℕ) → k < length (properties_at scene.schema.now type.type_id) → get_or read.filled k false ≡ false → bit_at seen k ≡ 0
+        no_bit : (k : ℕ) → k < length (properties_at context.schema.now type.type_id) → get_or read.filled k false ≡ false → bit_at seen k ≡ 0
         no_bit k inside is = ⊎_elim (λ none. none) (λ one. absurd (true≢false (sym (read.marks.set k one (omega (arith, inside, read.long))) ∙ is))) (two_bits seen k)
 
     -- where no member stands
-    pub filled_empty : (from brace : ℕ) → seen ≡ 0 → PassesSpaces scene.line from brace → brace < length scene.line → get_or scene.line brace 32 ≡ 125
-        → ReadsMembers depth (tokens_at Fresh scene.line from) (tokens_at AfterValue scene.line (brace + 1)) (λ found. FitSlots (slots_behind_node scene type.node) (object found) (properties_at scene.schema.now type.type_id) new)
+    pub filled_empty : (from brace : ℕ) → seen ≡ 0 → PassesSpaces context.line from brace → brace < length context.line → get_or context.line brace 32 ≡ 125
+        → ReadsMembers depth (tokens_at Fresh context.line from) (tokens_at AfterValue context.line (brace + 1)) (λ found. FitSlots (slots_behind_node context type.node) (object found) (properties_at context.schema.now type.type_id) new)
     filled_empty from brace none passed within is =
-        let n = length (properties_at scene.schema.now type.type_id) in
+        let n = length (properties_at context.schema.now type.type_id) in
         let filled = replicate n false in
-        no_members_read depth scene.line from brace (λ found. SlotsSoFar slots ps found filled old) (λ found. FitSlots slots (object found) ps new) passed within is
+        no_members_read depth context.line from brace (λ found. SlotsSoFar slots ps found filled old) (λ found. FitSlots slots (object found) ps new) passed within is
         (λ found holds. filled_over slots (found_in found) ps filled old new (fills.long ∙ long) (λ k set. absurd (true≢false (sym set ∙ none_set n k))) (λ k _. absent_at k (ap (λ w. bit_at w k) none ∙ bit_at-zero k)) holds)
         (slots_start slots ps n filled old refl (omega arith) long)

@@ -13,39 +13,39 @@ use Rattle.edm_entities.specs.private.Walk.{HoldsInSlot}
 use Rattle.edm_entities.proofs.RowLemmas.SlotTexts.{slot_declared}
 use Rattle.edm_rows.proofs.SlotsHeld.{slot_within}
 use Rattle.edm_rows.specs.declared.members.Found.{Found}
-use Rattle.edm_rows.specs.declared.passed_value.Scene.{Scene}
+use Rattle.edm_rows.specs.declared.passed_value.ReadContext.{ReadContext}
 use Rattle.edm_rows.specs.declared.row_types.RowSlot.{RowSlot}
 use Rattle.edm_rows.specs.declared.row_types.RowType.{RowType}
 use Rattle.edm_rows.specs.private.Filled.{FilledRead, FilledUpTo, FillsValue, IsFilledIn}
 use Rattle.edm_rows.specs.private.Members.{NamesSlot, NamesTo, PassesOther}
 use Rattle.edm_rows.specs.private.RowSlots.{IsRowType, IsSlotOf, IsTaskOf}
-use Rattle.edm_rows.specs.private.Scenes.{FindsMember, FindsSlot, slots_behind_node}
+use Rattle.edm_rows.specs.private.Contexts.{FindsMember, FindsSlot, slots_behind_node}
 use Rattle.edm_rows.proofs.FilledMembers.{filled_slot}
 use Rattle.edm_rows.proofs.NextMembers.{slot_there}
 
 -- a member whose slot was found: its name, and what its slot is
-pub record SlotFound (scene : Scene) (type : RowType) (place value : ℕ) (slot : RowSlot) : Type 0 where
+pub record SlotFound (context : ReadContext) (type : RowType) (place value : ℕ) (slot : RowSlot) : Type 0 where
   pub name : List ℕ
-  pub names : NamesTo scene.line place name value
-  pub named : slice_get (map (λ p. p.name) (properties_at scene.schema.now type.type_id)) slot.index ≡ Some name
-  pub within : slot.index < length (properties_at scene.schema.now type.type_id)
-  pub agrees : IsSlotOf scene.plan.now.plans.items slot
+  pub names : NamesTo context.line place name value
+  pub named : slice_get (map (λ p. p.name) (properties_at context.schema.now type.type_id)) slot.index ≡ Some name
+  pub within : slot.index < length (properties_at context.schema.now type.type_id)
+  pub agrees : IsSlotOf context.plan.now.plans.items slot
   pub task : IsTaskOf slot slot.task
   pub order : slot.order < 1024
-  pub fits : (v : Value) (json : Data) → IsFilledIn scene slot slot.task v json
-      → IfSome (slice_get (properties_at scene.schema.now type.type_id) slot.index) (λ p. FitsSeen (slots_behind (slots_behind_node scene type.node) p.name) p.nullable p.type_of (Some json) (val_of v))
-      × IfSome (slice_get (properties_at scene.schema.now type.type_id) slot.index) (λ p. HoldsInSlot (slots_behind (slots_behind_node scene type.node) p.name) p.type_of v)
-  pub bit : (b : ℕ) (values : List Value) (depth from end : ℕ) → FilledRead scene type depth from end (bit_or b (2 ^ slot.index)) values → FilledRead scene type depth from end (bit_or b slot.bit) values
+  pub fits : (v : Value) (json : Data) → IsFilledIn context slot slot.task v json
+      → IfSome (slice_get (properties_at context.schema.now type.type_id) slot.index) (λ p. FitsSeen (slots_behind (slots_behind_node context type.node) p.name) p.nullable p.type_of (Some json) (val_of v))
+      × IfSome (slice_get (properties_at context.schema.now type.type_id) slot.index) (λ p. HoldsInSlot (slots_behind (slots_behind_node context type.node) p.name) p.type_of v)
+  pub bit : (b : ℕ) (values : List Value) (depth from end : ℕ) → FilledRead context type depth from end (bit_or b (2 ^ slot.index)) values → FilledRead context type depth from end (bit_or b slot.bit) values
 
-pub slot_found_in : (scene : Scene) (plan : TypePlan) (type : RowType) (depth place : ℕ) (found : Found) (slot : Bor RowSlot) → found.slot ≡ Some slot → IsRowType scene.schema.now scene.plan.now.expansion scene.plan.now.plans.items plan type
-    → FindsMember scene type depth place found → SlotFound scene type place found.place slot.now
-slot_found_in scene plan type depth place found slot is_slot is finds = go (subst (λ (o : Option (Bor RowSlot)). FindsSlot scene type depth place (option_map (λ s. s.now) o) found.place) is_slot finds)
+pub slot_found_in : (context : ReadContext) (plan : TypePlan) (type : RowType) (depth place : ℕ) (found : Found) (slot : Bor RowSlot) → found.slot ≡ Some slot → IsRowType context.schema.now context.plan.now.expansion context.plan.now.plans.items plan type
+    → FindsMember context type depth place found → SlotFound context type place found.place slot.now
+slot_found_in context plan type depth place found slot is_slot is finds = go (subst (λ (o : Option (Bor RowSlot)). FindsSlot context type depth place (option_map (λ s. s.now) o) found.place) is_slot finds)
   where
-    go : FindsSlot scene type depth place (Some slot.now) found.place → SlotFound scene type place found.place slot.now
+    go : FindsSlot context type depth place (Some slot.now) found.place → SlotFound context type place found.place slot.now
     go (index, at, (name, names, named)) =
-        let schema = scene.schema.now in
-        let steps = scene.plan.now.expansion in
-        let made = slot_there schema steps scene.plan.now.plans.items plan type index slot.now is at in
+        let schema = context.schema.now in
+        let steps = context.plan.now.expansion in
+        let made = slot_there schema steps context.plan.now.plans.items plan type index slot.now is at in
         let same = sym made.row.index_is in
         let here : slice_get (map (λ p. p.name) (properties_at schema type.type_id)) slot.now.index ≡ Some name = subst (λ (k : ℕ). slice_get (map (λ p. p.name) (properties_at schema type.type_id)) k ≡ Some name) same named in
         let Declared : (Slots → Bool → PropertyType → Type 0) → Type 0 = λ P. IfSome (slice_get (properties_at schema type.type_id) slot.now.index) (λ p. P (slots_behind (slots_at schema steps type.node) p.name) p.nullable p.type_of) in
@@ -65,16 +65,16 @@ slot_found_in scene plan type depth place found slot is_slot is finds = go (subs
           fits = λ v json filled.
               let fits = made.row.fills v json filled in
               (declared (λ slots nullable t. FitsSeen slots nullable t (Some json) (val_of v)) fits.0, declared (λ slots nullable t. HoldsInSlot slots t v) fits.1);
-          bit = λ b values d from end read. subst (λ (w : ℕ). FilledRead scene type d from end (bit_or b w) values) (sym (subst (λ (k : ℕ). slot.now.bit ≡ 2 ^ k) same made.row.bit)) read;
+          bit = λ b values d from end read. subst (λ (w : ℕ). FilledRead context type d from end (bit_or b w) values) (sym (subst (λ (k : ℕ). slot.now.bit ≡ 2 ^ k) same made.row.bit)) read;
         }
 
-pub slot_filled_read : (scene : Scene) (plan : TypePlan) (type : RowType) (depth from place value end seen : ℕ) (slot : RowSlot) (values : List Value) (v : Value) → IsRowType scene.schema.now scene.plan.now.expansion scene.plan.now.plans.items plan type
-    → SlotFound scene type place value slot → FilledUpTo scene type depth from place seen values → FillsValue scene slot slot.task depth v value end → FilledRead scene type depth from end (bit_or seen slot.bit) (slice_set values slot.index v)
-slot_filled_read scene plan type depth from place value end seen slot values v is found so_far fills =
+pub slot_filled_read : (context : ReadContext) (plan : TypePlan) (type : RowType) (depth from place value end seen : ℕ) (slot : RowSlot) (values : List Value) (v : Value) → IsRowType context.schema.now context.plan.now.expansion context.plan.now.plans.items plan type
+    → SlotFound context type place value slot → FilledUpTo context type depth from place seen values → FillsValue context slot slot.task depth v value end → FilledRead context type depth from end (bit_or seen slot.bit) (slice_set values slot.index v)
+slot_filled_read context plan type depth from place value end seen slot values v is found so_far fills =
     found.bit seen (slice_set values slot.index v) depth from end
-    (filled_slot scene type depth from place value end seen slot.index found.name values v (IsFilledIn scene slot slot.task v) (subst (λ id. HasDistinctNames (properties_at scene.schema.now id)) (sym is.of_type.0) is.is_plan.distinct) found.within found.named (found.fits v)
+    (filled_slot context type depth from place value end seen slot.index found.name values v (IsFilledIn context slot slot.task v) (subst (λ id. HasDistinctNames (properties_at context.schema.now id)) (sym is.of_type.0) is.is_plan.distinct) found.within found.named (found.fits v)
     so_far found.names fills.0)
 
 -- a member of no slot
-pub no_slot_in : (scene : Scene) (type : RowType) (depth place : ℕ) (found : Found) → found.slot ≡ None → FindsMember scene type depth place found → PassesOther depth scene.line (properties_at scene.schema.now type.type_id) place found.place
-no_slot_in scene type depth place found is finds = subst (λ (o : Option (Bor RowSlot)). FindsSlot scene type depth place (option_map (λ s. s.now) o) found.place) is finds
+pub no_slot_in : (context : ReadContext) (type : RowType) (depth place : ℕ) (found : Found) → found.slot ≡ None → FindsMember context type depth place found → PassesOther depth context.line (properties_at context.schema.now type.type_id) place found.place
+no_slot_in context type depth place found is finds = subst (λ (o : Option (Bor RowSlot)). FindsSlot context type depth place (option_map (λ s. s.now) o) found.place) is finds

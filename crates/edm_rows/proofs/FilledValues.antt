@@ -27,7 +27,7 @@ use Rattle.json_tokens.specs.declared.lexeme.Turn.TheVariants.{AfterValue}
 use Rattle.json_room.specs.Lexemes.{StandsTo, tokens_at}
 use Rattle.edm_rows.specs.declared.kept_leaf.Taken.{Taken}
 use Rattle.edm_rows.specs.declared.kept_leaf.Taken.TheVariants.{Put}
-use Rattle.edm_rows.specs.declared.passed_value.Scene.{Scene}
+use Rattle.edm_rows.specs.declared.passed_value.ReadContext.{ReadContext}
 use Rattle.edm_rows.specs.declared.row_types.RowSlot.{RowSlot}
 use Rattle.edm_rows.specs.declared.row_types.RowType.{RowType}
 use Rattle.edm_rows.specs.declared.row_types.Task.{Task}
@@ -36,9 +36,9 @@ use Rattle.edm_rows.specs.private.Filled.{AreFilled, FillsItems, FillsMembers, F
 use Rattle.edm_rows.specs.private.Held.{FilledAs, IsFilled, IsSingle, Kinds, ReadsTo, type_of}
 use Rattle.edm_rows.specs.private.KeptLeaves.{PutsLeaf, PutsMember, TakesLeaf}
 use Rattle.edm_rows.specs.private.RowSlots.{kinds_of, name_at}
-use Rattle.edm_rows.specs.private.Scenes.{slots_behind_node}
+use Rattle.edm_rows.specs.private.Contexts.{slots_behind_node}
 use Rattle.edm_rows.proofs.Places.{ItemsUpTo, array_to, begins_at, item_and_bracket, item_and_comma, items_begin, no_items_read, object_to, reads_behind, reads_to_as}
-use Rattle.edm_rows.proofs.SceneLemmas.{IsTypeThere}
+use Rattle.edm_rows.proofs.ContextLemmas.{IsTypeThere}
 
 -- ---- values without parts
 
@@ -134,93 +134,93 @@ module _ (slots : Slots) (kinds : Kinds) (nullable : Bool) (inner : Task) where
 
 -- ---- records
 
-module _ (scene : Scene) (slot : RowSlot) (type : RowType) (there : IsTypeThere scene.schema.now scene.plan.now.expansion scene.plan.now.plans.items slot type) (values : Vec Value Global) where
-  filled_record : (found : _) → FitSlots (slots_behind_node scene type.node) (object found) (properties_at scene.schema.now type.type_id) values.items → IsFilledIn scene slot Record (RecordOf values) (object found)
+module _ (context : ReadContext) (slot : RowSlot) (type : RowType) (there : IsTypeThere context.schema.now context.plan.now.expansion context.plan.now.plans.items slot type) (values : Vec Value Global) where
+  filled_record : (found : _) → FitSlots (slots_behind_node context type.node) (object found) (properties_at context.schema.now type.type_id) values.items → IsFilledIn context slot Record (RecordOf values) (object found)
   filled_record found fits =
-      let schema = scene.schema.now in
-      let steps = scene.plan.now.expansion in
-      let name = (kinds_of schema scene.plan.now.plans.items slot).record_type in
+      let schema = context.schema.now in
+      let steps = context.plan.now.expansion in
+      let name = (kinds_of schema context.plan.now.plans.items slot).record_type in
       let named : name ≡ type_name_at schema type.type_id = ap (name_at schema) there.id_is in
       let distinct : HasDistinctNames (properties_at schema type.type_id) = subst (λ id. HasDistinctNames (properties_at schema id)) (sym there.is.of_type.0) there.is.is_plan.distinct in
-      let here = slots_behind_node scene type.node in
-      subst (λ n. IsFilled (slots_behind_node scene n) slot.is_nullable slot.is_nullable (single (structured name)) (RecordOf values) (object found)) there.behind
+      let here = slots_behind_node context type.node in
+      subst (λ n. IsFilled (slots_behind_node context n) slot.is_nullable slot.is_nullable (single (structured name)) (RecordOf values) (object found)) there.behind
       (subst (λ s. IsFilled here slot.is_nullable slot.is_nullable (single (structured s)) (RecordOf values) (object found)) (sym named)
       (record_held schema steps type.node type.type_id values found distinct fits slot.is_nullable, slots_held here (type_name_at schema type.type_id) (λ n. get n (object found)) values fits))
 
-  pub record_filled : (depth from to : ℕ) → 0 < depth → from < length scene.line → get_or scene.line from 32 ≡ 123 → FillsMembers scene type (depth - 1) values.items (from + 1) to → FillsValue scene slot Record depth (RecordOf values) from to
+  pub record_filled : (depth from to : ℕ) → 0 < depth → from < length context.line → get_or context.line from 32 ≡ 123 → FillsMembers context type (depth - 1) values.items (from + 1) to → FillsValue context slot Record depth (RecordOf values) from to
   record_filled depth from to some within is members = (
-    object_to depth scene.line from to (λ found. FitSlots (slots_behind_node scene type.node) (object found) (properties_at scene.schema.now type.type_id) values.items) (IsFilledIn scene slot Record (RecordOf values)) some within is
+    object_to depth context.line from to (λ found. FitSlots (slots_behind_node context type.node) (object found) (properties_at context.schema.now type.type_id) values.items) (IsFilledIn context slot Record (RecordOf values)) some within is
         filled_record members.0 members.1,
     (object members.1.found, filled_record members.1.found members.1.holds),
   )
 
 -- ---- lists
 
-module _ (scene : Scene) (slot : RowSlot) where
+module _ (context : ReadContext) (slot : RowSlot) where
   abbrev node_slots : Slots
-  node_slots = slots_behind_node scene slot.node
+  node_slots = slots_behind_node context slot.node
 
   abbrev item_type : SingleType
-  item_type = type_of (kinds_of scene.schema.now scene.plan.now.plans.items slot) slot.item
+  item_type = type_of (kinds_of context.schema.now context.plan.now.plans.items slot) slot.item
 
-  filled_list : (items : Vec Value Global) (jsons : Jsons) → AreFilled (slots_behind_node scene slot.node) slot.is_nullable (type_of (kinds_of scene.schema.now scene.plan.now.plans.items slot) slot.item) items.items jsons
-      → IsFilledIn scene slot Items (ListOf items) (array jsons)
+  filled_list : (items : Vec Value Global) (jsons : Jsons) → AreFilled (slots_behind_node context slot.node) slot.is_nullable (type_of (kinds_of context.schema.now context.plan.now.plans.items slot) slot.item) items.items jsons
+      → IsFilledIn context slot Items (ListOf items) (array jsons)
   filled_list items jsons fits = (list_held node_slots slot.is_nullable item_type items jsons fits.0, list_holds node_slots item_type items fits.1)
 
-  pub list_filled : (items : Vec Value Global) (depth from to : ℕ) → 0 < depth → from < length scene.line → get_or scene.line from 32 ≡ 91 → FillsItems scene slot (depth - 1) items.items (from + 1) to → FillsValue scene slot Items depth (ListOf items) from to
+  pub list_filled : (items : Vec Value Global) (depth from to : ℕ) → 0 < depth → from < length context.line → get_or context.line from 32 ≡ 91 → FillsItems context slot (depth - 1) items.items (from + 1) to → FillsValue context slot Items depth (ListOf items) from to
   list_filled items depth from to some within is read = (
-    array_to depth scene.line from to (AreFilled node_slots slot.is_nullable item_type items.items) (IsFilledIn scene slot Items (ListOf items)) some within is (filled_list items) read.0 read.1,
+    array_to depth context.line from to (AreFilled node_slots slot.is_nullable item_type items.items) (IsFilledIn context slot Items (ListOf items)) some within is (filled_list items) read.0 read.1,
     (array read.1.jsons, filled_list items read.1.jsons read.1.holds),
   )
 
   -- ---- items one after another
 
-  none_filled : (items : List Value) → items ≡ [] → AreFilled (slots_behind_node scene slot.node) slot.is_nullable (type_of (kinds_of scene.schema.now scene.plan.now.plans.items slot) slot.item) items no_items
+  none_filled : (items : List Value) → items ≡ [] → AreFilled (slots_behind_node context slot.node) slot.is_nullable (type_of (kinds_of context.schema.now context.plan.now.plans.items slot) slot.item) items no_items
   none_filled items none = (subst (λ vs. FitList node_slots slot.is_nullable item_type no_items vs) (sym none) tt, subst (HoldInItems node_slots item_type) (sym none) refl)
 
-  one_more : (IsSingle slot.item) → (found : Jsons) (json : Data) (items : List Value) (v : Value) → AreFilled (slots_behind_node scene slot.node) slot.is_nullable (type_of (kinds_of scene.schema.now scene.plan.now.plans.items slot) slot.item) items found
-      → IsFilledIn scene slot slot.item v json
-      → AreFilled (slots_behind_node scene slot.node) slot.is_nullable (type_of (kinds_of scene.schema.now scene.plan.now.plans.items slot) slot.item) (items ++ v ∷ []) (append_items found (item json no_items))
+  one_more : (IsSingle slot.item) → (found : Jsons) (json : Data) (items : List Value) (v : Value) → AreFilled (slots_behind_node context slot.node) slot.is_nullable (type_of (kinds_of context.schema.now context.plan.now.plans.items slot) slot.item) items found
+      → IsFilledIn context slot slot.item v json
+      → AreFilled (slots_behind_node context slot.node) slot.is_nullable (type_of (kinds_of context.schema.now context.plan.now.plans.items slot) slot.item) (items ++ v ∷ []) (append_items found (item json no_items))
   one_more some found json items v fits here =
-      let is = of_filled node_slots (kinds_of scene.schema.now scene.plan.now.plans.items slot) slot.is_nullable slot.item slot.item v json some here in
+      let is = of_filled node_slots (kinds_of context.schema.now context.plan.now.plans.items slot) slot.is_nullable slot.item slot.item v json some here in
       (fit_push node_slots slot.is_nullable item_type found items json v fits.0 is.0, holds_push node_slots item_type items v fits.1 is.1)
 
   -- the first items before a place are those that were read
   abbrev pub ListUpTo : ℕ → ℕ → ℕ → List Value → Type 0
-  ListUpTo depth from place items = ItemsUpTo depth scene.line from place (AreFilled (slots_behind_node scene slot.node) slot.is_nullable (type_of (kinds_of scene.schema.now scene.plan.now.plans.items slot) slot.item) items)
+  ListUpTo depth from place items = ItemsUpTo depth context.line from place (AreFilled (slots_behind_node context slot.node) slot.is_nullable (type_of (kinds_of context.schema.now context.plan.now.plans.items slot) slot.item) items)
 
-  pub list_start : (depth from place : ℕ) (items : List Value) → PassesSpaces scene.line from place → ListUpTo depth from place (take 0 items)
-  list_start depth from place items passed = items_begin depth scene.line from place (AreFilled node_slots slot.is_nullable item_type (take 0 items)) passed (none_filled (take 0 items) (take_none items))
+  pub list_start : (depth from place : ℕ) (items : List Value) → PassesSpaces context.line from place → ListUpTo depth from place (take 0 items)
+  list_start depth from place items passed = items_begin depth context.line from place (AreFilled node_slots slot.is_nullable item_type (take 0 items)) passed (none_filled (take 0 items) (take_none items))
 
   module _ (some : IsSingle slot.item) (depth from place end : ℕ) (before held : List Value) (count : ℕ) (v : Value) (kept : take count held ≡ take count before) (within : count < length held) where
     pushed : take (count + 1) (slice_set held count v) ≡ take count before ++ v ∷ []
     pushed = take_more_set held count v within ∙ ap (λ vs. vs ++ v ∷ []) kept
 
-    more : (found : Jsons) (json : Data) → AreFilled (slots_behind_node scene slot.node) slot.is_nullable (type_of (kinds_of scene.schema.now scene.plan.now.plans.items slot) slot.item) (take count before) found → IsFilledIn scene slot slot.item v json
-        → AreFilled (slots_behind_node scene slot.node) slot.is_nullable (type_of (kinds_of scene.schema.now scene.plan.now.plans.items slot) slot.item) (take (count + 1) (slice_set held count v)) (append_items found (item json no_items))
+    more : (found : Jsons) (json : Data) → AreFilled (slots_behind_node context slot.node) slot.is_nullable (type_of (kinds_of context.schema.now context.plan.now.plans.items slot) slot.item) (take count before) found → IsFilledIn context slot slot.item v json
+        → AreFilled (slots_behind_node context slot.node) slot.is_nullable (type_of (kinds_of context.schema.now context.plan.now.plans.items slot) slot.item) (take (count + 1) (slice_set held count v)) (append_items found (item json no_items))
     more found json fits here = subst (λ vs. AreFilled node_slots slot.is_nullable item_type vs (append_items found (item json no_items))) (sym pushed) (one_more some found json (take count before) v fits here)
 
-    pub list_comma : (comma next : ℕ) → ListUpTo depth from place (take count before) → FillsValue scene slot slot.item depth v place end → PassesSpaces scene.line end comma → comma < length scene.line → get_or scene.line comma 32 ≡ 44 → PassesSpaces scene.line (comma + 1) next
+    pub list_comma : (comma next : ℕ) → ListUpTo depth from place (take count before) → FillsValue context slot slot.item depth v place end → PassesSpaces context.line end comma → comma < length context.line → get_or context.line comma 32 ≡ 44 → PassesSpaces context.line (comma + 1) next
         → ListUpTo depth from next (take (count + 1) (slice_set held count v))
     list_comma comma next so_far value passed inside is more_spaces =
-        item_and_comma depth scene.line from place end comma next (AreFilled node_slots slot.is_nullable item_type (take count before)) (AreFilled node_slots slot.is_nullable item_type (take (count + 1) (slice_set held count v)))
-        (IsFilledIn scene slot slot.item v) more so_far value.0 passed inside is more_spaces
+        item_and_comma depth context.line from place end comma next (AreFilled node_slots slot.is_nullable item_type (take count before)) (AreFilled node_slots slot.is_nullable item_type (take (count + 1) (slice_set held count v)))
+        (IsFilledIn context slot slot.item v) more so_far value.0 passed inside is more_spaces
 
-    pub list_bracket : (bracket : ℕ) → ListUpTo depth from place (take count before) → FillsValue scene slot slot.item depth v place end → PassesSpaces scene.line end bracket → bracket < length scene.line → get_or scene.line bracket 32 ≡ 93
-        → FillsItems scene slot depth (take (count + 1) (slice_set held count v)) from (bracket + 1)
+    pub list_bracket : (bracket : ℕ) → ListUpTo depth from place (take count before) → FillsValue context slot slot.item depth v place end → PassesSpaces context.line end bracket → bracket < length context.line → get_or context.line bracket 32 ≡ 93
+        → FillsItems context slot depth (take (count + 1) (slice_set held count v)) from (bracket + 1)
     list_bracket bracket so_far value passed inside is = (
       (omega (arith, so_far.bounds.0, value.0.bounds.0, passed.bounds.0), omega (arith, inside)),
-      item_and_bracket depth scene.line from place end bracket (AreFilled node_slots slot.is_nullable item_type (take count before)) (AreFilled node_slots slot.is_nullable item_type (take (count + 1) (slice_set held count v)))
-          (IsFilledIn scene slot slot.item v) more so_far value.0 passed inside is,
+      item_and_bracket depth context.line from place end bracket (AreFilled node_slots slot.is_nullable item_type (take count before)) (AreFilled node_slots slot.is_nullable item_type (take (count + 1) (slice_set held count v)))
+          (IsFilledIn context slot slot.item v) more so_far value.0 passed inside is,
     )
 
-  pub no_list : (depth from bracket : ℕ) (items : List Value) → bracket < length scene.line → get_or scene.line bracket 32 ≡ 93 → PassesSpaces scene.line from bracket → FillsItems scene slot depth (take 0 items) from (bracket + 1)
+  pub no_list : (depth from bracket : ℕ) (items : List Value) → bracket < length context.line → get_or context.line bracket 32 ≡ 93 → PassesSpaces context.line from bracket → FillsItems context slot depth (take 0 items) from (bracket + 1)
   no_list depth from bracket items within is passed = (
     (omega (arith, passed.bounds.0), omega (arith, within)),
-    no_items_read depth scene.line from bracket (AreFilled node_slots slot.is_nullable item_type (take 0 items)) passed within is (none_filled (take 0 items) (take_none items)),
+    no_items_read depth context.line from bracket (AreFilled node_slots slot.is_nullable item_type (take 0 items)) passed within is (none_filled (take 0 items) (take_none items)),
   )
 
 -- ---- white space
 
-pub filled_behind : (scene : Scene) (slot : RowSlot) (task : Task) (depth : ℕ) (v : Value) (from place to : ℕ) → PassesSpaces scene.line from place → FillsValue scene slot task depth v place to → FillsValue scene slot task depth v from to
-filled_behind scene slot task depth v from place to passed value = (reads_behind depth scene.line from place to (IsFilledIn scene slot task v) passed value.0, value.1)
+pub filled_behind : (context : ReadContext) (slot : RowSlot) (task : Task) (depth : ℕ) (v : Value) (from place to : ℕ) → PassesSpaces context.line from place → FillsValue context slot task depth v place to → FillsValue context slot task depth v from to
+filled_behind context slot task depth v from place to passed value = (reads_behind depth context.line from place to (IsFilledIn context slot task v) passed value.0, value.1)

@@ -20,7 +20,7 @@ use Rattle.json_tokens.specs.private.Lexemes.{PassesSpaces}
 use Rattle.json_tokens.specs.declared.lexeme.Turn.TheVariants.{AfterValue, Fresh}
 use Rattle.json_room.specs.Lexemes.{tokens_at}
 use Rattle.edm_rows.specs.declared.members.After.{After}
-use Rattle.edm_rows.specs.declared.passed_value.Scene.{Scene}
+use Rattle.edm_rows.specs.declared.passed_value.ReadContext.{ReadContext}
 use Rattle.edm_rows.specs.declared.row_types.RowSlot.{RowSlot}
 use Rattle.edm_rows.specs.private.Held.{ReadsTo}
 use Rattle.edm_rows.specs.private.KeptRows.{IsRejectedIn, IsRowRejected, names_unkept_in, root_properties, root_slots}
@@ -102,52 +102,52 @@ no_marks n = record { set = λ k is inside. absurd (omega (arith, is, bit_at-zer
 
 -- ---- the members so far
 
-module _ (scene : Scene) (rows : List RowSlot) where
+module _ (context : ReadContext) (rows : List RowSlot) where
   abbrev slots : Slots
-  slots = root_slots scene
+  slots = root_slots context
 
   abbrev ps : List PropertyModel
-  ps = root_properties scene
+  ps = root_properties context
 
   abbrev Unkept : Names
-  Unkept = names_unkept_in (root_properties scene) rows
+  Unkept = names_unkept_in (root_properties context) rows
 
-  pub kept_none : (from place : ℕ) (values : List Value) → PassesSpaces scene.line from place → length values ≡ length (root_properties scene) → KeptUpTo scene rows from place 0 false values
+  pub kept_none : (from place : ℕ) (values : List Value) → PassesSpaces context.line from place → length values ≡ length (root_properties context) → KeptUpTo context rows from place 0 false values
   kept_none from place values passed long =
-      let n = length (root_properties scene) in
+      let n = length (root_properties context) in
       record {
         filled = replicate n false;
         long = none_long n;
         marks = no_marks n;
-        members = members_begin 126 scene.line from place (SoFar scene rows false 0 (replicate n false) values) passed (passed_start slots Unkept ps n (replicate n false) values refl (omega arith) long);
+        members = members_begin 126 context.line from place (SoFar context rows false 0 (replicate n false) values) passed (passed_start slots Unkept ps n (replicate n false) values refl (omega arith) long);
       }
 
   -- ---- one member more
 
-  module _ (distinct : HasDistinctNames (root_properties scene)) (from place value end seen : ℕ) (slot : RowSlot) (name : List ℕ) (is_slot : slice_get rows slot.index ≡ Some slot) (named : slice_get (map (λ p. p.name) (root_properties scene)) slot.index ≡ Some name)
-      (names : NamesTo scene.line place name value) (within : slot.index < length (root_properties scene)) where
+  module _ (distinct : HasDistinctNames (root_properties context)) (from place value end seen : ℕ) (slot : RowSlot) (name : List ℕ) (is_slot : slice_get rows slot.index ≡ Some slot) (named : slice_get (map (λ p. p.name) (root_properties context)) slot.index ≡ Some name)
+      (names : NamesTo context.line place name value) (within : slot.index < length (root_properties context)) where
     abbrev more : ℕ
     more = bit_or seen (2 ^ slot.index)
 
     behind : (is_left_out next : Bool) (old new : List Value) (Q : Data → Type 0)
-        → ((filled : List Bool) (found : Members) (json : Data) → SoFar scene rows is_left_out seen filled old found → Q json → SoFar scene rows next more (slice_set filled slot.index true) new (put name json found))
-        → KeptUpTo scene rows from place seen is_left_out old → ReadsTo 126 scene.line value end Q → KeptRead scene rows from end more next new
+        → ((filled : List Bool) (found : Members) (json : Data) → SoFar context rows is_left_out seen filled old found → Q json → SoFar context rows next more (slice_set filled slot.index true) new (put name json found))
+        → KeptUpTo context rows from place seen is_left_out old → ReadsTo 126 context.line value end Q → KeptRead context rows from end more next new
     behind is_left_out next old new Q by so_far reads =
         let filled = slice_set so_far.filled slot.index true in
         record {
           filled = filled;
           long = length-set so_far.filled slot.index true ∙ so_far.long;
           marks = marks_more seen slot.index so_far.filled (omega (arith, within, so_far.long)) so_far.marks;
-          members = member_then 126 scene.line from place value end name (SoFar scene rows is_left_out seen so_far.filled old) (SoFar scene rows next more filled new) Q (λ found json holds is. by so_far.filled found json holds is) so_far.members names reads;
+          members = member_then 126 context.line from place value end name (SoFar context rows is_left_out seen so_far.filled old) (SoFar context rows next more filled new) Q (λ found json holds is. by so_far.filled found json holds is) so_far.members names reads;
         }
 
-    seen_at : (json : Data) (o : Option PropertyModel) → IfSome o (λ p. FitsSomeProperty (slots_behind (root_slots scene) p.name) p.nullable p.type_of (Some json))
-        → (seen_as : ValAtType) × IfSome o (λ p. FitsSeen (slots_behind (root_slots scene) p.name) p.nullable p.type_of (Some json) seen_as)
+    seen_at : (json : Data) (o : Option PropertyModel) → IfSome o (λ p. FitsSomeProperty (slots_behind (root_slots context) p.name) p.nullable p.type_of (Some json))
+        → (seen_as : ValAtType) × IfSome o (λ p. FitsSeen (slots_behind (root_slots context) p.name) p.nullable p.type_of (Some json) seen_as)
     seen_at json None some = (val_of Null, tt)
     seen_at json (Some p) some = (some.0, some.1)
 
     -- the value that was rejected is another slot's
-    rejected_stays : (found : Members) (json : Data) → (slot.is_kept ≡ true → bit_at seen slot.index ≡ 0) → RejectedSoFar scene rows seen found → RejectedSoFar scene rows more (put name json found)
+    rejected_stays : (found : Members) (json : Data) → (slot.is_kept ≡ true → bit_at seen slot.index ≡ 0) → RejectedSoFar context rows seen found → RejectedSoFar context rows more (put name json found)
     rejected_stays found json fresh before =
         let other : slot.index ≢ before.slot.index = λ same.
         let one : Some slot ≡ Some before.slot = sym is_slot ∙ ap (slice_get rows) same ∙ before.is_slot in
@@ -166,10 +166,10 @@ module _ (scene : Scene) (rows : List RowSlot) where
         }
 
     -- a value that is passed once another was rejected
-    pub passed_left_out : (values : List Value) → (slot.is_kept ≡ true → bit_at seen slot.index ≡ 0) → KeptUpTo scene rows from place seen true values
-        → ReadsTo 126 scene.line value end (λ json. IfSome (slice_get (root_properties scene) slot.index) (λ p. FitsSomeProperty (slots_behind (root_slots scene) p.name) p.nullable p.type_of (Some json))) → KeptRead scene rows from end more true values
+    pub passed_left_out : (values : List Value) → (slot.is_kept ≡ true → bit_at seen slot.index ≡ 0) → KeptUpTo context rows from place seen true values
+        → ReadsTo 126 context.line value end (λ json. IfSome (slice_get (root_properties context) slot.index) (λ p. FitsSomeProperty (slots_behind (root_slots context) p.name) p.nullable p.type_of (Some json))) → KeptRead context rows from end more true values
     passed_left_out values fresh =
-        behind true true values values (λ json. IfSome (slice_get (root_properties scene) slot.index) (λ p. FitsSomeProperty (slots_behind (root_slots scene) p.name) p.nullable p.type_of (Some json)))
+        behind true true values values (λ json. IfSome (slice_get (root_properties context) slot.index) (λ p. FitsSomeProperty (slots_behind (root_slots context) p.name) p.nullable p.type_of (Some json)))
         (λ filled found json so_far fits.
         let seen_as = seen_at json (slice_get ps slot.index) fits in (
           (slice_set so_far.0.0 slot.index Null, passed_set slots every_name found name json ps filled so_far.0.0 slot.index Null seen_as.0 distinct named seen_as.1 (inl tt) so_far.0.1),
@@ -177,11 +177,11 @@ module _ (scene : Scene) (rows : List RowSlot) where
         ))
 
     -- a value that is passed because its slot is not kept
-    pub passed_unkept : (values : List Value) → slot.is_kept ≡ false → length values ≡ length (root_properties scene) → KeptUpTo scene rows from place seen false values
-        → ReadsTo 126 scene.line value end (λ json. IfSome (slice_get (root_properties scene) slot.index) (λ p. FitsSomeProperty (slots_behind (root_slots scene) p.name) p.nullable p.type_of (Some json))) → KeptRead scene rows from end more false values
+    pub passed_unkept : (values : List Value) → slot.is_kept ≡ false → length values ≡ length (root_properties context) → KeptUpTo context rows from place seen false values
+        → ReadsTo 126 context.line value end (λ json. IfSome (slice_get (root_properties context) slot.index) (λ p. FitsSomeProperty (slots_behind (root_slots context) p.name) p.nullable p.type_of (Some json))) → KeptRead context rows from end more false values
     passed_unkept values unkept long =
         let there = item_at values slot.index (omega (arith, within, long)) in
-        behind false false values values (λ json. IfSome (slice_get (root_properties scene) slot.index) (λ p. FitsSomeProperty (slots_behind (root_slots scene) p.name) p.nullable p.type_of (Some json)))
+        behind false false values values (λ json. IfSome (slice_get (root_properties context) slot.index) (λ p. FitsSomeProperty (slots_behind (root_slots context) p.name) p.nullable p.type_of (Some json)))
         (λ filled found json so_far fits.
         let seen_as = seen_at json (slice_get ps slot.index) fits in
         subst (λ vs. SlotsSoFarBut slots Unkept ps (put name json found) (slice_set filled slot.index true) vs) (slot_stays values slot.index there.0 there.1)
@@ -193,17 +193,17 @@ module _ (scene : Scene) (rows : List RowSlot) where
         kept_is (r ∷ rs) (suc n) s at is = kept_is rs n s at is
 
     -- a value that is put into its slot
-    pub taken : (values : List Value) (v : Value) → KeptUpTo scene rows from place seen false values
-        → ReadsTo 126 scene.line value end (λ json. IfSome (slice_get (root_properties scene) slot.index) (λ p. FitsSeen (slots_behind (root_slots scene) p.name) p.nullable p.type_of (Some json) (val_of v)))
-        → KeptRead scene rows from end more false (slice_set values slot.index v)
+    pub taken : (values : List Value) (v : Value) → KeptUpTo context rows from place seen false values
+        → ReadsTo 126 context.line value end (λ json. IfSome (slice_get (root_properties context) slot.index) (λ p. FitsSeen (slots_behind (root_slots context) p.name) p.nullable p.type_of (Some json) (val_of v)))
+        → KeptRead context rows from end more false (slice_set values slot.index v)
     taken values v =
-        behind false false values (slice_set values slot.index v) (λ json. IfSome (slice_get (root_properties scene) slot.index) (λ p. FitsSeen (slots_behind (root_slots scene) p.name) p.nullable p.type_of (Some json) (val_of v)))
+        behind false false values (slice_set values slot.index v) (λ json. IfSome (slice_get (root_properties context) slot.index) (λ p. FitsSeen (slots_behind (root_slots context) p.name) p.nullable p.type_of (Some json) (val_of v)))
         (λ filled found json so_far fits. passed_set slots Unkept found name json ps filled values slot.index v (val_of v) distinct named fits (inr refl) so_far)
 
     -- a value that is rejected
-    pub rejected_now : (values : List Value) → slot.is_kept ≡ true → KeptUpTo scene rows from place seen false values → ReadsTo 126 scene.line value end (IsRejectedIn scene slot slot.sieve) → KeptRead scene rows from end more true values
+    pub rejected_now : (values : List Value) → slot.is_kept ≡ true → KeptUpTo context rows from place seen false values → ReadsTo 126 context.line value end (IsRejectedIn context slot slot.sieve) → KeptRead context rows from end more true values
     rejected_now values kept =
-        behind false true values values (IsRejectedIn scene slot slot.sieve)
+        behind false true values values (IsRejectedIn context slot slot.sieve)
         (λ filled found json so_far is. (
           (
             slice_set values slot.index Null,
@@ -223,17 +223,17 @@ module _ (scene : Scene) (rows : List RowSlot) where
         ))
 
   -- a member of no slot
-  pub other_taken : (from place end seen : ℕ) (is_left_out : Bool) (values : List Value) → KeptUpTo scene rows from place seen is_left_out values → PassesOther 126 scene.line (root_properties scene) place end → KeptRead scene rows from end seen is_left_out values
+  pub other_taken : (from place end seen : ℕ) (is_left_out : Bool) (values : List Value) → KeptUpTo context rows from place seen is_left_out values → PassesOther 126 context.line (root_properties context) place end → KeptRead context rows from end seen is_left_out values
   other_taken from place end seen is_left_out values so_far (name, value, named, others, reads) =
       record {
         filled = so_far.filled;
         long = so_far.long;
         marks = so_far.marks;
-        members = member_then 126 scene.line from place value end name (SoFar scene rows is_left_out seen so_far.filled values) (SoFar scene rows is_left_out seen so_far.filled values) (λ json. Unit {0})
+        members = member_then 126 context.line from place value end name (SoFar context rows is_left_out seen so_far.filled values) (SoFar context rows is_left_out seen so_far.filled values) (λ json. Unit {0})
             (λ found json holds _. stays is_left_out so_far.filled found json holds) so_far.members named reads;
       }
     where
-      stays : (b : Bool) (filled : List Bool) (found : Members) (json : Data) → SoFar scene rows b seen filled values found → SoFar scene rows b seen filled values (put name json found)
+      stays : (b : Bool) (filled : List Bool) (found : Members) (json : Data) → SoFar context rows b seen filled values found → SoFar context rows b seen filled values (put name json found)
       stays true filled found json (passed, before) = (
         (passed.0, others_passed slots every_name found name json ps filled passed.0 others passed.1),
         record {
@@ -250,9 +250,9 @@ module _ (scene : Scene) (rows : List RowSlot) where
       )
       stays false filled found json hold = others_passed slots Unkept found name json ps filled values others hold
 
-  pub kept_comma : (from end next seen : ℕ) (is_left_out : Bool) (values : List Value) → KeptRead scene rows from end seen is_left_out values → EndsMember scene.line end (After.Comma next) → KeptUpTo scene rows from next seen is_left_out values
+  pub kept_comma : (from end next seen : ℕ) (is_left_out : Bool) (values : List Value) → KeptRead context rows from end seen is_left_out values → EndsMember context.line end (After.Comma next) → KeptUpTo context rows from next seen is_left_out values
   kept_comma from end next seen is_left_out values read ends =
-      record { filled = read.filled; long = read.long; marks = read.marks; members = comma_then 126 scene.line from end next (SoFar scene rows is_left_out seen read.filled values) read.members ends }
+      record { filled = read.filled; long = read.long; marks = read.marks; members = comma_then 126 context.line from end next (SoFar context rows is_left_out seen read.filled values) read.members ends }
 
   -- ---- at the brace
 
@@ -264,10 +264,10 @@ module _ (scene : Scene) (rows : List RowSlot) where
 
   -- what the members that were found are, once the slots that were not seen are null
   abbrev Last : Bool → List Value → Members → Type 0
-  Last b new found = MatchBool b (IsRowRejected scene rows found) (FitSlotsBut (root_slots scene) (names_unkept_in (root_properties scene) rows) (object found) (root_properties scene) new)
+  Last b new found = MatchBool b (IsRowRejected context rows found) (FitSlotsBut (root_slots context) (names_unkept_in (root_properties context) rows) (object found) (root_properties context) new)
 
-  last_found : (seen : ℕ) (filled : List Bool) (is_left_out : Bool) (old new : List Value) → length rows ≡ length (root_properties scene) → FillsAbsent scene rows seen old new → length filled ≡ length (root_properties scene) → SameMarks seen filled
-      → (found : Members) → SoFar scene rows is_left_out seen filled old found → Last is_left_out new found
+  last_found : (seen : ℕ) (filled : List Bool) (is_left_out : Bool) (old new : List Value) → length rows ≡ length (root_properties context) → FillsAbsent context rows seen old new → length filled ≡ length (root_properties context) → SameMarks seen filled
+      → (found : Members) → SoFar context rows is_left_out seen filled old found → Last is_left_out new found
   last_found seen filled is_left_out old new as_many fills long marks found holds = last is_left_out found holds
     where
       bit_of : (k : ℕ) → k < length ps → get_or filled k false ≡ true → bit_at seen k ≡ 1
@@ -316,7 +316,7 @@ module _ (scene : Scene) (rows : List RowSlot) where
               go None at may_absent = tt
               go (Some p) at may_absent = (may_absent, inl (k, unkept, name_of ps k p at))
 
-      last : (b : Bool) (found : Members) → SoFar scene rows b seen filled old found → Last b new found
+      last : (b : Bool) (found : Members) → SoFar context rows b seen filled old found → Last b new found
       last true found (passed, before) =
           record {
             fits = (passed.0, all_passed slots every_name (found_in found) ps filled passed.0 (λ _. tt) settled passed.1);
@@ -333,20 +333,20 @@ module _ (scene : Scene) (rows : List RowSlot) where
           same_slot : (k : ℕ) → get_or filled k false ≡ true → slice_get new k ≡ slice_get old k
           same_slot k is = fills.seen_stay k (⊎_elim (λ none. absurd (true≢false (sym is ∙ marks.not_set k none))) (λ one. one) (two_bits seen k))
 
-  pub kept_brace : (from end next seen : ℕ) (is_left_out : Bool) (old new : List Value) → length rows ≡ length (root_properties scene) → FillsAbsent scene rows seen old new → KeptRead scene rows from end seen is_left_out old → EndsMember scene.line end (After.Brace next)
-      → ReadsMembers 126 (tokens_at Fresh scene.line from) (tokens_at AfterValue scene.line next)
-      (λ found. MatchBool is_left_out (IsRowRejected scene rows found) (FitSlotsBut (root_slots scene) (names_unkept_in (root_properties scene) rows) (object found) (root_properties scene) new))
+  pub kept_brace : (from end next seen : ℕ) (is_left_out : Bool) (old new : List Value) → length rows ≡ length (root_properties context) → FillsAbsent context rows seen old new → KeptRead context rows from end seen is_left_out old → EndsMember context.line end (After.Brace next)
+      → ReadsMembers 126 (tokens_at Fresh context.line from) (tokens_at AfterValue context.line next)
+      (λ found. MatchBool is_left_out (IsRowRejected context rows found) (FitSlotsBut (root_slots context) (names_unkept_in (root_properties context) rows) (object found) (root_properties context) new))
   kept_brace from end next seen is_left_out old new as_many fills read ends =
-      brace_then 126 scene.line from end next (SoFar scene rows is_left_out seen read.filled old) (Last is_left_out new)
+      brace_then 126 context.line from end next (SoFar context rows is_left_out seen read.filled old) (Last is_left_out new)
       (λ found holds. last_found seen read.filled is_left_out old new as_many fills read.long read.marks found holds) read.members ends
 
   -- a brace where no member stands
-  pub kept_empty : (from brace : ℕ) (old new : List Value) → length rows ≡ length (root_properties scene) → FillsAbsent scene rows 0 old new → length old ≡ length (root_properties scene) → PassesSpaces scene.line from brace
-      → brace < length scene.line → get_or scene.line brace 32 ≡ 125 → ReadsMembers 126 (tokens_at Fresh scene.line from) (tokens_at AfterValue scene.line (brace + 1))
-      (λ found. MatchBool false (IsRowRejected scene rows found) (FitSlotsBut (root_slots scene) (names_unkept_in (root_properties scene) rows) (object found) (root_properties scene) new))
+  pub kept_empty : (from brace : ℕ) (old new : List Value) → length rows ≡ length (root_properties context) → FillsAbsent context rows 0 old new → length old ≡ length (root_properties context) → PassesSpaces context.line from brace
+      → brace < length context.line → get_or context.line brace 32 ≡ 125 → ReadsMembers 126 (tokens_at Fresh context.line from) (tokens_at AfterValue context.line (brace + 1))
+      (λ found. MatchBool false (IsRowRejected context rows found) (FitSlotsBut (root_slots context) (names_unkept_in (root_properties context) rows) (object found) (root_properties context) new))
   kept_empty from brace old new as_many fills long passed within closes =
-      let n = length (root_properties scene) in
+      let n = length (root_properties context) in
       let filled = replicate n false in
-      no_members_read 126 scene.line from brace (SoFar scene rows false 0 filled old) (Last false new) passed within closes
+      no_members_read 126 context.line from brace (SoFar context rows false 0 filled old) (Last false new) passed within closes
       (λ found holds. last_found 0 filled false old new as_many fills (none_long n) (no_marks n) found holds)
       (passed_start slots Unkept ps n filled old refl (omega arith) long)

@@ -13,7 +13,7 @@ mod RowSteps
 mod RowTypes
 mod RowsRead
 mod RowsStay
-mod SceneLemmas
+mod ContextLemmas
 mod SeenMembers
 mod SlotMarks
 mod SlotsFilled

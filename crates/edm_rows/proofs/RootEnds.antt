@@ -5,7 +5,7 @@ use Rattle.csdl_schema.specs.SchemaModel.{HasDistinctNames, properties_at}
 use Rattle.edm_values.specs.declared.value.Value.{Value}
 use Rattle.edm_row_plans.specs.Expanded.{slots_at}
 use Rattle.edm_entities.specs.private.Passed.{MayBeAbsent}
-use Rattle.edm_rows.specs.declared.passed_value.Scene.{Scene}
+use Rattle.edm_rows.specs.declared.passed_value.ReadContext.{ReadContext}
 use Rattle.edm_rows.specs.declared.row_types.RowSlot.{RowSlot}
 use Rattle.edm_rows.specs.declared.row_types.RowType.{RowType}
 use Rattle.edm_rows.specs.private.Filled.{FillsSlots}
@@ -15,43 +15,43 @@ use Rattle.edm_rows.specs.private.RowSlots.{IsRowSlot}
 use Rattle.edm_rows.proofs.Indexes.{both_at}
 
 -- a row's own type has one slot for each property
-pub rows_long : (scene : Scene) (type : RowType) → IsRootType scene type → length type.slots.items ≡ length (root_properties scene)
-rows_long scene type root =
-    root.is.count ∙ root.is.is_plan.planned.count ∙ ap (λ (i : ℕ). length (properties_at scene.schema.now i)) (sym root.is.of_type.0 ∙ root.type_id)
+pub rows_long : (context : ReadContext) (type : RowType) → IsRootType context type → length type.slots.items ≡ length (root_properties context)
+rows_long context type root =
+    root.is.count ∙ root.is.is_plan.planned.count ∙ ap (λ (i : ℕ). length (properties_at context.schema.now i)) (sym root.is.of_type.0 ∙ root.type_id)
 
 mapped_within : (rows : List RowSlot) (k : ℕ) (b : Bool) → slice_get (map (λ s. s.is_kept) rows) k ≡ Some b → k < length rows
 mapped_within [] k b at = absurd (cc)
 mapped_within (r ∷ rows) zero b at = omega arith
 mapped_within (r ∷ rows) (suc k) b at = omega (arith, mapped_within rows k b at)
 
-module _ (scene : Scene) (type : RowType) (root : IsRootType scene type) (seen : ℕ) (old new : List Value) (fills : FillsSlots type seen old new) where
-  may_be_absent : (k : ℕ) → k < length (root_properties scene) → bit_at seen k ≡ 0 → IfSome (slice_get (root_properties scene) k) (MayBeAbsent (root_slots scene))
+module _ (context : ReadContext) (type : RowType) (root : IsRootType context type) (seen : ℕ) (old new : List Value) (fills : FillsSlots type seen old new) where
+  may_be_absent : (k : ℕ) → k < length (root_properties context) → bit_at seen k ≡ 0 → IfSome (slice_get (root_properties context) k) (MayBeAbsent (root_slots context))
   may_be_absent k inside none =
-      let set : bit_at type.optional k ≡ 1 = ⊎_elim (λ was. absurd (omega (arith, none, was))) (λ optional. optional) (fills.may k (omega (arith, inside, rows_long scene type root))) in
-      subst (λ (i : ℕ). IfSome (slice_get (properties_at scene.schema.now i) k) (MayBeAbsent (root_slots scene))) root.type_id
-      (subst (λ (node : Option ℕ). IfSome (slice_get (properties_at scene.schema.now type.type_id) k) (MayBeAbsent (slots_at scene.schema.now scene.plan.now.expansion node))) root.node (root.is.optional k set))
+      let set : bit_at type.optional k ≡ 1 = ⊎_elim (λ was. absurd (omega (arith, none, was))) (λ optional. optional) (fills.may k (omega (arith, inside, rows_long context type root))) in
+      subst (λ (i : ℕ). IfSome (slice_get (properties_at context.schema.now i) k) (MayBeAbsent (root_slots context))) root.type_id
+      (subst (λ (node : Option ℕ). IfSome (slice_get (properties_at context.schema.now type.type_id) k) (MayBeAbsent (slots_at context.schema.now context.plan.now.expansion node))) root.node (root.is.optional k set))
 
-  pub fills_absent : length old ≡ length type.slots.items → FillsAbsent scene type.slots.items seen old new
+  pub fills_absent : length old ≡ length type.slots.items → FillsAbsent context type.slots.items seen old new
   fills_absent long =
       record {
         may = may_be_absent;
-        long = fills.long ∙ long ∙ rows_long scene type root;
+        long = fills.long ∙ long ∙ rows_long context type root;
         seen_stay = fills.stay;
         absent_null = λ k none kept. fills.nulls k (mapped_within type.slots.items k true kept) none;
       }
 
-  conforms_on : length old ≡ length type.slots.items → RowConforms (root_slots scene) (root_properties scene) old → RowConforms (root_slots scene) (root_properties scene) new
+  conforms_on : length old ≡ length type.slots.items → RowConforms (root_slots context) (root_properties context) old → RowConforms (root_slots context) (root_properties context) new
   conforms_on long conforms =
-      fills.conforms (root_slots scene) (root_properties scene) (subst (λ (i : ℕ). HasDistinctNames (properties_at scene.schema.now i)) (sym root.is.of_type.0 ∙ root.type_id) root.is.is_plan.distinct)
-      (sym (rows_long scene type root) ∙ sym long) may_be_absent conforms
+      fills.conforms (root_slots context) (root_properties context) (subst (λ (i : ℕ). HasDistinctNames (properties_at context.schema.now i)) (sym root.is.of_type.0 ∙ root.type_id) root.is.is_plan.distinct)
+      (sym (rows_long context type root) ∙ sym long) may_be_absent conforms
 
 -- the values go on to conform, whether or not the row may end
-pub ends_conform : (scene : Scene) (type : RowType) → IsRootType scene type → (seen : ℕ) (b : Bool) (old new : List Value) → length old ≡ length type.slots.items → (IsTrue b → FillsSlots type seen old new) → (b ≡ false → new ≡ old)
-    → RowConforms (root_slots scene) (root_properties scene) old → RowConforms (root_slots scene) (root_properties scene) new
-ends_conform scene type root seen true old new long fills stays conforms = conforms_on scene type root seen old new (fills refl) long conforms
-ends_conform scene type root seen false old new long fills stays conforms = subst (RowConforms (root_slots scene) (root_properties scene)) (sym (stays refl)) conforms
+pub ends_conform : (context : ReadContext) (type : RowType) → IsRootType context type → (seen : ℕ) (b : Bool) (old new : List Value) → length old ≡ length type.slots.items → (IsTrue b → FillsSlots type seen old new) → (b ≡ false → new ≡ old)
+    → RowConforms (root_slots context) (root_properties context) old → RowConforms (root_slots context) (root_properties context) new
+ends_conform context type root seen true old new long fills stays conforms = conforms_on context type root seen old new (fills refl) long conforms
+ends_conform context type root seen false old new long fills stays conforms = subst (RowConforms (root_slots context) (root_properties context)) (sym (stays refl)) conforms
 
 -- each slot's bit is that of its index
-pub root_bits : (scene : Scene) (type : RowType) → IsRootType scene type → (k : ℕ) → IfSome (slice_get type.slots.items k) (λ slot. slot.bit ≡ 2 ^ k)
-root_bits scene type root k =
-    both_at type.slots.items root.plan.slots.items (λ slot p. IsRowSlot scene.schema.now scene.plan.now.expansion scene.plan.now.plans.items k p slot) (λ slot. slot.bit ≡ 2 ^ k) k root.is.count (root.is.each k) (λ slot p is. is.bit)
+pub root_bits : (context : ReadContext) (type : RowType) → IsRootType context type → (k : ℕ) → IfSome (slice_get type.slots.items k) (λ slot. slot.bit ≡ 2 ^ k)
+root_bits context type root k =
+    both_at type.slots.items root.plan.slots.items (λ slot p. IsRowSlot context.schema.now context.plan.now.expansion context.plan.now.plans.items k p slot) (λ slot. slot.bit ≡ 2 ^ k) k root.is.count (root.is.each k) (λ slot p is. is.bit)

@@ -35,7 +35,7 @@ use Rattle.edm_rows.specs.declared.row_types.Task.{Task}
 use Rattle.edm_rows.specs.declared.row_types.Task.TheVariants.{Text, Number, Truth, Date, Moment, Guid, Member, Record, Items, Any}
 use Rattle.edm_rows.specs.private.Held.{IsHeldTo, IsLeaf, IsSingle, Kinds, type_of}
 use Rattle.edm_rows.specs.private.RowSlots.{HasPrimitive, IsRowSlot, IsSlotHeld, IsSlotOf, IsTaskOf, LeadsTo, id_at, kinds_of, name_at}
-use Rattle.edm_rows.specs.private.SlotKinds.{AreSureDigits, HasRecord, IsKindOf, IsMadeOf, IsPrimitiveTask, IsTaskAs, nullable_as}
+use Rattle.edm_rows.specs.private.RowTypes.{AreSureDigits, HasRecord, IsKindOf, IsMadeOf, IsPrimitiveTask, IsTaskAs, nullable_as}
 
 -- ---- tasks
 

@@ -32,7 +32,7 @@ use Rattle.edm_entities.proofs.SlotLemmas.ReadEntities.{is_entity, val_of-Record
 use Rattle.edm_rows.specs.RowsOfType.{IsLeftOut, RowsOfType, names_unkept, row_held}
 use Rattle.edm_rows.specs.declared.kept_leaf.Taken.{Taken}
 use Rattle.edm_rows.specs.declared.kept_leaf.Taken.TheVariants.{Broken, Nothing, Put, Rejected}
-use Rattle.edm_rows.specs.declared.passed_value.Scene.{Scene}
+use Rattle.edm_rows.specs.declared.passed_value.ReadContext.{ReadContext}
 use Rattle.edm_rows.specs.declared.row_types.RowSlot.{RowSlot}
 use Rattle.edm_rows.proofs.Places.{object_opened, spaces_at}
 use Rattle.edm_rows.specs.declared.row_types.RowType.{RowType}
@@ -75,12 +75,12 @@ sieve_at (r ∷ rows) zero s at = let same : r ≡ s = cc in ap (λ (x : RowSlot
 sieve_at (r ∷ rows) (suc n) s at = sieve_at rows n s at
 
 -- a line of which a value is rejected
-pub left_out : (scene : Scene) (kept : List Bool) (is_ready : Bool) (value : Value) (slots : List RowSlot) (line : List ℕ) (found : Members) → HasDistinctNames (root_properties scene) → IsUtf8 line → read line ≡ Some (object found)
-    → IsRowRejected scene slots found
-    → IsLeftOut line (record { schema = scene.schema.now; type_id = scene.plan.now.type_id; expansion = scene.plan.now.expansion; is_whole = scene.plan.now.is_whole; kept = kept; sieves = map (λ s. s.sieve) slots; is_ready = is_ready; value = value })
-left_out scene kept is_ready value slots line found distinct utf8 is rejected =
-    let props = slots_at scene.schema.now scene.plan.now.expansion (Some 0) in
-    let ps = root_properties scene in
+pub left_out : (context : ReadContext) (kept : List Bool) (is_ready : Bool) (value : Value) (slots : List RowSlot) (line : List ℕ) (found : Members) → HasDistinctNames (root_properties context) → IsUtf8 line → read line ≡ Some (object found)
+    → IsRowRejected context slots found
+    → IsLeftOut line (record { schema = context.schema.now; type_id = context.plan.now.type_id; expansion = context.plan.now.expansion; is_whole = context.plan.now.is_whole; kept = kept; sieves = map (λ s. s.sieve) slots; is_ready = is_ready; value = value })
+left_out context kept is_ready value slots line found distinct utf8 is rejected =
+    let props = slots_at context.schema.now context.plan.now.expansion (Some 0) in
+    let ps = root_properties context in
     let json = object found in
     let seen = seen_record props every_name (λ name. get name json) ps rejected.fits.0 distinct rejected.fits.1 in
     let whole : List ℕ → FieldVal = field_by_name props.properties ps seen.seens in
@@ -121,49 +121,49 @@ whole_line line begin end P passed within is members last =
     (whole.holds.0, text_read ∙ ap Some whole.holds.1, whole.holds.2)
 
 -- the members of a row, in the whole line
-pub line_taken : (scene : Scene) (type : RowType) (begin end : ℕ) (is_left_out : Bool) (values : List Value) → slice_get scene.types.now 0 ≡ Some type → PassesSpaces scene.line 0 begin → begin < length scene.line → get_or scene.line begin 32 ≡ 123
-    → ReadsRow scene type is_left_out values (begin + 1) end → PassesSpaces scene.line end (length scene.line) → ReadsSlots scene is_left_out values
-line_taken scene type begin end is_left_out values at passed within opens reads last =
-    let whole = whole_line scene.line begin end (TakesFound scene type is_left_out values) passed within opens reads.1 last in
+pub line_taken : (context : ReadContext) (type : RowType) (begin end : ℕ) (is_left_out : Bool) (values : List Value) → slice_get context.types.now 0 ≡ Some type → PassesSpaces context.line 0 begin → begin < length context.line → get_or context.line begin 32 ≡ 123
+    → ReadsRow context type is_left_out values (begin + 1) end → PassesSpaces context.line end (length context.line) → ReadsSlots context is_left_out values
+line_taken context type begin end is_left_out values at passed within opens reads last =
+    let whole = whole_line context.line begin end (TakesFound context type is_left_out values) passed within opens reads.1 last in
     (type, at, (whole.0, whole.1, whole.2))
 
-module _ (scene : Scene) (type : RowType) (begin : ℕ) (values : List Value) where
-  pub taken_within : (taken : Taken) → TakesRow scene type values (begin + 1) taken → IsTakenWithin scene.line taken
+module _ (context : ReadContext) (type : RowType) (begin : ℕ) (values : List Value) where
+  pub taken_within : (taken : Taken) → TakesRow context type values (begin + 1) taken → IsTakenWithin context.line taken
   taken_within Nothing took = tt
   taken_within Broken took = tt
   taken_within (Put to) took = took.0.1
   taken_within (Rejected to) took = took.0.1
 
-  pub slots_taken : (taken : Taken) → slice_get scene.types.now 0 ≡ Some type → PassesSpaces scene.line 0 begin → begin < length scene.line → get_or scene.line begin 32 ≡ 123 → TakesRow scene type values (begin + 1) taken → IsTakenWhole scene.line taken
-      → TakesSlots scene values taken
+  pub slots_taken : (taken : Taken) → slice_get context.types.now 0 ≡ Some type → PassesSpaces context.line 0 begin → begin < length context.line → get_or context.line begin 32 ≡ 123 → TakesRow context type values (begin + 1) taken → IsTakenWhole context.line taken
+      → TakesSlots context values taken
   slots_taken Nothing at passed within opens took last = tt
   slots_taken Broken at passed within opens took last = tt
-  slots_taken (Put to) at passed within opens took last = line_taken scene type begin to false values at passed within opens took last
-  slots_taken (Rejected to) at passed within opens took last = line_taken scene type begin to true values at passed within opens took last
+  slots_taken (Put to) at passed within opens took last = line_taken context type begin to false values at passed within opens took last
+  slots_taken (Rejected to) at passed within opens took last = line_taken context type begin to true values at passed within opens took last
 
 -- values that are written back over as many
-pub slots_back : (scene : Scene) (values rest : List Value) (count : ℕ) (taken : Taken) → (taken ≢ Broken → length values ≡ count) → TakesSlots scene values taken → TakesSlots scene (take count (values ++ rest)) taken
-slots_back scene values rest count Nothing long took = tt
-slots_back scene values rest count Broken long took = tt
-slots_back scene values rest count (Put to) long took = subst (ReadsSlots scene false) (sym (take_at values rest count (long (λ e. absurd (cc))))) took
-slots_back scene values rest count (Rejected to) long took = subst (ReadsSlots scene true) (sym (take_at values rest count (long (λ e. absurd (cc))))) took
+pub slots_back : (context : ReadContext) (values rest : List Value) (count : ℕ) (taken : Taken) → (taken ≢ Broken → length values ≡ count) → TakesSlots context values taken → TakesSlots context (take count (values ++ rest)) taken
+slots_back context values rest count Nothing long took = tt
+slots_back context values rest count Broken long took = tt
+slots_back context values rest count (Put to) long took = subst (ReadsSlots context false) (sym (take_at values rest count (long (λ e. absurd (cc))))) took
+slots_back context values rest count (Rejected to) long took = subst (ReadsSlots context true) (sym (take_at values rest count (long (λ e. absurd (cc))))) took
 
 -- the values of a row's slots are those of the row
-pub record_taken : (scene : Scene) (row : Value) (values : Vec Value Global) (taken : Taken) → row ≡ Record values → TakesSlots scene values.items taken → TakesLine scene row taken
-record_taken scene row values Nothing is took = tt
-record_taken scene row values Broken is took = tt
-record_taken scene row values (Put to) is took = (values, is, took)
-record_taken scene row values (Rejected to) is took = (values, is, took)
+pub record_taken : (context : ReadContext) (row : Value) (values : Vec Value Global) (taken : Taken) → row ≡ Record values → TakesSlots context values.items taken → TakesLine context row taken
+record_taken context row values Nothing is took = tt
+record_taken context row values Broken is took = tt
+record_taken context row values (Put to) is took = (values, is, took)
+record_taken context row values (Rejected to) is took = (values, is, took)
 
 -- ---- the reader of these rows
 
--- what a scene's reader stands for, whose types and whose row are these
-abbrev rows_on : Scene → List RowType → Bool → Value → RowsOfType
-rows_on scene types is_ready row = record {
-  schema = scene.schema.now;
-  type_id = scene.plan.now.type_id;
-  expansion = scene.plan.now.expansion;
-  is_whole = scene.plan.now.is_whole;
+-- what a context's reader stands for, whose types and whose row are these
+abbrev rows_on : ReadContext → List RowType → Bool → Value → RowsOfType
+rows_on context types is_ready row = record {
+  schema = context.schema.now;
+  type_id = context.plan.now.type_id;
+  expansion = context.plan.now.expansion;
+  is_whole = context.plan.now.is_whole;
   kept = map (λ s. s.is_kept) (first_slots types);
   sieves = map (λ s. s.sieve) (first_slots types);
   is_ready = is_ready;
@@ -171,46 +171,46 @@ rows_on scene types is_ready row = record {
 }
 
 -- its own types
-abbrev pub rows_in : Scene → Bool → Value → RowsOfType
-rows_in scene = rows_on scene scene.types.now
+abbrev pub rows_in : ReadContext → Bool → Value → RowsOfType
+rows_in context = rows_on context context.types.now
 
-module _ (scene : Scene) (is_ready : Bool) (row : Value) (held : HoldsType scene.schema.now scene.plan.now.type_id) (distinct : HasDistinctNames (root_properties scene)) (utf8 : IsUtf8 scene.line) where
+module _ (context : ReadContext) (is_ready : Bool) (row : Value) (held : HoldsType context.schema.now context.plan.now.type_id) (distinct : HasDistinctNames (root_properties context)) (utf8 : IsUtf8 context.line) where
   -- a line that was read
-  pub row_of_line : ReadsLine scene false row → IsLineBut scene.line (names_unkept (rows_in scene is_ready row)) (row_held (rows_in scene is_ready row))
+  pub row_of_line : ReadsLine context false row → IsLineBut context.line (names_unkept (rows_in context is_ready row)) (row_held (rows_in context is_ready row))
   row_of_line reads =
-      let schema = scene.schema.now in
-      let id = scene.plan.now.type_id in
-      let steps = scene.plan.now.expansion in
+      let schema = context.schema.now in
+      let id = context.plan.now.type_id in
+      let steps = context.plan.now.expansion in
       let values = reads.0 in
       let type = reads.2.0 in
       let of_line = reads.2.2 in
-      let but = line_but schema id steps held distinct (names_unkept_in (root_properties scene) type.slots.items) scene.line of_line.0 values utf8 of_line.1 of_line.2 in
-      subst (λ (v : Value). IsLineBut scene.line (names_unkept_in (root_properties scene) (first_slots scene.types.now)) (row_with schema id steps v)) (sym reads.1)
-      (subst (λ (l : List RowSlot). IsLineBut scene.line (names_unkept_in (root_properties scene) l) (row_with schema id steps (Record values))) (sym (first_slots_are scene.types.now type reads.2.1)) but)
+      let but = line_but schema id steps held distinct (names_unkept_in (root_properties context) type.slots.items) context.line of_line.0 values utf8 of_line.1 of_line.2 in
+      subst (λ (v : Value). IsLineBut context.line (names_unkept_in (root_properties context) (first_slots context.types.now)) (row_with schema id steps v)) (sym reads.1)
+      (subst (λ (l : List RowSlot). IsLineBut context.line (names_unkept_in (root_properties context) l) (row_with schema id steps (Record values))) (sym (first_slots_are context.types.now type reads.2.1)) but)
 
   -- and one that is left out
-  pub line_left_out : ReadsLine scene true row → IsLeftOut scene.line (rows_in scene is_ready row)
+  pub line_left_out : ReadsLine context true row → IsLeftOut context.line (rows_in context is_ready row)
   line_left_out reads =
       let type = reads.2.0 in
       let of_line = reads.2.2 in
-      let kept = map (λ s. s.is_kept) (first_slots scene.types.now) in
-      let out = left_out scene kept is_ready row type.slots.items scene.line of_line.0 distinct utf8 of_line.1 of_line.2 in
-      subst (λ (l : List RowSlot). IsLeftOut scene.line (record { schema = scene.schema.now; type_id = scene.plan.now.type_id; expansion = scene.plan.now.expansion; is_whole = scene.plan.now.is_whole; kept = kept; sieves = map (λ s. s.sieve) l; is_ready = is_ready; value = row }))
-      (sym (first_slots_are scene.types.now type reads.2.1)) out
+      let kept = map (λ s. s.is_kept) (first_slots context.types.now) in
+      let out = left_out context kept is_ready row type.slots.items context.line of_line.0 distinct utf8 of_line.1 of_line.2 in
+      subst (λ (l : List RowSlot). IsLeftOut context.line (record { schema = context.schema.now; type_id = context.plan.now.type_id; expansion = context.plan.now.expansion; is_whole = context.plan.now.is_whole; kept = kept; sieves = map (λ s. s.sieve) l; is_ready = is_ready; value = row }))
+      (sym (first_slots_are context.types.now type reads.2.1)) out
 
 -- the same, by what became of a line
-module _ (scene : Scene) (row : Value) (taken : Taken) (to : ℕ) (is_ready : Bool) (line : List ℕ) (types : List RowType) (took : TakesLine scene row taken) (same : scene.line ≡ line) (are : scene.types.now ≡ types) (held : HoldsType scene.schema.now scene.plan.now.type_id)
-    (distinct : HasDistinctNames (root_properties scene)) (utf8 : IsUtf8 line) where
-  utf8_there : IsUtf8 scene.line
+module _ (context : ReadContext) (row : Value) (taken : Taken) (to : ℕ) (is_ready : Bool) (line : List ℕ) (types : List RowType) (took : TakesLine context row taken) (same : context.line ≡ line) (are : context.types.now ≡ types) (held : HoldsType context.schema.now context.plan.now.type_id)
+    (distinct : HasDistinctNames (root_properties context)) (utf8 : IsUtf8 line) where
+  utf8_there : IsUtf8 context.line
   utf8_there = subst IsUtf8 (sym same) utf8
 
-  pub row_taken : taken ≡ Taken.Put to → IsLineBut line (names_unkept (rows_on scene types is_ready row)) (row_held (rows_on scene types is_ready row))
+  pub row_taken : taken ≡ Taken.Put to → IsLineBut line (names_unkept (rows_on context types is_ready row)) (row_held (rows_on context types is_ready row))
   row_taken is =
-      subst (λ (l : List ℕ). IsLineBut l (names_unkept (rows_on scene types is_ready row)) (row_held (rows_on scene types is_ready row))) same
-      (subst (λ (ts : List RowType). IsLineBut scene.line (names_unkept (rows_on scene ts is_ready row)) (row_held (rows_on scene ts is_ready row))) are
-      (row_of_line scene is_ready row held distinct utf8_there (subst (TakesLine scene row) is took)))
+      subst (λ (l : List ℕ). IsLineBut l (names_unkept (rows_on context types is_ready row)) (row_held (rows_on context types is_ready row))) same
+      (subst (λ (ts : List RowType). IsLineBut context.line (names_unkept (rows_on context ts is_ready row)) (row_held (rows_on context ts is_ready row))) are
+      (row_of_line context is_ready row held distinct utf8_there (subst (TakesLine context row) is took)))
 
-  pub row_left_out : taken ≡ Taken.Rejected to → IsLeftOut line (rows_on scene types is_ready row)
+  pub row_left_out : taken ≡ Taken.Rejected to → IsLeftOut line (rows_on context types is_ready row)
   row_left_out is =
-      subst (λ (l : List ℕ). IsLeftOut l (rows_on scene types is_ready row)) same
-      (subst (λ (ts : List RowType). IsLeftOut scene.line (rows_on scene ts is_ready row)) are (line_left_out scene is_ready row held distinct utf8_there (subst (TakesLine scene row) is took)))
+      subst (λ (l : List ℕ). IsLeftOut l (rows_on context types is_ready row)) same
+      (subst (λ (ts : List RowType). IsLeftOut context.line (rows_on context ts is_ready row)) are (line_left_out context is_ready row held distinct utf8_there (subst (TakesLine context row) is took)))

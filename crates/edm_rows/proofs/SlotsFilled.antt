@@ -24,7 +24,7 @@ use Rattle.edm_rows.specs.declared.row_types.Task.{Task}
 use Rattle.edm_rows.specs.declared.row_types.Task.TheVariants.{Any, Items}
 use Rattle.edm_rows.specs.private.Held.{FilledAs, IsFilled, IsSingle, Kinds, type_of}
 use Rattle.edm_rows.specs.private.RowSlots.{IsRowSlot, kinds_of, name_at}
-use Rattle.edm_rows.specs.private.SlotKinds.{HasRecord, IsKindOf, IsMadeOf, IsTaskAs, nullable_as}
+use Rattle.edm_rows.specs.private.RowTypes.{HasRecord, IsKindOf, IsMadeOf, IsTaskAs, nullable_as}
 use Rattle.edm_rows.proofs.FilledValues.{of_filled}
 use Rattle.edm_rows.proofs.RowTypes.{agrees, held_fits, kind_single, kind_type, made_task, no_items, record_type, typed}
 

@@ -30,7 +30,7 @@ use Rattle.edm_entities.proofs.RowLemmas.Leaves.{boolean_token, null_token, numb
 use Rattle.edm_rows.specs.declared.row_types.RowSlot.{RowSlot}
 use Rattle.edm_rows.specs.declared.row_types.Task.{Task}
 use Rattle.edm_rows.specs.declared.row_types.Task.TheVariants.{Text, Number, Truth, Date, Moment, Guid, Member, Record, Items, Any}
-use Rattle.room_literals.specs.LiteralsAt.{IsLiteralAt}
+use Rattle.room_literals.specs.SureTexts.{IsLiteralAt}
 use Rattle.edm_rows.specs.private.Held.{IsHeldTo, IsIntegerText, IsSingle, Kinds, ReadsTo, type_of}
 use Rattle.edm_rows.specs.private.RowSlots.{HasPrimitive, IsSlotOf, IsTaskOf}
 use Rattle.edm_rows.proofs.Places.{begins_at, reads_to_as, token_to}

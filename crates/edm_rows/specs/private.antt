@@ -1,4 +1,5 @@
 -- Definitions that private clauses alone cite.
+pub mod Contexts
 pub mod Filled
 pub mod Held
 pub mod HeldRows
@@ -9,5 +10,4 @@ pub mod KnownTexts
 pub mod Members
 pub mod MembersSoFar
 pub mod RowSlots
-pub mod Scenes
-pub mod SlotKinds
+pub mod RowTypes

@@ -3,7 +3,7 @@ ghost use Rattle.std.specs.Prelude.{◌≡◌, ◌≢◌, ◌-◌, ◌^◌, ℕ,
 ghost use Rattle.edm_rows.specs.private.Filled.{FillsSlots};
 ghost use Rattle.edm_rows.specs.private.KeptRows.{IsRootType, RowConforms, root_properties, root_slots};
 
-use super::passed_value::Scene;
+use super::passed_value::ReadContext;
 use super::row_types::{RowSlot, RowType};
 use edm_values::Value;
 
@@ -14,9 +14,9 @@ pub(crate) fn ends_object(plan: &RowType, seen: u64, values: &mut [Value]) -> bo
     requires all { plan.now.all ≡ 2 ^ length plan.now.slots.items - 1 }
     requires bits { (k : ℕ) → IfSome (slice_get plan.now.slots.items k) (λ slot. slot.bit ≡ 2 ^ k) }
     ensures fills { IsTrue result → FillsSlots plan.now seen values.old values.new }
-    ensures conforms { (scene : Scene) → IsRootType scene plan.now
-        → RowConforms (root_slots scene) (root_properties scene) values.old
-        → RowConforms (root_slots scene) (root_properties scene) values.new }
+    ensures conforms { (context : ReadContext) → IsRootType context plan.now
+        → RowConforms (root_slots context) (root_properties context) values.old
+        → RowConforms (root_slots context) (root_properties context) values.new }
 {
     if seen == plan.all {
         return true;

@@ -10,7 +10,7 @@ ghost use Rattle.edm_rows.specs.private.RowSlots.{HasPrimitive, name_at};
 
 use super::known_texts::Cache;
 use super::literals::{literal_at, member_at};
-use super::passed_value::{Scene, typed_number_at};
+use super::passed_value::{ReadContext, typed_number_at};
 use super::row_types::{RowSlot, Task};
 use edm_values::{Prim, Value};
 use json_room::{RoomyLine, any_text_at, text_at, truth_end, whole_at};
@@ -229,20 +229,20 @@ pub(crate) fn take_literal(
 /// Takes any text of the slot's enumeration.
 pub(crate) fn take_member(
     cache: &mut Cache,
-    scene: &Scene<'_>,
+    context: &ReadContext<'_>,
     slot: &RowSlot,
     place: usize,
     value: &mut Value,
 ) -> Option<usize>
-    requires { place ≤ length scene.now.line }
-    ensures taken { IfSome result (PutsMember scene.now.line (slots_of scene.now.schema.now)
-        (name_at scene.now.schema.now slot.now.member_of) value.new place) }
+    requires { place ≤ length context.now.line }
+    ensures taken { IfSome result (PutsMember context.now.line (slots_of context.now.schema.now)
+        (name_at context.now.schema.now slot.now.member_of) value.new place) }
     ensures depth { cache.new.depth ≡ cache.old.depth }
 {
     let Some(id) = slot.member_of else {
         return None;
     };
-    match member_at(&mut cache.decoded, scene.schema, &scene.line, id, place) {
+    match member_at(&mut cache.decoded, context.schema, &context.line, id, place) {
         Some((number, end)) => {
             *value = Value::Enum(number);
             Some(end)

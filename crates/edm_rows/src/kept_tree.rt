@@ -6,7 +6,7 @@ ghost use Rattle.edm_rows.specs.private.Filled.{FillsItems, FillsMembers, FillsV
 ghost use Rattle.edm_rows.specs.private.Filled.{IsFilledTo, IsFilledUpTo};
 ghost use Rattle.edm_rows.specs.private.Held.{IsSingle, ReadsTo};
 ghost use Rattle.edm_rows.specs.private.RowSlots.{IsSlotOf, IsTaskOf, IsTypeOf};
-ghost use Rattle.edm_rows.specs.private.Scenes.{FindsMember, IsScene};
+ghost use Rattle.edm_rows.specs.private.Contexts.{FindsMember, IsContext};
 
 use super::absent_slots::ends_object;
 use super::kept_leaf::{
@@ -17,7 +17,7 @@ use super::kept_value::Progress;
 use super::known_texts::Cache;
 use super::members::{After, Found, after_member, next_member};
 use super::passed_any::any_end;
-use super::passed_value::Scene;
+use super::passed_value::ReadContext;
 use super::row_types::{RowSlot, RowType, Task};
 use edm_values::Value;
 use json_room::{RoomyLine, null_end, past_blanks};
@@ -28,22 +28,22 @@ use spare_values::{fit_count, list_in, record_in};
 #[cycle(fill)]
 pub(crate) fn fill_value(
     cache: &mut Cache,
-    scene: &Scene<'_>,
+    context: &ReadContext<'_>,
     slot: &RowSlot,
     task: Task,
     place: usize,
     value: &mut Value,
 ) -> Option<usize>
-    requires scene { IsScene scene.now }
-    requires slot { IsSlotOf scene.now.plan.now.plans.items slot.now }
+    requires context { IsContext context.now }
+    requires slot { IsSlotOf context.now.plan.now.plans.items slot.now }
     requires task { IsTaskOf slot.now task }
-    requires within { place ≤ length scene.now.line }
-    ensures filled { IfSome result (FillsValue scene.now slot.now task cache.old.depth value.new place) }
+    requires within { place ≤ length context.now.line }
+    ensures filled { IfSome result (FillsValue context.now slot.now task cache.old.depth value.new place) }
     ensures depth { cache.new.depth ≡ cache.old.depth }
 {
-    match fill_sure(cache, scene, slot, task, place, value) {
+    match fill_sure(cache, context, slot, task, place, value) {
         Some(end) => Some(end),
-        None => fill_other(cache, scene, slot, task, place, value),
+        None => fill_other(cache, context, slot, task, place, value),
     }
 }
 
@@ -52,26 +52,26 @@ pub(crate) fn fill_value(
 #[cycle(fill)]
 fn fill_sure(
     cache: &mut Cache,
-    scene: &Scene<'_>,
+    context: &ReadContext<'_>,
     slot: &RowSlot,
     task: Task,
     place: usize,
     value: &mut Value,
 ) -> Option<usize>
-    requires scene { IsScene scene.now }
-    requires slot { IsSlotOf scene.now.plan.now.plans.items slot.now }
+    requires context { IsContext context.now }
+    requires slot { IsSlotOf context.now.plan.now.plans.items slot.now }
     requires task { IsTaskOf slot.now task }
-    requires within { place ≤ length scene.now.line }
-    ensures filled { IfSome result (FillsValue scene.now slot.now task cache.old.depth value.new place) }
+    requires within { place ≤ length context.now.line }
+    ensures filled { IfSome result (FillsValue context.now slot.now task cache.old.depth value.new place) }
     ensures depth { cache.new.depth ≡ cache.old.depth }
 {
-    let line = &scene.line;
+    let line = &context.line;
     match task {
         Task::Number => put_end(take_digits(line, slot, place, value)),
         Task::Truth => put_end(take_truth(line, slot, place, value)),
         Task::Text => put_end(take_text(line, slot, place, value)),
-        Task::Record => fill_record(cache, scene, slot, place, value),
-        Task::Items => fill_list(cache, scene, slot, place, value),
+        Task::Record => fill_record(cache, context, slot, place, value),
+        Task::Items => fill_list(cache, context, slot, place, value),
         _ => None,
     }
 }
@@ -92,26 +92,26 @@ fn put_end(taken: Taken) -> Option<usize>
 #[cycle(fill)]
 fn fill_other(
     cache: &mut Cache,
-    scene: &Scene<'_>,
+    context: &ReadContext<'_>,
     slot: &RowSlot,
     task: Task,
     from: usize,
     value: &mut Value,
 ) -> Option<usize>
-    requires scene { IsScene scene.now }
-    requires slot { IsSlotOf scene.now.plan.now.plans.items slot.now }
+    requires context { IsContext context.now }
+    requires slot { IsSlotOf context.now.plan.now.plans.items slot.now }
     requires task { IsTaskOf slot.now task }
-    requires within { from ≤ length scene.now.line }
-    ensures filled { IfSome result (FillsValue scene.now slot.now task cache.old.depth value.new from) }
+    requires within { from ≤ length context.now.line }
+    ensures filled { IfSome result (FillsValue context.now slot.now task cache.old.depth value.new from) }
     ensures depth { cache.new.depth ≡ cache.old.depth }
 {
-    let place = past_blanks(&scene.line, from);
+    let place = past_blanks(&context.line, from);
     if place == from {
-        return fill_seldom(cache, scene, slot, task, place, value);
+        return fill_seldom(cache, context, slot, task, place, value);
     }
-    match fill_sure(cache, scene, slot, task, place, value) {
+    match fill_sure(cache, context, slot, task, place, value) {
         Some(end) => Some(end),
-        None => fill_seldom(cache, scene, slot, task, place, value),
+        None => fill_seldom(cache, context, slot, task, place, value),
     }
 }
 
@@ -119,25 +119,25 @@ fn fill_other(
 #[inline(never)]
 fn fill_seldom(
     cache: &mut Cache,
-    scene: &Scene<'_>,
+    context: &ReadContext<'_>,
     slot: &RowSlot,
     task: Task,
     place: usize,
     value: &mut Value,
 ) -> Option<usize>
-    requires slot { IsSlotOf scene.now.plan.now.plans.items slot.now }
+    requires slot { IsSlotOf context.now.plan.now.plans.items slot.now }
     requires task { IsTaskOf slot.now task }
-    requires within { place ≤ length scene.now.line }
-    ensures filled { IfSome result (FillsValue scene.now slot.now task cache.old.depth value.new place) }
+    requires within { place ≤ length context.now.line }
+    ensures filled { IfSome result (FillsValue context.now slot.now task cache.old.depth value.new place) }
     ensures depth { cache.new.depth ≡ cache.old.depth }
 {
     match task {
-        Task::Any => fill_unseen(cache, &scene.line, slot, place, value),
+        Task::Any => fill_unseen(cache, &context.line, slot, place, value),
         Task::Items => None,
-        _ => if scene.line.byte(place) == b'n' {
-            fill_null(cache, &scene.line, slot, place, value)
+        _ => if context.line.byte(place) == b'n' {
+            fill_null(cache, &context.line, slot, place, value)
         } else {
-            fill_leaf(cache, scene, slot, task, place, value)
+            fill_leaf(cache, context, slot, task, place, value)
         },
     }
 }
@@ -182,26 +182,26 @@ fn fill_null(
 /// Fills a value without parts, however it is written.
 fn fill_leaf(
     cache: &mut Cache,
-    scene: &Scene<'_>,
+    context: &ReadContext<'_>,
     slot: &RowSlot,
     task: Task,
     place: usize,
     value: &mut Value,
 ) -> Option<usize>
-    requires slot { IsSlotOf scene.now.plan.now.plans.items slot.now }
+    requires slot { IsSlotOf context.now.plan.now.plans.items slot.now }
     requires task { IsTaskOf slot.now task }
-    requires within { place ≤ length scene.now.line }
-    ensures filled { IfSome result (FillsValue scene.now slot.now task cache.old.depth value.new place) }
+    requires within { place ≤ length context.now.line }
+    ensures filled { IfSome result (FillsValue context.now slot.now task cache.old.depth value.new place) }
     ensures depth { cache.new.depth ≡ cache.old.depth }
 {
-    let line = &scene.line;
+    let line = &context.line;
     match task {
         Task::Number => take_number(line, slot, place, value),
         Task::Text => take_any_text(cache, line, place, value),
         Task::Date => take_literal(cache, line, slot, place, value),
         Task::Moment => take_literal(cache, line, slot, place, value),
         Task::Guid => take_literal(cache, line, slot, place, value),
-        Task::Member => take_member(cache, scene, slot, place, value),
+        Task::Member => take_member(cache, context, slot, place, value),
         _ => None,
     }
 }
@@ -211,19 +211,19 @@ fn fill_leaf(
 #[cycle(fill)]
 fn fill_record(
     cache: &mut Cache,
-    scene: &Scene<'_>,
+    context: &ReadContext<'_>,
     slot: &RowSlot,
     place: usize,
     value: &mut Value,
 ) -> Option<usize>
-    requires scene { IsScene scene.now }
-    requires slot { IsSlotOf scene.now.plan.now.plans.items slot.now }
+    requires context { IsContext context.now }
+    requires slot { IsSlotOf context.now.plan.now.plans.items slot.now }
     requires item { slot.now.item ≡ Task.Record }
-    requires within { place ≤ length scene.now.line }
-    ensures filled { IfSome result (FillsValue scene.now slot.now Task.Record cache.old.depth value.new place) }
+    requires within { place ≤ length context.now.line }
+    ensures filled { IfSome result (FillsValue context.now slot.now Task.Record cache.old.depth value.new place) }
     ensures depth { cache.new.depth ≡ cache.old.depth }
 {
-    if scene.line.byte(place) != b'{' || cache.depth == 0 {
+    if context.line.byte(place) != b'{' || cache.depth == 0 {
         return None;
     }
     cache.spares.begin_record(slot.spare(), value);
@@ -231,7 +231,13 @@ fn fill_record(
         return None;
     };
     cache.depth -= 1;
-    let end = fill_members(cache, scene, &scene.types[slot.record], place + 1, values);
+    let end = fill_members(
+        cache,
+        context,
+        &context.types[slot.record],
+        place + 1,
+        values,
+    );
     cache.depth += 1;
     end
 }
@@ -241,19 +247,19 @@ fn fill_record(
 #[cycle(fill)]
 fn fill_list(
     cache: &mut Cache,
-    scene: &Scene<'_>,
+    context: &ReadContext<'_>,
     slot: &RowSlot,
     place: usize,
     value: &mut Value,
 ) -> Option<usize>
-    requires scene { IsScene scene.now }
-    requires slot { IsSlotOf scene.now.plan.now.plans.items slot.now }
+    requires context { IsContext context.now }
+    requires slot { IsSlotOf context.now.plan.now.plans.items slot.now }
     requires single { IsSingle slot.now.item }
-    requires within { place ≤ length scene.now.line }
-    ensures filled { IfSome result (FillsValue scene.now slot.now Task.Items cache.old.depth value.new place) }
+    requires within { place ≤ length context.now.line }
+    ensures filled { IfSome result (FillsValue context.now slot.now Task.Items cache.old.depth value.new place) }
     ensures depth { cache.new.depth ≡ cache.old.depth }
 {
-    if scene.line.byte(place) != b'[' || cache.depth == 0 {
+    if context.line.byte(place) != b'[' || cache.depth == 0 {
         return None;
     }
     cache.spares.begin_list(value);
@@ -261,7 +267,7 @@ fn fill_list(
         return None;
     };
     cache.depth -= 1;
-    let end = fill_items(cache, scene, slot, place + 1, items);
+    let end = fill_items(cache, context, slot, place + 1, items);
     cache.depth += 1;
     end
 }
@@ -271,19 +277,19 @@ fn fill_list(
 #[cycle(fill)]
 fn fill_items(
     cache: &mut Cache,
-    scene: &Scene<'_>,
+    context: &ReadContext<'_>,
     slot: &RowSlot,
     from: usize,
     items: &mut Vec<Value>,
 ) -> Option<usize>
-    requires scene { IsScene scene.now }
-    requires slot { IsSlotOf scene.now.plan.now.plans.items slot.now }
+    requires context { IsContext context.now }
+    requires slot { IsSlotOf context.now.plan.now.plans.items slot.now }
     requires single { IsSingle slot.now.item }
-    requires within { from ≤ length scene.now.line }
-    ensures filled { IfSome result (FillsItems scene.now slot.now cache.old.depth items.new.items from) }
+    requires within { from ≤ length context.now.line }
+    ensures filled { IfSome result (FillsItems context.now slot.now cache.old.depth items.new.items from) }
     ensures depth { cache.new.depth ≡ cache.old.depth }
 {
-    let line = &scene.line;
+    let line = &context.line;
     let mut place = past_blanks(line, from);
     if line.byte(place) == b']' {
         cache.spares.cut(slot.spare(), items, 0);
@@ -294,7 +300,7 @@ fn fill_items(
         if !cache.spares.has_item(slot.spare(), items, count) {
             return None;
         }
-        let Some(end) = fill_value(cache, scene, slot, slot.item, place, &mut items[count]) else {
+        let Some(end) = fill_value(cache, context, slot, slot.item, place, &mut items[count]) else {
             return None;
         };
         count += 1;
@@ -315,21 +321,22 @@ fn fill_items(
 #[cycle(fill)]
 fn fill_members(
     cache: &mut Cache,
-    scene: &Scene<'_>,
+    context: &ReadContext<'_>,
     plan: &RowType,
     from: usize,
     values: &mut Vec<Value>,
 ) -> Option<usize>
-    requires scene { IsScene scene.now }
-    requires plan { IsTypeOf scene.now.schema.now scene.now.plan.now.expansion scene.now.plan.now.plans.items plan.now }
-    requires within { from ≤ length scene.now.line }
-    ensures filled { IfSome result (FillsMembers scene.now plan.now cache.old.depth values.new.items from) }
+    requires context { IsContext context.now }
+    requires plan { IsTypeOf context.now.schema.now context.now.plan.now.expansion context.now.plan.now.plans.items
+        plan.now }
+    requires within { from ≤ length context.now.line }
+    ensures filled { IfSome result (FillsMembers context.now plan.now cache.old.depth values.new.items from) }
     ensures depth { cache.new.depth ≡ cache.old.depth }
 {
     if !fit_count(values, plan.slots.len()) {
         return None;
     }
-    let line = &scene.line;
+    let line = &context.line;
     let first = past_blanks(line, from);
     if line.byte(first) == b'}' {
         return if ends_object(plan, 0, values.as_mut_slice()) {
@@ -344,10 +351,10 @@ fn fill_members(
         order: plan.order,
     };
     'members: loop {
-        let Some(found) = next_member(cache, scene, plan, so_far.order, so_far.place) else {
+        let Some(found) = next_member(cache, context, plan, so_far.order, so_far.place) else {
             return None;
         };
-        let Some(read) = fill_found(cache, scene, plan, found, so_far, values) else {
+        let Some(read) = fill_found(cache, context, plan, found, so_far, values) else {
             return None;
         };
         match after_member(line, read.place) {
@@ -374,19 +381,20 @@ fn fill_members(
 #[cycle(fill)]
 fn fill_found(
     cache: &mut Cache,
-    scene: &Scene<'_>,
+    context: &ReadContext<'_>,
     plan: &RowType,
     found: Found<'_>,
     so_far: Progress,
     values: &mut Vec<Value>,
 ) -> Option<Progress>
-    requires scene { IsScene scene.now }
-    requires plan { IsTypeOf scene.now.schema.now scene.now.plan.now.expansion scene.now.plan.now.plans.items plan.now }
-    requires found { FindsMember scene.now plan.now cache.old.depth so_far.place found }
+    requires context { IsContext context.now }
+    requires plan { IsTypeOf context.now.schema.now context.now.plan.now.expansion context.now.plan.now.plans.items
+        plan.now }
+    requires found { FindsMember context.now plan.now cache.old.depth so_far.place found }
     requires order { so_far.order < 1024 }
     requires long { length values.old.items ≡ length plan.now.slots.items }
-    ensures filled { (from : ℕ) → IsFilledUpTo scene.now plan.now cache.old.depth from values.old.items so_far
-        → IfSome result (IsFilledTo scene.now plan.now cache.old.depth from values.new.items) }
+    ensures filled { (from : ℕ) → IsFilledUpTo context.now plan.now cache.old.depth from values.old.items so_far
+        → IfSome result (IsFilledTo context.now plan.now cache.old.depth from values.new.items) }
     ensures further { IfSome result (λ read. (so_far.place < read.place) × (read.order < 1024)) }
     ensures long { length values.new.items ≡ length values.old.items }
     ensures depth { cache.new.depth ≡ cache.old.depth }
@@ -399,7 +407,7 @@ fn fill_found(
     };
     match fill_value(
         cache,
-        scene,
+        context,
         slot,
         slot.task,
         found.place,

@@ -4,14 +4,14 @@ ghost use Rattle.edm_rows.specs.private.KeptRows.{GoesOn, IsRootSlot, IsRootType
 ghost use Rattle.edm_rows.specs.private.KeptRows.{TakesRow, TakesValue, root_properties, root_slots};
 ghost use Rattle.edm_rows.specs.private.KeptSoFar.{IsReadTo, IsUpTo, StepsFrom, StepsTo};
 ghost use Rattle.edm_rows.specs.private.RowSlots.{HasPrimitive};
-ghost use Rattle.edm_rows.specs.private.Scenes.{FindsMember, IsScene, PassesValue};
+ghost use Rattle.edm_rows.specs.private.Contexts.{FindsMember, IsContext, PassesValue};
 
 use super::absent_slots::ends_object;
 use super::kept_leaf::{Taken, take_digits, take_text, take_truth};
 use super::kept_tree::fill_value;
 use super::known_texts::Cache;
 use super::members::{After, Found, after_member, next_member};
-use super::passed_value::{Scene, value_end};
+use super::passed_value::{ReadContext, value_end};
 use super::row_types::{RowSlot, RowType, Task};
 use edm_values::Value;
 use json_room::{RoomyLine, past_blanks};
@@ -20,22 +20,22 @@ use json_room::{RoomyLine, past_blanks};
 #[inline(always)]
 fn take_value(
     cache: &mut Cache,
-    scene: &Scene<'_>,
+    context: &ReadContext<'_>,
     slot: &RowSlot,
     place: usize,
     value: &mut Value,
 ) -> Taken
-    requires scene { IsScene scene.now }
-    requires slot { IsRootSlot scene.now slot.now }
-    requires within { place ≤ length scene.now.line }
+    requires context { IsContext context.now }
+    requires slot { IsRootSlot context.now slot.now }
+    requires within { place ≤ length context.now.line }
     requires depth { cache.old.depth ≡ 126 }
-    ensures taken { TakesValue scene.now slot.now 126 value.old value.new place result }
-    ensures goes_on { result ≢ Taken.Broken → GoesOn scene.now slot.now value.old value.new }
+    ensures taken { TakesValue context.now slot.now 126 value.old value.new place result }
+    ensures goes_on { result ≢ Taken.Broken → GoesOn context.now slot.now value.old value.new }
     ensures depth { cache.new.depth ≡ 126 }
 {
-    let sure = take_sure(&scene.line, slot, place, value);
+    let sure = take_sure(&context.line, slot, place, value);
     if let Taken::Nothing = sure {
-        return take_other(cache, scene, slot, place, value);
+        return take_other(cache, context, slot, place, value);
     }
     sure
 }
@@ -45,10 +45,10 @@ fn take_value(
 fn take_sure(line: &RoomyLine<'_>, slot: &RowSlot, place: usize, value: &mut Value) -> Taken
     requires within { place ≤ length line.now }
     requires primitive { HasPrimitive slot.now.prim slot.now.sure slot.now.task }
-    ensures taken { (scene : Scene) (depth : ℕ) → scene.line ≡ line.now → IsRootSlot scene slot.now
-        → TakesValue scene slot.now depth value.old value.new place result }
-    ensures goes_on { (scene : Scene) → IsRootSlot scene slot.now → result ≢ Taken.Broken
-        → GoesOn scene slot.now value.old value.new }
+    ensures taken { (context : ReadContext) (depth : ℕ) → context.line ≡ line.now → IsRootSlot context slot.now
+        → TakesValue context slot.now depth value.old value.new place result }
+    ensures goes_on { (context : ReadContext) → IsRootSlot context slot.now → result ≢ Taken.Broken
+        → GoesOn context slot.now value.old value.new }
     ensures none { result ≡ Taken.Nothing → value.new ≡ value.old }
 {
     if let Task::Number = slot.task {
@@ -67,26 +67,26 @@ fn take_sure(line: &RoomyLine<'_>, slot: &RowSlot, place: usize, value: &mut Val
 #[inline(never)]
 fn take_other(
     cache: &mut Cache,
-    scene: &Scene<'_>,
+    context: &ReadContext<'_>,
     slot: &RowSlot,
     from: usize,
     value: &mut Value,
 ) -> Taken
-    requires scene { IsScene scene.now }
-    requires slot { IsRootSlot scene.now slot.now }
-    requires within { from ≤ length scene.now.line }
+    requires context { IsContext context.now }
+    requires slot { IsRootSlot context.now slot.now }
+    requires within { from ≤ length context.now.line }
     requires depth { cache.old.depth ≡ 126 }
-    ensures taken { TakesValue scene.now slot.now 126 value.old value.new from result }
-    ensures goes_on { result ≢ Taken.Broken → GoesOn scene.now slot.now value.old value.new }
+    ensures taken { TakesValue context.now slot.now 126 value.old value.new from result }
+    ensures goes_on { result ≢ Taken.Broken → GoesOn context.now slot.now value.old value.new }
     ensures depth { cache.new.depth ≡ 126 }
 {
-    let place = past_blanks(&scene.line, from);
+    let place = past_blanks(&context.line, from);
     if place == from {
-        return take_seldom(cache, scene, slot, place, value);
+        return take_seldom(cache, context, slot, place, value);
     }
-    let sure = take_sure(&scene.line, slot, place, value);
+    let sure = take_sure(&context.line, slot, place, value);
     if let Taken::Nothing = sure {
-        return take_seldom(cache, scene, slot, place, value);
+        return take_seldom(cache, context, slot, place, value);
     }
     sure
 }
@@ -95,20 +95,20 @@ fn take_other(
 #[inline(never)]
 fn take_seldom(
     cache: &mut Cache,
-    scene: &Scene<'_>,
+    context: &ReadContext<'_>,
     slot: &RowSlot,
     place: usize,
     value: &mut Value,
 ) -> Taken
-    requires scene { IsScene scene.now }
-    requires slot { IsRootSlot scene.now slot.now }
-    requires within { place ≤ length scene.now.line }
+    requires context { IsContext context.now }
+    requires slot { IsRootSlot context.now slot.now }
+    requires within { place ≤ length context.now.line }
     requires depth { cache.old.depth ≡ 126 }
-    ensures taken { TakesValue scene.now slot.now 126 value.old value.new place result }
-    ensures goes_on { result ≢ Taken.Broken → GoesOn scene.now slot.now value.old value.new }
+    ensures taken { TakesValue context.now slot.now 126 value.old value.new place result }
+    ensures goes_on { result ≢ Taken.Broken → GoesOn context.now slot.now value.old value.new }
     ensures depth { cache.new.depth ≡ 126 }
 {
-    match fill_value(cache, scene, slot, slot.task, place, value) {
+    match fill_value(cache, context, slot, slot.task, place, value) {
         Some(end) => Taken::Put(end),
         None => Taken::Broken,
     }
@@ -139,19 +139,19 @@ pub(crate) enum Step {
 #[inline(always)]
 pub(crate) fn take_members(
     cache: &mut Cache,
-    scene: &Scene<'_>,
+    context: &ReadContext<'_>,
     plan: &RowType,
     from: usize,
     values: &mut [Value],
 ) -> Taken
-    requires scene { IsScene scene.now }
-    requires plan { IsRootType scene.now plan.now }
-    requires within { from ≤ length scene.now.line }
+    requires context { IsContext context.now }
+    requires plan { IsRootType context.now plan.now }
+    requires within { from ≤ length context.now.line }
     requires depth { cache.old.depth ≡ 126 }
-    requires conforms { RowConforms (root_slots scene.now) (root_properties scene.now) values.old }
-    ensures read { TakesRow scene.now plan.now values.new from result }
+    requires conforms { RowConforms (root_slots context.now) (root_properties context.now) values.old }
+    ensures read { TakesRow context.now plan.now values.new from result }
     ensures conforms { result ≢ Taken.Broken
-        → RowConforms (root_slots scene.now) (root_properties scene.now) values.new }
+        → RowConforms (root_slots context.now) (root_properties context.now) values.new }
 {
     let mut so_far = Progress {
         place: from,
@@ -159,16 +159,16 @@ pub(crate) fn take_members(
         order: plan.order,
     };
     'members: loop {
-        let Some(found) = next_member(cache, scene, plan, so_far.order, so_far.place) else {
-            return take_empty(scene, plan, from, values);
+        let Some(found) = next_member(cache, context, plan, so_far.order, so_far.place) else {
+            return take_empty(context, plan, from, values);
         };
-        let read = match take_found(cache, scene, plan, found, so_far, values) {
+        let read = match take_found(cache, context, plan, found, so_far, values) {
             Step::Read(read) => read,
-            Step::Rejected(read) => return pass_rest(cache, scene, plan, read, values),
+            Step::Rejected(read) => return pass_rest(cache, context, plan, read, values),
             Step::Nothing => return Taken::Nothing,
             Step::Broken => return Taken::Broken,
         };
-        match after_member(&scene.line, read.place) {
+        match after_member(&context.line, read.place) {
             Some(After::Comma(next)) => {
                 so_far = Progress {
                     place: next,
@@ -188,14 +188,14 @@ pub(crate) fn take_members(
 
 /// Takes the brace of a row without members.
 #[inline(never)]
-fn take_empty(scene: &Scene<'_>, plan: &RowType, from: usize, values: &mut [Value]) -> Taken
-    requires plan { IsRootType scene.now plan.now }
-    requires within { from ≤ length scene.now.line }
-    requires conforms { RowConforms (root_slots scene.now) (root_properties scene.now) values.old }
-    ensures read { TakesRow scene.now plan.now values.new from result }
-    ensures conforms { RowConforms (root_slots scene.now) (root_properties scene.now) values.new }
+fn take_empty(context: &ReadContext<'_>, plan: &RowType, from: usize, values: &mut [Value]) -> Taken
+    requires plan { IsRootType context.now plan.now }
+    requires within { from ≤ length context.now.line }
+    requires conforms { RowConforms (root_slots context.now) (root_properties context.now) values.old }
+    ensures read { TakesRow context.now plan.now values.new from result }
+    ensures conforms { RowConforms (root_slots context.now) (root_properties context.now) values.new }
 {
-    let line = &scene.line;
+    let line = &context.line;
     let brace = past_blanks(line, from);
     if line.byte(brace) != b'}' {
         return Taken::Nothing;
@@ -210,23 +210,23 @@ fn take_empty(scene: &Scene<'_>, plan: &RowType, from: usize, values: &mut [Valu
 #[inline(always)]
 fn take_found(
     cache: &mut Cache,
-    scene: &Scene<'_>,
+    context: &ReadContext<'_>,
     plan: &RowType,
     found: Found<'_>,
     so_far: Progress,
     values: &mut [Value],
 ) -> Step
-    requires scene { IsScene scene.now }
-    requires plan { IsRootType scene.now plan.now }
-    requires found { FindsMember scene.now plan.now 126 so_far.place found }
+    requires context { IsContext context.now }
+    requires plan { IsRootType context.now plan.now }
+    requires found { FindsMember context.now plan.now 126 so_far.place found }
     requires order { so_far.order < 1024 }
     requires depth { cache.old.depth ≡ 126 }
-    requires long { length values.old ≡ length (root_properties scene.now) }
-    ensures read { (from : ℕ) → IsUpTo scene.now plan.now false from values.old so_far
-        → StepsTo scene.now plan.now from values.new result }
+    requires long { length values.old ≡ length (root_properties context.now) }
+    ensures read { (from : ℕ) → IsUpTo context.now plan.now false from values.old so_far
+        → StepsTo context.now plan.now from values.new result }
     ensures further { StepsFrom so_far.place result }
-    ensures conforms { RowConforms (root_slots scene.now) (root_properties scene.now) values.old
-        → result ≢ Step.Broken → RowConforms (root_slots scene.now) (root_properties scene.now) values.new }
+    ensures conforms { RowConforms (root_slots context.now) (root_properties context.now) values.old
+        → result ≢ Step.Broken → RowConforms (root_slots context.now) (root_properties context.now) values.new }
     ensures depth { cache.new.depth ≡ 126 }
 {
     let Some(slot) = found.slot else {
@@ -236,12 +236,12 @@ fn take_found(
         });
     };
     if !slot.is_kept {
-        return match pass_found(cache, scene, slot, found.place, so_far.seen) {
+        return match pass_found(cache, context, slot, found.place, so_far.seen) {
             Some(read) => Step::Read(read),
             None => Step::Nothing,
         };
     }
-    match take_value(cache, scene, slot, found.place, &mut values[slot.index]) {
+    match take_value(cache, context, slot, found.place, &mut values[slot.index]) {
         Taken::Put(end) => Step::Read(Progress {
             place: end,
             seen: so_far.seen | slot.bit,
@@ -261,24 +261,24 @@ fn take_found(
 #[inline(always)]
 fn pass_rest(
     cache: &mut Cache,
-    scene: &Scene<'_>,
+    context: &ReadContext<'_>,
     plan: &RowType,
     rejected: Progress,
     values: &mut [Value],
 ) -> Taken
-    requires scene { IsScene scene.now }
-    requires plan { IsRootType scene.now plan.now }
-    requires within { rejected.place ≤ length scene.now.line }
+    requires context { IsContext context.now }
+    requires plan { IsRootType context.now plan.now }
+    requires within { rejected.place ≤ length context.now.line }
     requires order { rejected.order < 1024 }
     requires depth { cache.old.depth ≡ 126 }
-    requires conforms { RowConforms (root_slots scene.now) (root_properties scene.now) values.old }
-    ensures read { (from : ℕ) → IsReadTo scene.now plan.now true from values.old rejected
-        → TakesRow scene.now plan.now values.new from result }
-    ensures conforms { RowConforms (root_slots scene.now) (root_properties scene.now) values.new }
+    requires conforms { RowConforms (root_slots context.now) (root_properties context.now) values.old }
+    ensures read { (from : ℕ) → IsReadTo context.now plan.now true from values.old rejected
+        → TakesRow context.now plan.now values.new from result }
+    ensures conforms { RowConforms (root_slots context.now) (root_properties context.now) values.new }
 {
     let mut read = rejected;
     'members: loop {
-        let place = match after_member(&scene.line, read.place) {
+        let place = match after_member(&context.line, read.place) {
             Some(After::Comma(next)) => next,
             Some(After::Brace(next)) => {
                 if !ends_object(plan, read.seen, values) {
@@ -288,10 +288,10 @@ fn pass_rest(
             }
             None => return Taken::Nothing,
         };
-        let Some(found) = next_member(cache, scene, plan, read.order, place) else {
+        let Some(found) = next_member(cache, context, plan, read.order, place) else {
             return Taken::Nothing;
         };
-        let Some(next) = pass_next(cache, scene, plan, found, Progress { place, ..read }) else {
+        let Some(next) = pass_next(cache, context, plan, found, Progress { place, ..read }) else {
             return Taken::Nothing;
         };
         read = next;
@@ -302,20 +302,20 @@ fn pass_rest(
 #[inline(always)]
 fn pass_next(
     cache: &mut Cache,
-    scene: &Scene<'_>,
+    context: &ReadContext<'_>,
     plan: &RowType,
     found: Found<'_>,
     so_far: Progress,
 ) -> Option<Progress>
-    requires scene { IsScene scene.now }
-    requires plan { IsRootType scene.now plan.now }
-    requires found { FindsMember scene.now plan.now 126 so_far.place found }
+    requires context { IsContext context.now }
+    requires plan { IsRootType context.now plan.now }
+    requires found { FindsMember context.now plan.now 126 so_far.place found }
     requires order { so_far.order < 1024 }
     requires depth { cache.old.depth ≡ 126 }
-    ensures read { (from : ℕ) (values : List Value) → length values ≡ length (root_properties scene.now)
-        → IsUpTo scene.now plan.now true from values so_far
-        → IfSome result (IsReadTo scene.now plan.now true from values) }
-    ensures further { IfSome result (λ read. (so_far.place < read.place) × (read.place ≤ length scene.now.line)
+    ensures read { (from : ℕ) (values : List Value) → length values ≡ length (root_properties context.now)
+        → IsUpTo context.now plan.now true from values so_far
+        → IfSome result (IsReadTo context.now plan.now true from values) }
+    ensures further { IfSome result (λ read. (so_far.place < read.place) × (read.place ≤ length context.now.line)
         × (read.order < 1024)) }
     ensures depth { cache.new.depth ≡ 126 }
 {
@@ -328,7 +328,7 @@ fn pass_next(
     if comes_again(slot, so_far.seen) {
         return None;
     }
-    pass_found(cache, scene, slot, found.place, so_far.seen)
+    pass_found(cache, context, slot, found.place, so_far.seen)
 }
 
 /// Whether the slot was seen before.
@@ -343,22 +343,22 @@ fn comes_again(slot: &RowSlot, seen: u64) -> bool
 #[inline(always)]
 fn pass_found(
     cache: &mut Cache,
-    scene: &Scene<'_>,
+    context: &ReadContext<'_>,
     slot: &RowSlot,
     place: usize,
     seen: u64,
 ) -> Option<Progress>
-    requires scene { IsScene scene.now }
-    requires slot { IsRootSlot scene.now slot.now }
-    requires within { place ≤ length scene.now.line }
+    requires context { IsContext context.now }
+    requires slot { IsRootSlot context.now slot.now }
+    requires within { place ≤ length context.now.line }
     requires depth { cache.old.depth ≡ 126 }
-    ensures passed { IfSome result (λ read. PassesValue scene.now slot.now slot.now.task 126 place read.place) }
+    ensures passed { IfSome result (λ read. PassesValue context.now slot.now slot.now.task 126 place read.place) }
     ensures further { IfSome result (λ read. place < read.place) }
     ensures seen { IfSome result (λ read. read.seen ≡ bit_or seen slot.now.bit) }
     ensures order { IfSome result (λ read. read.order < 1024) }
     ensures depth { cache.new.depth ≡ 126 }
 {
-    match value_end(cache, scene, slot, slot.task, place) {
+    match value_end(cache, context, slot, slot.task, place) {
         Some(end) => Some(Progress {
             place: end,
             seen: seen | slot.bit,

@@ -3,11 +3,11 @@ ghost use Rattle.std.specs.Prelude.{◌≡◌, ◌<◌, ◌≤◌, length, IfSom
 ghost use Rattle.csdl_schema.specs.SchemaModel.{properties_at};
 ghost use Rattle.edm_rows.specs.private.Members.{EndsMember, FindsName, IsSlotOfName, NextMember};
 ghost use Rattle.edm_rows.specs.private.RowSlots.{IsTypeOf};
-ghost use Rattle.edm_rows.specs.private.Scenes.{FindsMember, IsScene, PassesMembers};
+ghost use Rattle.edm_rows.specs.private.Contexts.{FindsMember, IsContext, PassesMembers};
 
 use super::known_texts::Cache;
 use super::passed_any::any_end;
-use super::passed_value::{Scene, value_end};
+use super::passed_value::{ReadContext, value_end};
 use super::row_types::{RowSlot, RowType};
 use csdl_schema::Schema;
 use json_room::{DecodeBuffer, RoomyLine, any_text_at, past_blanks};
@@ -76,29 +76,30 @@ fn note_next(cache: &mut Cache, order: usize)
 #[inline(always)]
 pub(crate) fn next_member<'w>(
     cache: &mut Cache,
-    scene: &Scene<'_>,
+    context: &ReadContext<'_>,
     plan: &'w RowType,
     order: usize,
     place: usize,
 ) -> Option<Found<'w>>
-    requires scene { IsScene scene.now }
-    requires plan { IsTypeOf scene.now.schema.now scene.now.plan.now.expansion scene.now.plan.now.plans.items plan.now }
+    requires context { IsContext context.now }
+    requires plan { IsTypeOf context.now.schema.now context.now.plan.now.expansion context.now.plan.now.plans.items
+        plan.now }
     requires order { order < 1024 }
-    requires within { place ≤ length scene.now.line }
-    ensures found { IfSome result (FindsMember scene.now plan.now cache.old.depth place) }
+    requires within { place ≤ length context.now.line }
+    ensures found { IfSome result (FindsMember context.now plan.now cache.old.depth place) }
     ensures depth { cache.new.depth ≡ cache.old.depth }
 {
     let likely = likely_slot(cache, order);
     if likely < plan.slots.len() {
         let slot = &plan.slots[likely];
-        if let Some(end) = slot.key.end(&scene.line, place) {
+        if let Some(end) = slot.key.end(&context.line, place) {
             return Some(Found {
                 slot: Some(slot),
                 place: end,
             });
         }
     }
-    let Some(end) = other_member(cache, scene, plan, order, place) else {
+    let Some(end) = other_member(cache, context, plan, order, place) else {
         return None;
     };
     if cache.slot < plan.slots.len() {
@@ -117,20 +118,21 @@ pub(crate) fn next_member<'w>(
 #[inline(never)]
 fn other_member(
     cache: &mut Cache,
-    scene: &Scene<'_>,
+    context: &ReadContext<'_>,
     plan: &RowType,
     order: usize,
     from: usize,
 ) -> Option<usize>
-    requires scene { IsScene scene.now }
-    requires plan { IsTypeOf scene.now.schema.now scene.now.plan.now.expansion scene.now.plan.now.plans.items plan.now }
+    requires context { IsContext context.now }
+    requires plan { IsTypeOf context.now.schema.now context.now.plan.now.expansion context.now.plan.now.plans.items
+        plan.now }
     requires order { order < 1024 }
-    requires within { from ≤ length scene.now.line }
-    ensures found { IfSome result (NextMember cache.old.depth scene.now.line
-        (properties_at scene.now.schema.now plan.now.type_id) cache.new.slot from) }
+    requires within { from ≤ length context.now.line }
+    ensures found { IfSome result (NextMember cache.old.depth context.now.line
+        (properties_at context.now.schema.now plan.now.type_id) cache.new.slot from) }
     ensures depth { cache.new.depth ≡ cache.old.depth }
 {
-    let line = &scene.line;
+    let line = &context.line;
     let place = past_blanks(line, from);
     let likely = likely_slot(cache, order);
     if likely < plan.slots.len() {
@@ -139,7 +141,7 @@ fn other_member(
             return Some(value);
         }
     }
-    let Some(value) = named_member(cache, scene, plan, place) else {
+    let Some(value) = named_member(cache, context, plan, place) else {
         return None;
     };
     if cache.slot < plan.slots.len() {
@@ -155,21 +157,27 @@ fn other_member(
 }
 
 /// The member whose name stands there; without a slot where its name is no slot's.
-fn named_member(cache: &mut Cache, scene: &Scene<'_>, plan: &RowType, place: usize) -> Option<usize>
-    requires plan { IsTypeOf scene.now.schema.now scene.now.plan.now.expansion scene.now.plan.now.plans.items plan.now }
-    requires within { place ≤ length scene.now.line }
-    ensures name { IfSome result (FindsName scene.now.line (properties_at scene.now.schema.now plan.now.type_id)
+fn named_member(
+    cache: &mut Cache,
+    context: &ReadContext<'_>,
+    plan: &RowType,
+    place: usize,
+) -> Option<usize>
+    requires plan { IsTypeOf context.now.schema.now context.now.plan.now.expansion context.now.plan.now.plans.items
+        plan.now }
+    requires within { place ≤ length context.now.line }
+    ensures name { IfSome result (FindsName context.now.line (properties_at context.now.schema.now plan.now.type_id)
         cache.new.slot place) }
     ensures depth { cache.new.depth ≡ cache.old.depth }
 {
-    let line = &scene.line;
+    let line = &context.line;
     for slot in 0..plan.slots.len() {
         if let Some(end) = plan.slots[slot].key.end(line, place) {
             cache.slot = slot;
             return Some(end);
         }
     }
-    let Some((slot, end)) = slot_at(&mut cache.decoded, scene.schema, plan, line, place) else {
+    let Some((slot, end)) = slot_at(&mut cache.decoded, context.schema, plan, line, place) else {
         return None;
     };
     cache.slot = slot;
@@ -215,17 +223,18 @@ fn slot_of(schema: &Schema, plan: &RowType, name: &str) -> usize
 #[cycle(pass)]
 pub(crate) fn pass_members(
     cache: &mut Cache,
-    scene: &Scene<'_>,
+    context: &ReadContext<'_>,
     plan: &RowType,
     from: usize,
 ) -> Option<usize>
-    requires scene { IsScene scene.now }
-    requires plan { IsTypeOf scene.now.schema.now scene.now.plan.now.expansion scene.now.plan.now.plans.items plan.now }
-    requires within { from ≤ length scene.now.line }
-    ensures passed { IfSome result (PassesMembers scene.now plan.now cache.old.depth from) }
+    requires context { IsContext context.now }
+    requires plan { IsTypeOf context.now.schema.now context.now.plan.now.expansion context.now.plan.now.plans.items
+        plan.now }
+    requires within { from ≤ length context.now.line }
+    ensures passed { IfSome result (PassesMembers context.now plan.now cache.old.depth from) }
     ensures depth { cache.new.depth ≡ cache.old.depth }
 {
-    let line = &scene.line;
+    let line = &context.line;
     let mut place = past_blanks(line, from);
     if line.byte(place) == b'}' {
         return if plan.optional == plan.all {
@@ -237,12 +246,12 @@ pub(crate) fn pass_members(
     let mut seen = 0_u64;
     let mut order = plan.order;
     'members: loop {
-        let Some(found) = next_member(cache, scene, plan, order, place) else {
+        let Some(found) = next_member(cache, context, plan, order, place) else {
             return None;
         };
         match found.slot {
             Some(slot) => {
-                let Some(end) = value_end(cache, scene, slot, slot.task, found.place) else {
+                let Some(end) = value_end(cache, context, slot, slot.task, found.place) else {
                     return None;
                 };
                 seen |= slot.bit;

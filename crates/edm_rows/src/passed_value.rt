@@ -7,7 +7,7 @@ ghost use Rattle.json_room.specs.Lexemes.{StandsTo};
 ghost use Rattle.edm_entities.specs.private.Passed.{FitsSome, FitsSomeHowever};
 ghost use Rattle.edm_rows.specs.private.Held.{IsIntegerText, IsSingle, ReadsTo};
 ghost use Rattle.edm_rows.specs.private.RowSlots.{IsSlotOf, IsTaskOf, name_at};
-ghost use Rattle.edm_rows.specs.private.Scenes.{IsScene, PassesItems, PassesValue};
+ghost use Rattle.edm_rows.specs.private.Contexts.{IsContext, PassesItems, PassesValue};
 
 use super::known_texts::{Cache, KnownTexts, Noted};
 use super::literals::{literal_at, member_at};
@@ -25,7 +25,7 @@ use room_literals::{day_end, guid_end, moment_end};
 
 /// What a walk over a line looks at.
 #[derive(Drop)]
-pub(crate) struct Scene<'w> {
+pub(crate) struct ReadContext<'w> {
     pub(crate) schema: &'w Schema,
     pub(crate) plan: &'w RowPlan,
     pub(crate) types: &'w [RowType],
@@ -38,21 +38,21 @@ pub(crate) struct Scene<'w> {
 #[cycle(pass)]
 pub(crate) fn value_end(
     cache: &mut Cache,
-    scene: &Scene<'_>,
+    context: &ReadContext<'_>,
     slot: &RowSlot,
     task: Task,
     place: usize,
 ) -> Option<usize>
-    requires scene { IsScene scene.now }
-    requires slot { IsSlotOf scene.now.plan.now.plans.items slot.now }
+    requires context { IsContext context.now }
+    requires slot { IsSlotOf context.now.plan.now.plans.items slot.now }
     requires task { IsTaskOf slot.now task }
-    requires within { place ≤ length scene.now.line }
-    ensures passed { IfSome result (PassesValue scene.now slot.now task cache.old.depth place) }
+    requires within { place ≤ length context.now.line }
+    ensures passed { IfSome result (PassesValue context.now slot.now task cache.old.depth place) }
     ensures depth { cache.new.depth ≡ cache.old.depth }
 {
-    match sure_end(cache, scene, slot, task, place) {
+    match sure_end(cache, context, slot, task, place) {
         Some(end) => Some(end),
-        None => other_end(cache, scene, slot, task, place),
+        None => other_end(cache, context, slot, task, place),
     }
 }
 
@@ -61,19 +61,19 @@ pub(crate) fn value_end(
 #[cycle(pass)]
 fn sure_end(
     cache: &mut Cache,
-    scene: &Scene<'_>,
+    context: &ReadContext<'_>,
     slot: &RowSlot,
     task: Task,
     place: usize,
 ) -> Option<usize>
-    requires scene { IsScene scene.now }
-    requires slot { IsSlotOf scene.now.plan.now.plans.items slot.now }
+    requires context { IsContext context.now }
+    requires slot { IsSlotOf context.now.plan.now.plans.items slot.now }
     requires task { IsTaskOf slot.now task }
-    requires within { place ≤ length scene.now.line }
-    ensures passed { IfSome result (PassesValue scene.now slot.now task cache.old.depth place) }
+    requires within { place ≤ length context.now.line }
+    ensures passed { IfSome result (PassesValue context.now slot.now task cache.old.depth place) }
     ensures depth { cache.new.depth ≡ cache.old.depth }
 {
-    let line = &scene.line;
+    let line = &context.line;
     match task {
         Task::Text => text_end(line, place),
         Task::Number => digits_up_to(line, place, slot.sure),
@@ -84,9 +84,9 @@ fn sure_end(
         Task::Date => day_end(line, place),
         Task::Moment => moment_end(line, place),
         Task::Guid => guid_end(line, place),
-        Task::Member => scene.known.text_end(slot.member_of, line, place),
-        Task::Record => record_end(cache, scene, slot, place),
-        Task::Items => array_end(cache, scene, slot, place),
+        Task::Member => context.known.text_end(slot.member_of, line, place),
+        Task::Record => record_end(cache, context, slot, place),
+        Task::Items => array_end(cache, context, slot, place),
         Task::Any => any_number_end(line, place),
     }
 }
@@ -94,19 +94,24 @@ fn sure_end(
 /// The place after the object that begins there.
 #[inline(always)]
 #[cycle(pass)]
-fn record_end(cache: &mut Cache, scene: &Scene<'_>, slot: &RowSlot, place: usize) -> Option<usize>
-    requires scene { IsScene scene.now }
-    requires slot { IsSlotOf scene.now.plan.now.plans.items slot.now }
+fn record_end(
+    cache: &mut Cache,
+    context: &ReadContext<'_>,
+    slot: &RowSlot,
+    place: usize,
+) -> Option<usize>
+    requires context { IsContext context.now }
+    requires slot { IsSlotOf context.now.plan.now.plans.items slot.now }
     requires item { slot.now.item ≡ Task.Record }
-    requires within { place ≤ length scene.now.line }
-    ensures passed { IfSome result (PassesValue scene.now slot.now Task.Record cache.old.depth place) }
+    requires within { place ≤ length context.now.line }
+    ensures passed { IfSome result (PassesValue context.now slot.now Task.Record cache.old.depth place) }
     ensures depth { cache.new.depth ≡ cache.old.depth }
 {
-    if scene.line.byte(place) != b'{' || cache.depth == 0 {
+    if context.line.byte(place) != b'{' || cache.depth == 0 {
         return None;
     }
     cache.depth -= 1;
-    let end = pass_members(cache, scene, &scene.types[slot.record], place + 1);
+    let end = pass_members(cache, context, &context.types[slot.record], place + 1);
     cache.depth += 1;
     end
 }
@@ -114,15 +119,20 @@ fn record_end(cache: &mut Cache, scene: &Scene<'_>, slot: &RowSlot, place: usize
 /// The place after the array that begins there.
 #[inline(always)]
 #[cycle(pass)]
-fn array_end(cache: &mut Cache, scene: &Scene<'_>, slot: &RowSlot, place: usize) -> Option<usize>
-    requires scene { IsScene scene.now }
-    requires slot { IsSlotOf scene.now.plan.now.plans.items slot.now }
+fn array_end(
+    cache: &mut Cache,
+    context: &ReadContext<'_>,
+    slot: &RowSlot,
+    place: usize,
+) -> Option<usize>
+    requires context { IsContext context.now }
+    requires slot { IsSlotOf context.now.plan.now.plans.items slot.now }
     requires single { IsSingle slot.now.item }
-    requires within { place ≤ length scene.now.line }
-    ensures passed { IfSome result (PassesValue scene.now slot.now Task.Items cache.old.depth place) }
+    requires within { place ≤ length context.now.line }
+    ensures passed { IfSome result (PassesValue context.now slot.now Task.Items cache.old.depth place) }
     ensures depth { cache.new.depth ≡ cache.old.depth }
 {
-    let line = &scene.line;
+    let line = &context.line;
     if line.byte(place) != b'[' || cache.depth == 0 {
         return None;
     }
@@ -130,7 +140,7 @@ fn array_end(cache: &mut Cache, scene: &Scene<'_>, slot: &RowSlot, place: usize)
         return Some(place + 2);
     }
     cache.depth -= 1;
-    let end = items_end(cache, scene, slot, place + 1);
+    let end = items_end(cache, context, slot, place + 1);
     cache.depth += 1;
     end
 }
@@ -140,49 +150,49 @@ fn array_end(cache: &mut Cache, scene: &Scene<'_>, slot: &RowSlot, place: usize)
 #[cycle(pass)]
 fn other_end(
     cache: &mut Cache,
-    scene: &Scene<'_>,
+    context: &ReadContext<'_>,
     slot: &RowSlot,
     task: Task,
     from: usize,
 ) -> Option<usize>
-    requires scene { IsScene scene.now }
-    requires slot { IsSlotOf scene.now.plan.now.plans.items slot.now }
+    requires context { IsContext context.now }
+    requires slot { IsSlotOf context.now.plan.now.plans.items slot.now }
     requires task { IsTaskOf slot.now task }
-    requires within { from ≤ length scene.now.line }
-    ensures passed { IfSome result (PassesValue scene.now slot.now task cache.old.depth from) }
+    requires within { from ≤ length context.now.line }
+    ensures passed { IfSome result (PassesValue context.now slot.now task cache.old.depth from) }
     ensures depth { cache.new.depth ≡ cache.old.depth }
 {
-    let place = past_blanks(&scene.line, from);
+    let place = past_blanks(&context.line, from);
     if place != from {
-        if let Some(end) = sure_end(cache, scene, slot, task, place) {
+        if let Some(end) = sure_end(cache, context, slot, task, place) {
             return Some(end);
         }
     }
-    seldom_end(cache, scene, slot, task, place)
+    seldom_end(cache, context, slot, task, place)
 }
 
 /// The place after null, and after a value that is written as few are.
 fn seldom_end(
     cache: &mut Cache,
-    scene: &Scene<'_>,
+    context: &ReadContext<'_>,
     slot: &RowSlot,
     task: Task,
     place: usize,
 ) -> Option<usize>
-    requires slot { IsSlotOf scene.now.plan.now.plans.items slot.now }
+    requires slot { IsSlotOf context.now.plan.now.plans.items slot.now }
     requires task { IsTaskOf slot.now task }
-    requires within { place ≤ length scene.now.line }
-    ensures passed { IfSome result (PassesValue scene.now slot.now task cache.old.depth place) }
+    requires within { place ≤ length context.now.line }
+    ensures passed { IfSome result (PassesValue context.now slot.now task cache.old.depth place) }
     ensures depth { cache.new.depth ≡ cache.old.depth }
 {
-    let line = &scene.line;
+    let line = &context.line;
     match task {
         Task::Any => any_end(line, place, cache.depth, &mut cache.decoded),
         Task::Items => None,
         _ => if line.byte(place) == b'n' {
             nullable_end(line, slot.is_nullable, place)
         } else {
-            written_end(cache, scene, slot, task, place)
+            written_end(cache, context, slot, task, place)
         },
     }
 }
@@ -204,25 +214,25 @@ fn nullable_end(line: &RoomyLine<'_>, is_nullable: bool, place: usize) -> Option
 /// was not seen at once to be one.
 fn written_end(
     cache: &mut Cache,
-    scene: &Scene<'_>,
+    context: &ReadContext<'_>,
     slot: &RowSlot,
     task: Task,
     place: usize,
 ) -> Option<usize>
-    requires slot { IsSlotOf scene.now.plan.now.plans.items slot.now }
+    requires slot { IsSlotOf context.now.plan.now.plans.items slot.now }
     requires task { IsTaskOf slot.now task }
-    requires within { place ≤ length scene.now.line }
-    ensures passed { IfSome result (PassesValue scene.now slot.now task cache.old.depth place) }
+    requires within { place ≤ length context.now.line }
+    ensures passed { IfSome result (PassesValue context.now slot.now task cache.old.depth place) }
     ensures depth { cache.new.depth ≡ cache.old.depth }
 {
-    let line = &scene.line;
+    let line = &context.line;
     match task {
         Task::Text => escaped_text_end(line, place, &mut cache.decoded),
         Task::Number => number_end(line, slot, place),
         Task::Date => literal_end(&mut cache.decoded, line, slot, place),
         Task::Moment => literal_end(&mut cache.decoded, line, slot, place),
         Task::Guid => literal_end(&mut cache.decoded, line, slot, place),
-        Task::Member => member_text_end(cache, scene, slot, place),
+        Task::Member => member_text_end(cache, context, slot, place),
         _ => None,
     }
 }
@@ -287,21 +297,21 @@ fn literal_end(
 #[inline(never)]
 fn member_text_end(
     cache: &mut Cache,
-    scene: &Scene<'_>,
+    context: &ReadContext<'_>,
     slot: &RowSlot,
     place: usize,
 ) -> Option<usize>
-    requires { place ≤ length scene.now.line }
-    ensures read { (depth : ℕ) → IfSome result (λ to. ReadsTo depth scene.now.line place to (FitsSomeHowever
-        (slots_of scene.now.schema.now) (single (enumeration (name_at scene.now.schema.now slot.now.member_of))))) }
+    requires { place ≤ length context.now.line }
+    ensures read { (depth : ℕ) → IfSome result (λ to. ReadsTo depth context.now.line place to (FitsSomeHowever
+        (slots_of context.now.schema.now) (single (enumeration (name_at context.now.schema.now slot.now.member_of))))) }
     ensures depth { cache.new.depth ≡ cache.old.depth }
 {
     let Some(id) = slot.member_of else {
         return None;
     };
-    match member_at(&mut cache.decoded, scene.schema, &scene.line, id, place) {
+    match member_at(&mut cache.decoded, context.schema, &context.line, id, place) {
         Some((_, end)) => {
-            cache.noted = Noted::of(id, &scene.line, place);
+            cache.noted = Noted::of(id, &context.line, place);
             Some(end)
         }
         None => None,
@@ -311,21 +321,26 @@ fn member_text_end(
 /// The place after an array's items and its bracket.
 #[inline(never)]
 #[cycle(pass)]
-fn items_end(cache: &mut Cache, scene: &Scene<'_>, slot: &RowSlot, from: usize) -> Option<usize>
-    requires scene { IsScene scene.now }
-    requires slot { IsSlotOf scene.now.plan.now.plans.items slot.now }
+fn items_end(
+    cache: &mut Cache,
+    context: &ReadContext<'_>,
+    slot: &RowSlot,
+    from: usize,
+) -> Option<usize>
+    requires context { IsContext context.now }
+    requires slot { IsSlotOf context.now.plan.now.plans.items slot.now }
     requires single { IsSingle slot.now.item }
-    requires within { from ≤ length scene.now.line }
-    ensures passed { IfSome result (PassesItems scene.now slot.now cache.old.depth from) }
+    requires within { from ≤ length context.now.line }
+    ensures passed { IfSome result (PassesItems context.now slot.now cache.old.depth from) }
     ensures depth { cache.new.depth ≡ cache.old.depth }
 {
-    let line = &scene.line;
+    let line = &context.line;
     let mut place = past_blanks(line, from);
     if line.byte(place) == b']' {
         return Some(place + 1);
     }
     'items: loop {
-        let Some(end) = value_end(cache, scene, slot, slot.item, place) else {
+        let Some(end) = value_end(cache, context, slot, slot.item, place) else {
             return None;
         };
         place = past_blanks(line, end);

@@ -10,8 +10,8 @@ ghost use Rattle.edm_entities.specs.Row.{val_of};
 ghost use Rattle.edm_entities.specs.private.Passed.{FitsSeen};
 ghost use Rattle.edm_rows.specs.private.Held.{IsLeaf};
 ghost use Rattle.edm_rows.specs.private.RowSlots.{AreRowTypes, IsFresh, IsFreshType, IsRowType};
-ghost use Rattle.edm_rows.specs.private.SlotKinds.{AreSureDigits, HasRecord, IsKindOf, IsMadeOf, IsPrimitiveTask};
-ghost use Rattle.edm_rows.specs.private.SlotKinds.{IsTaskAs, nullable_as};
+ghost use Rattle.edm_rows.specs.private.RowTypes.{AreSureDigits, HasRecord, IsKindOf, IsMadeOf, IsPrimitiveTask};
+ghost use Rattle.edm_rows.specs.private.RowTypes.{IsTaskAs, nullable_as};
 
 use csdl_schema::{EnumId, Property, Schema, TypeId};
 use edm_row_plans::{

@@ -10,7 +10,7 @@ ghost use Rattle.edm_rows.specs.private.HeldRows.{TakesLine, TakesSlots};
 ghost use Rattle.edm_rows.specs.private.KnownTexts.{AreKnown};
 ghost use Rattle.edm_rows.specs.private.KeptRows.{RowConforms, root_properties, root_slots};
 ghost use Rattle.edm_rows.specs.private.RowSlots.{IsFreshType};
-ghost use Rattle.edm_rows.specs.private.Scenes.{IsScene};
+ghost use Rattle.edm_rows.specs.private.Contexts.{IsContext};
 ghost use Rattle.edm_rows.specs.HeldSchema.{schema_in};
 ghost use Rattle.edm_rows.specs.RowsOfType.{IsLeftOut, IsSameButKept, IsSameReader, names_unkept, row_held, sifted};
 
@@ -18,7 +18,7 @@ use super::held_schema::HeldSchema;
 use super::kept_leaf::Taken;
 use super::kept_value::take_members;
 use super::known_texts::{Cache, KnownTexts};
-use super::passed_value::Scene;
+use super::passed_value::ReadContext;
 use super::row_types::{DEPTH, RowType, row_types};
 use super::slot_marks::{keep_name, keep_slots, sift_slot};
 use csdl_schema::Schema;
@@ -191,14 +191,14 @@ impl<'s> TypeRows<'s> {
         ensures row { result ≡ Reading.Row → IsLineBut text.now (names_unkept self.new) (row_held self.new) }
         ensures left_out { result ≡ Reading.LeftOut → IsLeftOut text.now self.new }
     {
-        let scene = Scene {
+        let context = ReadContext {
             schema: self.schema.schema(),
             plan: &self.plan,
             types: self.types.as_slice(),
             known: &self.known,
             line: RoomyLine::new(text, bytes),
         };
-        let taken = take_row(&mut self.cache, &scene, &mut self.row);
+        let taken = take_row(&mut self.cache, &context, &mut self.row);
         keep_noted(&mut self.cache, &mut self.known, self.schema.schema());
         self.is_ready = is_whole_row(taken);
         reading_of(taken)
@@ -248,32 +248,33 @@ fn types_of(alloc: Global, schema: &Schema, plan: &RowPlan) -> Vec<RowType>
 
 /// Takes the row that is the whole line, unless it is rejected.
 #[inline(always)]
-fn take_row(cache: &mut Cache, scene: &Scene<'_>, row: &mut Value) -> Taken
-    requires scene { IsScene scene.now }
-    requires plan { IsPlanOf scene.now.schema.now scene.now.plan.now }
-    requires first { HasFirstType scene.now.plan.now scene.now.types.now }
-    requires row { IsRowValue (root_slots scene.now) (root_properties scene.now) row.old }
-    ensures row { TakesLine scene.now row.new result }
-    ensures conforms { result ≢ Taken.Broken → IsRowValue (root_slots scene.now) (root_properties scene.now) row.new }
+fn take_row(cache: &mut Cache, context: &ReadContext<'_>, row: &mut Value) -> Taken
+    requires context { IsContext context.now }
+    requires plan { IsPlanOf context.now.schema.now context.now.plan.now }
+    requires first { HasFirstType context.now.plan.now context.now.types.now }
+    requires row { IsRowValue (root_slots context.now) (root_properties context.now) row.old }
+    ensures row { TakesLine context.now row.new result }
+    ensures conforms { result ≢ Taken.Broken
+        → IsRowValue (root_slots context.now) (root_properties context.now) row.new }
 {
     match row {
-        Value::Record(values) => take_slots(cache, scene, values),
+        Value::Record(values) => take_slots(cache, context, values),
         _ => Taken::Nothing,
     }
 }
 
 /// Takes the values of the row that is the whole line, unless one is rejected.
 #[inline(always)]
-fn take_slots(cache: &mut Cache, scene: &Scene<'_>, values: &mut Vec<Value>) -> Taken
-    requires scene { IsScene scene.now }
-    requires plan { IsPlanOf scene.now.schema.now scene.now.plan.now }
-    requires first { HasFirstType scene.now.plan.now scene.now.types.now }
-    requires conforms { RowConforms (root_slots scene.now) (root_properties scene.now) values.old.items }
-    ensures slots { TakesSlots scene.now values.new.items result }
+fn take_slots(cache: &mut Cache, context: &ReadContext<'_>, values: &mut Vec<Value>) -> Taken
+    requires context { IsContext context.now }
+    requires plan { IsPlanOf context.now.schema.now context.now.plan.now }
+    requires first { HasFirstType context.now.plan.now context.now.types.now }
+    requires conforms { RowConforms (root_slots context.now) (root_properties context.now) values.old.items }
+    ensures slots { TakesSlots context.now values.new.items result }
     ensures conforms { result ≢ Taken.Broken
-        → RowConforms (root_slots scene.now) (root_properties scene.now) values.new.items }
+        → RowConforms (root_slots context.now) (root_properties context.now) values.new.items }
 {
-    let line = &scene.line;
+    let line = &context.line;
     let begin = past_blanks(line, 0);
     if line.byte(begin) != b'{' {
         return Taken::Nothing;
@@ -281,8 +282,8 @@ fn take_slots(cache: &mut Cache, scene: &Scene<'_>, values: &mut Vec<Value>) -> 
     cache.depth = DEPTH - 1;
     let taken = take_members(
         cache,
-        scene,
-        &scene.types[0],
+        context,
+        &context.types[0],
         begin + 1,
         values.as_mut_slice(),
     );

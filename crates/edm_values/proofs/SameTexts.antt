@@ -10,5 +10,5 @@ same_characters s t of_s of_t e = sym (encodes-chars s of_s) ∙ ap encodes e �
 
 -- a test of the bytes reports of the characters
 pub same_test : (s t : List ℕ) (b : Bool) → IsUtf8 s → IsUtf8 t → b ≡ pointwise nat_eq s t → IsTrue b ↔ (chars s ≡ chars t)
-same_test s t true of_s of_t told = (λ is. ap chars (same_text s t told), λ same. refl)
-same_test s t false of_s of_t told = (λ is. cc, λ same. absurd (other_text s t told (same_characters s t of_s of_t same)))
+same_test s t true of_s of_t reported = (λ is. ap chars (same_text s t reported), λ same. refl)
+same_test s t false of_s of_t reported = (λ is. cc, λ same. absurd (other_text s t reported (same_characters s t of_s of_t same)))

@@ -1,3 +1,3 @@
-pub mod BetweenQuotes
-pub mod Clock
-pub mod Seconds
+pub mod Moment
+pub mod MomentLiteral
+pub mod StringLiteral

@@ -2,7 +2,7 @@ ghost use Rattle.std.specs.Prelude.{◌≡◌, IfSome, IsSome, ◌↔◌};
 ghost use Rattle.std.proofs.Common.{sym};
 ghost use Rattle.edm_values.specs.MomentParts.{MomentParts, IsMoment, IsFourDigitYear, IsOffset};
 ghost use Rattle.edm_values.specs.Instant.{instant};
-ghost use Rattle.edm_values.specs.private.Seconds.{CountsSeconds, instant_seconds};
+ghost use Rattle.edm_values.specs.private.Moment.{CountsSeconds, instant_seconds};
 
 use jiff::civil::DateTime;
 use std::marker::Model;

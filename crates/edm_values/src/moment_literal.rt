@@ -3,7 +3,7 @@ ghost use Rattle.std.specs.Str.Parse.{AllDigits, digits_value};
 ghost use Rattle.edm_values.specs.Civil.{Date as PlainDate, Time as PlainTime, IsHms};
 ghost use Rattle.edm_values.specs.MomentParts.{MomentParts, IsOffset};
 ghost use Rattle.edm_values.specs.MomentLiteral.{clock_text, FractionValue, SecondsValue, OffsetValue, MinutesValue, MomentValue, significant_digits, fraction_text, offset_text, moment_spelling};
-ghost use Rattle.edm_values.specs.private.Clock.{AreClockDigits};
+ghost use Rattle.edm_values.specs.private.MomentLiteral.{AreClockDigits};
 
 use crate::Moment;
 use crate::date_literal::date_of;

@@ -1,6 +1,6 @@
 ghost use Rattle.std.specs.Prelude.{◌≡◌, ℕ, List, IfOk, IfErr, IfSome, IfNone, OnOk, OnErr, ◌∷◌, ◌++◌, [], string_bytes};
 ghost use Rattle.edm_values.specs.StringLiteral.{quote, with_doubled_quotes, string_spelling, StringValue, IsStringFault};
-ghost use Rattle.edm_values.specs.private.BetweenQuotes.{IsInnerFault};
+ghost use Rattle.edm_values.specs.private.StringLiteral.{IsInnerFault};
 
 use std::alloc::{AllocError, Global};
 use thiserror::Error;

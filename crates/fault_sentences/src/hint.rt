@@ -1,6 +1,6 @@
 ghost use Rattle.std.specs.Prelude.{◌≡◌, ◌-◌, ◌<◌, ◌==◌, drop, length, slice_index, take};
-ghost use Rattle.fault_sentences.specs.Hints.{begins_date_time, begins_number, character_hint, hint_of, is_symbol};
-ghost use Rattle.fault_sentences.specs.Hints.{is_typed_literal, syntax_hint, text_hint, typing_hint};
+ghost use Rattle.fault_sentences.specs.Hint.{begins_date_time, begins_number, character_hint, hint_of, is_symbol};
+ghost use Rattle.fault_sentences.specs.Hint.{is_typed_literal, syntax_hint, text_hint, typing_hint};
 
 use super::fault_class::FaultClass;
 use super::report::Report;

@@ -11,8 +11,8 @@ use Rattle.json.specs.Written.{PlainBetween}
 use Rattle.json_tokens.specs.Keys.{name_with_colon, quoted_name}
 use Rattle.json_tokens.specs.private.Lexemes.{StandsAt}
 use Rattle.json_tokens.proofs.LexemeLemmas.{from_byte}
-use Rattle.json_room.specs.private.WordBytes.{StandsByte}
-use Rattle.json_room.proofs.RoomLemmas.{byte_told, other_default, other_run_within, within_byte}
+use Rattle.json_room.specs.private.SpelledKey.{StandsByte}
+use Rattle.json_room.proofs.RoomLemmas.{byte_reported, other_default, other_run_within, within_byte}
 
 -- a word without LF, each of whose bytes stands there
 abbrev pub NoFeed : List ℕ → Type 0
@@ -81,7 +81,7 @@ bytes_stand line b front feed room place n w begins none there k few inside =
     let same : place + (j - place) ≡ j = omega (arith, from) in
     let inside' : j - place < length w = omega (arith, from, to, inside) in
     none (j - place) inside' (sym (there (j - place) (omega (arith, from, to, few)) inside') ∙ ap (λ m. get_or b m 0) same ∙ is)) in
-    sym (byte_told line b front feed room (place + k) (omega (arith, within))) ∙ there k few inside
+    sym (byte_reported line b front feed room (place + k) (omega (arith, within))) ∙ there k few inside
 
 and_byte : (x : ℕ) → x < 256 → bit_and x 255 ≡ x
 and_byte x low = let small : x % 256 ≡ x = omega (arith, low) in and_mask x 8 ∙ small

@@ -14,8 +14,8 @@ module _ (line bytes : List ℕ) (front : take (length line) bytes ≡ line) (fe
   same_byte k within = sym (get_or-take (length line) bytes k 0 within) ∙ ap (λ (l : List ℕ). get_or l k 0) front
 
   -- up to the line's end the bytes are the line's and its LF
-  pub byte_told : (k : ℕ) → k ≤ length line → get_or bytes k 0 ≡ get_or line k 10
-  byte_told k within =
+  pub byte_reported : (k : ℕ) → k ≤ length line → get_or bytes k 0 ≡ get_or line k 10
+  byte_reported k within =
       ⊎_elim (λ inside. same_byte k inside ∙ get_or_default line k 0 10 inside)
       (λ past. let same : k ≡ length line = omega (arith, past, within) in ap (λ j. get_or bytes j 0) same ∙ feed ∙ sym (get_or_past line k 10 (omega (arith, past)))) (cases_lt k (length line))
 

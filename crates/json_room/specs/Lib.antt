@@ -1,5 +1,5 @@
 pub use Rattle.json_tokens.specs.TokenReading
 pub mod Lexemes
-pub mod RoomyLines
-pub mod SpelledKeys
+pub mod RoomyLine
+pub mod SpelledKey
 pub mod private

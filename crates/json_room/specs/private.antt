@@ -1,3 +1,3 @@
 -- Definitions that private clauses alone cite.
-pub mod Ascii
-pub mod WordBytes
+pub mod SpelledKey
+pub mod Utf8

@@ -20,7 +20,7 @@ pub struct RoomyLine<'a> {
 impl<'a> Model for RoomyLine<'a> {
     ghost use Rattle.std.specs.Prelude.{ℕ, List};
     ghost use Rattle.std.specs.Coded.{coded_list, coded_ℕ};
-    ghost use Rattle.json_room.specs.RoomyLines.{IsRoomy};
+    ghost use Rattle.json_room.specs.RoomyLine.{IsRoomy};
 
     ghost Value = { List ℕ };
 

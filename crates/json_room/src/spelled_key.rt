@@ -2,7 +2,7 @@
 ghost use Rattle.std.specs.Prelude.{◌≡◌, ℕ, ◌+◌, ◌<◌, ◌≤◌, ◌^◌, length, IfSome, IsTrue};
 ghost use Rattle.json_tokens.specs.Keys.{name_with_colon};
 ghost use Rattle.json_tokens.specs.LexemesAt.{BeginsKey};
-ghost use Rattle.json_room.specs.private.WordBytes.{StandsByte};
+ghost use Rattle.json_room.specs.private.SpelledKey.{StandsByte};
 
 use super::blanks::past_blanks;
 use super::fronts::{are_front, front_of, mask_of};
@@ -25,7 +25,7 @@ pub struct SpelledKey {
 impl Model for SpelledKey {
     ghost use Rattle.std.specs.Prelude.{ℕ, List, string_bytes};
     ghost use Rattle.std.specs.Coded.{coded_list, coded_ℕ};
-    ghost use Rattle.json_room.specs.SpelledKeys.{IsSpelled};
+    ghost use Rattle.json_room.specs.SpelledKey.{IsSpelled};
 
     ghost Value = { List ℕ };
 

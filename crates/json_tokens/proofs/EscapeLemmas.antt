@@ -103,43 +103,43 @@ abbrev first_text : List Token → Option (List ℕ)
 first_text (string s ∷ ts) = Some s
 first_text ts = None
 
-first_told : (o : Option (List ℕ)) (ls : List Lexeme) (told : List ℕ) (rest : List Token) → punctuate fresh (token (string_token o) ∷ ls) ≡ string told ∷ rest → o ≡ Some told
+first_reported : (o : Option (List ℕ)) (ls : List Lexeme) (reported : List ℕ) (rest : List Token) → punctuate fresh (token (string_token o) ∷ ls) ≡ string reported ∷ rest → o ≡ Some reported
 unfolding punctuate
-first_told None ls told rest is = ap first_text is
-first_told (Some s) ls told rest is = go (begins_colon ls) (ap first_text is)
+first_reported None ls reported rest is = ap first_text is
+first_reported (Some s) ls reported rest is = go (begins_colon ls) (ap first_text is)
   where
-    go : (b : Bool) → first_text (place_token fresh (string s) b (λ next. punctuate next ls)) ≡ Some told → Some s ≡ Some told
-    go true e = absurd (none-some told e)
+    go : (b : Bool) → first_text (place_token fresh (string s) b (λ next. punctuate next ls)) ≡ Some reported → Some s ≡ Some reported
+    go true e = absurd (none-some reported e)
     go false e = e
 
-quoted_told : (xs told : List ℕ) (rest : List Token) → tokens (34 ∷ xs) ≡ string told ∷ rest → content plain xs ≡ Some told
+quoted_reported : (xs reported : List ℕ) (rest : List Token) → tokens (34 ∷ xs) ≡ string reported ∷ rest → content plain xs ≡ Some reported
 unfolding lex
-quoted_told xs told rest is = first_told (content plain xs) (lex in_string xs) told rest is
+quoted_reported xs reported rest is = first_reported (content plain xs) (lex in_string xs) reported rest is
 
-pub piece_told : (q told : List ℕ) (rest : List Token) → get_or q 0 32 ≡ 34 → tokens q ≡ string told ∷ rest → content plain (drop 1 q) ≡ Some told
-piece_told [] told rest opened is = let no : ⊥ = omega (arith, opened) in absurd no
-piece_told (x ∷ xs) told rest opened is = quoted_told xs told rest (ap (λ y. tokens (y ∷ xs)) (sym opened) ∙ is)
+pub piece_reported : (q reported : List ℕ) (rest : List Token) → get_or q 0 32 ≡ 34 → tokens q ≡ string reported ∷ rest → content plain (drop 1 q) ≡ Some reported
+piece_reported [] reported rest opened is = let no : ⊥ = omega (arith, opened) in absurd no
+piece_reported (x ∷ xs) reported rest opened is = quoted_reported xs reported rest (ap (λ y. tokens (y ∷ xs)) (sym opened) ∙ is)
 
 -- the content of what is quoted is the content there
-content_there : (d : List ℕ) (i j : ℕ) (told : List ℕ) → i < length d → i < j → get_or d i 32 ≡ 34 → content plain (drop 1 (take (j - i) (drop i d))) ≡ Some told → content plain (drop (i + 1) d) ≡ Some told
-content_there d i j told within order opened is =
+content_there : (d : List ℕ) (i j : ℕ) (reported : List ℕ) → i < length d → i < j → get_or d i 32 ≡ 34 → content plain (drop 1 (take (j - i) (drop i d))) ≡ Some reported → content plain (drop (i + 1) d) ≡ Some reported
+content_there d i j reported within order opened is =
     let m = j - (i + 1) in
     let xs = drop (i + 1) d in
     let long : j - i ≡ suc m = omega arith in
     let piece : drop 1 (take (j - i) (drop i d)) ≡ take m xs = ap₂ (λ n l. drop 1 (take n l)) long (from_byte d i 34 within opened) in
-    ap (content plain) (sym (take-append-drop m xs)) ∙ content_longer plain (take m xs) (drop m xs) told (ap (content plain) (sym piece) ∙ is)
+    ap (content plain) (sym (take-append-drop m xs)) ∙ content_longer plain (take m xs) (drop m xs) reported (ap (content plain) (sym piece) ∙ is)
 
-text_there : (xs told : List ℕ) (ls : List Lexeme) → content plain xs ≡ Some told → lex in_string xs ≡ ls → lex between (34 ∷ xs) ≡ token (string told) ∷ ls
+text_there : (xs reported : List ℕ) (ls : List Lexeme) → content plain xs ≡ Some reported → lex in_string xs ≡ ls → lex between (34 ∷ xs) ≡ token (string reported) ∷ ls
 unfolding lex
-text_there xs told ls is passed = ap₂ (λ o l. token (string_token o) ∷ l) is passed
+text_there xs reported ls is passed = ap₂ (λ o l. token (string_token o) ∷ l) is passed
 
-pub escaped_text : (d : List ℕ) (i j : ℕ) (told : List ℕ) → i < length d → get_or d i 32 ≡ 34 → ClosesText d (i + 1) j
-    → content plain (drop 1 (take (j + 1 - i) (drop i d))) ≡ Some told → IsTextAt d i told (j + 1)
-escaped_text d i j told within opened closed is =
-    let some = content_there d i (j + 1) told within (omega (arith, closed.bounds.0)) opened is in
+pub escaped_text : (d : List ℕ) (i j : ℕ) (reported : List ℕ) → i < length d → get_or d i 32 ≡ 34 → ClosesText d (i + 1) j
+    → content plain (drop 1 (take (j + 1 - i) (drop i d))) ≡ Some reported → IsTextAt d i reported (j + 1)
+escaped_text d i j reported within opened closed is =
+    let some = content_there d i (j + 1) reported within (omega (arith, closed.bounds.0)) opened is in
     record {
       within = omega (arith, closed.bounds.1);
-      lexed = ap (lex between) (from_byte d i 34 within opened) ∙ text_there (drop (i + 1) d) told (lex between (drop (j + 1) d)) some closed.passed;
+      lexed = ap (lex between) (from_byte d i 34 within opened) ∙ text_there (drop (i + 1) d) reported (lex between (drop (j + 1) d)) some closed.passed;
     }
 
 -- ---- offsets within a text

@@ -234,17 +234,17 @@ abbrev each_below : (ℕ → Bool) → ℕ → Bool
 each_below p zero = true
 each_below p (suc n) = p n && each_below p n
 
-told_below : (p : ℕ → Bool) (n x : ℕ) → each_below p n ≡ true → x < n → p x ≡ true
-told_below p zero x all low = absurd (omega (arith, low))
-told_below p (suc n) x all low =
+reported_below : (p : ℕ → Bool) (n x : ℕ) → each_below p n ≡ true → x < n → p x ≡ true
+reported_below p zero x all low = absurd (omega (arith, low))
+reported_below p (suc n) x all low =
     let both = and_parts _ _ all in
-    ⊎_elim (λ lower. told_below p n x both.1 lower) (λ at. let same : n ≡ x = omega (arith, low, at) in ap p (sym same) ∙ both.0) (cases_lt x n)
+    ⊎_elim (λ lower. reported_below p n x both.1 lower) (λ at. let same : n ≡ x = omega (arith, low, at) in ap p (sym same) ∙ both.0) (cases_lt x n)
 
 pub closing_byte : (x : ℕ) → x < 256 → bit_or x 32 ≡ 125 → (x ≡ 125) ⊎ (x ≡ 93)
-closing_byte x small is = go (or_cases _ _ told)
+closing_byte x small is = go (or_cases _ _ reported)
   where
-    told : (not (bit_or x 32 == 125) || ((x == 125) || (x == 93))) ≡ true
-    told = told_below (λ y. not (bit_or y 32 == 125) || ((y == 125) || (y == 93))) 256 x refl small
+    reported : (not (bit_or x 32 == 125) || ((x == 125) || (x == 93))) ≡ true
+    reported = reported_below (λ y. not (bit_or y 32 == 125) || ((y == 125) || (y == 93))) 256 x refl small
 
     which : ((x == 125) ≡ true) ⊎ ((x == 93) ≡ true) → (x ≡ 125) ⊎ (x ≡ 93)
     which (inl e) = inl (eqb-true x 125 e)

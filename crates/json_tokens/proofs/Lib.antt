@@ -6,5 +6,5 @@ mod MarkLemmas
 mod NumberLemmas
 pub mod ShortNumberLemmas
 pub mod StopLemmas
-mod ToldLemmas
+mod ReportedLemmas
 pub mod WholeLemmas

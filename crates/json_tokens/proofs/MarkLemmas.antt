@@ -6,7 +6,7 @@ use Rattle.std.proofs.lemmas.List.FromFn.{get_or-map-range_with_len, length-map-
 use Rattle.std.proofs.lemmas.Nat.{one_shl, pow_below}
 use Rattle.std.proofs.lemmas.Nat.Bits.{bit_at-lt, bit_at-zero, bit_at_ones, bit_at_ones_above, bit_at_set_other, bit_at_set_same, same_from_bits_below, shr_and_one}
 use Rattle.std.specs.Int.{bit_at}
-use Rattle.json_tokens.specs.Marks.{mark_at, marks_of}
+use Rattle.json_tokens.specs.KeyMarks.{mark_at, marks_of}
 
 pub length-marks_of : (words : List ℕ) → length (marks_of words) ≡ 64 * length words
 unfolding marks_of

@@ -27,7 +27,7 @@ use Rattle.json_tokens.specs.private.Lexemes.{DigitsBetween}
 use Rattle.json_tokens.specs.private.ShortNumbers.{EndsFraction, IsNumberAt}
 use Rattle.json_tokens.proofs.LexemeLemmas.{EachDigit, cut, cut_long, cut_digits, first_cut, cut_number, from_byte}
 use Rattle.json_tokens.proofs.NumberLemmas.{number_without_minus}
-use Rattle.json_tokens.proofs.WholeLemmas.{digit_as_told, in_range}
+use Rattle.json_tokens.proofs.WholeLemmas.{digit_as_reported, in_range}
 
 -- ---- floats that are not too large
 
@@ -109,9 +109,9 @@ pub all_digits : (s : List ℕ) → EachDigit s → AllDigits 10 s
 all_digits [] each = tt
 all_digits (x ∷ xs) each =
     let first : is_ascii_digit x ≡ true = each 0 (omega arith) in
-    let told = digit_as_told x first in
+    let reported = digit_as_reported x first in
     let high = (in_range x first).1 in
-    (omega (arith, told, high), all_digits xs (λ k l. each (suc k) (omega (arith, l))))
+    (omega (arith, reported, high), all_digits xs (λ k l. each (suc k) (omega (arith, l))))
 
 -- digits, a point and digits
 fraction_number : (whole fraction : List ℕ) → AllDigits 10 whole → 0 < length whole → (get_or whole 0 0 ≡ 48 → length whole ≡ 1) → AllDigits 10 fraction → 0 < length fraction

@@ -21,20 +21,20 @@ no_digits d = record { within = omega arith; digits = λ k from to. absurd (omeg
 pub in_range : (x : ℕ) → is_ascii_digit x ≡ true → (48 ≤ x) × (x ≤ 57)
 in_range x is = let parts = and_parts _ _ is in (leb-true 48 x parts.0, leb-true x 57 parts.1)
 
-pub digit_as_told : (x : ℕ) → is_ascii_digit x ≡ true → digit_value x + 48 ≡ x
-digit_as_told x is = digit_value_digit x (in_range x is)
+pub digit_as_reported : (x : ℕ) → is_ascii_digit x ≡ true → digit_value x + 48 ≡ x
+digit_as_reported x is = digit_value_digit x (in_range x is)
 
 pub one_digit_more : (d : List ℕ) (i n m : ℕ) → WritesWhole d i n → i < length d → is_ascii_digit (get_or d i 0) ≡ true → n < 100000000000000000 → m ≡ n * 10 + (get_or d i 0 - 48)
     → WritesWhole d (i + 1) m
 one_digit_more d i n m so_far within is small next =
     let x = get_or d i 0 in
-    let told : digit_value x + 48 ≡ x = digit_as_told x is in
+    let reported : digit_value x + 48 ≡ x = digit_as_reported x is in
     let high : x ≤ 57 = (in_range x is).1 in
     record {
       within = omega (arith, within);
       digits = λ k from to. ⊎_elim (λ before. so_far.digits k from before) (λ behind. let same : k ≡ i = omega (arith, to, behind) in subst (λ j. is_ascii_digit (get_or d j 0) ≡ true) (sym same) is) (cases_lt k i);
-      all = digits_more 10 d i within so_far.all (omega (arith, told, high));
-      value = omega (arith, next, told, so_far.value, digits_value_more 10 d i within);
+      all = digits_more 10 d i within so_far.all (omega (arith, reported, high));
+      value = omega (arith, next, reported, so_far.value, digits_value_more 10 d i within);
       bound = omega (arith, next, high, small);
     }
 

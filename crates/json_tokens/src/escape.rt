@@ -40,9 +40,9 @@ fn unit_at(bytes: &[u8], place: usize) -> Option<u32>
 
 /// What a backslash and a byte after it stand for, where no digits follow.
 #[inline(always)]
-fn told_by_byte(byte: u8) -> Option<u8>
-    ensures value { IfSome result (λ told. short_escape byte ≡ Some told) }
-    ensures ascii { IfSome result (λ told. (told < 128) × (byte < 128)) }
+fn reported_by_byte(byte: u8) -> Option<u8>
+    ensures value { IfSome result (λ reported. short_escape byte ≡ Some reported) }
+    ensures ascii { IfSome result (λ reported. (reported < 128) × (byte < 128)) }
 {
     match byte {
         b'"' | b'\\' | b'/' => Some(byte),
@@ -65,8 +65,8 @@ pub(crate) fn escape_at(bytes: &[u8], place: usize) -> Option<(char, usize)>
         return None;
     }
     if bytes[place] != b'u' {
-        return match told_by_byte(bytes[place]) {
-            Some(told) => Some((told as char, place + 1)),
+        return match reported_by_byte(bytes[place]) {
+            Some(reported) => Some((reported as char, place + 1)),
             None => None,
         };
     }

@@ -4,7 +4,7 @@ ghost use Rattle.std.specs.Prelude.{◌≡◌, ◌≢◌, ◌⊎◌, ℕ, suc, �
 ghost use Rattle.std.specs.Str.{IsCharBoundary};
 ghost use Rattle.json.specs.Lex.{in_string, lex};
 ghost use Rattle.json.specs.Text.{content, plain};
-ghost use Rattle.json_tokens.specs.private.Escapes.{TellsTo};
+ghost use Rattle.json_tokens.specs.private.Escapes.{ReportsTo};
 ghost use Rattle.json_tokens.specs.LexemesAt.{IsTextAt};
 ghost use Rattle.json_tokens.specs.private.Lexemes.{ClosesText};
 
@@ -84,15 +84,15 @@ fn quote_by_bytes(bytes: &[u8], from: usize) -> Option<usize>
 
 /// Decodes the escape at an offset, after what was decoded before; the offset after it.
 #[inline(always)]
-fn tell_escape(quoted: &str, place: usize, told: &mut String) -> Option<usize>
+fn report_escape(quoted: &str, place: usize, reported: &mut String) -> Option<usize>
     requires within { place < length quoted.now }
     requires backslash { get_or quoted.now place 0 ≡ 92 }
-    ensures { IfSome result (TellsTo quoted.now (string_bytes told.old) place (string_bytes told.new)) }
+    ensures { IfSome result (ReportsTo quoted.now (string_bytes reported.old) place (string_bytes reported.new)) }
 {
     let Some((character, next)) = escape_at(quoted.as_bytes(), place + 1) else {
         return None;
     };
-    match told.push(character) {
+    match reported.push(character) {
         Ok(()) => Some(next),
         Err(_) => None,
     }
@@ -108,16 +108,16 @@ fn ends_plain(byte: u8) -> bool
 
 /// Decodes what stands at an offset up to the next escape, or to the closing quote.
 #[inline(always)]
-fn tell_plain(quoted: &str, place: usize, told: &mut String) -> Option<usize>
+fn report_plain(quoted: &str, place: usize, reported: &mut String) -> Option<usize>
     requires { IsCharBoundary quoted.now place }
-    ensures { IfSome result (TellsTo quoted.now (string_bytes told.old) place (string_bytes told.new)) }
+    ensures { IfSome result (ReportsTo quoted.now (string_bytes reported.old) place (string_bytes reported.new)) }
 {
     let bytes = quoted.as_bytes();
     let end = plain_end(bytes, place);
     if end == place || !ends_plain(byte_at(bytes, end)) {
         return None;
     }
-    match told.push_str(&quoted[place..end]) {
+    match reported.push_str(&quoted[place..end]) {
         Ok(()) => Some(end),
         Err(_) => None,
     }
@@ -125,32 +125,32 @@ fn tell_plain(quoted: &str, place: usize, told: &mut String) -> Option<usize>
 
 /// Decodes what stands at an offset, which is not a quote.
 #[inline(always)]
-fn tell_piece(quoted: &str, place: usize, told: &mut String) -> Option<usize>
+fn report_piece(quoted: &str, place: usize, reported: &mut String) -> Option<usize>
     requires within { place < length quoted.now }
     requires boundary { IsCharBoundary quoted.now place }
-    ensures { IfSome result (TellsTo quoted.now (string_bytes told.old) place (string_bytes told.new)) }
+    ensures { IfSome result (ReportsTo quoted.now (string_bytes reported.old) place (string_bytes reported.new)) }
 {
     if quoted.as_bytes()[place] == b'\\' {
-        tell_escape(quoted, place, told)
+        report_escape(quoted, place, reported)
     } else {
-        tell_plain(quoted, place, told)
+        report_plain(quoted, place, reported)
     }
 }
 
 /// Decodes a text in its quotes; false where it has surrogates or wrong escapes, or an allocation fails.
 #[inline(always)]
-fn tell(quoted: &str, told: &mut String) -> bool
+fn report(quoted: &str, reported: &mut String) -> bool
     requires { get_or quoted.now 0 32 ≡ 34 }
-    ensures { IsTrue result → content plain (drop 1 quoted.now) ≡ Some (string_bytes told.new) }
+    ensures { IsTrue result → content plain (drop 1 quoted.now) ≡ Some (string_bytes reported.new) }
 {
-    told.clear();
+    reported.clear();
     let bytes = quoted.as_bytes();
     let mut place = 1;
     while place < bytes.len() {
         if bytes[place] == b'"' {
             return true;
         }
-        let Some(next) = tell_piece(quoted, place, told) else {
+        let Some(next) = report_piece(quoted, place, reported) else {
             return false;
         };
         place = next;
@@ -160,15 +160,15 @@ fn tell(quoted: &str, told: &mut String) -> bool
 
 /// The same by `json`'s reader.
 #[inline(never)]
-fn told_by_json<'t>(quoted: &'t str, scratch: &'t mut json::Scratch) -> Option<&'t str>
+fn reported_by_json<'t>(quoted: &'t str, scratch: &'t mut json::Scratch) -> Option<&'t str>
     requires { get_or quoted.now 0 32 ≡ 34 }
-    ensures { IfSome result (λ told. content plain (drop 1 quoted.now) ≡ Some told.now) }
+    ensures { IfSome result (λ reported. content plain (drop 1 quoted.now) ≡ Some reported.now) }
 {
     let Ok(mut reader) = Reader::new(quoted, scratch) else {
         return None;
     };
     match reader.next() {
-        Some(Token::String(told)) => Some(told),
+        Some(Token::String(reported)) => Some(reported),
         _ => None,
     }
 }
@@ -176,12 +176,12 @@ fn told_by_json<'t>(quoted: &'t str, scratch: &'t mut json::Scratch) -> Option<&
 /// What a text in its quotes stands for; none where its escapes are none, or an allocation fails.
 fn unescaped<'t>(quoted: &'t str, scratch: &'t mut Scratch) -> Option<&'t str>
     requires { get_or quoted.now 0 32 ≡ 34 }
-    ensures { IfSome result (λ told. content plain (drop 1 quoted.now) ≡ Some told.now) }
+    ensures { IfSome result (λ reported. content plain (drop 1 quoted.now) ≡ Some reported.now) }
 {
-    if tell(quoted, &mut scratch.told) {
-        return Some(scratch.told.as_str());
+    if report(quoted, &mut scratch.reported) {
+        return Some(scratch.reported.as_str());
     }
-    told_by_json(quoted, &mut scratch.of_json)
+    reported_by_json(quoted, &mut scratch.of_json)
 }
 
 /// The text that begins with the quote at an offset, and the offset after its closing quote.
@@ -198,7 +198,7 @@ pub fn escaped_at<'t>(
         return None;
     };
     match unescaped(&text[place..quote + 1], scratch) {
-        Some(told) => Some((told, quote + 1)),
+        Some(reported) => Some((reported, quote + 1)),
         None => None,
     }
 }

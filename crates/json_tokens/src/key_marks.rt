@@ -23,7 +23,7 @@ impl Model for KeyMarks {
 
     ghost coded = { coded_list coded_bool };
 
-    ghost use Rattle.json_tokens.specs.Marks.{marks_of};
+    ghost use Rattle.json_tokens.specs.KeyMarks.{marks_of};
 
     ghost view = { λ marks. marks_of marks.words };
 }
@@ -39,7 +39,7 @@ impl KeyMarks {
 
     /// Marks that the key came.
     #[inline(always)]
-    pub fn pass(&mut self, index: usize)
+    pub fn set(&mut self, index: usize)
         requires { index < MARKS }
         ensures { self.new ≡ slice_set self.old index true }
     {
@@ -60,7 +60,7 @@ impl KeyMarks {
     #[inline(always)]
     pub fn are_first(&self, count: usize) -> bool
         ensures first { IsTrue result → (k : ℕ) → k < count → get_or self.now k false ≡ true }
-        ensures told { count < 64 → ((k : ℕ) → k < 64 → get_or self.now k false ≡ nat_lt k count) → IsTrue result }
+        ensures reported { count < 64 → ((k : ℕ) → k < 64 → get_or self.now k false ≡ nat_lt k count) → IsTrue result }
     {
         has_just_lowest(self.words[0], count)
     }

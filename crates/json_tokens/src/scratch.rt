@@ -4,7 +4,7 @@ use std::alloc::Global;
 /// Room for a text with escapes. One is stored, and each read borrows it.
 #[derive(Drop)]
 pub struct Scratch {
-    pub(crate) told: String,
+    pub(crate) reported: String,
     pub(crate) of_json: json::Scratch,
 }
 
@@ -12,7 +12,7 @@ impl Scratch {
     /// Creates an empty buffer.
     pub fn new(alloc: Global) -> Scratch {
         Scratch {
-            told: String::new(alloc),
+            reported: String::new(alloc),
             of_json: json::Scratch::new(alloc),
         }
     }

@@ -159,10 +159,10 @@ impl<'a> TokenReader<'a> {
             return None;
         }
         match text_value(self.text, place, scratch) {
-            Some((told, next, turn)) => {
+            Some((reported, next, turn)) => {
                 self.place = next;
                 self.turn = turn;
-                Some(told)
+                Some(reported)
             }
             None => None,
         }

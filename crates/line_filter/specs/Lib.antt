@@ -1,11 +1,11 @@
-pub mod Lines
+pub mod CallLogs
+pub mod Growth
 pub mod Kept
 pub mod LineItems
 pub mod LineSource
-pub mod Places
-pub mod Once
-pub mod Growth
-pub mod DeviceCalls
-pub mod RecordedDevice
 pub mod LineStreams
+pub mod Lines
+pub mod Logged
+pub mod Once
+pub mod Places
 pub mod private

@@ -1,11 +1,11 @@
 -- What a run over the lines of a reader says of its devices: the line that did not come, and which calls were made.
 use Rattle.std.specs.Prelude.{◌≡◌, ◌≢◌, ℕ, ◌+◌, ◌≤◌, List, ◌++◌, length, All, Option, Some, IfSome, ◌⊎◌}
-use Rattle.line_filter.specs.declared.device_calls.Calls.{Calls}
+use Rattle.line_filter.specs.declared.call_log.CallLog.{CallLog}
 use Rattle.line_filter.specs.declared.line_reader.Course.{Course}
 use Rattle.line_filter.specs.declared.line_reader.LineFault.{LineFault}
-use Rattle.line_filter.specs.declared.run_stop.Stop.{Stop}
+use Rattle.line_filter.specs.declared.run_stop.RunStop.{RunStop}
 use Rattle.line_filter.specs.declared.tally.Tally.{Tally}
-use Rattle.line_filter.specs.DeviceCalls.{StaysWell, FailsLast}
+use Rattle.line_filter.specs.CallLogs.{StaysWell, FailsLast}
 use Rattle.line_filter.specs.Kept.{Passes}
 use Rattle.line_filter.specs.LineItems.{LineJudge, line_sieve}
 use Rattle.line_filter.specs.Lines.{lines_of, longest_line, text_of_lines}
@@ -28,7 +28,7 @@ pub record LacksLine {F : Type 0}
   pub passes : Passes (line_sieve judge) before text tally
 
 -- each read of a run did its work
-abbrev pub ReadWell : {R : Type 0} → (R → Calls) → LineSource R → LineSource R → Type 0
+abbrev pub ReadWell : {R : Type 0} → (R → CallLog) → LineSource R → LineSource R → Type 0
 ReadWell calls old new = StaysWell (calls old.reader) (calls new.reader)
 
 -- as many bytes were read as may be, so the reader had no fewer
@@ -37,7 +37,7 @@ IsReadOut remaining old new = (new.unread ≡ 0) × IfSome (remaining old.reader
 
 -- Why no more was read: the last read failed; or each did its work, and as many bytes were read as may be, or it had
 -- been reported before.
-abbrev pub WhyUnread : {R : Type 0} → (R → Calls) → (R → Option (List ℕ)) → LineSource R → LineSource R → Type 0
+abbrev pub WhyUnread : {R : Type 0} → (R → CallLog) → (R → Option (List ℕ)) → LineSource R → LineSource R → Type 0
 WhyUnread calls remaining old new =
     FailsLast (calls old.reader) (calls new.reader)
     ⊎ (ReadWell calls old new × (IsReadOut remaining old new ⊎ (old.course ≡ Course.Failed LineFault.Read)))
@@ -45,17 +45,17 @@ WhyUnread calls remaining old new =
 -- which reads a run made before this stop: a stop for a line that did not come says why, and before any other each did
 -- its work
 abbrev pub ReadsUntil :
-    {R F : Type 0} → (R → Calls) → (R → Option (List ℕ)) → LineSource R → LineSource R → Stop F → Type 0
-ReadsUntil calls remaining old new (Stop.Read line) = WhyUnread calls remaining old new
-ReadsUntil calls remaining old new (Stop.Fault line fault) = ReadWell calls old new
-ReadsUntil calls remaining old new (Stop.TooLong line) = ReadWell calls old new
-ReadsUntil calls remaining old new Stop.Write = ReadWell calls old new
-ReadsUntil calls remaining old new (Stop.Memory line) = ReadWell calls old new
+    {R F : Type 0} → (R → CallLog) → (R → Option (List ℕ)) → LineSource R → LineSource R → RunStop F → Type 0
+ReadsUntil calls remaining old new (RunStop.Read line) = WhyUnread calls remaining old new
+ReadsUntil calls remaining old new (RunStop.Fault line fault) = ReadWell calls old new
+ReadsUntil calls remaining old new (RunStop.TooLong line) = ReadWell calls old new
+ReadsUntil calls remaining old new RunStop.Write = ReadWell calls old new
+ReadsUntil calls remaining old new (RunStop.Memory line) = ReadWell calls old new
 
 -- which writes a run made before this stop: the last one failed, or each did its work and none was a flush
-abbrev pub WritesUntil : {F : Type 0} → Calls → Calls → Stop F → Type 0
-WritesUntil old new Stop.Write = FailsLast old new
-WritesUntil old new (Stop.Fault line fault) = StaysWell old new
-WritesUntil old new (Stop.TooLong line) = StaysWell old new
-WritesUntil old new (Stop.Read line) = StaysWell old new
-WritesUntil old new (Stop.Memory line) = StaysWell old new
+abbrev pub WritesUntil : {F : Type 0} → CallLog → CallLog → RunStop F → Type 0
+WritesUntil old new RunStop.Write = FailsLast old new
+WritesUntil old new (RunStop.Fault line fault) = StaysWell old new
+WritesUntil old new (RunStop.TooLong line) = StaysWell old new
+WritesUntil old new (RunStop.Read line) = StaysWell old new
+WritesUntil old new (RunStop.Memory line) = StaysWell old new

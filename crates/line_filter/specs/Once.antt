@@ -1,7 +1,7 @@
 -- What can be said of an item once only.
 use Rattle.std.specs.Prelude.{◌≡◌, ℕ, List}
 use Rattle.line_filter.specs.declared.judge.Judgment.{Judgment}
-use Rattle.line_filter.specs.declared.finding.Finding.{Finding}
+use Rattle.line_filter.specs.declared.line_class.LineClass.{LineClass}
 use Rattle.line_filter.specs.Kept.{IsFaultless}
 use Rattle.line_filter.specs.LineItems.{LineJudge}
 use Rattle.line_filter.specs.Places.{ItemJudge}
@@ -13,14 +13,14 @@ kind_of Judgment.LeftOut = Judgment.LeftOut
 kind_of (Judgment.Fault fault) = Judgment.Fault tt
 
 -- what was found, whatever a fault reports
-abbrev pub kind_found : {F : Type 0} → Finding F → Finding (Unit {0})
-kind_found Finding.TooLong = Finding.TooLong
-kind_found Finding.PassedOver = Finding.PassedOver
-kind_found (Finding.Judged judgment) = Finding.Judged (kind_of judgment)
+abbrev pub kind_found : {F : Type 0} → LineClass F → LineClass (Unit {0})
+kind_found LineClass.TooLong = LineClass.TooLong
+kind_found LineClass.PassedOver = LineClass.PassedOver
+kind_found (LineClass.Judged judgment) = LineClass.Judged (kind_of judgment)
 
 -- what is found of an item at fault
-abbrev pub IsFaulty : {F : Type 0} → Finding F → Type 0
-IsFaulty finding = ¬ (IsFaultless finding)
+abbrev pub IsFaulty : {F : Type 0} → LineClass F → Type 0
+IsFaulty line_class = ¬ (IsFaultless line_class)
 
 -- of each item the judge says judgments of one kind
 abbrev pub JudgesItemsOnce : {X F : Type 0} → ItemJudge X F → Type 0

@@ -1,8 +1,8 @@
 pub mod Ascii
+pub mod Buffer
 pub mod Giving
 pub mod HeldBack
+pub mod LineReader
 pub mod Reading
-pub mod Sources
-pub mod Waiting
 pub mod Waits
 pub mod Walk

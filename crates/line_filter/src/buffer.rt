@@ -2,12 +2,12 @@ ghost use Rattle.std.specs.Prelude.{◌≡◌, ◌+◌, ◌<◌, ◌≤◌, [], 
 ghost use Rattle.std.specs.Io.KnownBytes.{Consumes, IsAtEnd, Keeps};
 ghost use Rattle.std.specs.Str.{IsAscii};
 ghost use Rattle.memchr.specs.Find.{IsFirstByte, is_byte};
-ghost use Rattle.line_filter.specs.DeviceCalls.{after_work, after_failure};
+ghost use Rattle.line_filter.specs.CallLogs.{after_work, after_failure};
 ghost use Rattle.line_filter.specs.Lines.{longest_line, most_held};
 ghost use Rattle.line_filter.specs.private.Waits.{Comes};
 
 use super::device::{NotRead, Reads};
-use super::finding::LONGEST_LINE;
+use super::line_class::LONGEST_LINE;
 use super::line_feeds::first_line_feed;
 use std::alloc::{AllocError, Global};
 use std::io::Read;
@@ -45,7 +45,7 @@ impl Model for Buffer {
 
     ghost Value = { Waits };
 
-    ghost use Rattle.line_filter.specs.private.Waiting.{waits, IsBuffer};
+    ghost use Rattle.line_filter.specs.private.Buffer.{waits, IsBuffer};
 
     ghost view = { waits };
 

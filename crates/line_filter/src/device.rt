@@ -2,10 +2,10 @@
 ghost use Rattle.std.specs.Prelude.{◌≡◌, ◌<◌, ◌≤◌, [], length, IfOk, OnErr, OnOk};
 ghost use Rattle.std.specs.Io.{ReadsAtMost, WritesAtMost};
 ghost use Rattle.std.specs.Io.KnownBytes.{Keeps, ReadConsumes, WriteAppends};
-ghost use Rattle.line_filter.specs.DeviceCalls.{after_work, after_flush, after_failure};
-ghost use Rattle.line_filter.specs.declared.device_calls.Calls.{Calls};
+ghost use Rattle.line_filter.specs.CallLogs.{after_work, after_flush, after_failure};
+ghost use Rattle.line_filter.specs.declared.call_log.CallLog.{CallLog};
 
-use super::device_calls::Calls;
+use super::call_log::CallLog;
 use std::io::{Read, Write};
 use thiserror::Error;
 
@@ -25,7 +25,7 @@ pub struct NotWritten;
 /// worth as much as that.
 pub trait Reads<R: Read> {
     // What the reader reports about its calls so far.
-    ghost calls: { R → Calls };
+    ghost calls: { R → CallLog };
 
     /// Calls `read` once, for some bytes, and for 65,536 at most. Nothing of what is kept is held back by then.
     fn read(reader: &mut R, bytes: &mut [u8], held_back: &[u8]) -> Result<usize, NotRead>
@@ -44,7 +44,7 @@ pub trait Reads<R: Read> {
 /// As with [`Reads`], what it reports must be the device's own record.
 pub trait Writes<W: Write> {
     // What the writer reports about its calls so far.
-    ghost calls: { W → Calls };
+    ghost calls: { W → CallLog };
 
     /// Calls `write` once, for some bytes. Where it takes none of them it has failed.
     fn write(out: &mut W, bytes: &[u8]) -> Result<usize, NotWritten>

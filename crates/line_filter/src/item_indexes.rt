@@ -1,5 +1,5 @@
 ghost use Rattle.std.specs.Prelude.{◌≡◌, ℕ, List, [], decimal, IfErr, IfOk, OnErr, OnOk};
-ghost use Rattle.line_filter.specs.DeviceCalls.{StaysWell, FailsLast};
+ghost use Rattle.line_filter.specs.CallLogs.{StaysWell, FailsLast};
 ghost use Rattle.line_filter.specs.Growth.{Writes};
 ghost use Rattle.line_filter.specs.Kept.{StopsWithin, IsOfItem};
 ghost use Rattle.line_filter.specs.Places.{IsJudged, places};
@@ -7,22 +7,22 @@ ghost use Rattle.line_filter.specs.private.HeldBack.{WritesBut};
 ghost use Rattle.line_filter.specs.private.Walk.{GoesOver};
 
 use super::device::{NotWritten, Writes};
-use super::finding::Finding;
 use super::item_outcome::settle;
 use super::judge::JudgeItem;
+use super::line_class::LineClass;
 use super::output::release;
-use super::run_stop::Stop;
+use super::run_stop::RunStop;
 use super::tally::Tally;
 use itoa::Buffer;
 use std::alloc::{AllocError, Global};
 use std::io::Write;
 
 /// What is found of an item.
-fn find_item<J: JudgeItem>(judge: &J, item: &J::Item) -> Result<Finding<J::Fault>, AllocError>
+fn find_item<J: JudgeItem>(judge: &J, item: &J::Item) -> Result<LineClass<J::Fault>, AllocError>
     ensures { IfOk result (IsJudged (J.says judge.now) item.now) }
 {
     let judgment = judge.judge_item(item)?;
-    Ok(Finding::Judged(judgment))
+    Ok(LineClass::Judged(judgment))
 }
 
 /// Judges the items one by one up to the first fault. The end of the kept text may be held back.
@@ -31,7 +31,7 @@ fn judge_items<J: JudgeItem, W: Write, T: Writes<W>>(
     items: &[J::Item],
     out: &mut W,
     held: &mut Vec<u8>,
-) -> Result<Result<Tally, Stop<J::Fault>>, NotWritten>
+) -> Result<Result<Tally, RunStop<J::Fault>>, NotWritten>
     requires { held.old.items ≡ [] }
     ensures ok { IfOk result (λ outcome. (text : List ℕ)
         × WritesBut (W.contents out.old) (W.contents out.new) held.new.items text
@@ -66,7 +66,7 @@ pub fn write_kept_places<J: JudgeItem, W: Write, T: Writes<W>>(
     judge: &J,
     items: &[J::Item],
     out: &mut W,
-) -> Result<Result<Tally, Stop<J::Fault>>, NotWritten>
+) -> Result<Result<Tally, RunStop<J::Fault>>, NotWritten>
     ensures ok { IfOk result (λ outcome. Writes (W.contents out.old) (W.contents out.new)
         (λ text. GoesOver (places (J.says judge.now) items.now) text outcome)) }
     ensures of_item { IfOk result (λ outcome. IfErr outcome IsOfItem) }

@@ -1,17 +1,17 @@
 ghost use Rattle.std.specs.Prelude.{◌≡◌, ◌≤◌, ◌++◌, Ok, true, IfOk, OnOk, OnErr};
 ghost use Rattle.line_filter.specs.declared.judge.Judgment.{Judgment as JudgmentModel};
-ghost use Rattle.line_filter.specs.declared.finding.Finding.{Finding as FindingModel};
-ghost use Rattle.line_filter.specs.DeviceCalls.{StaysWell, FailsLast};
+ghost use Rattle.line_filter.specs.declared.line_class.LineClass.{LineClass as LineClassModel};
+ghost use Rattle.line_filter.specs.CallLogs.{StaysWell, FailsLast};
 ghost use Rattle.line_filter.specs.Lines.{text_of_line};
 ghost use Rattle.line_filter.specs.Growth.{WritesFront};
 ghost use Rattle.line_filter.specs.private.HeldBack.{WritesBut};
 ghost use Rattle.line_filter.specs.private.Walk.{count_where, outcome_of, text_where, text_where_kept};
 
 use super::device::{NotWritten, Writes};
-use super::finding::{Finding, is_kept};
 use super::judge::Judgment;
+use super::line_class::{LineClass, is_kept};
 use super::output::hold;
-use super::run_stop::Stop;
+use super::run_stop::RunStop;
 use super::tally::Tally;
 use std::alloc::AllocError;
 use std::io::Write;
@@ -67,16 +67,16 @@ pub fn count_where(is_kept: bool) -> u64
 /// What the item of this number counts, of which that was found, or why the run stops at it. Where it is kept, the text
 /// is written and then LF: of a line that is the line itself.
 pub fn settle<F: Drop, W: Write, T: Writes<W>>(
-    found: Result<Finding<F>, AllocError>,
+    found: Result<LineClass<F>, AllocError>,
     text: &[u8],
     number: u64,
     out: &mut W,
     held: &mut Vec<u8>,
-) -> Result<Result<Tally, Stop<F>>, NotWritten>
+) -> Result<Result<Tally, RunStop<F>>, NotWritten>
     ensures ok { OnOk result (WritesBut (W.contents out.old) (W.contents out.new) held.new.items
         (held.old.items ++ text_where_kept found (text_of_line text.now))) }
     ensures outcome { IfOk result (λ outcome. outcome ≡ outcome_of number found) }
-    ensures kept { OnErr result (found ≡ Ok (FindingModel.Judged JudgmentModel.Kept)) }
+    ensures kept { OnErr result (found ≡ Ok (LineClassModel.Judged JudgmentModel.Kept)) }
     ensures err { OnErr result
         (WritesFront (W.contents out.old) (W.contents out.new) (held.old.items ++ text_of_line text.now)) }
     ensures well { OnOk result (StaysWell (T.calls out.old) (T.calls out.new)) }
@@ -88,21 +88,21 @@ pub fn settle<F: Drop, W: Write, T: Writes<W>>(
 
 /// What the item of this number counts, of which that was found, or why the run stops at it.
 pub fn outcome_of<F: Drop>(
-    found: Result<Finding<F>, AllocError>,
+    found: Result<LineClass<F>, AllocError>,
     number: u64,
-) -> Result<Tally, Stop<F>>
+) -> Result<Tally, RunStop<F>>
     ensures { result ≡ outcome_of number found }
 {
     let judgment = match found {
-        Ok(Finding::TooLong) => return Err(Stop::TooLong { line: number }),
-        Ok(Finding::PassedOver) => return Ok(Tally { rows: 0, kept: 0 }),
-        Ok(Finding::Judged(judgment)) => judgment,
-        Err(_) => return Err(Stop::Memory { line: number }),
+        Ok(LineClass::TooLong) => return Err(RunStop::TooLong { line: number }),
+        Ok(LineClass::PassedOver) => return Ok(Tally { rows: 0, kept: 0 }),
+        Ok(LineClass::Judged(judgment)) => judgment,
+        Err(_) => return Err(RunStop::Memory { line: number }),
     };
     match judgment {
         Judgment::Kept => Ok(Tally { rows: 1, kept: 1 }),
         Judgment::LeftOut => Ok(Tally { rows: 1, kept: 0 }),
-        Judgment::Fault(fault) => Err(Stop::Fault {
+        Judgment::Fault(fault) => Err(RunStop::Fault {
             line: number,
             fault,
         }),

@@ -11,35 +11,35 @@
 #![tactic(auto)]
 
 mod buffer;
+mod call_log;
 mod device;
-mod device_calls;
-mod filter;
-mod finding;
 mod item_indexes;
 mod item_outcome;
 mod judge;
 mod laws;
+mod line_class;
 mod line_feeds;
 mod line_reader;
+mod line_runs;
 mod line_walk;
+mod logged;
 mod output;
-mod recorded;
 mod run_stop;
 mod split;
 mod strategies;
 mod stream;
 mod tally;
 
+pub use call_log::CallLog;
 pub use device::{NotRead, NotWritten, Reads, Writes};
-pub use device_calls::Calls;
-pub use filter::{filter_places, filter_reader};
-pub use finding::Finding;
 pub use judge::{Judge, JudgeItem, Judgment, SaysOfItems};
-pub use laws::{items_stop_once, lines_stop_once, slices_tell_their_bytes};
+pub use laws::{items_stop_once, lines_stop_once, slices_report_their_bytes};
+pub use line_class::LineClass;
 pub use line_reader::{LineFault, LineReader};
+pub use line_runs::{filter_places, filter_reader};
 pub use line_walk::filter_bytes;
+pub use logged::Logged;
 pub use output::write_out;
-pub use recorded::Recorded;
-pub use run_stop::Stop;
-pub use strategies::{ByRecord, Unfailing, Untold};
+pub use run_stop::RunStop;
+pub use strategies::{ByRecord, Unfailing, Unlogged};
 pub use tally::Tally;

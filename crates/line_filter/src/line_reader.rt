@@ -11,8 +11,8 @@ ghost use Rattle.line_filter.specs.private.Reading.{IsUnread, ReadsOn};
 
 use super::buffer::{Buffer, ONE_READ};
 use super::device::Reads;
-use super::finding::LONGEST_LINE;
-use super::strategies::Untold;
+use super::line_class::LONGEST_LINE;
+use super::strategies::Unlogged;
 use std::alloc::Global;
 use std::io::Read;
 use std::marker::Model;
@@ -67,7 +67,7 @@ impl<R: Read> Model for LineReader<R> {
 
     ghost Value = { LineSource R };
 
-    ghost use Rattle.line_filter.specs.private.Sources.{source, IsSource};
+    ghost use Rattle.line_filter.specs.private.LineReader.{source, IsSource};
 
     ghost view = { λ l. source l };
 
@@ -189,7 +189,7 @@ impl<R: Read> LineReader<R> {
         ensures again { IfSome result (GivesAgain self.old) }
         ensures reader { self.new.reader ≡ self.old.reader }
         ensures unread { self.new.unread ≡ self.old.unread }
-        ensures told { IsUnread self.new ↔ IsUnread self.old }
+        ensures reported { IsUnread self.new ↔ IsUnread self.old }
     {
         match self.course {
             Course::Open => self.give_held(),
@@ -236,7 +236,7 @@ impl<R: Read> LineReader<R> {
         loop {
             match self.give() {
                 Some(next) => return next,
-                None => self.read_more::<Untold>(&[]),
+                None => self.read_more::<Unlogged>(&[]),
             }
         }
     }

@@ -5,10 +5,10 @@ ghost use Rattle.line_filter.specs.LineItems.{SaysTheSame, lines};
 ghost use Rattle.line_filter.specs.Lines.{text_of_line};
 ghost use Rattle.line_filter.specs.private.Walk.{text_where_kept};
 
-use super::finding::{Finding, find_at_front, is_kept};
 use super::item_outcome::outcome_of;
 use super::judge::Judge;
-use super::run_stop::Stop;
+use super::line_class::{LineClass, find_at_front, is_kept};
+use super::run_stop::RunStop;
 use super::split::first_line;
 use super::tally::Tally;
 use std::alloc::AllocError;
@@ -32,12 +32,12 @@ fn put_line(line: &[u8], out: &mut Vec<u8>) -> Result<(), AllocError>
 /// What was found of a line, which is put after what a vector holds where it is kept. Out of memory where there is no
 /// room for it.
 fn put_kept<F: Drop>(
-    found: Result<Finding<F>, AllocError>,
+    found: Result<LineClass<F>, AllocError>,
     line: &[u8],
     out: &mut Vec<u8>,
-) -> Result<Finding<F>, AllocError>
+) -> Result<LineClass<F>, AllocError>
     ensures put { out.new.items ≡ out.old.items ++ text_where_kept result (text_of_line line.now) }
-    ensures same { IfOk result (λ finding. found ≡ Ok finding) }
+    ensures same { IfOk result (λ line_class. found ≡ Ok line_class) }
 {
     if is_kept(&found) {
         put_line(line, out)?;
@@ -54,7 +54,7 @@ pub fn filter_bytes<J: Judge>(
     judge: &mut J,
     bytes: &[u8],
     out: &mut Vec<u8>,
-) -> Result<Tally, Stop<J::Fault>>
+) -> Result<Tally, RunStop<J::Fault>>
     ensures filters { IfOk result (λ tally. Grows out.old.items out.new.items
         (λ text. Filters (lines (J.says judge.old) bytes.now) text tally)) }
     ensures stops { IfErr result (λ stop. Grows out.old.items out.new.items

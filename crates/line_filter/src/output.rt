@@ -1,6 +1,6 @@
 ghost use Rattle.std.specs.Prelude.{◌≡◌, ◌<◌, [], ◌++◌, length, OnOk, OnErr};
 ghost use Rattle.std.specs.Io.KnownBytes.{Appends};
-ghost use Rattle.line_filter.specs.DeviceCalls.{StaysWell, FailsLast};
+ghost use Rattle.line_filter.specs.CallLogs.{StaysWell, FailsLast};
 ghost use Rattle.line_filter.specs.Growth.{WritesFront};
 ghost use Rattle.line_filter.specs.private.HeldBack.{WritesBut};
 

@@ -4,7 +4,7 @@ use thiserror::Error;
 /// Why a run over lines ended early. Lines are counted from 1.
 #[derive(Debug, Drop, Error)]
 #[error_bound(F: Display)]
-pub enum Stop<F> {
+pub enum RunStop<F> {
     /// The judge found the line at fault.
     #[error("line {line}: {fault}")]
     Fault { line: u64, fault: F },

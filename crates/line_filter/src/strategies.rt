@@ -2,19 +2,19 @@
 ghost use Rattle.std.specs.Prelude.{◌≡◌, ◌<◌, length, IfOk, OnErr, OnOk};
 ghost use Rattle.std.specs.Io.{ReadsAtMost, WritesAtMost};
 ghost use Rattle.std.specs.Io.KnownBytes.{Keeps, ReadConsumes, WriteAppends};
-ghost use Rattle.line_filter.specs.DeviceCalls.{after_work, after_flush, after_failure};
-ghost use Rattle.line_filter.specs.declared.device_calls.Calls.{Calls};
+ghost use Rattle.line_filter.specs.CallLogs.{after_work, after_flush, after_failure};
+ghost use Rattle.line_filter.specs.declared.call_log.CallLog.{CallLog};
 
 use super::device::{NotRead, NotWritten, Reads, Writes};
-use super::recorded::Recorded;
+use super::logged::Logged;
 use std::io::{Read, Sink, Write};
 
 /// The strategy for any reader and any writer. Nothing is reported about their calls.
 #[derive(Debug, Drop)]
-pub struct Untold;
+pub struct Unlogged;
 
-impl<R: Read> Reads<R> for Untold {
-    ghost calls = { λ _. Calls.Untold };
+impl<R: Read> Reads<R> for Unlogged {
+    ghost calls = { λ _. CallLog.Unlogged };
 
     fn read(reader: &mut R, bytes: &mut [u8], held_back: &[u8]) -> Result<usize, NotRead> {
         let _ = held_back;
@@ -25,8 +25,8 @@ impl<R: Read> Reads<R> for Untold {
     }
 }
 
-impl<W: Write> Writes<W> for Untold {
-    ghost calls = { λ _. Calls.Untold };
+impl<W: Write> Writes<W> for Unlogged {
+    ghost calls = { λ _. CallLog.Unlogged };
 
     fn write(out: &mut W, bytes: &[u8]) -> Result<usize, NotWritten> {
         match out.write(bytes) {
@@ -49,7 +49,7 @@ impl<W: Write> Writes<W> for Untold {
 pub struct Unfailing;
 
 impl<'b> Reads<&'b [u8]> for Unfailing {
-    ghost calls = { λ _. Calls.Unfailing };
+    ghost calls = { λ _. CallLog.Unfailing };
 
     fn read(reader: &mut &'b [u8], bytes: &mut [u8], held_back: &[u8]) -> Result<usize, NotRead> {
         let _ = held_back;
@@ -61,7 +61,7 @@ impl<'b> Reads<&'b [u8]> for Unfailing {
 }
 
 impl Writes<Sink> for Unfailing {
-    ghost calls = { λ _. Calls.Unfailing };
+    ghost calls = { λ _. CallLog.Unfailing };
 
     fn write(out: &mut Sink, bytes: &[u8]) -> Result<usize, NotWritten> {
         match out.write(bytes) {
@@ -83,14 +83,10 @@ impl Writes<Sink> for Unfailing {
 #[derive(Debug, Drop)]
 pub struct ByRecord;
 
-impl<R: Read> Reads<Recorded<R>> for ByRecord {
+impl<R: Read> Reads<Logged<R>> for ByRecord {
     ghost calls = { λ r. r.calls };
 
-    fn read(
-        reader: &mut Recorded<R>,
-        bytes: &mut [u8],
-        held_back: &[u8],
-    ) -> Result<usize, NotRead> {
+    fn read(reader: &mut Logged<R>, bytes: &mut [u8], held_back: &[u8]) -> Result<usize, NotRead> {
         let _ = held_back;
         match reader.read(bytes) {
             Ok(count) => Ok(count),
@@ -99,10 +95,10 @@ impl<R: Read> Reads<Recorded<R>> for ByRecord {
     }
 }
 
-impl<W: Write> Writes<Recorded<W>> for ByRecord {
+impl<W: Write> Writes<Logged<W>> for ByRecord {
     ghost calls = { λ w. w.calls };
 
-    fn write(out: &mut Recorded<W>, bytes: &[u8]) -> Result<usize, NotWritten> {
+    fn write(out: &mut Logged<W>, bytes: &[u8]) -> Result<usize, NotWritten> {
         match out.write(bytes) {
             Ok(0) => Err(NotWritten),
             Ok(count) => Ok(count),
@@ -110,7 +106,7 @@ impl<W: Write> Writes<Recorded<W>> for ByRecord {
         }
     }
 
-    fn flush(out: &mut Recorded<W>) -> Result<(), NotWritten> {
+    fn flush(out: &mut Logged<W>) -> Result<(), NotWritten> {
         match out.flush() {
             Ok(()) => Ok(()),
             Err(_) => Err(NotWritten),

@@ -1,5 +1,5 @@
 ghost use Rattle.std.specs.Prelude.{◌≡◌, ℕ, ◌+◌, ◌-◌, ◌<◌, ◌^◌, List, [], IfErr, IfOk, IfSome, MatchResult, OnOk, OnErr};
-ghost use Rattle.line_filter.specs.DeviceCalls.{StaysWell, FailsLast};
+ghost use Rattle.line_filter.specs.CallLogs.{StaysWell, FailsLast};
 ghost use Rattle.line_filter.specs.Growth.{Writes, WritesFront};
 ghost use Rattle.line_filter.specs.Kept.{StopsWithin};
 ghost use Rattle.line_filter.specs.LineItems.{lines, SaysTheSame};
@@ -11,12 +11,12 @@ ghost use Rattle.line_filter.specs.private.Reading.{IsUnread, ReadsOn};
 ghost use Rattle.line_filter.specs.private.Walk.{GoesOn, IsUnwritten, fault_stop};
 
 use super::device::{NotWritten, Reads, Writes};
-use super::finding::find;
 use super::item_outcome::{count_where, keep_where, settle};
 use super::judge::Judge;
+use super::line_class::find;
 use super::line_reader::{LineFault, LineReader, Next};
 use super::output::release;
-use super::run_stop::Stop;
+use super::run_stop::RunStop;
 use super::tally::Tally;
 use std::alloc::Global;
 use std::io::{Read, Write};
@@ -50,13 +50,13 @@ fn next_line<R: Read, S: Reads<R>, W: Write, T: Writes<W>>(
 }
 
 /// What a run returns where the line of this number does not come.
-fn fault_stop<F>(fault: LineFault, line: u64) -> Stop<F>
+fn fault_stop<F>(fault: LineFault, line: u64) -> RunStop<F>
     ensures { result ≡ fault_stop fault line }
 {
     match fault {
-        LineFault::TooLong => Stop::TooLong { line },
-        LineFault::Read => Stop::Read { line },
-        LineFault::Memory => Stop::Memory { line },
+        LineFault::TooLong => RunStop::TooLong { line },
+        LineFault::Read => RunStop::Read { line },
+        LineFault::Memory => RunStop::Memory { line },
     }
 }
 
@@ -66,7 +66,7 @@ fn judge_stream<R: Read, S: Reads<R>, J: Judge, W: Write, T: Writes<W>>(
     reader: &mut LineReader<R>,
     out: &mut W,
     held: &mut Vec<u8>,
-) -> Result<Result<Tally, Stop<J::Fault>>, NotWritten>
+) -> Result<Result<Tally, RunStop<J::Fault>>, NotWritten>
     requires none_held { held.old.items ≡ [] }
     requires few { bytes_to_come reader.old < 2 ^ 64 - 1 }
     ensures ok { IfOk result (λ outcome. IfSome (left_of R.remaining reader.old) (λ bytes. (text : List ℕ)
@@ -124,7 +124,7 @@ pub fn write_kept_stream<R: Read, S: Reads<R>, J: Judge, W: Write, T: Writes<W>>
     judge: &mut J,
     reader: &mut LineReader<R>,
     out: &mut W,
-) -> Result<Result<Tally, Stop<J::Fault>>, NotWritten>
+) -> Result<Result<Tally, RunStop<J::Fault>>, NotWritten>
     ensures ok { IfOk result (λ outcome. IfSome (left_of R.remaining reader.old) (λ bytes.
         Writes (W.contents out.old) (W.contents out.new)
         (λ text. GoesOn (J.says judge.old) bytes reader.new.waiting (R.remaining reader.new.reader) text outcome))) }

@@ -33,7 +33,8 @@ node_put list place put text =
 abbrev pub number_put : FlatTree → ℕ → CheckedNode → ℤ → FlatTree
 number_put list place found number =
     record list {
-      nodes = slice_set list.nodes place (record found { kind = NodeKind.Literal LiteralKind.Str (length list.values) });
+      nodes = slice_set list.nodes place
+          (record found { kind = NodeKind.Literal LiteralKind.Str (length list.values) });
       values = list.values ++ Value.Enum number ∷ [];
     }
 

@@ -125,16 +125,16 @@ abbrev pub InLine : List (ℕ → ℕ → Type 0) → ℕ → ℕ → Type 0
 InLine [] i j = i ≡ j
 InLine (Part ∷ parts) i j = SideBySide (λ middle. Part i middle) (λ middle. InLine parts middle j)
 
--- the nodes from the i-th up to the j-th are one, of a String literal that is read as a number of an enumeration and has
--- this number as its value
+-- the nodes from the i-th up to the j-th are one, of a String literal that is read as a number of an enumeration and
+-- has this number as its value
 abbrev pub NumberStands : SchemaModel → ℕ → Scope → FlatTree → ℤ → ℕ → ℕ → Tree → Type 0
 NumberStands schema n scope list number i j (node start stop (literal LiteralKind.Str spelling)) =
     HasTop (IsTop schema n scope list i j start stop (literal LiteralKind.Str spelling)
     (HasValue list.values (λ value. value ≡ Value.Enum number))) (i + 1 ≡ j)
 NumberStands schema n scope list number i j _ = ⊥
 
--- beside an operand of one of these types: such a literal, where the tree is read there; else what stands for the tree by
--- itself (OData URL Conventions 4.01, section 5.1.1.1)
+-- beside an operand of one of these types: such a literal, where the tree is read there; else what stands for the tree
+-- by itself (OData URL Conventions 4.01, section 5.1.1.1)
 abbrev pub BesideStands :
     SchemaModel → ℕ → Scope → FlatTree → (ExprType → Type 0) → Tree → (ℕ → ℕ → Type 0) → ℕ → ℕ → Type 0
 BesideStands schema n scope list Beside tree Alone i j =
@@ -160,7 +160,8 @@ abbrev mutual
   child_parts schema n scope list (negation operand) = (λ i j. Stands schema n scope list i j operand) ∷ []
   child_parts schema n scope list (logical_not operand) = (λ i j. Stands schema n scope list i j operand) ∷ []
   child_parts schema n scope list (binary operator left right) =
-      BesideStands schema n scope list (OfEquality operator (Typed (slots_of schema) (type_name_at schema n) scope right))
+      BesideStands schema n scope list
+      (OfEquality operator (Typed (slots_of schema) (type_name_at schema n) scope right))
       left (λ i j. Stands schema n scope list i j left)
       ∷ BesideStands schema n scope list
       (OfEquality operator (Typed (slots_of schema) (type_name_at schema n) scope left)) right

@@ -1,12 +1,12 @@
 -- Definitions that private clauses alone cite.
-pub mod CalledKinds
-pub mod CanonicalWalk
-pub mod ExplanationWalk
+pub mod Called
+pub mod CanonicalText
+pub mod Explanation
 pub mod KeptLists
 pub mod KindTexts
 pub mod LambdaLines
 pub mod Layout
-pub mod NeededWalk
-pub mod NodeRanges
+pub mod NeededPaths
+pub mod NodeList
 pub mod PathSteps
-pub mod PathWalk
+pub mod PropertyPaths

@@ -1,7 +1,7 @@
 //! Which functions the nodes of a list call.
 ghost use Rattle.std.specs.Prelude.{◌≡◌};
 ghost use Rattle.std.specs.List.{list_any};
-ghost use Rattle.odata_checked_filter.specs.private.CalledKinds.{function_makes_text, kind_is_now, kind_makes_text};
+ghost use Rattle.odata_checked_filter.specs.private.Called.{function_makes_text, kind_is_now, kind_makes_text};
 
 use super::checked_node::{CheckedNode, NodeKind};
 use odata_signatures::Function;

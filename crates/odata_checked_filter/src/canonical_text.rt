@@ -2,11 +2,11 @@
 ghost use Rattle.std.specs.Prelude.{◌≡◌, ℕ, ◌+◌, ◌∷◌, [], ◌++◌, ◌<◌, IfOk, None, OnOk, length, string_bytes};
 ghost use Rattle.odata_syntax.specs.CanonicalText.{IsCanonicalText};
 ghost use Rattle.odata_checked_filter.specs.FlatTree.{tree_of_nodes};
-ghost use Rattle.odata_checked_filter.specs.private.CanonicalWalk.{AreFurtherPut, HasTreeAt, IsCallAt, IsPieceOf};
-ghost use Rattle.odata_checked_filter.specs.private.CanonicalWalk.{IsTextAdded, Piece, StandsThere, WritesNode};
-ghost use Rattle.odata_checked_filter.specs.private.CanonicalWalk.{WritesPart, arguments_of, behind_kind, behind_of};
-ghost use Rattle.odata_checked_filter.specs.private.CanonicalWalk.{closing, first_operand, opening, operand_of};
-ghost use Rattle.odata_checked_filter.specs.private.CanonicalWalk.{spread, stop_at};
+ghost use Rattle.odata_checked_filter.specs.private.CanonicalText.{AreFurtherPut, HasTreeAt, IsCallAt, IsPieceOf};
+ghost use Rattle.odata_checked_filter.specs.private.CanonicalText.{IsTextAdded, Piece, StandsThere, WritesNode};
+ghost use Rattle.odata_checked_filter.specs.private.CanonicalText.{WritesTask, arguments_of, behind_kind, behind_of};
+ghost use Rattle.odata_checked_filter.specs.private.CanonicalText.{closing, first_operand, opening, operand_of};
+ghost use Rattle.odata_checked_filter.specs.private.CanonicalText.{spread, stop_at};
 ghost use Rattle.odata_checked_filter.specs.private.KindTexts.{joint_text, quantifier_joint};
 
 use super::checked_node::NodeKind;
@@ -19,7 +19,7 @@ use std::alloc::{AllocError, Global};
 
 /// What is still to be written.
 #[derive(Clone, Copy, Debug)]
-pub(crate) enum Part {
+pub(crate) enum PrintTask {
     /// The node at an index, in parentheses where it binds less tightly than needed.
     Operand { place: usize, needed: u8 },
     /// What the node at an index has after its first operand.
@@ -38,32 +38,32 @@ pub(crate) fn text_of_list(alloc: Global, list: &NodeList) -> Result<String, All
 {
     let mut text = String::with_capacity(alloc, list.source_len())?;
     let mut pending = Vec::new(alloc);
-    pending.push(Part::Operand {
+    pending.push(PrintTask::Operand {
         place: 0,
         needed: 0,
     })?;
-    while let Some(part) = pending.pop() {
-        write_part(list, part, &mut text, &mut pending)?;
+    while let Some(task) = pending.pop() {
+        write_task(list, task, &mut text, &mut pending)?;
     }
     Ok(text)
 }
 
 /// Writes a part, or its beginning, and puts the rest on the stack.
-fn write_part(
+fn write_task(
     list: &NodeList,
-    part: Part,
+    task: PrintTask,
     text: &mut String,
-    pending: &mut Vec<Part>,
+    pending: &mut Vec<PrintTask>,
 ) -> Result<(), AllocError>
-    requires { (piece : Piece) × IsPieceOf list.now part piece }
-    ensures { OnOk result (WritesPart list.now part [] (string_bytes text.old) (string_bytes text.new)
-        (spread list.now pending.old.items ++ behind_of list.now part) (spread list.now pending.new.items)) }
+    requires { (piece : Piece) × IsPieceOf list.now task piece }
+    ensures { OnOk result (WritesTask list.now task [] (string_bytes text.old) (string_bytes text.new)
+        (spread list.now pending.old.items ++ behind_of list.now task) (spread list.now pending.new.items)) }
 {
-    match part {
-        Part::Operand { place, needed } => write_operand(list, place, needed, text, pending),
-        Part::Joint { place } => write_joint(list, place, text, pending),
-        Part::Further { place, stop } => write_further(list, place, stop, text, pending),
-        Part::Close => write_close(text),
+    match task {
+        PrintTask::Operand { place, needed } => write_operand(list, place, needed, text, pending),
+        PrintTask::Joint { place } => write_joint(list, place, text, pending),
+        PrintTask::Further { place, stop } => write_further(list, place, stop, text, pending),
+        PrintTask::Close => write_close(text),
     }
 }
 
@@ -72,11 +72,12 @@ fn write_joint(
     list: &NodeList,
     place: usize,
     text: &mut String,
-    pending: &mut Vec<Part>,
+    pending: &mut Vec<PrintTask>,
 ) -> Result<(), AllocError>
-    requires { (piece : Piece) × IsPieceOf list.now (Part.Joint place) piece }
-    ensures { OnOk result (WritesPart list.now (Part.Joint place) [] (string_bytes text.old) (string_bytes text.new)
-        (spread list.now pending.old.items ++ behind_of list.now (Part.Joint place))
+    requires { (piece : Piece) × IsPieceOf list.now (PrintTask.Joint place) piece }
+    ensures { OnOk result
+        (WritesTask list.now (PrintTask.Joint place) [] (string_bytes text.old) (string_bytes text.new)
+        (spread list.now pending.old.items ++ behind_of list.now (PrintTask.Joint place))
         (spread list.now pending.new.items)) }
 {
     let count = list.nodes().len();
@@ -139,10 +140,10 @@ fn write_operand(
     place: usize,
     needed: u8,
     text: &mut String,
-    pending: &mut Vec<Part>,
+    pending: &mut Vec<PrintTask>,
 ) -> Result<(), AllocError>
     requires { HasTreeAt list.now place }
-    ensures { OnOk result (WritesPart list.now (Part.Operand place needed) [] (string_bytes text.old)
+    ensures { OnOk result (WritesTask list.now (PrintTask.Operand place needed) [] (string_bytes text.old)
         (string_bytes text.new) (spread list.now pending.old.items) (spread list.now pending.new.items)) }
 {
     let count = list.nodes().len();
@@ -163,10 +164,10 @@ fn write_front(
     place: usize,
     needed: u8,
     text: &mut String,
-    pending: &mut Vec<Part>,
+    pending: &mut Vec<PrintTask>,
 ) -> Result<Option<u8>, AllocError>
     requires { HasTreeAt list.now place }
-    ensures { IfOk result (λ first. WritesPart list.now (Part.Operand place needed) (first_operand place first)
+    ensures { IfOk result (λ first. WritesTask list.now (PrintTask.Operand place needed) (first_operand place first)
         (string_bytes text.old) (string_bytes text.new) (spread list.now pending.old.items)
         (spread list.now pending.new.items)) }
 {
@@ -180,7 +181,7 @@ fn write_node(
     list: &NodeList,
     place: usize,
     text: &mut String,
-    pending: &mut Vec<Part>,
+    pending: &mut Vec<PrintTask>,
 ) -> Result<Option<u8>, AllocError>
     requires { HasTreeAt list.now place }
     ensures { IfOk result (λ first. WritesNode list.now place (first_operand place first) (string_bytes text.old)
@@ -211,7 +212,7 @@ fn write_node(
             Ok(Some(UNARY))
         }
         _ => {
-            pending.push(Part::Joint { place })?;
+            pending.push(PrintTask::Joint { place })?;
             Ok(Some(first_level(node.kind)))
         }
     }
@@ -233,7 +234,7 @@ fn write_call(
     place: usize,
     name: &str,
     text: &mut String,
-    pending: &mut Vec<Part>,
+    pending: &mut Vec<PrintTask>,
 ) -> Result<Option<u8>, AllocError>
     requires there { HasTreeAt list.now place }
     requires called { IsCallAt list.now place name.now }
@@ -255,7 +256,7 @@ fn write_further(
     place: usize,
     stop: usize,
     text: &mut String,
-    pending: &mut Vec<Part>,
+    pending: &mut Vec<PrintTask>,
 ) -> Result<(), AllocError>
     requires { place < stop → place < length list.now.nodes }
     ensures { OnOk result (AreFurtherPut list.now place stop (string_bytes text.old) (string_bytes text.new)
@@ -272,21 +273,25 @@ fn put_arguments(
     list: &NodeList,
     place: usize,
     stop: usize,
-    pending: &mut Vec<Part>,
+    pending: &mut Vec<PrintTask>,
 ) -> Result<(), AllocError>
     requires { place < stop → place < length list.now.nodes }
     ensures { OnOk result (pending.new.items ≡ pending.old.items ++ arguments_of list.now place stop) }
 {
     if place < stop {
         let next = list.node(place).stop;
-        pending.push(Part::Further { place: next, stop })?;
-        pending.push(Part::Operand { place, needed: 0 })?;
+        pending.push(PrintTask::Further { place: next, stop })?;
+        pending.push(PrintTask::Operand { place, needed: 0 })?;
     }
     Ok(())
 }
 
 /// Writes `(`, and puts its end on the stack, where an operand is to stand in parentheses.
-fn open_loose(is_loose: bool, text: &mut String, pending: &mut Vec<Part>) -> Result<(), AllocError>
+fn open_loose(
+    is_loose: bool,
+    text: &mut String,
+    pending: &mut Vec<PrintTask>,
+) -> Result<(), AllocError>
     ensures text { OnOk result (string_bytes text.new ≡ string_bytes text.old ++ opening is_loose) }
     ensures pending { OnOk result (pending.new.items ≡ pending.old.items ++ closing is_loose) }
 {
@@ -297,12 +302,12 @@ fn open_loose(is_loose: bool, text: &mut String, pending: &mut Vec<Part>) -> Res
 }
 
 /// Writes `(`, and puts its end on the stack.
-fn open_group(text: &mut String, pending: &mut Vec<Part>) -> Result<(), AllocError>
+fn open_group(text: &mut String, pending: &mut Vec<PrintTask>) -> Result<(), AllocError>
     ensures text { OnOk result (string_bytes text.new ≡ string_bytes text.old ++ 40 ∷ []) }
-    ensures pending { OnOk result (pending.new.items ≡ pending.old.items ++ Part.Close ∷ []) }
+    ensures pending { OnOk result (pending.new.items ≡ pending.old.items ++ PrintTask.Close ∷ []) }
 {
     text.push('(')?;
-    pending.push(Part::Close)?;
+    pending.push(PrintTask::Close)?;
     Ok(())
 }
 
@@ -320,7 +325,7 @@ fn put_behind(
     kind: NodeKind,
     second: usize,
     stop: usize,
-    pending: &mut Vec<Part>,
+    pending: &mut Vec<PrintTask>,
 ) -> Result<(), AllocError>
     requires { second < stop → second < length list.now.nodes }
     ensures { OnOk result (pending.new.items ≡ pending.old.items ++ behind_kind list.now kind second stop) }
@@ -340,27 +345,28 @@ fn put_items(
     list: &NodeList,
     place: usize,
     stop: usize,
-    pending: &mut Vec<Part>,
+    pending: &mut Vec<PrintTask>,
 ) -> Result<(), AllocError>
     requires { place < stop → place < length list.now.nodes }
-    ensures { OnOk result (pending.new.items ≡ pending.old.items ++ (Part.Close ∷ arguments_of list.now place stop)) }
+    ensures { OnOk result
+        (pending.new.items ≡ pending.old.items ++ (PrintTask.Close ∷ arguments_of list.now place stop)) }
 {
-    pending.push(Part::Close)?;
+    pending.push(PrintTask::Close)?;
     put_arguments(list, place, stop, pending)
 }
 
 /// Puts the body of a lambda operator on the stack, and `)` below it.
-fn put_body(place: usize, pending: &mut Vec<Part>) -> Result<(), AllocError>
-    ensures { OnOk result (pending.new.items ≡ pending.old.items ++ (Part.Close ∷ operand_of place 0)) }
+fn put_body(place: usize, pending: &mut Vec<PrintTask>) -> Result<(), AllocError>
+    ensures { OnOk result (pending.new.items ≡ pending.old.items ++ (PrintTask.Close ∷ operand_of place 0)) }
 {
-    pending.push(Part::Close)?;
+    pending.push(PrintTask::Close)?;
     put_operand(place, 0, pending)
 }
 
 /// Puts an operand on the stack.
-fn put_operand(place: usize, needed: u8, pending: &mut Vec<Part>) -> Result<(), AllocError>
+fn put_operand(place: usize, needed: u8, pending: &mut Vec<PrintTask>) -> Result<(), AllocError>
     ensures { OnOk result (pending.new.items ≡ pending.old.items ++ operand_of place needed) }
 {
-    pending.push(Part::Operand { place, needed })?;
+    pending.push(PrintTask::Operand { place, needed })?;
     Ok(())
 }

@@ -17,8 +17,8 @@ use super::called::{any_maker, any_now};
 use super::canonical_text::text_of_list;
 use super::checked_node::{CheckedNode, NodeKind};
 use super::explanation::explanation_of;
-use super::kept_list::KeptList;
 use super::lambda_depth::deepest;
+use super::list_cow::ListCow;
 use super::node_list::NodeList;
 use super::property_paths::paths_of_list;
 use csdl_schema::{Expansion, Schema, TypeId};
@@ -33,7 +33,7 @@ use std::marker::Model;
 pub struct Checked<'s> {
     schema: &'s Schema,
     filtered_type: TypeId,
-    list: KeptList<'s>,
+    list: ListCow<'s>,
 }
 
 impl<'s> Model for Checked<'s> {
@@ -67,11 +67,11 @@ impl<'s> Checked<'s> {
         requires { IsFilter (filter_of schema.now filtered_type list expansion) }
         ensures { result ≡ filter_of schema.entry.now filtered_type list expansion }
     {
-        Checked::of(schema, filtered_type, KeptList::Own(list, expansion))
+        Checked::of(schema, filtered_type, ListCow::Own(list, expansion))
     }
 
     /// The same, wherever the list is stored.
-    pub(crate) fn of(schema: &'s Schema, filtered_type: TypeId, list: KeptList<'s>) -> Checked<'s>
+    pub(crate) fn of(schema: &'s Schema, filtered_type: TypeId, list: ListCow<'s>) -> Checked<'s>
         requires { IsFilter (filter_of schema.now filtered_type (list_in list) (expansion_in list)) }
         ensures { result ≡ filter_of schema.entry.now filtered_type (list_in list.entry) (expansion_in list.entry) }
     {

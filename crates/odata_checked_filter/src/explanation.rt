@@ -4,7 +4,7 @@ ghost use Rattle.std.specs.Prelude.{replicate, string_bytes, IfOk, OnOk};
 ghost use Rattle.odata_syntax.specs.Lexeme.{quantifier_word};
 ghost use Rattle.odata_checked_filter.specs.Explanation.{IsExplanation, span_text};
 ghost use Rattle.odata_checked_filter.specs.TypeText.{primitive_name, type_text, value_type_text};
-ghost use Rattle.odata_checked_filter.specs.private.ExplanationWalk.{IsLinePut, kind_label, listed_line, still_around};
+ghost use Rattle.odata_checked_filter.specs.private.Explanation.{IsLinePut, kind_label, listed_line, still_around};
 
 use super::checked::Checked;
 use super::checked_node::{CheckedNode, NodeKind};

@@ -10,12 +10,12 @@ ghost use Rattle.odata_checked_filter.specs.Filter.{HasNeededPaths};
 ghost use Rattle.odata_checked_filter.specs.FlatTree.{tree_of_nodes};
 ghost use Rattle.odata_checked_filter.specs.private.Layout.{Lies};
 ghost use Rattle.odata_checked_filter.specs.Stands.{Stands};
-ghost use Rattle.odata_checked_filter.specs.private.NeededWalk.{ArePlacesOf, AreTreesThere, HasTypedTree, IsLambdaOf};
-ghost use Rattle.odata_checked_filter.specs.private.NeededWalk.{IsLambdaThere, IsNodeAtLevel, IsPathEnd, IsPutFrom};
-ghost use Rattle.odata_checked_filter.specs.private.NeededWalk.{IsStepOn, IsTargetAt};
-ghost use Rattle.odata_checked_filter.specs.private.NeededWalk.{IsTreeThere, IsWithoutTarget, LambdaNeeds};
-ghost use Rattle.odata_checked_filter.specs.private.NeededWalk.{LeadThere, NeedsAmong};
-ghost use Rattle.odata_checked_filter.specs.private.NeededWalk.{Puts, StandInLine, need_class, node_of_level, nodes_in, root_there, slots_there};
+ghost use Rattle.odata_checked_filter.specs.private.NeededPaths.{ArePlacesOf, AreTreesThere, HasTypedTree, IsLambdaOf};
+ghost use Rattle.odata_checked_filter.specs.private.NeededPaths.{IsLambdaThere, IsNodeAtLevel, IsPathEnd, IsPutFrom};
+ghost use Rattle.odata_checked_filter.specs.private.NeededPaths.{IsStepOn, IsTargetAt};
+ghost use Rattle.odata_checked_filter.specs.private.NeededPaths.{IsTreeThere, IsWithoutTarget, LambdaNeeds};
+ghost use Rattle.odata_checked_filter.specs.private.NeededPaths.{LeadThere, NeedsAmong};
+ghost use Rattle.odata_checked_filter.specs.private.NeededPaths.{Puts, StandInLine, need_class, node_of_level, nodes_in, root_there, slots_there};
 ghost use Rattle.odata_checked_filter.specs.private.PathSteps.{IsStepAt};
 
 use super::checked_node::NodeKind;
@@ -27,7 +27,7 @@ use std::alloc::{AllocError, Global};
 
 /// What a walk over a list goes by.
 #[derive(Clone, Copy)]
-struct ListScene<'e> {
+struct ListContext<'e> {
     schema: &'e Schema,
     filtered_type: TypeId,
     list: &'e NodeList,
@@ -81,14 +81,14 @@ pub fn expansion_of(
     requires { Stands schema.now filtered_type [] list.now 0 (length list.now.nodes) (tree_of_nodes list.now) }
     ensures { IfOk result (HasNeededPaths schema.now filtered_type list.now) }
 {
-    let scene = ListScene {
+    let context = ListContext {
         schema,
         filtered_type,
         list,
     };
     let mut expansion = Expansion::none(alloc);
     let stop = list.nodes().len();
-    expand(&scene, 0, stop, &VariableNodes::Empty, &mut expansion)?;
+    expand(&context, 0, stop, &VariableNodes::Empty, &mut expansion)?;
     Ok(without_idle_steps(alloc, expansion))
 }
 
@@ -108,29 +108,29 @@ fn without_idle_steps(alloc: Global, expansion: Expansion) -> Expansion
 /// by a further call, so as many calls wait as operators stand in one another.
 #[cycle(expand)]
 fn expand(
-    scene: &ListScene<'_>,
+    context: &ListContext<'_>,
     from: usize,
     stop: usize,
     variables: &VariableNodes<'_>,
     expansion: &mut Expansion,
 ) -> Result<(), AllocError>
-    requires { AreTreesThere scene.now expansion.old (nodes_in variables.now) from stop }
+    requires { AreTreesThere context.now expansion.old (nodes_in variables.now) from stop }
     ensures { (scope : Scope) (paths : VariablePaths) (trees : List Tree)
-        → StandInLine scene.now.schema.now scene.now.filtered_type scope scene.now.list.now from stop trees
+        → StandInLine context.now.schema.now context.now.filtered_type scope context.now.list.now from stop trees
         → LeadThere expansion.old scope paths (nodes_in variables.now)
         → OnOk result (Puts expansion.old expansion.new
-        (NeedsAmong (slots_there scene.now) (root_there scene.now) scope paths trees)) }
+        (NeedsAmong (slots_there context.now) (root_there context.now) scope paths trees)) }
 {
     let mut place = from;
     while place < stop {
-        match need_class(scene.list.node(place).kind) {
+        match need_class(context.list.node(place).kind) {
             NeedClass::Lambda => {
-                let places = lambda_places(scene.list, place);
-                expand_lambda(scene, &places, variables, expansion)?;
+                let places = lambda_places(context.list, place);
+                expand_lambda(context, &places, variables, expansion)?;
                 place = places.stop;
             }
             NeedClass::Path => {
-                let base = expand_operand(scene, place, variables, expansion)?;
+                let base = expand_operand(context, place, variables, expansion)?;
                 place = base.max(place + 1);
             }
             NeedClass::Children => place += 1,
@@ -143,23 +143,23 @@ fn expand(
 /// path.
 #[cycle(expand)]
 fn expand_lambda(
-    scene: &ListScene<'_>,
+    context: &ListContext<'_>,
     places: &LambdaPlaces,
     variables: &VariableNodes<'_>,
     expansion: &mut Expansion,
 ) -> Result<(), AllocError>
-    requires { IsLambdaThere scene.now expansion.old (nodes_in variables.now) places.now }
+    requires { IsLambdaThere context.now expansion.old (nodes_in variables.now) places.now }
     ensures { (scope : Scope) (paths : VariablePaths) (base : Tree) (variable : List ℕ) (body : Tree)
-        → IsLambdaOf scene.now scope places.now base variable body
+        → IsLambdaOf context.now scope places.now base variable body
         → LeadThere expansion.old scope paths (nodes_in variables.now)
         → OnOk result (Puts expansion.old expansion.new
-        (LambdaNeeds (slots_there scene.now) (root_there scene.now) scope paths base variable body)) }
+        (LambdaNeeds (slots_there context.now) (root_there context.now) scope paths base variable body)) }
 {
     trees_have_one_type();
-    expand(scene, places.base, places.body, variables, expansion)?;
-    let base = expand_path(scene, places.base, variables, expansion)?;
+    expand(context, places.base, places.body, variables, expansion)?;
+    let base = expand_path(context, places.base, variables, expansion)?;
     let inner = VariableNodes::Bound(base.node, &*variables);
-    expand(scene, places.body, places.stop, &inner, expansion)
+    expand(context, places.body, places.stop, &inner, expansion)
 }
 
 fn need_class(kind: NodeKind) -> NeedClass
@@ -189,34 +189,34 @@ fn lambda_places(list: &NodeList, place: usize) -> LambdaPlaces
 /// Puts what a path of steps needs into the set, and answers where it begins. No step is put for a property alone that
 /// has no target.
 fn expand_operand(
-    scene: &ListScene<'_>,
+    context: &ListContext<'_>,
     place: usize,
     variables: &VariableNodes<'_>,
     expansion: &mut Expansion,
 ) -> Result<usize, AllocError>
-    requires { IsTreeThere scene.now expansion.old (nodes_in variables.now) place }
+    requires { IsTreeThere context.now expansion.old (nodes_in variables.now) place }
     ensures { (scope : Scope) (paths : VariablePaths) (stop : ℕ) (tree : Tree)
-        → Lies scene.now.schema.now scene.now.filtered_type scope scene.now.list.now place stop tree
+        → Lies context.now.schema.now context.now.filtered_type scope context.now.list.now place stop tree
         → LeadThere expansion.old scope paths (nodes_in variables.now)
-        → IfOk result (IsPutFrom (slots_there scene.now) (root_there scene.now) scope paths expansion.old
+        → IfOk result (IsPutFrom (slots_there context.now) (root_there context.now) scope paths expansion.old
         expansion.new place tree) }
 {
-    if has_no_target(scene, scene.list.node(place).kind) {
+    if has_no_target(context, context.list.node(place).kind) {
         return Ok(place);
     }
-    let end = expand_path(scene, place, variables, expansion)?;
+    let end = expand_path(context, place, variables, expansion)?;
     Ok(end.base)
 }
 
 /// Whether a node of that kind is a property of the filtered type without a target.
-fn has_no_target(scene: &ListScene<'_>, kind: NodeKind) -> bool
+fn has_no_target(context: &ListContext<'_>, kind: NodeKind) -> bool
     requires { (slot : ℕ) → kind ≡ NodeKind.Property slot
-        → slot < length (properties_at scene.now.schema.now scene.now.filtered_type) }
-    ensures { IsWithoutTarget scene.now.schema.now scene.now.filtered_type kind result }
+        → slot < length (properties_at context.now.schema.now context.now.filtered_type) }
+    ensures { IsWithoutTarget context.now.schema.now context.now.filtered_type kind result }
 {
     match kind {
         NodeKind::Property { slot } => {
-            let property = scene.schema.property(scene.filtered_type, slot);
+            let property = context.schema.property(context.filtered_type, slot);
             property.target().is_none()
         }
         _ => false,
@@ -225,26 +225,26 @@ fn has_no_target(scene: &ListScene<'_>, kind: NodeKind) -> bool
 
 /// Puts what a path of steps needs into the set, and answers where it ends. Its steps are taken from the first one on.
 fn expand_path(
-    scene: &ListScene<'_>,
+    context: &ListContext<'_>,
     place: usize,
     variables: &VariableNodes<'_>,
     expansion: &mut Expansion,
 ) -> Result<PathEnd, AllocError>
-    requires { IsTreeThere scene.now expansion.old (nodes_in variables.now) place }
+    requires { IsTreeThere context.now expansion.old (nodes_in variables.now) place }
     ensures { (scope : Scope) (paths : VariablePaths) (stop : ℕ) (tree : Tree)
-        → Lies scene.now.schema.now scene.now.filtered_type scope scene.now.list.now place stop tree
+        → Lies context.now.schema.now context.now.filtered_type scope context.now.list.now place stop tree
         → LeadThere expansion.old scope paths (nodes_in variables.now)
-        → IfOk result (IsPathEnd (slots_there scene.now) (root_there scene.now) scope paths expansion.old
+        → IfOk result (IsPathEnd (slots_there context.now) (root_there context.now) scope paths expansion.old
         expansion.new place tree) }
 {
     trees_have_one_type();
-    let bottom = path_base(scene.list, place);
-    let mut end = expand_base(scene, bottom, variables, expansion)?;
+    let bottom = path_base(context.list, place);
+    let mut end = expand_base(context, bottom, variables, expansion)?;
     let mut at = bottom;
     while place < at {
         at -= 1;
-        let target = step_target(scene, at);
-        let node = step_to(target, scene.list.text(at), end.node, expansion)?;
+        let target = step_target(context, at);
+        let node = step_to(target, context.list.text(at), end.node, expansion)?;
         end = PathEnd {
             node,
             base: end.base,
@@ -255,23 +255,26 @@ fn expand_path(
 
 /// The same of what a path begins with.
 fn expand_base(
-    scene: &ListScene<'_>,
+    context: &ListContext<'_>,
     place: usize,
     variables: &VariableNodes<'_>,
     expansion: &mut Expansion,
 ) -> Result<PathEnd, AllocError>
-    requires stands { IsTreeThere scene.now expansion.old (nodes_in variables.now) place }
-    requires base { ¬ IsStepAt scene.now.list.now place }
+    requires stands { IsTreeThere context.now expansion.old (nodes_in variables.now) place }
+    requires base { ¬ IsStepAt context.now.list.now place }
     ensures { (scope : Scope) (paths : VariablePaths) (stop : ℕ) (tree : Tree)
-        → Lies scene.now.schema.now scene.now.filtered_type scope scene.now.list.now place stop tree
+        → Lies context.now.schema.now context.now.filtered_type scope context.now.list.now place stop tree
         → LeadThere expansion.old scope paths (nodes_in variables.now)
-        → IfOk result (IsPathEnd (slots_there scene.now) (root_there scene.now) scope paths expansion.old
+        → IfOk result (IsPathEnd (slots_there context.now) (root_there context.now) scope paths expansion.old
         expansion.new place tree) }
 {
-    let name = scene.list.text(place);
-    match scene.list.node(place).kind {
+    let name = context.list.text(place);
+    match context.list.node(place).kind {
         NodeKind::Property { slot } => {
-            let target = scene.schema.property(scene.filtered_type, slot).target();
+            let target = context
+                .schema
+                .property(context.filtered_type, slot)
+                .target();
             let node = step_to(target, name, 0, expansion)?;
             Ok(PathEnd { node, base: place })
         }
@@ -287,15 +290,16 @@ fn expand_base(
 }
 
 /// The target of a step of a path. Nothing else has one.
-fn step_target(scene: &ListScene<'_>, place: usize) -> Option<TypeId>
-    requires { HasTypedTree scene.now place }
-    ensures { (slot id : ℕ) → IsStepOn scene.now.list.now place slot id → IsTargetAt scene.now.schema.now id slot result }
+fn step_target(context: &ListContext<'_>, place: usize) -> Option<TypeId>
+    requires { HasTypedTree context.now place }
+    ensures { (slot id : ℕ) → IsStepOn context.now.list.now place slot id
+        → IsTargetAt context.now.schema.now id slot result }
 {
     trees_have_one_type();
-    match scene.list.node(place).kind {
+    match context.list.node(place).kind {
         NodeKind::Member { slot } => {
-            let base = scene.list.node(place + 1);
-            target_at(scene.schema, &base.edm_type, slot)
+            let base = context.list.node(place + 1);
+            target_at(context.schema, &base.edm_type, slot)
         }
         _ => None,
     }

@@ -35,7 +35,7 @@ const NOWHERE: Span = Span { start: 0, stop: 0 };
 impl Model for NodeList {
     ghost use Rattle.odata_checked_filter.specs.FlatTree.{FlatTree};
     ghost use Rattle.odata_syntax.specs.TextTree.{text_in};
-    ghost use Rattle.odata_checked_filter.specs.private.NodeRanges.{AreRanges};
+    ghost use Rattle.odata_checked_filter.specs.private.NodeList.{AreRanges};
     ghost use Rattle.odata_checked_filter.specs.contracts.checked_node.CheckedNode as checked_node;
     ghost use Rattle.edm_values.specs.contracts.value.Value as value;
     ghost use Rattle.std.specs.Coded.{codes};
@@ -159,7 +159,8 @@ impl NodeList {
         self.texts[place] = NOWHERE;
     }
 
-    /// Gives the String literal at an index a number of an enumeration as its value. After an error the list is unchanged.
+    /// Gives the String literal at an index a number of an enumeration as its value. After an error the list is
+    /// unchanged.
     pub fn put_number(&mut self, place: usize, number: i64) -> Result<(), AllocError>
         requires { place < length self.old.nodes }
         ensures ok { (found : CheckedNode) → slice_get self.old.nodes place ≡ Some found

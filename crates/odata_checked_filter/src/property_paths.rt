@@ -10,8 +10,8 @@ ghost use Rattle.odata_signatures.specs.Typed.{Scope};
 ghost use Rattle.odata_checked_filter.specs.PropertyPaths.{path_text, property_paths, with_step};
 ghost use Rattle.odata_checked_filter.specs.private.LambdaLines.{AreInLine, IsLine, StandsBetween};
 ghost use Rattle.odata_checked_filter.specs.private.PathSteps.{IsStepAt};
-ghost use Rattle.odata_checked_filter.specs.private.PathWalk.{AreBound, HasTree, bound_in, text_named};
-ghost use Rattle.odata_checked_filter.specs.private.PathWalk.{texts_among, with_texts};
+ghost use Rattle.odata_checked_filter.specs.private.PropertyPaths.{AreBound, HasTree, bound_in, text_named};
+ghost use Rattle.odata_checked_filter.specs.private.PropertyPaths.{texts_among, with_texts};
 
 use super::checked_node::NodeKind;
 use super::lambda_depth::is_lambda;
@@ -21,7 +21,7 @@ use std::alloc::{AllocError, Global};
 
 /// A list, and the allocator of the texts that are made of it.
 #[derive(Clone, Copy)]
-struct PathScene<'l> {
+struct PathContext<'l> {
     alloc: Global,
     list: &'l NodeList,
 }
@@ -39,9 +39,15 @@ pub(crate) fn paths_of_list(alloc: Global, list: &NodeList) -> Result<Vec<String
     ensures { (tree : Tree) → StandsBetween list.now 0 (length list.now.nodes) tree
         → IfOk result (λ paths. map string_bytes paths.items ≡ property_paths tree) }
 {
-    let scene = PathScene { alloc, list };
+    let context = PathContext { alloc, list };
     let mut found = Vec::new(alloc);
-    put_paths(&scene, 0, list.nodes().len(), &Variables::Empty, &mut found)?;
+    put_paths(
+        &context,
+        0,
+        list.nodes().len(),
+        &Variables::Empty,
+        &mut found,
+    )?;
     Ok(found)
 }
 
@@ -49,30 +55,30 @@ pub(crate) fn paths_of_list(alloc: Global, list: &NodeList) -> Result<Vec<String
 /// them yet. What stands in a lambda operator is gone through by further calls, so as many calls wait as operators
 /// stand in one another.
 fn put_paths(
-    scene: &PathScene<'_>,
+    context: &PathContext<'_>,
     from: usize,
     stop: usize,
     variables: &Variables<'_>,
     found: &mut Vec<String>,
 ) -> Result<(), AllocError>
-    requires { IsLine scene.now.list.now from stop }
+    requires { IsLine context.now.list.now from stop }
     ensures { (scope : Scope) (paths : VariablePaths) (trees : List Tree)
-        → AreInLine scene.now.list.now from stop trees
+        → AreInLine context.now.list.now from stop trees
         → AreBound scope paths (bound_in variables.now)
         → OnOk result (map string_bytes found.new.items
         ≡ with_texts (map string_bytes found.old.items) (texts_among scope paths trees)) }
 {
     let mut place = from;
     while place < stop {
-        let path = path_at(scene, place, variables)?;
+        let path = path_at(context, place, variables)?;
         put_new(found, path)?;
-        let node = scene.list.node(place);
+        let node = context.list.node(place);
         if is_lambda(&node) {
-            let body = scene.list.node(place + 1).stop;
-            put_paths(scene, place + 1, body, variables, found)?;
-            let base = path_at(scene, place + 1, variables)?;
-            let inner = Variables::Bound(scene.list.text(place), base.as_str(), &*variables);
-            put_paths(scene, body, node.stop, &inner, found)?;
+            let body = context.list.node(place + 1).stop;
+            put_paths(context, place + 1, body, variables, found)?;
+            let base = path_at(context, place + 1, variables)?;
+            let inner = Variables::Bound(context.list.text(place), base.as_str(), &*variables);
+            put_paths(context, body, node.stop, &inner, found)?;
             place = node.stop;
         } else {
             place += 1;
@@ -83,44 +89,44 @@ fn put_paths(
 
 /// The text of the path of the node at an index, empty where it names no property.
 fn path_at(
-    scene: &PathScene<'_>,
+    context: &PathContext<'_>,
     place: usize,
     variables: &Variables<'_>,
 ) -> Result<String, AllocError>
-    requires { HasTree scene.now.list.now place }
+    requires { HasTree context.now.list.now place }
     ensures { (scope : Scope) (paths : VariablePaths) (stop : ℕ) (tree : Tree)
-        → StandsBetween scene.now.list.now place stop tree
+        → StandsBetween context.now.list.now place stop tree
         → AreBound scope paths (bound_in variables.now)
         → IfOk result (λ text. string_bytes text ≡ path_text (path_of scope paths tree)) }
 {
-    let bottom = path_base(scene.list, place);
-    let mut text = base_text(scene, bottom, variables)?;
+    let bottom = path_base(context.list, place);
+    let mut text = base_text(context, bottom, variables)?;
     let mut at = bottom;
     while place < at {
         at -= 1;
-        put_step(&mut text, scene.list.text(at))?;
+        put_step(&mut text, context.list.text(at))?;
     }
     Ok(text)
 }
 
 /// The same of what a path begins with.
 fn base_text(
-    scene: &PathScene<'_>,
+    context: &PathContext<'_>,
     place: usize,
     variables: &Variables<'_>,
 ) -> Result<String, AllocError>
-    requires stands { HasTree scene.now.list.now place }
-    requires base { ¬ IsStepAt scene.now.list.now place }
+    requires stands { HasTree context.now.list.now place }
+    requires base { ¬ IsStepAt context.now.list.now place }
     ensures { (scope : Scope) (paths : VariablePaths) (stop : ℕ) (tree : Tree)
-        → StandsBetween scene.now.list.now place stop tree
+        → StandsBetween context.now.list.now place stop tree
         → AreBound scope paths (bound_in variables.now)
         → IfOk result (λ text. string_bytes text ≡ path_text (path_of scope paths tree)) }
 {
-    let name = scene.list.text(place);
-    match scene.list.node(place).kind {
-        NodeKind::Property { .. } => name_path(scene.alloc, name, variables),
-        NodeKind::Variable { .. } => name_path(scene.alloc, name, variables),
-        _ => Ok(String::new(scene.alloc)),
+    let name = context.list.text(place);
+    match context.list.node(place).kind {
+        NodeKind::Property { .. } => name_path(context.alloc, name, variables),
+        NodeKind::Variable { .. } => name_path(context.alloc, name, variables),
+        _ => Ok(String::new(context.alloc)),
     }
 }
 
@@ -136,7 +142,8 @@ fn put_step(text: &mut String, name: &str) -> Result<(), AllocError>
 
 /// The text of the path of a name: that of a range variable's collection, or else the name.
 fn name_path(alloc: Global, name: &str, variables: &Variables<'_>) -> Result<String, AllocError>
-    ensures { IfOk result (λ text. string_bytes text ≡ unwrap_or (text_named (bound_in variables.now) name.now) name.now) }
+    ensures { IfOk result
+        (λ text. string_bytes text ≡ unwrap_or (text_named (bound_in variables.now) name.now) name.now) }
 {
     match variable_text(variables, name) {
         Some(text) => text.to_owned(alloc),

@@ -2,7 +2,7 @@ ghost use Rattle.std.specs.Prelude.{◌≡◌};
 ghost use Rattle.odata_checked_filter.specs.Filter.{IsFilter, filter_in};
 
 use super::checked::Checked;
-use super::kept_list::KeptList;
+use super::list_cow::ListCow;
 use super::node_list::NodeList;
 use csdl_schema::{Expansion, Schema, TypeId};
 use std::marker::Model;
@@ -49,7 +49,7 @@ impl StoredFilter {
         Checked::of(
             schema,
             self.filtered_type,
-            KeptList::Lent(&self.list, &self.expansion),
+            ListCow::Lent(&self.list, &self.expansion),
         )
     }
 }

@@ -20,4 +20,5 @@ is_listed = node 0 0 (in_list (named (codes "t")) (trees_of_list (null_literal â
 
 -- `1 div 0 eq Tags/any(t:t eq null)`
 abbrev pub fault_first : Shape
-fault_first = binary (BinaryOperator.Comparison ComparisonOperator.Eq) one_div_zero (node 0 0 (over_tags Quantifier.Any is_null))
+fault_first = binary (BinaryOperator.Comparison ComparisonOperator.Eq) one_div_zero
+    (node 0 0 (over_tags Quantifier.Any is_null))

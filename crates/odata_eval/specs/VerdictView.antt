@@ -13,12 +13,12 @@ verdict_val Verdict.False = boolean false
 verdict_val Verdict.Null = null
 
 -- the outcome that an answer reports; none when out of memory
-abbrev pub told_outcome : Result Verdict EvalFault → Option Outcome
-told_outcome (Ok verdict) = Some (gives (verdict_val verdict))
-told_outcome (Err fault) = fault_outcome fault
+abbrev pub reported_outcome : Result Verdict EvalFault → Option Outcome
+reported_outcome (Ok verdict) = Some (gives (verdict_val verdict))
+reported_outcome (Err fault) = fault_outcome fault
 
 -- so of a bounded answer; none where it says only that the bound is too low
-abbrev pub outcome_told : Result Verdict EvalStop → Option Outcome
-outcome_told (Ok verdict) = Some (gives (verdict_val verdict))
-outcome_told (Err (EvalStop.Fault fault)) = fault_outcome fault
-outcome_told (Err EvalStop.TooCostly) = None
+abbrev pub outcome_reported : Result Verdict EvalStop → Option Outcome
+outcome_reported (Ok verdict) = Some (gives (verdict_val verdict))
+outcome_reported (Err (EvalStop.Fault fault)) = fault_outcome fault
+outcome_reported (Err EvalStop.TooCostly) = None

@@ -1,13 +1,13 @@
 -- Definitions that private clauses alone cite.
-pub mod ChainTerms
+pub mod ContextModel
+pub mod EvalContext
 pub mod Frames
 pub mod KeptOperands
 pub mod Lambda
+pub mod LawsBelow
 pub mod Place
-pub mod Rest
-pub mod Scene
-pub mod SceneModel
+pub mod RemainingTerms
 pub mod Spending
+pub mod ValueTests
 pub mod WalkAnswer
 pub mod WalkClass
-pub mod LawsBelow

@@ -1,26 +1,26 @@
 //! The walk of a whole filter. Most are chains of `and` over Boolean properties and comparisons of a property with a
-//! literal or of arithmetic over such numbers, called plain terms here: such a chain is asked from its leftmost term on,
-//! and left at once where a term is false. This alone takes some 135 of 1,470 instructions off a short row whose second
-//! term is false. The plain terms before the first other one are asked of a scene that is not kept in memory, which
-//! takes off another 57 of 1,216.
+//! literal or of arithmetic over such numbers, called plain terms here: such a chain is asked from its leftmost term
+//! on, and left at once where a term is false. This alone takes some 135 of 1,470 instructions off a short row whose
+//! second term is false. The plain terms before the first other one are asked of a context that is not kept in memory,
+//! which takes off another 57 of 1,216.
 ghost use Rattle.std.specs.Prelude.{◌<◌, ℕ, IfSome, IsTrue, Ok, Some};
 ghost use Rattle.odata_eval.specs.private.Place.{HasOperator, PartStands, TruthStands};
-ghost use Rattle.odata_eval.specs.private.Rest.{IsRest, TellsTerms};
+ghost use Rattle.odata_eval.specs.private.RemainingTerms.{IsRemaining, ReportsTerms};
 ghost use Rattle.odata_eval.specs.private.WalkAnswer.{AnswersTruth};
 
+use super::eval_context::EvalContext;
 use super::kept_arithmetic::arithmetic_compared_at;
 use super::kept_terms::kept_truth_at;
 use super::logical::decides;
-use super::part::{WalkClass, is_class_at, right_of};
-use super::scene::Scene;
 use super::walk::term_at;
+use super::walk_operand::{WalkClass, is_class_at, right_of};
 use odata_checked_filter::NodeKind;
 use odata_filter_operations::EvalFault;
 use odata_syntax::{BinaryOperator, LogicalOperator};
 
 /// The terms of a chain of `and` that are left to ask, where those before them are true.
 #[derive(Clone, Copy)]
-pub(crate) struct Rest {
+pub(crate) struct RemainingTerms {
     /// The index of the next one.
     pub term: usize,
     /// How many `and`s stand above the one that joins it; at the leftmost term, above the term.
@@ -33,21 +33,22 @@ pub(crate) enum PlainTerms {
     /// The whole chain evaluates to this.
     Decide(bool),
     /// They are true, and these terms are left.
-    Leave(Rest),
+    Leave(RemainingTerms),
 }
 
-/// What comes of the plain terms before the first other one. All of this is inlined, so that the scene has no address.
+/// What comes of the plain terms before the first other one. All of this is inlined, so that the context has no
+/// address.
 #[inline(always)]
-pub(crate) fn ask_plain_terms(scene: &Scene<'_, '_, '_>) -> PlainTerms
-    requires stands { TruthStands scene.now 0 }
-    ensures { TellsTerms scene.now result }
+pub(crate) fn ask_plain_terms(context: &EvalContext<'_, '_, '_>) -> PlainTerms
+    requires stands { TruthStands context.now 0 }
+    ensures { ReportsTerms context.now result }
 {
-    let ands = ands_end(scene);
+    let ands = ands_end(context);
     let mut at = ands;
     let mut term = at;
     loop {
-        let Some(truth) = plain_term_at(scene, term) else {
-            return PlainTerms::Leave(Rest { term, ands: at });
+        let Some(truth) = plain_term_at(context, term) else {
+            return PlainTerms::Leave(RemainingTerms { term, ands: at });
         };
         if !truth {
             return PlainTerms::Decide(false);
@@ -56,28 +57,28 @@ pub(crate) fn ask_plain_terms(scene: &Scene<'_, '_, '_>) -> PlainTerms
             return PlainTerms::Decide(true);
         }
         at -= 1;
-        term = right_of(scene, at);
+        term = right_of(context, at);
     }
 }
 
 /// The truth value of a plain term, where that is not null.
 #[inline(always)]
-fn plain_term_at(scene: &Scene<'_, '_, '_>, place: usize) -> Option<bool>
-    requires stands { TruthStands scene.now place }
-    ensures { IfSome result (λ truth. AnswersTruth scene.now place (Ok (Some truth))) }
+fn plain_term_at(context: &EvalContext<'_, '_, '_>, place: usize) -> Option<bool>
+    requires stands { TruthStands context.now place }
+    ensures { IfSome result (λ truth. AnswersTruth context.now place (Ok (Some truth))) }
 {
-    if let Some(truth) = kept_truth_at(scene, place) {
+    if let Some(truth) = kept_truth_at(context, place) {
         return Some(truth);
     }
-    let NodeKind::Binary { operator } = scene.node(place).kind else {
+    let NodeKind::Binary { operator } = context.node(place).kind else {
         return None;
     };
     let BinaryOperator::Comparison(comparison) = operator else {
         return None;
     };
-    let _nodes = scene.nodes();
-    if is_class_at(scene, place + 1, WalkClass::Numeric) {
-        arithmetic_compared_at(scene, place, comparison)
+    let _nodes = context.nodes();
+    if is_class_at(context, place + 1, WalkClass::Numeric) {
+        arithmetic_compared_at(context, place, comparison)
     } else {
         None
     }
@@ -85,27 +86,27 @@ fn plain_term_at(scene: &Scene<'_, '_, '_>, place: usize) -> Option<bool>
 
 /// What the chain evaluates to by the terms that are left. Those after a false one are left out together.
 #[inline(always)]
-pub(crate) fn truth_of_rest(
-    scene: &Scene<'_, '_, '_>,
-    rest: Rest,
+pub(crate) fn truth_of_remaining(
+    context: &EvalContext<'_, '_, '_>,
+    remaining: RemainingTerms,
 ) -> Result<Option<bool>, EvalFault>
-    requires stands { TruthStands scene.now 0 }
-    requires rest { IsRest scene.now rest }
-    ensures { AnswersTruth scene.now 0 result }
+    requires stands { TruthStands context.now 0 }
+    requires remaining { IsRemaining context.now remaining }
+    ensures { AnswersTruth context.now 0 result }
 {
-    let mut left = term_at(scene, rest.term)?;
+    let mut left = term_at(context, remaining.term)?;
     if decides(LogicalOperator::And, left) {
         return Ok(left);
     }
-    let mut at = rest.ands;
+    let mut at = remaining.ands;
     while 0 < at {
         at -= 1;
-        let right_place = right_of(scene, at);
-        match kept_truth_at(scene, right_place) {
+        let right_place = right_of(context, at);
+        match kept_truth_at(context, right_place) {
             Some(true) => {}
             Some(false) => return Ok(Some(false)),
             None => {
-                let right = term_at(scene, right_place)?;
+                let right = term_at(context, right_place)?;
                 match right {
                     Some(true) => {}
                     Some(false) => return Ok(Some(false)),
@@ -119,14 +120,14 @@ pub(crate) fn truth_of_rest(
 
 /// The index of the first node that is no `and`.
 #[inline(always)]
-fn ands_end(scene: &Scene<'_, '_, '_>) -> usize
-    requires stands { TruthStands scene.now 0 }
-    ensures stands { TruthStands scene.now result }
-    ensures ands { (k : ℕ) → k < result → HasOperator scene.now.list k (BinaryOperator.Logical LogicalOperator.And) }
+fn ands_end(context: &EvalContext<'_, '_, '_>) -> usize
+    requires stands { TruthStands context.now 0 }
+    ensures stands { TruthStands context.now result }
+    ensures ands { (k : ℕ) → k < result → HasOperator context.now.list k (BinaryOperator.Logical LogicalOperator.And) }
 {
-    let _nodes = scene.nodes();
+    let _nodes = context.nodes();
     let mut place = 0;
-    while is_and(scene, place) {
+    while is_and(context, place) {
         place += 1;
     }
     place
@@ -134,12 +135,12 @@ fn ands_end(scene: &Scene<'_, '_, '_>) -> usize
 
 /// Whether an `and` stands there.
 #[inline(always)]
-fn is_and(scene: &Scene<'_, '_, '_>, place: usize) -> bool
-    requires stands { PartStands scene.now place }
-    ensures { IsTrue result → HasOperator scene.now.list place (BinaryOperator.Logical LogicalOperator.And) }
+fn is_and(context: &EvalContext<'_, '_, '_>, place: usize) -> bool
+    requires stands { PartStands context.now place }
+    ensures { IsTrue result → HasOperator context.now.list place (BinaryOperator.Logical LogicalOperator.And) }
 {
     matches!(
-        scene.node(place).kind,
+        context.node(place).kind,
         NodeKind::Binary {
             operator: BinaryOperator::Logical(LogicalOperator::And)
         }

@@ -6,11 +6,11 @@ ghost use Rattle.odata_checked_filter.specs.Calls.{TakesMemory};
 ghost use Rattle.odata_checked_filter.specs.Filter.{tree_of_filter};
 ghost use Rattle.odata_eval.specs.CostsOn.{KeepsBound};
 ghost use Rattle.odata_eval.specs.MeansOn.{IsTheOutcome};
-ghost use Rattle.odata_eval.specs.VerdictView.{outcome_told};
+ghost use Rattle.odata_eval.specs.VerdictView.{outcome_reported};
 
 use super::budget::Budget;
+use super::eval_context::EvalContext;
 use super::evaluator::verdict_of;
-use super::scene::Scene;
 use super::stop::EvalStop;
 use super::verdict::Verdict;
 use super::walk::truth_at;
@@ -32,17 +32,17 @@ pub fn evaluate_within(
     requires one_schema { checked.now.schema ≡ entity.now.schema }
     requires one_type { checked.now.filtered ≡ entity.now.type_id }
     requires covers { Covers (paths_in entity.now.expansion) (paths_in checked.now.expansion) }
-    ensures outcome { IfSome (outcome_told result)
+    ensures outcome { IfSome (outcome_reported result)
         (IsTheOutcome entity.now now.now (tree_of_filter checked.now)) }
     ensures bound { KeepsBound entity.now now.now (tree_of_filter checked.now) most result }
     ensures no_memory { ¬ TakesMemory (tree_of_filter checked.now) → result ≢ Err (EvalStop.Fault EvalFault.Memory) }
 {
     let _nodes = checked.nodes();
     let moment = Value::Moment(*now);
-    let scene = Scene::of(alloc, checked, entity, now, &moment);
-    scene.ends_once();
-    scene.costs_once();
+    let context = EvalContext::of(alloc, checked, entity, now, &moment);
+    context.ends_once();
+    context.costs_once();
     let mut budget = Budget::Left(most);
-    let truth = truth_at(&scene, 0, &mut budget)?;
+    let truth = truth_at(&context, 0, &mut budget)?;
     Ok(verdict_of(truth))
 }

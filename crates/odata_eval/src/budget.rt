@@ -1,10 +1,10 @@
 //! How many bodies of lambda operators, and items of lists within them, a walk may still ask for.
 ghost use Rattle.std.specs.Prelude.{◌≡◌, ◌≢◌};
 ghost use Rattle.odata_eval.specs.Costs.{item_cost};
-ghost use Rattle.odata_eval.specs.private.SceneModel.{environment_of};
+ghost use Rattle.odata_eval.specs.private.ContextModel.{environment_of};
 ghost use Rattle.odata_eval.specs.private.Spending.{IsTaken, datum_as_stop};
 
-use super::scene::Scene;
+use super::eval_context::EvalContext;
 use super::stop::EvalStop;
 use edm_values::Datum;
 use odata_filter_operations::EvalFault;
@@ -74,10 +74,10 @@ impl Counting for Budget {
 }
 
 /// Takes one for an item of a list within a body, if one is left.
-pub(crate) fn take_item<B: Counting>(scene: &Scene<'_, '_, '_>, budget: &mut B) -> bool
-    ensures { IsTaken result (B.left budget.old) (B.left budget.new) (item_cost (environment_of scene.now)) }
+pub(crate) fn take_item<B: Counting>(context: &EvalContext<'_, '_, '_>, budget: &mut B) -> bool
+    ensures { IsTaken result (B.left budget.old) (B.left budget.new) (item_cost (environment_of context.now)) }
 {
-    if scene.is_within_body() {
+    if context.is_within_body() {
         budget.take_one()
     } else {
         true

@@ -1,18 +1,18 @@
 //! The call that the other modules use.
 ghost use Rattle.std.specs.Prelude.{◌≡◌, ◌≢◌, [], Some, Option, Bool, Err, IfSome};
 ghost use Rattle.odata_eval.specs.MeansOn.{MeansOn, IsTheOutcome};
-ghost use Rattle.odata_eval.specs.VerdictView.{told_outcome, verdict_val};
+ghost use Rattle.odata_eval.specs.VerdictView.{reported_outcome, verdict_val};
 ghost use Rattle.odata_filter_operations.specs.TruthGives.{truth_val};
 ghost use Rattle.odata_checked_filter.specs.Calls.{TakesMemory};
 ghost use Rattle.csdl_schema.specs.ExpansionView.{paths_in};
 ghost use Rattle.csdl_schema.specs.PathSet.{Covers};
 ghost use Rattle.odata_checked_filter.specs.Filter.{tree_of_filter};
-ghost use Rattle.odata_eval.specs.private.Rest.{IsRest, TellsTerms};
-ghost use Rattle.odata_eval.specs.private.Scene.{EndsOnceHere};
-ghost use Rattle.odata_eval.specs.private.SceneModel.{scene_in};
+ghost use Rattle.odata_eval.specs.private.RemainingTerms.{IsRemaining, ReportsTerms};
+ghost use Rattle.odata_eval.specs.private.EvalContext.{EndsOnceHere};
+ghost use Rattle.odata_eval.specs.private.ContextModel.{context_in};
 
-use super::and_chain::{PlainTerms, Rest, ask_plain_terms, truth_of_rest};
-use super::scene::Scene;
+use super::and_chain::{PlainTerms, RemainingTerms, ask_plain_terms, truth_of_remaining};
+use super::eval_context::EvalContext;
 use super::verdict::Verdict;
 use edm_entities::Entity;
 use edm_values::{Moment, Value};
@@ -42,7 +42,7 @@ pub fn evaluate(
     requires one_schema { checked.now.schema ≡ entity.now.schema }
     requires one_type { checked.now.filtered ≡ entity.now.type_id }
     requires covers { Covers (paths_in entity.now.expansion) (paths_in checked.now.expansion) }
-    ensures outcome { IfSome (told_outcome result)
+    ensures outcome { IfSome (reported_outcome result)
         (IsTheOutcome entity.now now.now (tree_of_filter checked.now)) }
     ensures no_memory { ¬ TakesMemory (tree_of_filter checked.now) → result ≢ Err EvalFault.Memory }
 {
@@ -50,11 +50,11 @@ pub fn evaluate(
     let _nodes = checked.nodes();
     match plain_terms_on(alloc, checked, entity, now) {
         PlainTerms::Decide(truth) => Ok(verdict_of(Some(truth))),
-        PlainTerms::Leave(rest) => evaluate_rest(alloc, checked, entity, now, rest),
+        PlainTerms::Leave(remaining) => evaluate_remaining(alloc, checked, entity, now, remaining),
     }
 }
 
-/// What comes of the filter's plain terms on the entity. Their scene is taken apart by the compiler.
+/// What comes of the filter's plain terms on the entity. Their context is taken apart by the compiler.
 #[inline(always)]
 fn plain_terms_on(
     alloc: Global,
@@ -64,36 +64,36 @@ fn plain_terms_on(
 ) -> PlainTerms
     requires one_schema { checked.now.schema ≡ entity.now.schema }
     requires one_type { checked.now.filtered ≡ entity.now.type_id }
-    ensures told { TellsTerms (scene_in entity.now now.now checked.now.list []) result }
-    ensures ends_once { EndsOnceHere (scene_in entity.now now.now checked.now.list []) }
+    ensures reported { ReportsTerms (context_in entity.now now.now checked.now.list []) result }
+    ensures ends_once { EndsOnceHere (context_in entity.now now.now checked.now.list []) }
 {
     let _nodes = checked.nodes();
     let moment = Value::Moment(*now);
-    let scene = Scene::of(alloc, checked, entity, now, &moment);
-    scene.ends_once();
-    ask_plain_terms(&scene)
+    let context = EvalContext::of(alloc, checked, entity, now, &moment);
+    context.ends_once();
+    ask_plain_terms(&context)
 }
 
 /// What the filter says of the entity by the terms that are left.
 #[inline(never)]
-fn evaluate_rest(
+fn evaluate_remaining(
     alloc: Global,
     checked: &Checked<'_>,
     entity: &Entity<'_>,
     now: &Moment,
-    rest: Rest,
+    remaining: RemainingTerms,
 ) -> Result<Verdict, EvalFault>
     requires one_schema { checked.now.schema ≡ entity.now.schema }
     requires one_type { checked.now.filtered ≡ entity.now.type_id }
-    requires rest { IsRest (scene_in entity.now now.now checked.now.list []) rest }
-    ensures outcome { IfSome (told_outcome result)
+    requires remaining { IsRemaining (context_in entity.now now.now checked.now.list []) remaining }
+    ensures outcome { IfSome (reported_outcome result)
         (IsTheOutcome entity.now now.now (tree_of_filter checked.now)) }
     ensures no_memory { ¬ TakesMemory (tree_of_filter checked.now) → result ≢ Err EvalFault.Memory }
 {
     let _nodes = checked.nodes();
     let moment = Value::Moment(*now);
-    let scene = Scene::of(alloc, checked, entity, now, &moment);
-    scene.ends_once();
-    let truth = truth_of_rest(&scene, rest)?;
+    let context = EvalContext::of(alloc, checked, entity, now, &moment);
+    context.ends_once();
+    let truth = truth_of_remaining(&context, remaining)?;
     Ok(verdict_of(truth))
 }

@@ -6,11 +6,11 @@ ghost use Rattle.odata_eval.specs.private.KeptOperands.{AnswersCall, AnswersLast
 ghost use Rattle.odata_eval.specs.private.Place.{HasCall, HasKind, HasOperator, IsClassAt, OperandStands, PartStands};
 ghost use Rattle.odata_eval.specs.private.Spending.{SpendsAt};
 ghost use Rattle.odata_eval.specs.private.WalkAnswer.{AnswersKept, AnswersNumber, AnswersTruth};
-ghost use Rattle.odata_eval.specs.declared.part.WalkClass.{WalkClass as Class};
+ghost use Rattle.odata_eval.specs.declared.walk_operand.WalkClass.{WalkClass as Class};
 ghost use Rattle.odata_eval.specs.declared.budget.Budget.{Budget};
 
-use super::part::{right_of, stop_of};
-use super::scene::Scene;
+use super::eval_context::EvalContext;
+use super::walk_operand::{right_of, stop_of};
 use edm_values::{Datum, Value};
 use odata_checked_filter::NodeKind;
 use odata_filter_operations::{compare_kept, compare_numbers, datum_of, kept_number};
@@ -20,55 +20,55 @@ use odata_syntax::{BinaryOperator, ComparisonOperator};
 
 /// The value to which a path of at most one step from a property, a literal or a variable leads.
 #[inline(always)]
-fn kept_at<'e>(scene: &Scene<'e, '_, '_>, place: usize) -> Option<&'e Value>
-    requires { OperandStands scene.now place }
-    ensures answers { IfSome result (λ value. AnswersKept scene.now place value.now) }
-    ensures path { IfSome result (λ value. IsPathAt scene.now.list place) }
+fn kept_at<'e>(context: &EvalContext<'e, '_, '_>, place: usize) -> Option<&'e Value>
+    requires { OperandStands context.now place }
+    ensures answers { IfSome result (λ value. AnswersKept context.now place value.now) }
+    ensures path { IfSome result (λ value. IsPathAt context.now.list place) }
 {
-    match scene.node(place).kind {
-        NodeKind::Member { slot } => step_at(scene, place, slot),
-        _ => found_at(scene, place),
+    match context.node(place).kind {
+        NodeKind::Member { slot } => step_at(context, place, slot),
+        _ => found_at(context, place),
     }
 }
 
 /// The value of a property, a literal or a variable.
 #[inline(always)]
-fn found_at<'e>(scene: &Scene<'e, '_, '_>, place: usize) -> Option<&'e Value>
-    requires stands { OperandStands scene.now place }
-    ensures answers { IfSome result (λ value. AnswersKept scene.now place value.now) }
-    ensures leaf { IfSome result (λ value. IsClassAt scene.now.list Class.Leaf place) }
+fn found_at<'e>(context: &EvalContext<'e, '_, '_>, place: usize) -> Option<&'e Value>
+    requires stands { OperandStands context.now place }
+    ensures answers { IfSome result (λ value. AnswersKept context.now place value.now) }
+    ensures leaf { IfSome result (λ value. IsClassAt context.now.list Class.Leaf place) }
 {
-    match scene.node(place).kind {
-        NodeKind::Variable { level } => Some(scene.variable(level)),
-        _ => plain_at(scene, place),
+    match context.node(place).kind {
+        NodeKind::Variable { level } => Some(context.variable(level)),
+        _ => plain_at(context, place),
     }
 }
 
-/// The value of a property or a literal, of a scene that needs no address.
+/// The value of a property or a literal, of a context that needs no address.
 #[inline(always)]
-fn plain_at<'e>(scene: &Scene<'e, '_, '_>, place: usize) -> Option<&'e Value>
-    requires stands { OperandStands scene.now place }
-    ensures answers { IfSome result (λ value. AnswersKept scene.now place value.now) }
-    ensures leaf { IfSome result (λ value. IsClassAt scene.now.list Class.Leaf place) }
+fn plain_at<'e>(context: &EvalContext<'e, '_, '_>, place: usize) -> Option<&'e Value>
+    requires stands { OperandStands context.now place }
+    ensures answers { IfSome result (λ value. AnswersKept context.now place value.now) }
+    ensures leaf { IfSome result (λ value. IsClassAt context.now.list Class.Leaf place) }
 {
-    match scene.node(place).kind {
-        NodeKind::Property { slot } => Some(scene.property(slot)),
-        NodeKind::Literal { value, .. } => Some(scene.literal(value)),
+    match context.node(place).kind {
+        NodeKind::Property { slot } => Some(context.property(slot)),
+        NodeKind::Literal { value, .. } => Some(context.literal(value)),
         _ => None,
     }
 }
 
 /// What a kept record has in the slot of a step.
 #[inline(always)]
-fn step_at<'e>(scene: &Scene<'e, '_, '_>, place: usize, slot: usize) -> Option<&'e Value>
-    requires stands { PartStands scene.now place }
-    requires here { HasKind scene.now.list place (Kind.Member slot) }
-    ensures answers { IfSome result (λ value. AnswersKept scene.now place value.now) }
-    ensures base { IfSome result (λ value. IsClassAt scene.now.list Class.Leaf (place + 1)) }
+fn step_at<'e>(context: &EvalContext<'e, '_, '_>, place: usize, slot: usize) -> Option<&'e Value>
+    requires stands { PartStands context.now place }
+    requires here { HasKind context.now.list place (Kind.Member slot) }
+    ensures answers { IfSome result (λ value. AnswersKept context.now place value.now) }
+    ensures base { IfSome result (λ value. IsClassAt context.now.list Class.Leaf (place + 1)) }
 {
     trees_have_one_type();
-    let _nodes = scene.nodes();
-    let Some(base) = found_at(scene, place + 1) else {
+    let _nodes = context.nodes();
+    let Some(base) = found_at(context, place + 1) else {
         return None;
     };
     let fields = match datum_of(base) {
@@ -83,11 +83,11 @@ fn step_at<'e>(scene: &Scene<'e, '_, '_>, place: usize, slot: usize) -> Option<&
 
 /// The kept text to which such a path leads.
 #[inline(always)]
-fn kept_text_at<'e>(scene: &Scene<'e, '_, '_>, place: usize) -> Option<&'e str>
-    requires { PartStands scene.now place }
-    ensures { IfSome result (λ given. AnswersText scene.now place given.now) }
+fn kept_text_at<'e>(context: &EvalContext<'e, '_, '_>, place: usize) -> Option<&'e str>
+    requires { PartStands context.now place }
+    ensures { IfSome result (λ given. AnswersText context.now place given.now) }
 {
-    let Some(value) = kept_at(scene, place) else {
+    let Some(value) = kept_at(context, place) else {
         return None;
     };
     match value {
@@ -98,33 +98,41 @@ fn kept_text_at<'e>(scene: &Scene<'e, '_, '_>, place: usize) -> Option<&'e str>
 
 /// The kept text that is the only argument of a call.
 #[inline(always)]
-fn only_text_at<'e>(scene: &Scene<'e, '_, '_>, place: usize, function: Function) -> Option<&'e str>
-    requires stands { PartStands scene.now place }
-    requires here { HasCall scene.now.list place function }
-    ensures { IfSome result (λ given. AnswersCall scene.now place function given.now) }
+fn only_text_at<'e>(
+    context: &EvalContext<'e, '_, '_>,
+    place: usize,
+    function: Function,
+) -> Option<&'e str>
+    requires stands { PartStands context.now place }
+    requires here { HasCall context.now.list place function }
+    ensures { IfSome result (λ given. AnswersCall context.now place function given.now) }
 {
-    scene.ends_once();
+    context.ends_once();
     calls_have_one_type();
-    let _nodes = scene.nodes();
-    let own_stop = stop_of(scene, place);
-    if stop_of(scene, place + 1) != own_stop {
+    let _nodes = context.nodes();
+    let own_stop = stop_of(context, place);
+    if stop_of(context, place + 1) != own_stop {
         return None;
     }
-    kept_text_at(scene, place + 1)
+    kept_text_at(context, place + 1)
 }
 
 /// The length of a kept text, where the call asks for that.
 #[inline(always)]
-fn length_at(scene: &Scene<'_, '_, '_>, place: usize, function: Function) -> Option<Option<i64>>
-    requires stands { PartStands scene.now place }
-    requires here { HasCall scene.now.list place function }
-    ensures { IfSome result (λ number. AnswersNumber scene.now place (Ok number)) }
+fn length_at(
+    context: &EvalContext<'_, '_, '_>,
+    place: usize,
+    function: Function,
+) -> Option<Option<i64>>
+    requires stands { PartStands context.now place }
+    requires here { HasCall context.now.list place function }
+    ensures { IfSome result (λ number. AnswersNumber context.now place (Ok number)) }
 {
     match function {
         Function::Length => {}
         _ => return None,
     }
-    let Some(text) = only_text_at(scene, place, function) else {
+    let Some(text) = only_text_at(context, place, function) else {
         return None;
     };
     match text_length(text) {
@@ -135,38 +143,38 @@ fn length_at(scene: &Scene<'_, '_, '_>, place: usize, function: Function) -> Opt
 
 /// The kept text whose lower case is the value there.
 #[inline(always)]
-fn lowered_text_at<'e>(scene: &Scene<'e, '_, '_>, place: usize) -> Option<&'e str>
-    requires { OperandStands scene.now place }
-    ensures { IfSome result (λ given. AnswersLowered scene.now place given.now) }
+fn lowered_text_at<'e>(context: &EvalContext<'e, '_, '_>, place: usize) -> Option<&'e str>
+    requires { OperandStands context.now place }
+    ensures { IfSome result (λ given. AnswersLowered context.now place given.now) }
 {
-    let NodeKind::Call { function } = scene.node(place).kind else {
+    let NodeKind::Call { function } = context.node(place).kind else {
         return None;
     };
     match function {
-        Function::ToLower => only_text_at(scene, place, function),
+        Function::ToLower => only_text_at(context, place, function),
         _ => None,
     }
 }
 
 /// Whether the lower case of a kept text begins with another kept text, where the call asks for that.
 pub(crate) fn lower_start_at(
-    scene: &Scene<'_, '_, '_>,
+    context: &EvalContext<'_, '_, '_>,
     place: usize,
     function: Function,
 ) -> Option<bool>
-    requires stands { PartStands scene.now place }
-    requires here { HasCall scene.now.list place function }
-    ensures { IfSome result (λ truth. AnswersTruth scene.now place (Ok (Some truth))) }
+    requires stands { PartStands context.now place }
+    requires here { HasCall context.now.list place function }
+    ensures { IfSome result (λ truth. AnswersTruth context.now place (Ok (Some truth))) }
 {
     match function {
         Function::StartsWith => {}
         _ => return None,
     }
-    let _nodes = scene.nodes();
-    let Some(text) = lowered_text_at(scene, place + 1) else {
+    let _nodes = context.nodes();
+    let Some(text) = lowered_text_at(context, place + 1) else {
         return None;
     };
-    let Some(part) = last_text_at(scene, place, function) else {
+    let Some(part) = last_text_at(context, place, function) else {
         return None;
     };
     Some(lower_starts_with(text, part))
@@ -174,34 +182,41 @@ pub(crate) fn lower_start_at(
 
 /// The kept text that is the second and last argument of a call.
 #[inline(always)]
-fn last_text_at<'e>(scene: &Scene<'e, '_, '_>, place: usize, function: Function) -> Option<&'e str>
-    requires stands { PartStands scene.now place }
-    requires here { HasCall scene.now.list place function }
-    requires first { (given : List ℕ) × AnswersText scene.now (place + 1) given }
-    ensures { IfSome result (λ part. AnswersLast scene.now place function part.now) }
+fn last_text_at<'e>(
+    context: &EvalContext<'e, '_, '_>,
+    place: usize,
+    function: Function,
+) -> Option<&'e str>
+    requires stands { PartStands context.now place }
+    requires here { HasCall context.now.list place function }
+    requires first { (given : List ℕ) × AnswersText context.now (place + 1) given }
+    ensures { IfSome result (λ part. AnswersLast context.now place function part.now) }
 {
-    scene.ends_once();
+    context.ends_once();
     calls_have_one_type();
-    let _nodes = scene.nodes();
-    let own_stop = stop_of(scene, place);
-    let second_place = stop_of(scene, place + 1);
+    let _nodes = context.nodes();
+    let own_stop = stop_of(context, place);
+    let second_place = stop_of(context, place + 1);
     if second_place == own_stop {
         return None;
     }
-    if stop_of(scene, second_place) != own_stop {
+    if stop_of(context, second_place) != own_stop {
         return None;
     }
-    kept_text_at(scene, second_place)
+    kept_text_at(context, second_place)
 }
 
 /// The number of a property or a literal.
 #[inline(always)]
-pub(crate) fn found_number_at(scene: &Scene<'_, '_, '_>, place: usize) -> Option<Option<i64>>
-    requires stands { OperandStands scene.now place }
-    ensures answers { IfSome result (λ number. AnswersNumber scene.now place (Ok number)) }
-    ensures leaf { IfSome result (λ number. IsClassAt scene.now.list Class.Leaf place) }
+pub(crate) fn found_number_at(
+    context: &EvalContext<'_, '_, '_>,
+    place: usize,
+) -> Option<Option<i64>>
+    requires stands { OperandStands context.now place }
+    ensures answers { IfSome result (λ number. AnswersNumber context.now place (Ok number)) }
+    ensures leaf { IfSome result (λ number. IsClassAt context.now.list Class.Leaf place) }
 {
-    let Some(value) = plain_at(scene, place) else {
+    let Some(value) = plain_at(context, place) else {
         return None;
     };
     match value {
@@ -214,20 +229,20 @@ pub(crate) fn found_number_at(scene: &Scene<'_, '_, '_>, place: usize) -> Option
 /// kind of the left operand rules out is not called.
 #[inline(always)]
 pub(crate) fn kept_compared_at(
-    scene: &Scene<'_, '_, '_>,
+    context: &EvalContext<'_, '_, '_>,
     place: usize,
     comparison: ComparisonOperator,
 ) -> Option<bool>
-    requires stands { PartStands scene.now place }
-    requires here { HasOperator scene.now.list place (BinaryOperator.Comparison comparison) }
-    ensures answers { IfSome result (λ truth. AnswersTruth scene.now place (Ok (Some truth))) }
-    ensures spent { (budget : Budget) → IfSome result (λ truth. SpendsAt scene.now place budget budget None) }
+    requires stands { PartStands context.now place }
+    requires here { HasOperator context.now.list place (BinaryOperator.Comparison comparison) }
+    ensures answers { IfSome result (λ truth. AnswersTruth context.now place (Ok (Some truth))) }
+    ensures spent { (budget : Budget) → IfSome result (λ truth. SpendsAt context.now place budget budget None) }
 {
-    let _nodes = scene.nodes();
-    match scene.node(place + 1).kind {
-        NodeKind::Member { slot } => step_compared_at(scene, place, comparison, slot),
+    let _nodes = context.nodes();
+    match context.node(place + 1).kind {
+        NodeKind::Member { slot } => step_compared_at(context, place, comparison, slot),
         NodeKind::Call { function } => match function {
-            Function::Length => length_compared_at(scene, place, comparison, function),
+            Function::Length => length_compared_at(context, place, comparison, function),
             _ => None,
         },
         _ => None,
@@ -237,24 +252,24 @@ pub(crate) fn kept_compared_at(
 /// The same, where a step from a kept value stands on the left.
 #[inline(never)]
 fn step_compared_at(
-    scene: &Scene<'_, '_, '_>,
+    context: &EvalContext<'_, '_, '_>,
     place: usize,
     comparison: ComparisonOperator,
     slot: usize,
 ) -> Option<bool>
-    requires stands { PartStands scene.now place }
-    requires here { HasOperator scene.now.list place (BinaryOperator.Comparison comparison) }
-    requires step { HasKind scene.now.list (place + 1) (Kind.Member slot) }
-    ensures answers { IfSome result (λ truth. AnswersTruth scene.now place (Ok (Some truth))) }
-    ensures spent { (budget : Budget) → IfSome result (λ truth. SpendsAt scene.now place budget budget None) }
+    requires stands { PartStands context.now place }
+    requires here { HasOperator context.now.list place (BinaryOperator.Comparison comparison) }
+    requires step { HasKind context.now.list (place + 1) (Kind.Member slot) }
+    ensures answers { IfSome result (λ truth. AnswersTruth context.now place (Ok (Some truth))) }
+    ensures spent { (budget : Budget) → IfSome result (λ truth. SpendsAt context.now place budget budget None) }
 {
-    scene.ends_once();
+    context.ends_once();
     comparisons_are_decided();
-    let right_place = right_of(scene, place);
-    let Some(left) = step_at(scene, place + 1, slot) else {
+    let right_place = right_of(context, place);
+    let Some(left) = step_at(context, place + 1, slot) else {
         return None;
     };
-    let Some(right) = kept_at(scene, right_place) else {
+    let Some(right) = kept_at(context, right_place) else {
         return None;
     };
     Some(compare_kept(comparison, left, right))
@@ -263,22 +278,22 @@ fn step_compared_at(
 /// The same, where a call stands on the left.
 #[inline(never)]
 fn length_compared_at(
-    scene: &Scene<'_, '_, '_>,
+    context: &EvalContext<'_, '_, '_>,
     place: usize,
     comparison: ComparisonOperator,
     function: Function,
 ) -> Option<bool>
-    requires stands { PartStands scene.now place }
-    requires here { HasOperator scene.now.list place (BinaryOperator.Comparison comparison) }
-    requires call { HasCall scene.now.list (place + 1) function }
-    ensures answers { IfSome result (λ truth. AnswersTruth scene.now place (Ok (Some truth))) }
-    ensures spent { (budget : Budget) → IfSome result (λ truth. SpendsAt scene.now place budget budget None) }
+    requires stands { PartStands context.now place }
+    requires here { HasOperator context.now.list place (BinaryOperator.Comparison comparison) }
+    requires call { HasCall context.now.list (place + 1) function }
+    ensures answers { IfSome result (λ truth. AnswersTruth context.now place (Ok (Some truth))) }
+    ensures spent { (budget : Budget) → IfSome result (λ truth. SpendsAt context.now place budget budget None) }
 {
-    let right_place = right_of(scene, place);
-    let Some(left) = length_at(scene, place + 1, function) else {
+    let right_place = right_of(context, place);
+    let Some(left) = length_at(context, place + 1, function) else {
         return None;
     };
-    let Some(right) = found_number_at(scene, right_place) else {
+    let Some(right) = found_number_at(context, right_place) else {
         return None;
     };
     Some(compare_numbers(comparison, left, right))

@@ -6,7 +6,7 @@ ghost use Rattle.odata_eval.specs.private.Place.{HasKind, HasOperator, IsRightOf
 ghost use Rattle.odata_eval.specs.private.Spending.{SpendsAt};
 ghost use Rattle.odata_eval.specs.private.WalkAnswer.{AnswersTruth};
 
-use super::scene::Scene;
+use super::eval_context::EvalContext;
 use odata_checked_filter::NodeKind;
 use odata_filter_operations::{compare_kept, kept_truth};
 use odata_functions::comparisons_are_decided;
@@ -14,17 +14,17 @@ use odata_syntax::{BinaryOperator, ComparisonOperator};
 
 /// The truth value of a Boolean property, where that is not null, and of a comparison of a property with a literal.
 #[inline(always)]
-pub(crate) fn kept_truth_at(scene: &Scene<'_, '_, '_>, place: usize) -> Option<bool>
-    requires stands { TruthStands scene.now place }
-    ensures answers { IfSome result (λ truth. AnswersTruth scene.now place (Ok (Some truth))) }
-    ensures spent { (budget : Budget) → IfSome result (λ truth. SpendsAt scene.now place budget budget None) }
+pub(crate) fn kept_truth_at(context: &EvalContext<'_, '_, '_>, place: usize) -> Option<bool>
+    requires stands { TruthStands context.now place }
+    ensures answers { IfSome result (λ truth. AnswersTruth context.now place (Ok (Some truth))) }
+    ensures spent { (budget : Budget) → IfSome result (λ truth. SpendsAt context.now place budget budget None) }
 {
-    scene.ends_once();
-    match scene.node(place).kind {
-        NodeKind::Property { slot } => kept_truth(scene.property(slot)),
+    context.ends_once();
+    match context.node(place).kind {
+        NodeKind::Property { slot } => kept_truth(context.property(slot)),
         NodeKind::Binary { operator } => match operator {
             BinaryOperator::Comparison(comparison) => {
-                compared_with_literal(scene, place, comparison)
+                compared_with_literal(context, place, comparison)
             }
             _ => None,
         },
@@ -35,26 +35,26 @@ pub(crate) fn kept_truth_at(scene: &Scene<'_, '_, '_>, place: usize) -> Option<b
 /// Whether a comparison of a property with a literal is true.
 #[inline(always)]
 fn compared_with_literal(
-    scene: &Scene<'_, '_, '_>,
+    context: &EvalContext<'_, '_, '_>,
     place: usize,
     comparison: ComparisonOperator,
 ) -> Option<bool>
-    requires stands { PartStands scene.now place }
-    requires here { HasOperator scene.now.list place (BinaryOperator.Comparison comparison) }
-    ensures answers { IfSome result (λ truth. AnswersTruth scene.now place (Ok (Some truth))) }
-    ensures spent { (budget : Budget) → IfSome result (λ truth. SpendsAt scene.now place budget budget None) }
+    requires stands { PartStands context.now place }
+    requires here { HasOperator context.now.list place (BinaryOperator.Comparison comparison) }
+    ensures answers { IfSome result (λ truth. AnswersTruth context.now place (Ok (Some truth))) }
+    ensures spent { (budget : Budget) → IfSome result (λ truth. SpendsAt context.now place budget budget None) }
 {
-    scene.ends_once();
+    context.ends_once();
     comparisons_are_decided();
-    let _nodes = scene.nodes();
-    let slot = match scene.node(place + 1).kind {
+    let _nodes = context.nodes();
+    let slot = match context.node(place + 1).kind {
         NodeKind::Property { slot } => slot,
         _ => return None,
     };
-    let left = scene.property(slot);
-    let right_place = right_of_property(scene, place, slot);
-    let right = match scene.node(right_place).kind {
-        NodeKind::Literal { value, .. } => scene.literal(value),
+    let left = context.property(slot);
+    let right_place = right_of_property(context, place, slot);
+    let right = match context.node(right_place).kind {
+        NodeKind::Literal { value, .. } => context.literal(value),
         _ => return None,
     };
     Some(compare_kept(comparison, left, right))
@@ -62,11 +62,11 @@ fn compared_with_literal(
 
 /// The index of a node's second child, where the first one is a property, which has no children.
 #[inline(always)]
-fn right_of_property(scene: &Scene<'_, '_, '_>, place: usize, slot: usize) -> usize
-    requires stands { OperandStands scene.now (place + 1) }
-    requires here { HasKind scene.now.list (place + 1) (Kind.Property slot) }
-    ensures { IsRightOf scene.now.list place result }
+fn right_of_property(context: &EvalContext<'_, '_, '_>, place: usize, slot: usize) -> usize
+    requires stands { OperandStands context.now (place + 1) }
+    requires here { HasKind context.now.list (place + 1) (Kind.Property slot) }
+    ensures { IsRightOf context.now.list place result }
 {
-    let _nodes = scene.nodes();
+    let _nodes = context.nodes();
     place + 2
 }

@@ -1,4 +1,4 @@
-//! The walk where a lambda operator stands: its body is asked of each member, by a scene with one frame more.
+//! The walk where a lambda operator stands: its body is asked of each member, by a context with one frame more.
 ghost use Rattle.std.specs.Prelude.{◌≡◌, ◌+◌, ◌↔◌, IsTrue, None, Ok};
 ghost use Rattle.std.specs.List.{AllByRecursion};
 ghost use Rattle.edm_values.specs.Val.{boolean};
@@ -11,11 +11,11 @@ ghost use Rattle.odata_eval.specs.private.Spending.{CountedDatum, CountedMembers
 ghost use Rattle.odata_eval.specs.private.WalkAnswer.{AnswersDatum};
 
 use super::budget::Counting;
+use super::eval_context::EvalContext;
 use super::frames::RangeVariable;
-use super::part::right_of;
-use super::scene::Scene;
 use super::stop::EvalStop;
 use super::walk::side_at;
+use super::walk_operand::right_of;
 use edm_values::{Datum, Value};
 use odata_filter_operations::datum_of_truth;
 use odata_signatures::trees_have_one_type;
@@ -49,30 +49,30 @@ struct Body {
 /// What a lambda operator evaluates to, whose base has been answered. Over null it is null.
 #[cycle(evaluate)]
 pub(crate) fn lambda_at<'e, B: Counting>(
-    scene: &Scene<'e, '_, '_>,
+    context: &EvalContext<'e, '_, '_>,
     place: usize,
     quantifier: Quantifier,
     base: Datum<'e>,
     budget: &mut B,
 ) -> Result<Datum<'e>, EvalStop>
-    requires stands { PartStands scene.now place }
-    requires here { HasKind scene.now.list place (Kind.Lambda quantifier) }
-    requires first { AnswersDatum scene.now (place + 1) (Ok base) }
-    ensures answers { CountedDatum scene.now place result }
-    ensures spent { SpendsRest scene.now place (B.left budget.old) None (B.left budget.new) (datum_stop result) }
+    requires stands { PartStands context.now place }
+    requires here { HasKind context.now.list place (Kind.Lambda quantifier) }
+    requires first { AnswersDatum context.now (place + 1) (Ok base) }
+    ensures answers { CountedDatum context.now place result }
+    ensures spent { SpendsRest context.now place (B.left budget.old) None (B.left budget.new) (datum_stop result) }
 {
-    scene.ends_once();
+    context.ends_once();
     trees_have_one_type();
     let members = match base {
         Datum::List(members) => members,
         _ => return Ok(Datum::Null),
     };
-    let variable = scene.variable_bound(place);
+    let variable = context.variable_bound(place);
     let body = Body {
         quantifier,
-        place: right_of(scene, place),
+        place: right_of(context, place),
     };
-    match members_at(&*scene, body, &variable, members, budget) {
+    match members_at(&*context, body, &variable, members, budget) {
         Ok(truth) => Ok(datum_of_truth(truth)),
         Err(stop) => Err(stop),
     }
@@ -81,24 +81,24 @@ pub(crate) fn lambda_at<'e, B: Counting>(
 /// What it evaluates to over members. Members after the one that decides, or has a fault, are left out.
 #[cycle(evaluate)]
 fn members_at<'f, B: Counting>(
-    scene: &'f Scene<'f, '_, '_>,
+    context: &'f EvalContext<'f, '_, '_>,
     body: Body,
     variable: &'f RangeVariable<'f>,
     members: &'f [Value],
     budget: &mut B,
 ) -> Result<Option<bool>, EvalStop>
-    requires body { BodyIsThere scene.now variable.now body.place }
-    requires suit { AllByRecursion (Suits scene.now variable.now) members.now }
-    ensures answers { CountedMembers scene.now body.place body.quantifier variable.now members.now result }
-    ensures spent { SpendsMembers scene.now body.place body.quantifier variable.now members.now
+    requires body { BodyIsThere context.now variable.now body.place }
+    requires suit { AllByRecursion (Suits context.now variable.now) members.now }
+    ensures answers { CountedMembers context.now body.place body.quantifier variable.now members.now result }
+    ensures spent { SpendsMembers context.now body.place body.quantifier variable.now members.now
         (B.left budget.old) (B.left budget.new) (stopped_by result) }
 {
-    let mut bound = scene.copy();
+    let mut bound = context.copy();
     for at in 0..members.len() {
         if !budget.take_one() {
             return Err(EvalStop::TooCostly);
         }
-        bound.bind(scene, variable, &members[at]);
+        bound.bind(context, variable, &members[at]);
         bound.ends_once();
         match side_at(&bound, body.place, budget) {
             Ok(truth) => {

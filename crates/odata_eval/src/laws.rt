@@ -162,10 +162,12 @@ pub fn members_come_to()
     ensures null_body_of_all { ComesToOn text_and_null (over_tags All null_literal) (gives (boolean false)) }
     ensures any_of_none { (body : Tree) → ComesToOn (items no_items) (over_tags Any body) (gives (boolean false)) }
     ensures all_of_none { (body : Tree) → ComesToOn (items no_items) (over_tags All body) (gives (boolean true)) }
-    ensures of_null { (quantifier : Quantifier) (body : Tree) → ComesToOn null (over_tags quantifier body) (gives null) }
+    ensures of_null { (quantifier : Quantifier) (body : Tree)
+        → ComesToOn null (over_tags quantifier body) (gives null) }
     ensures outer_variable { ComesToOn text_and_null (over_tags Any all_alike) (gives (boolean false)) }
     ensures fault_behind { (tags : Val)
-        → ComesToOn tags (in_list null_literal (trees_of_list (null_literal ∷ one_div_zero ∷ []))) (gives (boolean true)) }
+        → ComesToOn tags (in_list null_literal (trees_of_list (null_literal ∷ one_div_zero ∷ [])))
+        (gives (boolean true)) }
     ensures fault_before { (tags : Val)
         → ComesToOn tags (in_list null_literal (trees_of_list (one_div_zero ∷ null_literal ∷ []))) divides_by_zero }
     ensures two_counted { ComesToOn text_and_null (count (named (codes "Tags"))) (gives (whole (pos 2))) }
@@ -185,7 +187,8 @@ pub fn members_cost()
     ensures not_all { CostsOnTags text_and_null (over_tags All is_null) 1 }
     ensures within { CostsOnTags text_and_null (over_tags Any all_alike) 5 }
     ensures listed { CostsOnTags text_and_null (over_tags All is_listed) 3 }
-    ensures of_none { (quantifier : Quantifier) (body : Tree) → CostsOnTags (items no_items) (over_tags quantifier body) 0 }
+    ensures of_none { (quantifier : Quantifier) (body : Tree)
+        → CostsOnTags (items no_items) (over_tags quantifier body) 0 }
     ensures of_null { (quantifier : Quantifier) (body : Tree) → CostsOnTags null (over_tags quantifier body) 0 }
     ensures fault_first { CostsOnTags text_and_null fault_first 0 }
 {}

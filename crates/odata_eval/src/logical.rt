@@ -16,8 +16,8 @@ pub(crate) fn decides(operator: LogicalOperator, left: Option<bool>) -> bool
     }
 }
 
-/// What the operator makes of two truth values, the left one of which does not decide. A left one that is no null leaves
-/// the right one as it is.
+/// What the operator makes of two truth values, the left one of which does not decide. A left one that is no null
+/// leaves the right one as it is.
 pub(crate) fn join(
     operator: LogicalOperator,
     left: Option<bool>,

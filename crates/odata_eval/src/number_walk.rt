@@ -4,11 +4,12 @@ ghost use Rattle.odata_eval.specs.private.Place.{HasOperator, IsClassAt, NumberS
 ghost use Rattle.odata_eval.specs.private.WalkAnswer.{AnswersNumber};
 
 use super::budget::Counting;
-use super::part::{
-    Part, WalkClass, arithmetic_operator, is_class_at, part_at, right_of, spine_bottom,
-};
-use super::scene::Scene;
+use super::eval_context::EvalContext;
 use super::walk::operand_at;
+use super::walk_operand::{
+    WalkClass, WalkOperand, arithmetic_operator, is_class_at, right_of, spine_bottom,
+    walk_operand_at,
+};
 use odata_filter_operations::{EvalFault, calculated, kept_number, negated, number_of};
 use odata_functions::operands_lie_within_promotion;
 use odata_signatures::trees_have_one_type;
@@ -17,19 +18,19 @@ use odata_syntax::{ArithmeticOperator, BinaryOperator};
 /// What a node of numbers evaluates to.
 #[cycle(evaluate)]
 pub(crate) fn number_at<B: Counting>(
-    scene: &Scene<'_, '_, '_>,
+    context: &EvalContext<'_, '_, '_>,
     place: usize,
 ) -> Result<Option<i64>, EvalFault>
-    requires stands { PartStands scene.now place }
-    requires numeric { IsClassAt scene.now.list WalkClass.Numeric place }
-    ensures { AnswersNumber scene.now place result }
+    requires stands { PartStands context.now place }
+    requires numeric { IsClassAt context.now.list WalkClass.Numeric place }
+    ensures { AnswersNumber context.now place result }
 {
-    let bottom = spine_bottom(scene, place, WalkClass::Numeric);
-    let mut answer = number_operand_at::<B>(scene, bottom);
+    let bottom = spine_bottom(context, place, WalkClass::Numeric);
+    let mut answer = number_operand_at::<B>(context, bottom);
     let mut at = bottom;
     while place < at {
         at -= 1;
-        answer = numeric_at::<B>(scene, at, answer);
+        answer = numeric_at::<B>(context, at, answer);
     }
     answer
 }
@@ -38,33 +39,33 @@ pub(crate) fn number_at<B: Counting>(
 #[cycle(evaluate)]
 #[inline(always)]
 fn number_operand_at<B: Counting>(
-    scene: &Scene<'_, '_, '_>,
+    context: &EvalContext<'_, '_, '_>,
     place: usize,
 ) -> Result<Option<i64>, EvalFault>
-    requires stands { NumberStands scene.now place }
-    ensures { AnswersNumber scene.now place result }
+    requires stands { NumberStands context.now place }
+    ensures { AnswersNumber context.now place result }
 {
-    scene.ends_once();
-    match part_at(scene, place) {
-        Part::Leaf(value) => Ok(kept_number(value)),
-        _ => made_number_at::<B>(scene, place),
+    context.ends_once();
+    match walk_operand_at(context, place) {
+        WalkOperand::Leaf(value) => Ok(kept_number(value)),
+        _ => made_number_at::<B>(context, place),
     }
 }
 
 /// The same, of a node whose value is made.
 #[cycle(evaluate)]
 fn made_number_at<B: Counting>(
-    scene: &Scene<'_, '_, '_>,
+    context: &EvalContext<'_, '_, '_>,
     place: usize,
 ) -> Result<Option<i64>, EvalFault>
-    requires stands { NumberStands scene.now place }
-    ensures { AnswersNumber scene.now place result }
+    requires stands { NumberStands context.now place }
+    ensures { AnswersNumber context.now place result }
 {
-    scene.ends_once();
-    if is_class_at(scene, place, WalkClass::Numeric) {
-        return number_at::<B>(scene, place);
+    context.ends_once();
+    if is_class_at(context, place, WalkClass::Numeric) {
+        return number_at::<B>(context, place);
     }
-    match operand_at::<B>(scene, place) {
+    match operand_at::<B>(context, place) {
         Ok(value) => Ok(number_of(&value)),
         Err(fault) => Err(fault),
     }
@@ -74,25 +75,25 @@ fn made_number_at<B: Counting>(
 #[cycle(evaluate)]
 #[inline(always)]
 fn numeric_at<B: Counting>(
-    scene: &Scene<'_, '_, '_>,
+    context: &EvalContext<'_, '_, '_>,
     place: usize,
     first: Result<Option<i64>, EvalFault>,
 ) -> Result<Option<i64>, EvalFault>
-    requires stands { PartStands scene.now place }
-    requires numeric { IsClassAt scene.now.list WalkClass.Numeric place }
-    requires first { AnswersNumber scene.now (place + 1) first }
-    ensures { AnswersNumber scene.now place result }
+    requires stands { PartStands context.now place }
+    requires numeric { IsClassAt context.now.list WalkClass.Numeric place }
+    requires first { AnswersNumber context.now (place + 1) first }
+    ensures { AnswersNumber context.now place result }
 {
-    scene.ends_once();
+    context.ends_once();
     trees_have_one_type();
     operands_lie_within_promotion();
     let first = match first {
         Ok(first) => first,
         Err(fault) => return Err(fault),
     };
-    let node = scene.node(place);
+    let node = context.node(place);
     match arithmetic_operator(node.kind) {
-        Some(operator) => calculated_at::<B>(scene, place, operator, first),
+        Some(operator) => calculated_at::<B>(context, place, operator, first),
         None => negated(&node.edm_type, first),
     }
 }
@@ -101,21 +102,21 @@ fn numeric_at<B: Counting>(
 #[cycle(evaluate)]
 #[inline(always)]
 fn calculated_at<B: Counting>(
-    scene: &Scene<'_, '_, '_>,
+    context: &EvalContext<'_, '_, '_>,
     place: usize,
     operator: ArithmeticOperator,
     left: Option<i64>,
 ) -> Result<Option<i64>, EvalFault>
-    requires stands { PartStands scene.now place }
-    requires here { HasOperator scene.now.list place (BinaryOperator.Arithmetic operator) }
-    requires left { AnswersNumber scene.now (place + 1) (Ok left) }
-    ensures { AnswersNumber scene.now place result }
+    requires stands { PartStands context.now place }
+    requires here { HasOperator context.now.list place (BinaryOperator.Arithmetic operator) }
+    requires left { AnswersNumber context.now (place + 1) (Ok left) }
+    ensures { AnswersNumber context.now place result }
 {
-    scene.ends_once();
+    context.ends_once();
     trees_have_one_type();
     operands_lie_within_promotion();
-    let node = scene.node(place);
-    match number_operand_at::<B>(scene, right_of(scene, place)) {
+    let node = context.node(place);
+    match number_operand_at::<B>(context, right_of(context, place)) {
         Ok(right) => calculated(operator, &node.edm_type, left, right),
         Err(fault) => Err(fault),
     }

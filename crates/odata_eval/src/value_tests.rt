@@ -3,7 +3,7 @@ ghost use Rattle.std.specs.Prelude.{◌≡◌, ◌<◌, ◌^◌, All, IfSome, Is
 ghost use Rattle.edm_values.specs.PlainVal.{plain_val};
 ghost use Rattle.edm_values.specs.Val.{Val, text as text_val, whole};
 ghost use Rattle.odata_eval.specs.FalseWhere.{IsSieveOf};
-ghost use Rattle.odata_eval.specs.private.ChainTerms.{AndsAbove, IsNoNumber, IsTermSieve, Refutes};
+ghost use Rattle.odata_eval.specs.private.ValueTests.{AndsAbove, IsNoNumber, IsTermSieve, Refutes};
 ghost use Rattle.odata_eval.specs.private.Place.{HasKind, HasOperator};
 
 use edm_values::{Sieve, Value};

@@ -10,17 +10,18 @@ ghost use Rattle.odata_eval.specs.private.WalkAnswer.{AnswersDatum, AnswersTruth
 
 use super::budget::{Counting, Unbounded, as_stop, fault_of};
 use super::collection_walk::{among_at, flags_at, listed_at};
+use super::eval_context::EvalContext;
 use super::kept_arithmetic::arithmetic_compared_at;
 use super::kept_operands::{kept_compared_at, lower_start_at};
 use super::kept_terms::kept_truth_at;
 use super::lambda_walk::lambda_at;
 use super::logical::{decides, join};
 use super::number_walk::number_at;
-use super::part::{
-    Part, WalkClass, is_class_at, logical_operator, part_at, right_of, spine_bottom, stop_of,
-};
-use super::scene::Scene;
 use super::stop::EvalStop;
+use super::walk_operand::{
+    WalkClass, WalkOperand, is_class_at, logical_operator, right_of, spine_bottom, stop_of,
+    walk_operand_at,
+};
 use edm_values::{Datum, Value};
 use odata_checked_filter::NodeKind;
 use odata_filter_operations::{
@@ -35,20 +36,20 @@ use odata_syntax::{BinaryOperator, ComparisonOperator, LogicalOperator};
 /// What a node of type Boolean or Null evaluates to on an entity of the filtered type.
 #[cycle(evaluate)]
 pub(crate) fn truth_at<B: Counting>(
-    scene: &Scene<'_, '_, '_>,
+    context: &EvalContext<'_, '_, '_>,
     place: usize,
     budget: &mut B,
 ) -> Result<Option<bool>, EvalStop>
-    requires stands { TruthStands scene.now place }
-    ensures answers { CountedTruth scene.now place result }
-    ensures spent { SpendsAt scene.now place (B.left budget.old) (B.left budget.new) (stopped_by result) }
+    requires stands { TruthStands context.now place }
+    ensures answers { CountedTruth context.now place result }
+    ensures spent { SpendsAt context.now place (B.left budget.old) (B.left budget.new) (stopped_by result) }
 {
-    let bottom = spine_bottom(scene, place, WalkClass::Logical);
-    let mut answer = plain_truth_at(scene, bottom, budget);
+    let bottom = spine_bottom(context, place, WalkClass::Logical);
+    let mut answer = plain_truth_at(context, bottom, budget);
     let mut at = bottom;
     while place < at {
         at -= 1;
-        answer = logical_at(scene, at, answer, budget);
+        answer = logical_at(context, at, answer, budget);
     }
     answer
 }
@@ -57,29 +58,29 @@ pub(crate) fn truth_at<B: Counting>(
 #[cycle(evaluate)]
 #[inline(always)]
 fn plain_truth_at<B: Counting>(
-    scene: &Scene<'_, '_, '_>,
+    context: &EvalContext<'_, '_, '_>,
     place: usize,
     budget: &mut B,
 ) -> Result<Option<bool>, EvalStop>
-    requires stands { TruthStands scene.now place }
-    requires plain { ¬ IsClassAt scene.now.list WalkClass.Logical place }
-    ensures answers { CountedTruth scene.now place result }
-    ensures spent { SpendsAt scene.now place (B.left budget.old) (B.left budget.new) (stopped_by result) }
+    requires stands { TruthStands context.now place }
+    requires plain { ¬ IsClassAt context.now.list WalkClass.Logical place }
+    ensures answers { CountedTruth context.now place result }
+    ensures spent { SpendsAt context.now place (B.left budget.old) (B.left budget.new) (stopped_by result) }
 {
-    scene.ends_once();
-    if let NodeKind::Binary { operator } = scene.node(place).kind {
+    context.ends_once();
+    if let NodeKind::Binary { operator } = context.node(place).kind {
         if let BinaryOperator::Comparison(comparison) = operator {
-            return compared_truth_at(scene, place, comparison, budget);
+            return compared_truth_at(context, place, comparison, budget);
         }
     }
-    if let NodeKind::Call { function } = scene.node(place).kind {
-        return called_truth_at(scene, place, function, budget);
+    if let NodeKind::Call { function } = context.node(place).kind {
+        return called_truth_at(context, place, function, budget);
     }
-    match part_at(scene, place) {
-        Part::Leaf(value) => Ok(kept_truth(value)),
-        Part::Logical => unreachable!(),
-        Part::Numeric => numeric_truth_at(scene, place, budget),
-        Part::Eager => made_truth_at(scene, place, budget),
+    match walk_operand_at(context, place) {
+        WalkOperand::Leaf(value) => Ok(kept_truth(value)),
+        WalkOperand::Logical => unreachable!(),
+        WalkOperand::Numeric => numeric_truth_at(context, place, budget),
+        WalkOperand::Eager => made_truth_at(context, place, budget),
     }
 }
 
@@ -87,31 +88,31 @@ fn plain_truth_at<B: Counting>(
 #[cycle(evaluate)]
 #[inline(always)]
 fn compared_truth_at<B: Counting>(
-    scene: &Scene<'_, '_, '_>,
+    context: &EvalContext<'_, '_, '_>,
     place: usize,
     comparison: ComparisonOperator,
     budget: &mut B,
 ) -> Result<Option<bool>, EvalStop>
-    requires stands { TruthStands scene.now place }
-    requires here { HasOperator scene.now.list place (BinaryOperator.Comparison comparison) }
-    ensures answers { CountedTruth scene.now place result }
-    ensures spent { SpendsAt scene.now place (B.left budget.old) (B.left budget.new) (stopped_by result) }
+    requires stands { TruthStands context.now place }
+    requires here { HasOperator context.now.list place (BinaryOperator.Comparison comparison) }
+    ensures answers { CountedTruth context.now place result }
+    ensures spent { SpendsAt context.now place (B.left budget.old) (B.left budget.new) (stopped_by result) }
 {
-    scene.ends_once();
+    context.ends_once();
     comparisons_are_decided();
-    let right_place = right_of(scene, place);
-    match part_at(scene, place + 1) {
-        Part::Leaf(left) => match part_at(scene, right_place) {
-            Part::Leaf(right) => Ok(Some(compare_kept(comparison, left, right))),
-            _ => made_truth_at(scene, place, budget),
+    let right_place = right_of(context, place);
+    match walk_operand_at(context, place + 1) {
+        WalkOperand::Leaf(left) => match walk_operand_at(context, right_place) {
+            WalkOperand::Leaf(right) => Ok(Some(compare_kept(comparison, left, right))),
+            _ => made_truth_at(context, place, budget),
         },
-        Part::Numeric => match arithmetic_compared_at(scene, place, comparison) {
+        WalkOperand::Numeric => match arithmetic_compared_at(context, place, comparison) {
             Some(truth) => Ok(Some(truth)),
-            None => numbers_truth_at(scene, place, comparison, budget),
+            None => numbers_truth_at(context, place, comparison, budget),
         },
-        _ => match kept_compared_at(scene, place, comparison) {
+        _ => match kept_compared_at(context, place, comparison) {
             Some(truth) => Ok(Some(truth)),
-            None => made_truth_at(scene, place, budget),
+            None => made_truth_at(context, place, budget),
         },
     }
 }
@@ -120,33 +121,33 @@ fn compared_truth_at<B: Counting>(
 #[cycle(evaluate)]
 #[inline(never)]
 fn numbers_truth_at<B: Counting>(
-    scene: &Scene<'_, '_, '_>,
+    context: &EvalContext<'_, '_, '_>,
     place: usize,
     comparison: ComparisonOperator,
     budget: &mut B,
 ) -> Result<Option<bool>, EvalStop>
-    requires stands { TruthStands scene.now place }
-    requires here { HasOperator scene.now.list place (BinaryOperator.Comparison comparison) }
-    requires numeric { IsClassAt scene.now.list WalkClass.Numeric (place + 1) }
-    ensures answers { CountedTruth scene.now place result }
-    ensures spent { SpendsAt scene.now place (B.left budget.old) (B.left budget.new) (stopped_by result) }
+    requires stands { TruthStands context.now place }
+    requires here { HasOperator context.now.list place (BinaryOperator.Comparison comparison) }
+    requires numeric { IsClassAt context.now.list WalkClass.Numeric (place + 1) }
+    ensures answers { CountedTruth context.now place result }
+    ensures spent { SpendsAt context.now place (B.left budget.old) (B.left budget.new) (stopped_by result) }
 {
-    scene.ends_once();
-    let right_place = right_of(scene, place);
-    let left = match number_at::<B>(scene, place + 1) {
+    context.ends_once();
+    let right_place = right_of(context, place);
+    let left = match number_at::<B>(context, place + 1) {
         Ok(left) => left,
         Err(fault) => return Err(EvalStop::Fault(fault)),
     };
-    match part_at(scene, right_place) {
-        Part::Leaf(value) => match value {
+    match walk_operand_at(context, right_place) {
+        WalkOperand::Leaf(value) => match value {
             Value::Int(right) => Ok(Some(compare_numbers(comparison, left, Some(*right)))),
-            _ => made_truth_at(scene, place, budget),
+            _ => made_truth_at(context, place, budget),
         },
-        Part::Numeric => match number_at::<B>(scene, right_place) {
+        WalkOperand::Numeric => match number_at::<B>(context, right_place) {
             Ok(right) => Ok(Some(compare_numbers(comparison, left, right))),
             Err(fault) => Err(EvalStop::Fault(fault)),
         },
-        _ => made_truth_at(scene, place, budget),
+        _ => made_truth_at(context, place, budget),
     }
 }
 
@@ -154,39 +155,39 @@ fn numbers_truth_at<B: Counting>(
 #[cycle(evaluate)]
 #[inline(always)]
 fn called_truth_at<B: Counting>(
-    scene: &Scene<'_, '_, '_>,
+    context: &EvalContext<'_, '_, '_>,
     place: usize,
     function: Function,
     budget: &mut B,
 ) -> Result<Option<bool>, EvalStop>
-    requires stands { TruthStands scene.now place }
-    requires here { HasCall scene.now.list place function }
-    ensures answers { CountedTruth scene.now place result }
-    ensures spent { SpendsAt scene.now place (B.left budget.old) (B.left budget.new) (stopped_by result) }
+    requires stands { TruthStands context.now place }
+    requires here { HasCall context.now.list place function }
+    ensures answers { CountedTruth context.now place result }
+    ensures spent { SpendsAt context.now place (B.left budget.old) (B.left budget.new) (stopped_by result) }
 {
-    scene.ends_once();
+    context.ends_once();
     calls_have_one_type();
-    let _nodes = scene.nodes();
-    let own_stop = stop_of(scene, place);
-    let first = match part_at(scene, place + 1) {
-        Part::Leaf(value) => datum_of(value),
-        _ => match lower_start_at(scene, place, function) {
+    let _nodes = context.nodes();
+    let own_stop = stop_of(context, place);
+    let first = match walk_operand_at(context, place + 1) {
+        WalkOperand::Leaf(value) => datum_of(value),
+        _ => match lower_start_at(context, place, function) {
             Some(truth) => return Ok(Some(truth)),
-            None => return made_truth_at(scene, place, budget),
+            None => return made_truth_at(context, place, budget),
         },
     };
-    let second_place = stop_of(scene, place + 1);
+    let second_place = stop_of(context, place + 1);
     if second_place == own_stop {
-        return made_truth_at(scene, place, budget);
+        return made_truth_at(context, place, budget);
     }
-    if stop_of(scene, second_place) != own_stop {
-        return made_truth_at(scene, place, budget);
+    if stop_of(context, second_place) != own_stop {
+        return made_truth_at(context, place, budget);
     }
-    let second = match part_at(scene, second_place) {
-        Part::Leaf(value) => datum_of(value),
-        _ => return made_truth_at(scene, place, budget),
+    let second = match walk_operand_at(context, second_place) {
+        WalkOperand::Leaf(value) => datum_of(value),
+        _ => return made_truth_at(context, place, budget),
     };
-    match called_on_two(scene.alloc(), function, first, second) {
+    match called_on_two(context.alloc(), function, first, second) {
         Ok(value) => Ok(truth_of(&value)),
         Err(fault) => Err(EvalStop::Fault(fault)),
     }
@@ -195,17 +196,17 @@ fn called_truth_at<B: Counting>(
 /// The same, of a node of numbers.
 #[cycle(evaluate)]
 fn numeric_truth_at<B: Counting>(
-    scene: &Scene<'_, '_, '_>,
+    context: &EvalContext<'_, '_, '_>,
     place: usize,
     budget: &mut B,
 ) -> Result<Option<bool>, EvalStop>
-    requires stands { TruthStands scene.now place }
-    requires numeric { IsClassAt scene.now.list WalkClass.Numeric place }
-    ensures answers { CountedTruth scene.now place result }
-    ensures spent { SpendsAt scene.now place (B.left budget.old) (B.left budget.new) (stopped_by result) }
+    requires stands { TruthStands context.now place }
+    requires numeric { IsClassAt context.now.list WalkClass.Numeric place }
+    ensures answers { CountedTruth context.now place result }
+    ensures spent { SpendsAt context.now place (B.left budget.old) (B.left budget.new) (stopped_by result) }
 {
-    scene.ends_once();
-    match number_at::<B>(scene, place) {
+    context.ends_once();
+    match number_at::<B>(context, place) {
         Ok(number) => Ok(truth_of(&datum_of_number(number))),
         Err(fault) => Err(EvalStop::Fault(fault)),
     }
@@ -214,17 +215,17 @@ fn numeric_truth_at<B: Counting>(
 /// The same, of a node that takes the values of all its operands.
 #[cycle(evaluate)]
 pub(crate) fn made_truth_at<B: Counting>(
-    scene: &Scene<'_, '_, '_>,
+    context: &EvalContext<'_, '_, '_>,
     place: usize,
     budget: &mut B,
 ) -> Result<Option<bool>, EvalStop>
-    requires stands { TruthStands scene.now place }
-    requires eager { IsClassAt scene.now.list WalkClass.Eager place }
-    ensures answers { CountedTruth scene.now place result }
-    ensures spent { SpendsAt scene.now place (B.left budget.old) (B.left budget.new) (stopped_by result) }
+    requires stands { TruthStands context.now place }
+    requires eager { IsClassAt context.now.list WalkClass.Eager place }
+    ensures answers { CountedTruth context.now place result }
+    ensures spent { SpendsAt context.now place (B.left budget.old) (B.left budget.new) (stopped_by result) }
 {
-    scene.ends_once();
-    match eager_at(scene, place, budget) {
+    context.ends_once();
+    match eager_at(context, place, budget) {
         Ok(value) => Ok(truth_of(&value)),
         Err(stop) => Err(stop),
     }
@@ -233,25 +234,25 @@ pub(crate) fn made_truth_at<B: Counting>(
 /// What a node of truth values evaluates to, whose first operand has been answered.
 #[cycle(evaluate)]
 fn logical_at<B: Counting>(
-    scene: &Scene<'_, '_, '_>,
+    context: &EvalContext<'_, '_, '_>,
     place: usize,
     first: Result<Option<bool>, EvalStop>,
     budget: &mut B,
 ) -> Result<Option<bool>, EvalStop>
-    requires stands { PartStands scene.now place }
-    requires logical { IsClassAt scene.now.list WalkClass.Logical place }
-    requires first { CountedTruth scene.now (place + 1) first }
-    ensures answers { CountedTruth scene.now place result }
-    ensures spent { SpendsRest scene.now place (B.left budget.old) (stopped_by first) (B.left budget.new)
+    requires stands { PartStands context.now place }
+    requires logical { IsClassAt context.now.list WalkClass.Logical place }
+    requires first { CountedTruth context.now (place + 1) first }
+    ensures answers { CountedTruth context.now place result }
+    ensures spent { SpendsRest context.now place (B.left budget.old) (stopped_by first) (B.left budget.new)
         (stopped_by result) }
 {
-    scene.ends_once();
+    context.ends_once();
     let first = match first {
         Ok(first) => first,
         Err(stop) => return Err(stop),
     };
-    match logical_operator(scene.node(place).kind) {
-        Some(operator) => connected_at(scene, place, operator, first, budget),
+    match logical_operator(context.node(place).kind) {
+        Some(operator) => connected_at(context, place, operator, first, budget),
         None => Ok(not3(first)),
     }
 }
@@ -260,31 +261,34 @@ fn logical_at<B: Counting>(
 #[cycle(evaluate)]
 #[inline(always)]
 pub(crate) fn side_at<B: Counting>(
-    scene: &Scene<'_, '_, '_>,
+    context: &EvalContext<'_, '_, '_>,
     place: usize,
     budget: &mut B,
 ) -> Result<Option<bool>, EvalStop>
-    requires stands { TruthStands scene.now place }
-    ensures answers { CountedTruth scene.now place result }
-    ensures spent { SpendsAt scene.now place (B.left budget.old) (B.left budget.new) (stopped_by result) }
+    requires stands { TruthStands context.now place }
+    ensures answers { CountedTruth context.now place result }
+    ensures spent { SpendsAt context.now place (B.left budget.old) (B.left budget.new) (stopped_by result) }
 {
-    if is_class_at(scene, place, WalkClass::Logical) {
-        truth_at(scene, place, budget)
+    if is_class_at(context, place, WalkClass::Logical) {
+        truth_at(context, place, budget)
     } else {
-        plain_truth_at(scene, place, budget)
+        plain_truth_at(context, place, budget)
     }
 }
 
 /// The same, where nothing is counted: a term of a chain, of a filter that is evaluated without a bound.
 #[tactic(auto, using(crate::proofs::spending::Stops::unbounded_truth, crate::proofs::spending::Stops::unbounded_datum))]
 #[inline(always)]
-pub(crate) fn term_at(scene: &Scene<'_, '_, '_>, place: usize) -> Result<Option<bool>, EvalFault>
-    requires stands { TruthStands scene.now place }
-    ensures { AnswersTruth scene.now place result }
+pub(crate) fn term_at(
+    context: &EvalContext<'_, '_, '_>,
+    place: usize,
+) -> Result<Option<bool>, EvalFault>
+    requires stands { TruthStands context.now place }
+    ensures { AnswersTruth context.now place result }
 {
-    scene.costs_once();
+    context.costs_once();
     let mut unbounded = Unbounded;
-    match side_at(scene, place, &mut unbounded) {
+    match side_at(context, place, &mut unbounded) {
         Ok(truth) => Ok(truth),
         Err(stop) => Err(fault_of(stop)),
     }
@@ -293,27 +297,27 @@ pub(crate) fn term_at(scene: &Scene<'_, '_, '_>, place: usize) -> Result<Option<
 /// What a logical operator evaluates to. The right side of a decided one is left out.
 #[cycle(evaluate)]
 fn connected_at<B: Counting>(
-    scene: &Scene<'_, '_, '_>,
+    context: &EvalContext<'_, '_, '_>,
     place: usize,
     operator: LogicalOperator,
     left: Option<bool>,
     budget: &mut B,
 ) -> Result<Option<bool>, EvalStop>
-    requires stands { PartStands scene.now place }
-    requires here { HasOperator scene.now.list place (BinaryOperator.Logical operator) }
-    requires left { AnswersTruth scene.now (place + 1) (Ok left) }
-    ensures answers { CountedTruth scene.now place result }
-    ensures spent { SpendsRest scene.now place (B.left budget.old) None (B.left budget.new) (stopped_by result) }
+    requires stands { PartStands context.now place }
+    requires here { HasOperator context.now.list place (BinaryOperator.Logical operator) }
+    requires left { AnswersTruth context.now (place + 1) (Ok left) }
+    ensures answers { CountedTruth context.now place result }
+    ensures spent { SpendsRest context.now place (B.left budget.old) None (B.left budget.new) (stopped_by result) }
 {
-    scene.ends_once();
+    context.ends_once();
     if decides(operator, left) {
         return Ok(left);
     }
-    let right_place = right_of(scene, place);
-    if let Some(right) = kept_truth_at(scene, right_place) {
+    let right_place = right_of(context, place);
+    if let Some(right) = kept_truth_at(context, right_place) {
         return Ok(join(operator, left, Some(right)));
     }
-    match side_at(scene, right_place, budget) {
+    match side_at(context, right_place, budget) {
         Ok(right) => Ok(join(operator, left, right)),
         Err(stop) => Err(stop),
     }
@@ -322,25 +326,25 @@ fn connected_at<B: Counting>(
 /// What a node evaluates to: a stored value, which stays where it is, or one that is made.
 #[cycle(evaluate)]
 pub(crate) fn counted_at<'e, B: Counting>(
-    scene: &Scene<'e, '_, '_>,
+    context: &EvalContext<'e, '_, '_>,
     place: usize,
     budget: &mut B,
 ) -> Result<Datum<'e>, EvalStop>
-    requires stands { OperandStands scene.now place }
-    ensures answers { CountedDatum scene.now place result }
-    ensures spent { SpendsAt scene.now place (B.left budget.old) (B.left budget.new) (datum_stop result) }
+    requires stands { OperandStands context.now place }
+    ensures answers { CountedDatum context.now place result }
+    ensures spent { SpendsAt context.now place (B.left budget.old) (B.left budget.new) (datum_stop result) }
 {
-    match part_at(scene, place) {
-        Part::Leaf(value) => Ok(datum_of(value)),
-        Part::Logical => match truth_at(scene, place, budget) {
+    match walk_operand_at(context, place) {
+        WalkOperand::Leaf(value) => Ok(datum_of(value)),
+        WalkOperand::Logical => match truth_at(context, place, budget) {
             Ok(truth) => Ok(datum_of_truth(truth)),
             Err(stop) => Err(stop),
         },
-        Part::Numeric => match number_at::<B>(scene, place) {
+        WalkOperand::Numeric => match number_at::<B>(context, place) {
             Ok(number) => Ok(datum_of_number(number)),
             Err(fault) => Err(EvalStop::Fault(fault)),
         },
-        Part::Eager => eager_at(scene, place, budget),
+        WalkOperand::Eager => eager_at(context, place, budget),
     }
 }
 
@@ -348,18 +352,18 @@ pub(crate) fn counted_at<'e, B: Counting>(
 #[cycle(evaluate)]
 #[inline(always)]
 pub(crate) fn likely_stored_at<'e, B: Counting>(
-    scene: &Scene<'e, '_, '_>,
+    context: &EvalContext<'e, '_, '_>,
     place: usize,
     budget: &mut B,
 ) -> Result<Datum<'e>, EvalStop>
-    requires stands { OperandStands scene.now place }
-    ensures answers { CountedDatum scene.now place result }
-    ensures spent { SpendsAt scene.now place (B.left budget.old) (B.left budget.new) (datum_stop result) }
+    requires stands { OperandStands context.now place }
+    ensures answers { CountedDatum context.now place result }
+    ensures spent { SpendsAt context.now place (B.left budget.old) (B.left budget.new) (datum_stop result) }
 {
-    if let Part::Leaf(value) = part_at(scene, place) {
+    if let WalkOperand::Leaf(value) = walk_operand_at(context, place) {
         return Ok(datum_of(value));
     }
-    counted_at(scene, place, budget)
+    counted_at(context, place, budget)
 }
 
 /// The same, where nothing is counted: an operand that holds no lambda operator, since it is none of truth values.
@@ -367,18 +371,18 @@ pub(crate) fn likely_stored_at<'e, B: Counting>(
 #[cycle(evaluate)]
 #[inline(always)]
 pub(crate) fn operand_at<'e, B: Counting>(
-    scene: &Scene<'e, '_, '_>,
+    context: &EvalContext<'e, '_, '_>,
     place: usize,
 ) -> Result<Datum<'e>, EvalFault>
-    requires stands { OperandStands scene.now place }
-    ensures { AnswersDatum scene.now place result }
+    requires stands { OperandStands context.now place }
+    ensures { AnswersDatum context.now place result }
 {
-    if let Part::Leaf(value) = part_at(scene, place) {
+    if let WalkOperand::Leaf(value) = walk_operand_at(context, place) {
         return Ok(datum_of(value));
     }
-    scene.costs_once();
+    context.costs_once();
     let mut unbounded = B::without_bound();
-    match counted_at(scene, place, &mut unbounded) {
+    match counted_at(context, place, &mut unbounded) {
         Ok(value) => Ok(value),
         Err(stop) => Err(fault_of(stop)),
     }
@@ -387,21 +391,21 @@ pub(crate) fn operand_at<'e, B: Counting>(
 /// What a node evaluates to that takes the values of all its operands.
 #[cycle(evaluate)]
 fn eager_at<'e, B: Counting>(
-    scene: &Scene<'e, '_, '_>,
+    context: &EvalContext<'e, '_, '_>,
     place: usize,
     budget: &mut B,
 ) -> Result<Datum<'e>, EvalStop>
-    requires stands { PartStands scene.now place }
-    requires eager { IsClassAt scene.now.list WalkClass.Eager place }
-    ensures answers { CountedDatum scene.now place result }
-    ensures spent { SpendsAt scene.now place (B.left budget.old) (B.left budget.new) (datum_stop result) }
+    requires stands { PartStands context.now place }
+    requires eager { IsClassAt context.now.list WalkClass.Eager place }
+    ensures answers { CountedDatum context.now place result }
+    ensures spent { SpendsAt context.now place (B.left budget.old) (B.left budget.new) (datum_stop result) }
 {
-    let bottom = spine_bottom(scene, place, WalkClass::Eager);
-    let mut answer = likely_stored_at(scene, bottom, budget);
+    let bottom = spine_bottom(context, place, WalkClass::Eager);
+    let mut answer = likely_stored_at(context, bottom, budget);
     let mut at = bottom;
     while place < at {
         at -= 1;
-        answer = made_at(scene, at, answer, budget);
+        answer = made_at(context, at, answer, budget);
     }
     answer
 }
@@ -409,36 +413,36 @@ fn eager_at<'e, B: Counting>(
 /// What a node evaluates to that takes the values of all its operands, whose first operand has been answered.
 #[cycle(evaluate)]
 fn made_at<'e, B: Counting>(
-    scene: &Scene<'e, '_, '_>,
+    context: &EvalContext<'e, '_, '_>,
     place: usize,
     first: Result<Datum<'e>, EvalStop>,
     budget: &mut B,
 ) -> Result<Datum<'e>, EvalStop>
-    requires stands { PartStands scene.now place }
-    requires eager { IsClassAt scene.now.list WalkClass.Eager place }
-    requires first { CountedDatum scene.now (place + 1) first }
-    ensures answers { CountedDatum scene.now place result }
-    ensures spent { SpendsRest scene.now place (B.left budget.old) (datum_stop first.entry) (B.left budget.new)
+    requires stands { PartStands context.now place }
+    requires eager { IsClassAt context.now.list WalkClass.Eager place }
+    requires first { CountedDatum context.now (place + 1) first }
+    ensures answers { CountedDatum context.now place result }
+    ensures spent { SpendsRest context.now place (B.left budget.old) (datum_stop first.entry) (B.left budget.new)
         (datum_stop result) }
 {
-    scene.ends_once();
+    context.ends_once();
     trees_have_one_type();
     let first = match first {
         Ok(first) => first,
         Err(before) => return Err(before),
     };
-    match scene.node(place).kind {
+    match context.node(place).kind {
         NodeKind::Member { slot } => Ok(step(first, slot)),
-        NodeKind::Call { function } => as_stop(called_at::<B>(scene, place, function, first)),
+        NodeKind::Call { function } => as_stop(called_at::<B>(context, place, function, first)),
         NodeKind::Count => as_stop(count_of(first)),
         NodeKind::AnyItem => Ok(any_item_of(first)),
-        NodeKind::Has => as_stop(flags_at::<B>(scene, place, &first)),
-        NodeKind::InPath => as_stop(among_at::<B>(scene, place, &first)),
-        NodeKind::InList => listed_at(scene, place, &first, budget),
-        NodeKind::Lambda { quantifier } => lambda_at(scene, place, quantifier, first, budget),
+        NodeKind::Has => as_stop(flags_at::<B>(context, place, &first)),
+        NodeKind::InPath => as_stop(among_at::<B>(context, place, &first)),
+        NodeKind::InList => listed_at(context, place, &first, budget),
+        NodeKind::Lambda { quantifier } => lambda_at(context, place, quantifier, first, budget),
         NodeKind::Binary { operator } => match operator {
             BinaryOperator::Comparison(comparison) => {
-                compared_at(scene, place, comparison, first, budget)
+                compared_at(context, place, comparison, first, budget)
             }
             _ => unreachable!(),
         },
@@ -449,26 +453,26 @@ fn made_at<'e, B: Counting>(
 /// What a comparison evaluates to.
 #[cycle(evaluate)]
 fn compared_at<'e, B: Counting>(
-    scene: &Scene<'e, '_, '_>,
+    context: &EvalContext<'e, '_, '_>,
     place: usize,
     comparison: ComparisonOperator,
     left: Datum<'_>,
     budget: &mut B,
 ) -> Result<Datum<'e>, EvalStop>
-    requires stands { PartStands scene.now place }
-    requires here { HasOperator scene.now.list place (BinaryOperator.Comparison comparison) }
-    requires left { AnswersDatum scene.now (place + 1) (Ok left) }
-    ensures answers { CountedDatum scene.now place result }
-    ensures spent { SpendsRest scene.now place (B.left budget.old) None (B.left budget.new) (datum_stop result) }
+    requires stands { PartStands context.now place }
+    requires here { HasOperator context.now.list place (BinaryOperator.Comparison comparison) }
+    requires left { AnswersDatum context.now (place + 1) (Ok left) }
+    ensures answers { CountedDatum context.now place result }
+    ensures spent { SpendsRest context.now place (B.left budget.old) None (B.left budget.new) (datum_stop result) }
 {
-    scene.ends_once();
+    context.ends_once();
     operands_lie_within_promotion();
     comparisons_are_decided();
-    let right_place = right_of(scene, place);
-    if let Part::Leaf(value) = part_at(scene, right_place) {
+    let right_place = right_of(context, place);
+    if let WalkOperand::Leaf(value) = walk_operand_at(context, right_place) {
         return Ok(Datum::Bool(compare(comparison, &left, &datum_of(value))));
     }
-    match counted_at(scene, right_place, budget) {
+    match counted_at(context, right_place, budget) {
         Ok(right) => Ok(Datum::Bool(compare(comparison, &left, &right))),
         Err(behind) => Err(behind),
     }
@@ -477,33 +481,33 @@ fn compared_at<'e, B: Counting>(
 /// What a call evaluates to, whose first argument has been answered.
 #[cycle(evaluate)]
 fn called_at<'e, B: Counting>(
-    scene: &Scene<'e, '_, '_>,
+    context: &EvalContext<'e, '_, '_>,
     place: usize,
     function: Function,
     first: Datum<'e>,
 ) -> Result<Datum<'e>, EvalFault>
-    requires stands { PartStands scene.now place }
-    requires here { HasCall scene.now.list place function }
-    requires first { AnswersDatum scene.now (place + 1) (Ok first) }
-    ensures { AnswersDatum scene.now place result }
+    requires stands { PartStands context.now place }
+    requires here { HasCall context.now.list place function }
+    requires first { AnswersDatum context.now (place + 1) (Ok first) }
+    ensures { AnswersDatum context.now place result }
 {
-    scene.ends_once();
+    context.ends_once();
     calls_have_one_type();
-    let _nodes = scene.nodes();
-    let own_stop = stop_of(scene, place);
-    let second_place = stop_of(scene, place + 1);
+    let _nodes = context.nodes();
+    let own_stop = stop_of(context, place);
+    let second_place = stop_of(context, place + 1);
     if second_place == own_stop {
-        return called_on_one(scene.alloc(), function, first);
+        return called_on_one(context.alloc(), function, first);
     }
-    let second = match operand_at::<B>(scene, second_place) {
+    let second = match operand_at::<B>(context, second_place) {
         Ok(second) => second,
         Err(further) => return Err(further),
     };
-    let third_place = stop_of(scene, second_place);
+    let third_place = stop_of(context, second_place);
     if third_place == own_stop {
-        return called_on_two(scene.alloc(), function, first, second);
+        return called_on_two(context.alloc(), function, first, second);
     }
-    match operand_at::<B>(scene, third_place) {
+    match operand_at::<B>(context, third_place) {
         Ok(third) => called_on_three(function, first, second, third),
         Err(fault) => Err(fault),
     }

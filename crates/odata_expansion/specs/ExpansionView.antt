@@ -17,7 +17,8 @@ goes_on step node name = nat_eq step.before node && pointwise nat_eq step.name n
 -- the node to which the first of these steps leads that does so, the steps counted from k
 abbrev pub next_from : ℕ → List StepModel → ℕ → List ℕ → Option ℕ
 next_from k [] node name = None
-next_from k (step ∷ steps) node name = if goes_on step node name then Some (suc k) else next_from (suc k) steps node name
+next_from k (step ∷ steps) node name = if goes_on step node name then Some (suc k) else next_from
+    (suc k) steps node name
 
 abbrev pub next_node : List StepModel → ℕ → List ℕ → Option ℕ
 next_node steps node name = next_from 0 steps node name

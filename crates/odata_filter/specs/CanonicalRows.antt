@@ -13,7 +13,7 @@ use Rattle.line_filter.specs.declared.judge.Judgment.{Judgment}
 use Rattle.line_filter.specs.declared.tally.Tally.{Tally}
 use Rattle.odata_filter.specs.Collection.{OfCollection, StopsCollection}
 use Rattle.odata_filter.specs.Headline.{IsCheckedOf, IsEntityFor}
-use Rattle.odata_filter.specs.RowAnswer.{TellsRow}
+use Rattle.odata_filter.specs.RowAnswer.{ReportsRow}
 use Rattle.odata_filter.specs.RowJudgment.{FilterMeans, JudgesRow, JudgesValue, rows_of}
 use Rattle.odata_filter.specs.RunStops.{StopsBy}
 use Rattle.odata_filter.specs.declared.bad_row.BadRow.{BadRow}
@@ -59,7 +59,7 @@ SaySameOfValues filter again =
 abbrev pub AnswerRowsAlike : Filter → Filter → Type 0
 AnswerRowsAlike filter again =
     (now : MomentParts) (row : List ℕ) (answer : Result Verdict NoVerdict)
-    → TellsRow filter now row answer ↔ TellsRow again now row answer
+    → ReportsRow filter now row answer ↔ ReportsRow again now row answer
 
 -- of every input they keep the same lines and count the same
 abbrev pub KeepSameLines : Filter → Filter → Type 0

@@ -1,13 +1,13 @@
 -- What a fault of a run over rows says of its devices.
 use Rattle.std.specs.Prelude.{ℕ, List, Option, IsSomeAnd}
 use Rattle.edm_values.specs.MomentParts.{MomentParts}
-use Rattle.line_filter.specs.declared.device_calls.Calls.{Calls}
-use Rattle.line_filter.specs.DeviceCalls.{StaysWell, FailsLast}
+use Rattle.line_filter.specs.declared.call_log.CallLog.{CallLog}
+use Rattle.line_filter.specs.CallLogs.{StaysWell, FailsLast}
 use Rattle.line_filter.specs.Kept.{StopsWith}
 use Rattle.line_filter.specs.LineSource.{LineSource}
 use Rattle.line_filter.specs.LineStreams.{LacksLine, ReadWell, WhyUnread}
 use Rattle.odata_checked_filter.specs.Filter.{Filter}
-use Rattle.odata_filter.specs.declared.command.whole_input.NotWhole.{NotWhole}
+use Rattle.odata_filter.specs.declared.command.whole_input.ReadAllError.{ReadAllError}
 use Rattle.odata_filter.specs.declared.run_fault.RunFault.{RunFault}
 use Rattle.odata_filter.specs.RowJudgment.{JudgesRow, rows_of}
 use Rattle.odata_filter.specs.RunStops.{run_stop}
@@ -27,7 +27,7 @@ LacksRow filter now bytes text line =
 
 -- which reads a run made before this fault: Read says why no more was read, and before any other each did its work
 abbrev pub ReadsUntilFault :
-    {R : Type 0} → (R → Calls) → (R → Option (List ℕ)) → LineSource R → LineSource R → RunFault → Type 0
+    {R : Type 0} → (R → CallLog) → (R → Option (List ℕ)) → LineSource R → LineSource R → RunFault → Type 0
 ReadsUntilFault calls remaining old new (RunFault.Read line) = WhyUnread calls remaining old new
 ReadsUntilFault calls remaining old new (RunFault.Json line) = ReadWell calls old new
 ReadsUntilFault calls remaining old new (RunFault.Row line fault) = ReadWell calls old new
@@ -39,7 +39,7 @@ ReadsUntilFault calls remaining old new (RunFault.Memory line) = ReadWell calls 
 
 -- which calls of its writer a run made before this fault: at Write the last one failed, before any other each did its
 -- work and none was a flush
-abbrev pub WritesUntilFault : Calls → Calls → RunFault → Type 0
+abbrev pub WritesUntilFault : CallLog → CallLog → RunFault → Type 0
 WritesUntilFault old new RunFault.Write = FailsLast old new
 WritesUntilFault old new (RunFault.Json line) = StaysWell old new
 WritesUntilFault old new (RunFault.Row line fault) = StaysWell old new
@@ -50,6 +50,6 @@ WritesUntilFault old new (RunFault.Read line) = StaysWell old new
 WritesUntilFault old new (RunFault.Memory line) = StaysWell old new
 
 -- which reads were made of a reader that was not read whole: at Read the last one failed, at Memory each did its work
-abbrev pub ReadsUntilNotWhole : Calls → Calls → NotWhole → Type 0
-ReadsUntilNotWhole old new NotWhole.Read = FailsLast old new
-ReadsUntilNotWhole old new NotWhole.Memory = StaysWell old new
+abbrev pub ReadsUntilError : CallLog → CallLog → ReadAllError → Type 0
+ReadsUntilError old new ReadAllError.Read = FailsLast old new
+ReadsUntilError old new ReadAllError.Memory = StaysWell old new

@@ -10,7 +10,7 @@ use Rattle.odata_signatures.specs.declared.refusal.Refusal.{Refusal}
 use Rattle.odata_signatures.specs.declared.refusal.TypeFaultCode.{TypeFaultCode}
 use Rattle.edm_entities.specs.declared.row_fault.RowFault.{RowFault}
 use Rattle.odata_filter_operations.specs.declared.fault.EvalFault.{EvalFault}
-use Rattle.odata_filter.specs.RowsOnce.{flaw_told}
+use Rattle.odata_filter.specs.RowsOnce.{flaw_reported}
 use Rattle.odata_filter.specs.declared.fault_number.FaultKind.{FaultKind}
 
 -- why a document is not a schema
@@ -112,17 +112,17 @@ name_at names zero = None
 name_at names (suc place) = option_and_then unless_empty (slice_get names place)
 
 -- where in its text a filter is refused
-abbrev pub span_told : Refusal → Option Span
-span_told (Refusal.Text (TextFault.BadCharacter span)) = Some span
-span_told (Refusal.Text (TextFault.UnclosedString span)) = Some span
-span_told (Refusal.Text (TextFault.LeftOutLiteral span)) = Some span
-span_told (Refusal.Text (TextFault.RunOn span)) = Some span
-span_told (Refusal.Text (TextFault.TooLong span)) = Some span
-span_told (Refusal.Syntax (SyntaxFault.Unexpected span)) = Some span
-span_told (Refusal.Syntax (SyntaxFault.TooDeep span)) = Some span
-span_told (Refusal.Typing fault) = Some fault.span
-span_told refusal = None
+abbrev pub span_reported : Refusal → Option Span
+span_reported (Refusal.Text (TextFault.BadCharacter span)) = Some span
+span_reported (Refusal.Text (TextFault.UnclosedString span)) = Some span
+span_reported (Refusal.Text (TextFault.LeftOutLiteral span)) = Some span
+span_reported (Refusal.Text (TextFault.RunOn span)) = Some span
+span_reported (Refusal.Text (TextFault.TooLong span)) = Some span
+span_reported (Refusal.Syntax (SyntaxFault.Unexpected span)) = Some span
+span_reported (Refusal.Syntax (SyntaxFault.TooDeep span)) = Some span
+span_reported (Refusal.Typing fault) = Some fault.span
+span_reported refusal = None
 
 -- the bytes of the path to a row's fault
-abbrev pub path_told : RowFault → Option (List ℕ)
-path_told fault = option_map (λ told. told.0) (flaw_told fault)
+abbrev pub path_reported : RowFault → Option (List ℕ)
+path_reported fault = option_map (λ reported. reported.0) (flaw_reported fault)

@@ -15,14 +15,14 @@ use Rattle.odata_signatures.specs.declared.refusal.Refusal.{Refusal}
 use Rattle.odata_checked_filter.specs.Filter.{Filter, HasNeededPaths, slots_for_filter, tree_of_filter}
 use Rattle.odata_eval.specs.MeansOn.{IsTheOutcome}
 use Rattle.odata_filter_operations.specs.Outcome.{Outcome, gives, overflow, divides_by_zero}
-use Rattle.odata_eval.specs.VerdictView.{told_outcome}
+use Rattle.odata_eval.specs.VerdictView.{reported_outcome}
 use Rattle.odata_filter_operations.specs.declared.fault.EvalFault.{EvalFault}
 use Rattle.odata_eval.specs.declared.verdict.Verdict.{Verdict}
 use Rattle.line_filter.specs.Kept.{Filters, StopsAt}
 use Rattle.line_filter.specs.LineItems.{IsFoundOf}
 use Rattle.line_filter.specs.Lines.{IsBlank, lines_of, longest_line, text_of_lines}
 use Rattle.line_filter.specs.Once.{IsFaulty}
-use Rattle.line_filter.specs.declared.finding.Finding.{Finding}
+use Rattle.line_filter.specs.declared.line_class.LineClass.{LineClass}
 use Rattle.line_filter.specs.declared.judge.Judgment.{Judgment}
 use Rattle.line_filter.specs.declared.tally.Tally.{Tally}
 use Rattle.odata_filter.specs.RowJudgment.{FilterMeans, JudgesRow, rows_of}
@@ -76,8 +76,8 @@ abbrev pub AreAnswered : Type 0
 AreAnswered =
     (text : List ℕ) (filter : Filter) (now : MomentParts) (row : Row) (answer : Result Verdict EvalFault)
     → IsCheckedOf text filter → IsEntityFor filter row
-    → IfSome (told_outcome answer) (IsTheOutcome row now (tree_of_filter filter)) → answer ≢ Err EvalFault.Memory
-    → (outcome : Outcome) × (told_outcome answer ≡ Some outcome) × ComesToOne filter now (value_of row) outcome
+    → IfSome (reported_outcome answer) (IsTheOutcome row now (tree_of_filter filter)) → answer ≢ Err EvalFault.Memory
+    → (outcome : Outcome) × (reported_outcome answer ≡ Some outcome) × ComesToOne filter now (value_of row) outcome
 
 -- The line is a row of the filter's type on which the filter is true: neither too long nor blank, and JSON that fits.
 pub record IsTrueRow (filter : Filter) (now : MomentParts) (line : List ℕ) : Type 0 where
@@ -94,7 +94,7 @@ abbrev pub KeepTrueRows : Type 0
 KeepTrueRows =
     (text : List ℕ) (filter : Filter) (now : MomentParts) (line : List ℕ)
     → IsCheckedOf text filter → IsMoment now.civil now.offset_minutes
-    → IsFoundOf (JudgesRow filter now) line (Finding.Judged Judgment.Kept) ↔ IsTrueRow filter now line
+    → IsFoundOf (JudgesRow filter now) line (LineClass.Judged Judgment.Kept) ↔ IsTrueRow filter now line
 
 -- these are the ones among the lines of which P holds, in their order
 abbrev pub ArePicked : (List ℕ → Type 0) → List (List ℕ) → List (List ℕ) → Type 0
@@ -117,10 +117,10 @@ WriteTrueRows =
 
 -- The line of this number is the first at fault, and what was written is just those of the lines before it.
 pub record StopsBehind
-    (filter : Filter) (now : MomentParts) (bytes written : List ℕ) (number : ℕ) (finding : Finding BadRow) :
+    (filter : Filter) (now : MomentParts) (bytes written : List ℕ) (number : ℕ) (line_class : LineClass BadRow) :
     Type 0 where
-  pub faulty : IsFaulty finding
-  pub first : StopsAt (rows_of filter now bytes) written number finding
+  pub faulty : IsFaulty line_class
+  pub first : StopsAt (rows_of filter now bytes) written number line_class
   pub written_before : HasTrueRows filter now first.before written
 
 -- what it says that it has written at a fault of a line
@@ -129,7 +129,7 @@ StopAtFaults =
     (text : List ℕ) (filter : Filter) (now : MomentParts) (bytes written : List ℕ) (fault : RunFault)
     → IsCheckedOf text filter → IsMoment now.civil now.offset_minutes → IsOfRow fault
     → StopsBy (rows_of filter now bytes) written fault
-    → (number : ℕ) × (finding : Finding BadRow) × StopsBehind filter now bytes written number finding
+    → (number : ℕ) × (line_class : LineClass BadRow) × StopsBehind filter now bytes written number line_class
 
 -- a text that is refused, by anything but running out of memory, is not a filter, and there is one refusal of it: its
 -- first fault

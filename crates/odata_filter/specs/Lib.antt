@@ -13,7 +13,7 @@ pub use Rattle.edm_values.specs.MomentParts
 pub use Rattle.edm_values.specs.PlainVal
 pub use Rattle.edm_values.specs.StringLiteral
 pub use Rattle.edm_values.specs.Val
-pub use Rattle.line_filter.specs.DeviceCalls
+pub use Rattle.line_filter.specs.CallLogs
 pub use Rattle.line_filter.specs.Growth
 pub use Rattle.line_filter.specs.Kept
 pub use Rattle.line_filter.specs.LineItems

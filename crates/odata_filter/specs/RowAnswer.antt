@@ -43,18 +43,18 @@ pub record HasVerdict (filter : Filter) (now : MomentParts) (row : List ℕ) (ve
 
 -- what is reported about a row: its verdict, or what is wrong with it, which is what is said of a line at fault;
 -- running out of memory says nothing
-abbrev pub TellsRow : Filter → MomentParts → List ℕ → Result Verdict NoVerdict → Type 0
-TellsRow filter now row (Ok verdict) = HasVerdict filter now row verdict
-TellsRow filter now row (Err (NoVerdict.Bad bad)) = JudgesRow filter now row (Judgment.Fault bad)
-TellsRow filter now row (Err NoVerdict.Memory) = Unit {0}
+abbrev pub ReportsRow : Filter → MomentParts → List ℕ → Result Verdict NoVerdict → Type 0
+ReportsRow filter now row (Ok verdict) = HasVerdict filter now row verdict
+ReportsRow filter now row (Err (NoVerdict.Bad bad)) = JudgesRow filter now row (Judgment.Fault bad)
+ReportsRow filter now row (Err NoVerdict.Memory) = Unit {0}
 
 -- what is said of the row as a line: it is kept where the verdict is true; nothing when out of memory
-abbrev pub judgment_told : Result Verdict NoVerdict → Option (Judgment BadRow)
-judgment_told (Ok Verdict.True) = Some Judgment.Kept
-judgment_told (Ok Verdict.False) = Some Judgment.LeftOut
-judgment_told (Ok Verdict.Null) = Some Judgment.LeftOut
-judgment_told (Err (NoVerdict.Bad bad)) = Some (Judgment.Fault bad)
-judgment_told (Err NoVerdict.Memory) = None
+abbrev pub judgment_reported : Result Verdict NoVerdict → Option (Judgment BadRow)
+judgment_reported (Ok Verdict.True) = Some Judgment.Kept
+judgment_reported (Ok Verdict.False) = Some Judgment.LeftOut
+judgment_reported (Ok Verdict.Null) = Some Judgment.LeftOut
+judgment_reported (Err (NoVerdict.Bad bad)) = Some (Judgment.Fault bad)
+judgment_reported (Err NoVerdict.Memory) = None
 
 -- the same verdict, or the same fault; running out of memory goes with any
 abbrev pub AreSameAnswer : Result Verdict NoVerdict → Result Verdict NoVerdict → Type 0

@@ -10,7 +10,7 @@ use Rattle.edm_entities.specs.Fits.{Fits}
 use Rattle.odata_checked_filter.specs.Filter.{Filter, slots_for_filter, tree_of_filter}
 use Rattle.odata_eval.specs.Costs.{Costs}
 use Rattle.odata_eval.specs.declared.verdict.Verdict.{Verdict}
-use Rattle.odata_filter.specs.RowAnswer.{TellsRow}
+use Rattle.odata_filter.specs.RowAnswer.{ReportsRow}
 use Rattle.odata_filter.specs.declared.bad_row.BadRow.{BadRow}
 use Rattle.odata_filter.specs.declared.no_verdict.NoVerdict.{NoVerdict}
 
@@ -40,9 +40,9 @@ pub record RowCostIs (filter : Filter) (now : MomentParts) (row : List ℕ) (Hol
 -- entity has no cost
 abbrev pub ReportsRowWithin : Filter → MomentParts → List ℕ → ℕ → Result (Option Verdict) NoVerdict → Type 0
 ReportsRowWithin filter now row most (Ok (Some verdict)) =
-    TellsRow filter now row (Ok verdict) × RowCostIs filter now row (λ cost. cost ≤ most)
+    ReportsRow filter now row (Ok verdict) × RowCostIs filter now row (λ cost. cost ≤ most)
 ReportsRowWithin filter now row most (Ok None) = RowCostIs filter now row (λ cost. most < cost)
 ReportsRowWithin filter now row most (Err (NoVerdict.Bad (BadRow.NoValue fault))) =
-    TellsRow filter now row (Err (NoVerdict.Bad (BadRow.NoValue fault)))
+    ReportsRow filter now row (Err (NoVerdict.Bad (BadRow.NoValue fault)))
     × RowCostIs filter now row (λ cost. cost ≤ most)
-ReportsRowWithin filter now row most (Err other) = TellsRow filter now row (Err other)
+ReportsRowWithin filter now row most (Err other) = ReportsRow filter now row (Err other)

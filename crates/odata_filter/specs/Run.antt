@@ -9,7 +9,7 @@ use Rattle.odata_text.specs.declared.query_fault.QueryFault.{QueryFault}
 use Rattle.odata_filter.specs.Planned.{IsPlanned}
 use Rattle.line_filter.specs.Growth.{Writes, WritesFront}
 use Rattle.line_filter.specs.Kept.{Items, Filters, StopsAt, StopsWithin, IsFaultless}
-use Rattle.line_filter.specs.declared.finding.Finding.{Finding}
+use Rattle.line_filter.specs.declared.line_class.LineClass.{LineClass}
 use Rattle.line_filter.specs.declared.tally.Tally.{Tally}
 use Rattle.line_filter.specs.Places.{Placed}
 use Rattle.serde_json.specs.Data.{Data}
@@ -153,7 +153,7 @@ FiltersAll X rows text = (tally : Tally) × Filters rows text tally
 -- some row is the first at fault, and the text is that of the kept ones before it
 abbrev pub StopsAtFault : OfRows
 StopsAtFault X rows text =
-    (number : ℕ) × (finding : Finding BadRow) × (¬ IsFaultless finding) × StopsAt rows text number finding
+    (number : ℕ) × (line_class : LineClass BadRow) × (¬ IsFaultless line_class) × StopsAt rows text number line_class
 
 -- the text is a beginning of that of the kept rows among some first ones of which none is at fault
 abbrev pub BeginsKept : OfRows
@@ -173,7 +173,7 @@ pub record IsAccepted (filter : Filter) (text : List ℕ) : Type 0 where
   pub lines : text ≡ codes "accepted" ++ (10 ∷ (canonical ++ 10 ∷ []))
 
 -- The plan's text is a filter, and that was written of it.
-pub record TellsFilter
+pub record ReportsFilter
     (Says : Filter → List ℕ → Type 0) (plan : Plan) (document : List ℕ) (streams : Streams) : Type 0 where
   pub filter : Filter
   pub is_filter : IsPlanFilter plan document filter
@@ -181,20 +181,20 @@ pub record TellsFilter
 
 -- A line that begins with `refused `.
 pub record IsRefusedLine (text : List ℕ) : Type 0 where
-  pub told : List ℕ
-  pub line : text ≡ codes "refused " ++ (told ++ 10 ∷ [])
+  pub reported : List ℕ
+  pub line : text ≡ codes "refused " ++ (reported ++ 10 ∷ [])
 
 -- what a verb that reads no rows reports about a filter
-abbrev pub TellsOf : Verb → Filter → List ℕ → Type 0
-TellsOf Check = IsAccepted
-TellsOf Explain = IsExplanation
-TellsOf ByRows = λ filter text. ⊥
+abbrev pub ReportsOf : Verb → Filter → List ℕ → Type 0
+ReportsOf Check = IsAccepted
+ReportsOf Explain = IsExplanation
+ReportsOf ByRows = λ filter text. ⊥
 
 -- the text that such a verb writes: what it reports of the plan's filter, or, where there is none, the line of a
 -- refusal
-abbrev pub IsToldBy : Verb → Plan → List ℕ → List ℕ → Type 0
-IsToldBy verb plan document text =
-    ((filter : Filter) × IsPlanFilter plan document filter × TellsOf verb filter text)
+abbrev pub IsReportedBy : Verb → Plan → List ℕ → List ℕ → Type 0
+IsReportedBy verb plan document text =
+    ((filter : Filter) × IsPlanFilter plan document filter × ReportsOf verb filter text)
     ⊎ (HasNoFilter plan document × IsRefusedLine text)
 
 -- how a run ends
@@ -220,8 +220,8 @@ status_number without_memory = 6
 -- what a run by a verb says that is done: all rows were filtered, or the filter was written, or each of its nodes
 abbrev pub Completes : Verb → Plan → List ℕ → Streams → Type 0
 Completes ByRows plan document streams = ByFilter FiltersAll plan document streams
-Completes Check plan document streams = TellsFilter IsAccepted plan document streams
-Completes Explain plan document streams = TellsFilter IsExplanation plan document streams
+Completes Check plan document streams = ReportsFilter IsAccepted plan document streams
+Completes Explain plan document streams = ReportsFilter IsExplanation plan document streams
 
 -- nothing was written where there is no filter; to a verb that reads no rows that is an answer, and its line was
 -- written
@@ -264,7 +264,7 @@ StatusSays without_memory verb plan document streams = Unit {0}
 abbrev pub BeginsBy : Verb → Plan → List ℕ → Streams → Type 0
 BeginsBy ByRows plan document streams = ByFilter BeginsKept plan document streams
 BeginsBy verb plan document streams =
-    (text : List ℕ) × IsToldBy verb plan document text × WritesFront streams.old streams.new text
+    (text : List ℕ) × IsReportedBy verb plan document text × WritesFront streams.old streams.new text
 
 -- nothing was written, or a beginning of what the verb writes
 abbrev pub BeginsAs : Verb → Plan → List ℕ → Streams → Type 0

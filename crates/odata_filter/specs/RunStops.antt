@@ -1,20 +1,20 @@
 -- What a fault of a run over rows says.
 use Rattle.std.specs.Prelude.{ℕ, List, Option, Some, None, IsSomeAnd}
 use Rattle.line_filter.specs.Kept.{Items, Stops}
-use Rattle.line_filter.specs.declared.run_stop.Stop.{Stop}
+use Rattle.line_filter.specs.declared.run_stop.RunStop.{RunStop}
 use Rattle.odata_filter.specs.declared.bad_row.BadRow.{BadRow}
 use Rattle.odata_filter.specs.declared.run_fault.RunFault.{RunFault}
 
 -- the stop that it reports; none where a document is not a collection
-abbrev pub run_stop : RunFault → Option (Stop BadRow)
-run_stop (RunFault.Json line) = Some (Stop.Fault line BadRow.NotJson)
-run_stop (RunFault.Row line fault) = Some (Stop.Fault line (BadRow.NoEntity fault))
-run_stop (RunFault.Arithmetic line fault) = Some (Stop.Fault line (BadRow.NoValue fault))
-run_stop (RunFault.LineTooLong line) = Some (Stop.TooLong line)
+abbrev pub run_stop : RunFault → Option (RunStop BadRow)
+run_stop (RunFault.Json line) = Some (RunStop.Fault line BadRow.NotJson)
+run_stop (RunFault.Row line fault) = Some (RunStop.Fault line (BadRow.NoEntity fault))
+run_stop (RunFault.Arithmetic line fault) = Some (RunStop.Fault line (BadRow.NoValue fault))
+run_stop (RunFault.LineTooLong line) = Some (RunStop.TooLong line)
 run_stop RunFault.NotACollection = None
-run_stop (RunFault.Read line) = Some (Stop.Read line)
-run_stop RunFault.Write = Some Stop.Write
-run_stop (RunFault.Memory line) = Some (Stop.Memory line)
+run_stop (RunFault.Read line) = Some (RunStop.Read line)
+run_stop RunFault.Write = Some RunStop.Write
+run_stop (RunFault.Memory line) = Some (RunStop.Memory line)
 
 -- it reports a stop, and that says this of the rows and of the text that was written
 abbrev pub StopsBy : {X : Type 0} → Items X BadRow → List ℕ → RunFault → Type 0

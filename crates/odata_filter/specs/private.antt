@@ -1,8 +1,8 @@
 -- Definitions that private clauses alone cite.
-pub mod DocumentFaults
-pub mod FilterNow
-pub mod PlanSteps
+pub mod BoundedJudge
+pub mod Collection
+pub mod Planner
+pub mod RowLineJudge
 pub mod RowsInPlace
 pub mod RunFailures
 pub mod ValueAnswer
-pub mod ValueCosts

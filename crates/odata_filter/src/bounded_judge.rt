@@ -8,15 +8,15 @@ ghost use Rattle.edm_rows.specs.RowsOfType.{names_unkept, row_held};
 ghost use Rattle.odata_checked_filter.specs.Filter.{tree_of_filter};
 ghost use Rattle.odata_eval.specs.CostsOn.{KeepsBound};
 ghost use Rattle.odata_eval.specs.MeansOn.{IsTheOutcome};
-ghost use Rattle.odata_eval.specs.VerdictView.{outcome_told};
+ghost use Rattle.odata_eval.specs.VerdictView.{outcome_reported};
 ghost use Rattle.odata_filter.specs.FilterRows.{KeepsNames};
 ghost use Rattle.odata_filter.specs.RowAnswer.{IsPlanOfFilter};
 ghost use Rattle.odata_filter.specs.RowCosts.{ReportsRowWithin};
-ghost use Rattle.odata_filter.specs.private.ValueCosts.{ReportsValueWithin, stop_reported};
+ghost use Rattle.odata_filter.specs.private.BoundedJudge.{ReportsValueWithin, stop_reported};
 
 use crate::bad_row::BadRow;
 use crate::no_verdict::NoVerdict;
-use crate::row_judge::told_fault;
+use crate::row_judge::reported_fault;
 use edm_entities::{Entity, RowFault, RowPlan, RowReader};
 use edm_rows::TypeRows;
 use edm_values::Moment;
@@ -37,8 +37,8 @@ pub struct BoundedJudge<'c, 's> {
 }
 
 impl BoundedJudge<'_, '_> {
-    /// Judges a row, one JSON object, as [`judge_row`](crate::judge_row) does without a bound. `None` if the filter costs
-    /// more on the row than the bound allows.
+    /// Judges a row, one JSON object, as [`judge_row`](crate::judge_row) does without a bound. `None` if the filter
+    /// costs more on the row than the bound allows.
     pub fn judge(&self, reader: &mut RowReader, row: &[u8]) -> Result<Option<Verdict>, NoVerdict>
         requires { IsPlanOfFilter self.now.checked.now self.now.plan.now }
         ensures { ReportsRowWithin self.now.checked.now self.now.moment.now row.now self.now.most result }
@@ -94,7 +94,7 @@ impl BoundedJudge<'_, '_> {
         requires type_id { entity.now.type_id ≡ self.now.checked.now.filtered }
         requires expansion { (path : PropertyPath)
             → paths_in entity.now.expansion path ≡ paths_in self.now.checked.now.expansion path }
-        ensures outcome { IfSome (outcome_told result)
+        ensures outcome { IfSome (outcome_reported result)
             (IsTheOutcome entity.now self.now.moment.now (tree_of_filter self.now.checked.now)) }
         ensures bound { KeepsBound entity.now self.now.moment.now (tree_of_filter self.now.checked.now) self.now.most
             result }
@@ -137,7 +137,7 @@ fn reported(answer: Result<Verdict, EvalStop>) -> Result<Option<Verdict>, NoVerd
 {
     match answer {
         Ok(verdict) => Ok(Some(verdict)),
-        Err(EvalStop::Fault(fault)) => Err(told_fault(fault)),
+        Err(EvalStop::Fault(fault)) => Err(reported_fault(fault)),
         Err(EvalStop::TooCostly) => Ok(None),
     }
 }

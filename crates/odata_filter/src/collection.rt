@@ -1,19 +1,19 @@
 ghost use Rattle.std.specs.Prelude.{◌≡◌, IfOk, IfErr, MatchResult, option_map};
 ghost use Rattle.serde_json.specs.View.{items_view, view};
-ghost use Rattle.line_filter.specs.DeviceCalls.{FlushesLast};
+ghost use Rattle.line_filter.specs.CallLogs.{FlushesLast};
 ghost use Rattle.line_filter.specs.Growth.{Writes};
 ghost use Rattle.line_filter.specs.Kept.{Filters};
 ghost use Rattle.odata_filter.specs.Collection.{OfCollection, StopsCollection, array_of};
 ghost use Rattle.odata_filter.specs.DeviceFaults.{WritesUntilFault};
 ghost use Rattle.odata_filter.specs.RowJudgment.{JudgesValue};
-ghost use Rattle.odata_filter.specs.private.DocumentFaults.{IsUnjudgedBy};
+ghost use Rattle.odata_filter.specs.private.Collection.{IsUnjudgedBy};
 ghost use Rattle.csdl_schema.specs.JsonText.{IsJsonOf};
 
 use crate::bad_row::BadRow;
 use crate::row_judge::{RowJudge, judgment_of};
 use crate::run_fault::{RunFault, run_fault};
 use edm_values::Moment;
-use line_filter::{JudgeItem, Judgment, Tally, Untold, Writes, filter_places};
+use line_filter::{JudgeItem, Judgment, Tally, Unlogged, Writes, filter_places};
 use odata_typing::Checked;
 use serde_json::Value;
 use std::alloc::{AllocError, Global};
@@ -57,7 +57,7 @@ fn read_document(alloc: Global, document: &[u8]) -> Result<Value, RunFault>
 
 /// Filters as [`filter_collection`] does, by how the writer's calls are reported. It reports that the writer failed
 /// only if it did.
-pub fn filter_collection_by<W: Write, T: Writes<W>>(
+pub fn filter_collection_with<W: Write, T: Writes<W>>(
     alloc: Global,
     checked: &Checked<'_>,
     now: &Moment,
@@ -105,5 +105,5 @@ pub fn filter_collection<W: Write>(
     ensures stops { IfErr result (λ fault. Writes (W.contents out.old) (W.contents out.new)
         (λ text. StopsCollection checked.now now.now document.now text fault)) }
 {
-    filter_collection_by::<W, Untold>(alloc, checked, now, document, out)
+    filter_collection_with::<W, Unlogged>(alloc, checked, now, document, out)
 }

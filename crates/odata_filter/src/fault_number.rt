@@ -1,8 +1,8 @@
 //! Faults by numbers and names, for callers that have no enums.
 ghost use Rattle.std.specs.Prelude.{◌≡◌, ℕ, map};
 ghost use Rattle.std.specs.Option.{option_map};
-ghost use Rattle.odata_filter.specs.FaultNumbers.{evaluation_number, name_at, names_of, path_told, query_number};
-ghost use Rattle.odata_filter.specs.FaultNumbers.{row_number, schema_number, span_told, syntax_number, text_number};
+ghost use Rattle.odata_filter.specs.FaultNumbers.{evaluation_number, name_at, names_of, path_reported, query_number};
+ghost use Rattle.odata_filter.specs.FaultNumbers.{row_number, schema_number, span_reported, syntax_number, text_number};
 ghost use Rattle.odata_filter.specs.FaultNumbers.{type_number};
 
 use csdl_schema::SchemaFault;
@@ -230,7 +230,7 @@ pub fn fault_name(kind: FaultKind, number: u8) -> Option<&'static str>
 
 /// Returns where in its text a filter is refused. `None` when out of memory.
 pub fn refusal_span(refusal: &Refusal) -> Option<Span>
-    ensures { result ≡ span_told refusal.now }
+    ensures { result ≡ span_reported refusal.now }
 {
     match refusal {
         Refusal::Text(fault) => match fault {
@@ -254,7 +254,7 @@ pub fn refusal_span(refusal: &Refusal) -> Option<Span>
 /// Returns the path to the value at fault, as `Parts/0/Qty`. `None` for a row that is not an object, and when out of
 /// memory.
 pub fn row_fault_path(fault: &RowFault) -> Option<&str>
-    ensures { option_map (λ path. path.now) result ≡ path_told fault.now }
+    ensures { option_map (λ path. path.now) result ≡ path_reported fault.now }
 {
     match fault {
         RowFault::Missing { path } => Some(path.as_str()),

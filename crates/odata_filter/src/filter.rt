@@ -1,5 +1,5 @@
 ghost use Rattle.std.specs.Prelude.{◌≡◌, ◌≢◌, ℕ, Err, IfOk, IfErr, IfSome, MatchResult, OnOk};
-ghost use Rattle.line_filter.specs.DeviceCalls.{FlushesLast, StaysWell};
+ghost use Rattle.line_filter.specs.CallLogs.{FlushesLast, StaysWell};
 ghost use Rattle.line_filter.specs.Growth.{Grows, Writes};
 ghost use Rattle.line_filter.specs.Kept.{Filters, StopsOn};
 ghost use Rattle.line_filter.specs.LineSource.{IsOver, left_of};
@@ -10,7 +10,7 @@ ghost use Rattle.odata_filter.specs.RunStops.{StopsBy};
 use crate::row_line_judge::RowLineJudge;
 use crate::run_fault::{RunFault, run_fault};
 use edm_values::Moment;
-use line_filter::{LineReader, Reads, Tally, Untold, Writes, filter_bytes, filter_reader};
+use line_filter::{LineReader, Reads, Tally, Unlogged, Writes, filter_bytes, filter_reader};
 use odata_typing::Checked;
 use std::alloc::Global;
 use std::io::{Read, Write};
@@ -18,7 +18,7 @@ use std::io::{Read, Write};
 /// Filters as [`filter_lines`] does, over a borrowed reader of lines and with reported calls.
 ///
 /// It reports which line did not come, and that a device failed only where one did.
-pub fn filter_lines_by<R: Read, S: Reads<R>, W: Write, T: Writes<W>>(
+pub fn filter_lines_with<R: Read, S: Reads<R>, W: Write, T: Writes<W>>(
     alloc: Global,
     checked: &Checked<'_>,
     now: &Moment,
@@ -68,7 +68,7 @@ pub fn filter_lines<R: Read + Drop, W: Write>(
         Writes (W.contents out.old) (W.contents out.new) (λ text. LacksRow checked.now now.now bytes text line)) }
 {
     let mut lines = LineReader::new(alloc, rows);
-    filter_lines_by::<R, Untold, W, Untold>(alloc, checked, now, &mut lines, out)
+    filter_lines_with::<R, Unlogged, W, Unlogged>(alloc, checked, now, &mut lines, out)
 }
 
 /// Filters as [`filter_lines`] does, over rows in memory. Kept rows are appended to `out`. It returns neither `Read`

@@ -3,7 +3,7 @@ ghost use Rattle.std.specs.Prelude.{◌≡◌};
 ghost use Rattle.edm_rows.specs.HeldSchema.{schema_in};
 ghost use Rattle.odata_checked_filter.specs.Filter.{Filter};
 ghost use Rattle.odata_filter.specs.FilterRows.{AreRowsOfFilter};
-ghost use Rattle.odata_filter.specs.RowAnswer.{TellsRow};
+ghost use Rattle.odata_filter.specs.RowAnswer.{ReportsRow};
 ghost use Rattle.odata_filter.specs.RowCosts.{ReportsRowWithin};
 
 use crate::bounded_judge::BoundedJudge;
@@ -69,7 +69,7 @@ impl<'s> FilterRows<'s> {
         row: &[u8],
     ) -> Result<Verdict, NoVerdict>
         requires { AreRowsOfFilter checked.now self.old }
-        ensures verdict { TellsRow checked.now now.now row.now result }
+        ensures verdict { ReportsRow checked.now now.now row.now result }
         ensures rows { AreRowsOfFilter checked.now self.new }
     {
         let by = RowJudge {

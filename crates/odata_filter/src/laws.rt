@@ -1,7 +1,7 @@
 //! Laws of rows, as contracts of functions that do nothing but cite others.
 ghost use Rattle.std.specs.Prelude.{◌≡◌, ◌<◌, ℕ, List, Option, Some, Result, length};
 ghost use Rattle.serde_json.specs.Data.{Data};
-ghost use Rattle.line_filter.specs.declared.device_calls.Calls.{Calls};
+ghost use Rattle.line_filter.specs.declared.call_log.CallLog.{CallLog};
 ghost use Rattle.line_filter.specs.declared.line_reader.Course.{Course};
 ghost use Rattle.line_filter.specs.declared.line_reader.LineFault.{LineFault};
 ghost use Rattle.line_filter.specs.LineSource.{LineSource};
@@ -15,7 +15,7 @@ ghost use Rattle.odata_eval.specs.declared.verdict.Verdict.{Verdict};
 ghost use Rattle.odata_filter.specs.declared.no_verdict.NoVerdict.{NoVerdict};
 ghost use Rattle.odata_filter.specs.declared.run_fault.RunFault.{RunFault};
 ghost use Rattle.odata_filter.specs.Collection.{OfCollection, StopsCollection};
-ghost use Rattle.odata_filter.specs.RowAnswer.{AreSameAnswer, TellsRow, judgment_told};
+ghost use Rattle.odata_filter.specs.RowAnswer.{AreSameAnswer, ReportsRow, judgment_reported};
 ghost use Rattle.odata_filter.specs.RowJudgment.{JudgesRow, JudgesValue, rows_of};
 ghost use Rattle.odata_filter.specs.RowsOnce.{AreSameFault, AreSameJudgment, IsOfDocument, IsOfRow};
 ghost use Rattle.odata_filter.specs.RunStops.{StopsBy};
@@ -51,11 +51,11 @@ pub fn rows_stop_once(alloc: Global, checked: &Checked<'_>, now: &Moment)
 }
 
 /// One verdict or one fault is reported about a row, and that is what is said of the row as a line.
-pub fn rows_are_told_once()
+pub fn rows_are_reported_once()
     ensures one { (filter : Filter) (now : MomentParts) (row : List ℕ) (a b : Result Verdict NoVerdict)
-        → TellsRow filter now row a → TellsRow filter now row b → AreSameAnswer a b }
+        → ReportsRow filter now row a → ReportsRow filter now row b → AreSameAnswer a b }
     ensures line { (filter : Filter) (now : MomentParts) (row : List ℕ) (answer : Result Verdict NoVerdict)
-        (said : Judgment BadRow) → TellsRow filter now row answer → judgment_told answer ≡ Some said
+        (said : Judgment BadRow) → ReportsRow filter now row answer → judgment_reported answer ≡ Some said
         → JudgesRow filter now row said }
 {
     one_value_fits();
@@ -107,9 +107,9 @@ pub fn collections_stop_once(checked: &Checked<'_>, now: &Moment)
 /// `Write` is not said of a writer that reports that it never fails. Of such a reader `Read` is said only where it had
 /// as many bytes as may be read, or where it had been said before.
 pub fn unfailing_devices_never_fail<R>()
-    ensures write { ¬ (WritesUntilFault Calls.Unfailing Calls.Unfailing RunFault.Write) }
+    ensures write { ¬ (WritesUntilFault CallLog.Unfailing CallLog.Unfailing RunFault.Write) }
     ensures read { (remaining : R → Option (List ℕ)) (old new : LineSource R) (bytes : List ℕ) (line : ℕ)
-        → ReadsUntilFault (λ reader. Calls.Unfailing) remaining old new (RunFault.Read line)
+        → ReadsUntilFault (λ reader. CallLog.Unfailing) remaining old new (RunFault.Read line)
         → remaining old.reader ≡ Some bytes → length bytes < old.unread
         → old.course ≡ Course.Failed LineFault.Read }
 {}

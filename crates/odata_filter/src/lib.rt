@@ -29,20 +29,20 @@ mod run_fault;
 
 pub use bad_row::BadRow;
 pub use bounded_judge::BoundedJudge;
-pub use collection::{filter_collection, filter_collection_by};
+pub use collection::{filter_collection, filter_collection_with};
 pub use command::command_line;
 pub use command::laws::lines_by_example;
 pub use command::planner::plan;
 pub use command::runner::run;
-pub use command::whole_input::{NotWhole, read_whole, read_whole_by};
+pub use command::whole_input::{ReadAllError, read_whole, read_whole_with};
 pub use fault_number::{FaultKind, Numbered, fault_name, refusal_span, row_fault_path};
-pub use filter::{filter_lines, filter_lines_by, filter_slice};
+pub use filter::{filter_lines, filter_lines_with, filter_slice};
 pub use filter_rows::FilterRows;
 pub use headline::{canonical_texts_keep_rows, filters_keep_what_is_true};
 pub use laws::{
-    collections_stop_once, rows_are_told_once, rows_stop_once, unfailing_devices_never_fail,
+    collections_stop_once, rows_are_reported_once, rows_stop_once, unfailing_devices_never_fail,
 };
-pub use line_filter::{ByRecord, Calls, LineFault, LineReader, Reads, Recorded, Tally, Writes};
+pub use line_filter::{ByRecord, CallLog, LineFault, LineReader, Logged, Reads, Tally, Writes};
 pub use no_verdict::NoVerdict;
 pub use row_verdict::{judge_row, row_plan_of};
 pub use run_fault::RunFault;

@@ -10,9 +10,9 @@ ghost use Rattle.line_filter.specs.LineItems.{judgment_where};
 ghost use Rattle.odata_checked_filter.specs.Calls.{TakesMemory};
 ghost use Rattle.odata_checked_filter.specs.Filter.{tree_of_filter};
 ghost use Rattle.odata_eval.specs.MeansOn.{IsTheOutcome};
-ghost use Rattle.odata_eval.specs.VerdictView.{told_outcome};
-ghost use Rattle.odata_filter.specs.RowAnswer.{IsPlanOfFilter, TellsRow, judgment_told};
-ghost use Rattle.odata_filter.specs.private.ValueAnswer.{TellsValue, answer_told, fault_told};
+ghost use Rattle.odata_eval.specs.VerdictView.{reported_outcome};
+ghost use Rattle.odata_filter.specs.RowAnswer.{IsPlanOfFilter, ReportsRow, judgment_reported};
+ghost use Rattle.odata_filter.specs.private.ValueAnswer.{ReportsValue, answer_reported, fault_reported};
 
 use crate::bad_row::BadRow;
 use crate::no_verdict::NoVerdict;
@@ -35,7 +35,7 @@ pub struct RowJudge<'c, 's> {
 impl RowJudge<'_, '_> {
     /// Judges a JSON value.
     pub(crate) fn judge_value(&self, json: &Value) -> Result<Verdict, NoVerdict>
-        ensures { TellsValue self.now.checked.now self.now.moment.now (view json.now) result }
+        ensures { ReportsValue self.now.checked.now self.now.moment.now (view json.now) result }
     {
         let (schema, type_id) = (self.checked.schema(), self.checked.filtered_type());
         match Entity::expanded_from_json(
@@ -45,7 +45,7 @@ impl RowJudge<'_, '_> {
             self.checked.expansion(),
             json,
         ) {
-            Ok(entity) => told(self.judge_entity(&entity)),
+            Ok(entity) => reported(self.judge_entity(&entity)),
             Err(RowFault::Memory) => Err(NoVerdict::Memory),
             Err(fault) => Err(NoVerdict::Bad(BadRow::NoEntity(fault))),
         }
@@ -58,10 +58,10 @@ impl RowJudge<'_, '_> {
         requires type_id { entity.now.type_id ≡ self.now.checked.now.filtered }
         requires expansion { (path : PropertyPath)
             → paths_in entity.now.expansion path ≡ paths_in self.now.checked.now.expansion path }
-        ensures told { (json : Data) → Fits (slots_for entity.now)
+        ensures reported { (json : Data) → Fits (slots_for entity.now)
             (type_name_at entity.now.schema entity.now.type_id) json (value_of entity.now)
-            → TellsValue self.now.checked.now self.now.moment.now json (answer_told result) }
-        ensures outcome { IfSome (told_outcome result)
+            → ReportsValue self.now.checked.now self.now.moment.now json (answer_reported result) }
+        ensures outcome { IfSome (reported_outcome result)
             (IsTheOutcome entity.now self.now.moment.now (tree_of_filter self.now.checked.now)) }
         ensures no_memory { ¬ TakesMemory (tree_of_filter self.now.checked.now) → result ≢ Err EvalFault.Memory }
     {
@@ -71,7 +71,7 @@ impl RowJudge<'_, '_> {
     /// Judges a row through a tree.
     #[inline(never)]
     pub(crate) fn judge_by_tree(&self, row: &[u8]) -> Result<Verdict, NoVerdict>
-        ensures { TellsRow self.now.checked.now self.now.moment.now row.now result }
+        ensures { ReportsRow self.now.checked.now self.now.moment.now row.now result }
     {
         match Value::from_slice(self.alloc, row) {
             Ok(json) => self.judge_value(&json),
@@ -93,10 +93,10 @@ impl RowJudge<'_, '_> {
         row: &[u8],
     ) -> Result<Verdict, NoVerdict>
         requires { IsPlanOfFilter self.now.checked.now plan.now }
-        ensures { TellsRow self.now.checked.now self.now.moment.now row.now result }
+        ensures { ReportsRow self.now.checked.now self.now.moment.now row.now result }
     {
         match self.judge_read(plan, reader, row) {
-            Some(answer) => told(answer),
+            Some(answer) => reported(answer),
             None => self.judge_by_tree(row),
         }
     }
@@ -111,8 +111,8 @@ impl RowJudge<'_, '_> {
         row: &[u8],
     ) -> Option<Result<Verdict, EvalFault>>
         requires { IsPlanOfFilter self.now.checked.now plan.now }
-        ensures { IfSome result (λ answer. TellsRow self.now.checked.now self.now.moment.now row.now
-            (answer_told answer)) }
+        ensures { IfSome result (λ answer. ReportsRow self.now.checked.now self.now.moment.now row.now
+            (answer_reported answer)) }
     {
         let is_whole = plan.is_whole;
         if !is_whole {
@@ -127,8 +127,8 @@ impl RowJudge<'_, '_> {
 }
 
 /// What a fault of the filter says of its row. Running out of memory says nothing of it.
-pub(crate) fn told_fault(fault: EvalFault) -> NoVerdict
-    ensures { result ≡ fault_told fault }
+pub(crate) fn reported_fault(fault: EvalFault) -> NoVerdict
+    ensures { result ≡ fault_reported fault }
 {
     match fault {
         EvalFault::Memory => NoVerdict::Memory,
@@ -137,19 +137,19 @@ pub(crate) fn told_fault(fault: EvalFault) -> NoVerdict
 }
 
 /// What a filter's answer to an entity says of its row.
-pub(crate) fn told(answer: Result<Verdict, EvalFault>) -> Result<Verdict, NoVerdict>
-    ensures { result ≡ answer_told answer }
+pub(crate) fn reported(answer: Result<Verdict, EvalFault>) -> Result<Verdict, NoVerdict>
+    ensures { result ≡ answer_reported answer }
 {
     match answer {
         Ok(verdict) => Ok(verdict),
-        Err(fault) => Err(told_fault(fault)),
+        Err(fault) => Err(reported_fault(fault)),
     }
 }
 
 /// What is kept of rows by their verdicts: those on which the filter is true.
 #[inline(always)]
 pub(crate) fn judged_by(verdict: Verdict) -> Judgment<BadRow>
-    ensures { judgment_told (Ok verdict) ≡ Some result }
+    ensures { judgment_reported (Ok verdict) ≡ Some result }
 {
     match verdict {
         Verdict::True => Judgment::Kept,
@@ -160,7 +160,7 @@ pub(crate) fn judged_by(verdict: Verdict) -> Judgment<BadRow>
 /// Whether a row with that verdict is kept.
 #[inline(always)]
 pub(crate) fn is_kept(verdict: Verdict) -> bool
-    ensures { judgment_told (Ok verdict) ≡ Some (judgment_where result) }
+    ensures { judgment_reported (Ok verdict) ≡ Some (judgment_where result) }
 {
     match verdict {
         Verdict::True => true,
@@ -172,8 +172,8 @@ pub(crate) fn is_kept(verdict: Verdict) -> bool
 pub(crate) fn judgment_of(
     answer: Result<Verdict, NoVerdict>,
 ) -> Result<Judgment<BadRow>, AllocError>
-    ensures { MatchResult result (λ said. judgment_told answer ≡ Some said)
-        (λ refused. judgment_told answer ≡ None) }
+    ensures { MatchResult result (λ said. judgment_reported answer ≡ Some said)
+        (λ refused. judgment_reported answer ≡ None) }
 {
     match answer {
         Ok(verdict) => Ok(judged_by(verdict)),

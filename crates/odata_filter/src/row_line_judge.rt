@@ -3,7 +3,7 @@ ghost use Rattle.line_filter.specs.LineItems.{judgment_where};
 ghost use Rattle.odata_filter.specs.RowJudgment.{JudgesRow};
 
 use crate::bad_row::BadRow;
-use crate::row_judge::{RowJudge, judged_by, judgment_of, told_fault};
+use crate::row_judge::{RowJudge, judged_by, judgment_of, reported_fault};
 use crate::row_verdict::row_plan_of;
 use crate::rows_in_place::{begin_after, copy_with_room, reads_copy, type_rows_of};
 use edm_entities::{RowPlan, RowReader};
@@ -34,7 +34,7 @@ impl<'c, 's> Model for RowLineJudge<'c, 's> {
     ghost use Rattle.odata_checked_filter.specs.contracts.checked_node.CheckedNode as checked_node;
     ghost use Rattle.edm_values.specs.contracts.value.Value as value;
     ghost use Rattle.std.specs.Coded.{codes};
-    ghost use Rattle.odata_filter.specs.private.FilterNow.{FilterNow};
+    ghost use Rattle.odata_filter.specs.private.RowLineJudge.{FilterNow};
 
     ghost Value = { FilterNow };
 
@@ -129,7 +129,7 @@ impl Judge for RowLineJudge<'_, '_> {
         }
         let judged = match self.rows.judge_read(&self.plan, &mut self.reader, line) {
             Some(Ok(verdict)) => Ok(judged_by(verdict)),
-            Some(Err(fault)) => judgment_of(Err(told_fault(fault))),
+            Some(Err(fault)) => judgment_of(Err(reported_fault(fault))),
             None => judgment_of(self.rows.judge_by_tree(line)),
         };
         begin_after(&judged, &mut self.type_rows, &mut self.reader, line);

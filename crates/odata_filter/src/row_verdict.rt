@@ -5,7 +5,7 @@ ghost use Rattle.csdl_schema.specs.SchemaModel.{SchemaModel};
 ghost use Rattle.edm_row_plans.specs.Plans.{IsPlanOf};
 ghost use Rattle.edm_row_plans.specs.PassedNames.{names_passed};
 ghost use Rattle.odata_checked_filter.specs.declared.checked_node.NodeKind.{NodeKind as NodeKindModel};
-ghost use Rattle.odata_filter.specs.RowAnswer.{IsPlanOfFilter, TellsRow};
+ghost use Rattle.odata_filter.specs.RowAnswer.{IsPlanOfFilter, ReportsRow};
 
 use crate::no_verdict::NoVerdict;
 use crate::row_judge::RowJudge;
@@ -107,7 +107,7 @@ pub fn judge_row(
     row: &[u8],
 ) -> Result<Verdict, NoVerdict>
     requires { IsPlanOfFilter checked.now plan.now }
-    ensures { TellsRow checked.now now.now row.now result }
+    ensures { ReportsRow checked.now now.now row.now result }
 {
     let judge = RowJudge {
         alloc: reader.allocator(),

@@ -7,13 +7,13 @@ ghost use Rattle.edm_rows.specs.RowsOfType.{IsLeftOut, IsSameButKept, IsSameRead
 ghost use Rattle.line_filter.specs.LineItems.{judgment_where};
 ghost use Rattle.edm_rows.specs.HeldSchema.{schema_in};
 ghost use Rattle.odata_filter.specs.FilterRows.{KeepsNames};
-ghost use Rattle.odata_filter.specs.RowAnswer.{TellsRow};
+ghost use Rattle.odata_filter.specs.RowAnswer.{ReportsRow};
 ghost use Rattle.odata_filter.specs.RowJudgment.{JudgesRow};
 ghost use Rattle.odata_filter.specs.private.RowsInPlace.{AreRowsOf, IsSameButSieves, IsTestAt};
 
 use crate::bad_row::BadRow;
 use crate::no_verdict::NoVerdict;
-use crate::row_judge::{RowJudge, is_kept, told};
+use crate::row_judge::{RowJudge, is_kept, reported};
 use crate::row_verdict::{names_whole_row, plan_of};
 use edm_entities::{RowReader, what_fits_has_its_type};
 use edm_rows::{HeldSchema, Reading, TypeRows};
@@ -203,10 +203,10 @@ impl RowJudge<'_, '_> {
         requires ready { rows.now.is_ready ≡ true }
         requires whole { rows.now.is_whole ≡ true }
         ensures { (line : List ℕ) → IsLineBut line (names_unkept rows.now) (row_held rows.now)
-            → TellsRow self.now.checked.now self.now.moment.now line result }
+            → ReportsRow self.now.checked.now self.now.moment.now line result }
     {
         let entity = rows.entity();
-        told(self.judge_entity(&entity))
+        reported(self.judge_entity(&entity))
     }
 
     /// A law: the filter leaves out each line of which a slot's sieve rejects the value.

@@ -3,7 +3,7 @@ ghost use Rattle.odata_filter.specs.RunStops.{run_stop};
 
 use crate::bad_row::BadRow;
 use edm_entities::RowFault;
-use line_filter::Stop;
+use line_filter::RunStop;
 use odata_eval::EvalFault;
 use thiserror::Error;
 
@@ -37,18 +37,18 @@ pub enum RunFault {
 }
 
 /// The fault of a run over rows that stopped so.
-pub(crate) fn run_fault(stop: Stop<BadRow>) -> RunFault
+pub(crate) fn run_fault(stop: RunStop<BadRow>) -> RunFault
     ensures { run_stop result ≡ Some stop }
 {
     match stop {
-        Stop::Fault { line, fault } => match fault {
+        RunStop::Fault { line, fault } => match fault {
             BadRow::NotJson => RunFault::Json { line },
             BadRow::NoEntity(fault) => RunFault::Row { line, fault },
             BadRow::NoValue(fault) => RunFault::Arithmetic { line, fault },
         },
-        Stop::TooLong { line } => RunFault::LineTooLong { line },
-        Stop::Read { line } => RunFault::Read { line },
-        Stop::Write => RunFault::Write,
-        Stop::Memory { line } => RunFault::Memory { line },
+        RunStop::TooLong { line } => RunFault::LineTooLong { line },
+        RunStop::Read { line } => RunFault::Read { line },
+        RunStop::Write => RunFault::Write,
+        RunStop::Memory { line } => RunFault::Memory { line },
     }
 }

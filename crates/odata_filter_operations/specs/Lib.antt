@@ -1,8 +1,9 @@
 pub mod ArgumentValues
-pub mod Arguments
 pub mod CalculationGives
 pub mod CallGives
+pub mod Calls
 pub mod CollectionGives
+pub mod Collections
 pub mod CompareGives
 pub mod DatumView
 pub mod FaultView
@@ -10,9 +11,8 @@ pub mod FunctionGives
 pub mod HasGives
 pub mod LambdaGives
 pub mod LeftFirst
-pub mod Members
-pub mod Operands
+pub mod Operators
 pub mod Outcome
 pub mod QuantifierGives
-pub mod Tells
+pub mod Reports
 pub mod TruthGives

@@ -9,9 +9,9 @@ ghost use Rattle.odata_functions.specs.Texts.{CountComes};
 ghost use Rattle.odata_filter_operations.specs.CallGives.{CallGives};
 ghost use Rattle.odata_filter_operations.specs.FunctionGives.{FunctionGives, GivesCount};
 ghost use Rattle.odata_filter_operations.specs.Outcome.{gives};
-ghost use Rattle.odata_filter_operations.specs.Arguments.{Applies, MakesText};
+ghost use Rattle.odata_filter_operations.specs.Calls.{Applies, MakesText};
 ghost use Rattle.odata_filter_operations.specs.DatumView.{answer_outcome};
-ghost use Rattle.odata_filter_operations.specs.Tells.{Tells};
+ghost use Rattle.odata_filter_operations.specs.Reports.{Reports};
 
 use super::fault::EvalFault;
 use edm_values::{Datum, Moment};
@@ -32,7 +32,7 @@ pub fn called_on_one<'e>(
     first: Datum<'e>,
 ) -> Result<Datum<'e>, EvalFault>
     requires { (r : Reading) → Applies function (datum_val r first ∷ []) }
-    ensures { (now : MomentParts) (r s : Reading) → Tells (MakesText function)
+    ensures { (now : MomentParts) (r s : Reading) → Reports (MakesText function)
         (CallGives now function (datum_val r first.entry ∷ [])) (answer_outcome (datum_val s) result) }
 {
     match first {
@@ -81,7 +81,7 @@ fn called_on_text<'e>(
     given: CowStr<'e, Global>,
 ) -> Result<Datum<'e>, EvalFault>
     requires { Applies function (text (cow_str_bytes given) ∷ []) }
-    ensures { (now : MomentParts) (s : Reading) → Tells (MakesText function)
+    ensures { (now : MomentParts) (s : Reading) → Reports (MakesText function)
         (FunctionGives now function (text (cow_str_bytes given.entry) ∷ [])) (answer_outcome (datum_val s) result) }
 {
     match function {
@@ -103,7 +103,7 @@ pub fn called_on_two<'e>(
     second: Datum<'e>,
 ) -> Result<Datum<'e>, EvalFault>
     requires { (r : Reading) → Applies function (datum_val r first ∷ datum_val r second ∷ []) }
-    ensures { (now : MomentParts) (r s : Reading) → Tells (MakesText function)
+    ensures { (now : MomentParts) (r s : Reading) → Reports (MakesText function)
         (CallGives now function (datum_val r first.entry ∷ datum_val r second.entry ∷ []))
         (answer_outcome (datum_val s) result) }
 {
@@ -126,7 +126,7 @@ fn called_on_texts<'e>(
     part: &str,
 ) -> Result<Datum<'e>, EvalFault>
     requires { Applies function (text given.now ∷ text part.now ∷ []) }
-    ensures { (now : MomentParts) (s : Reading) → Tells (MakesText function)
+    ensures { (now : MomentParts) (s : Reading) → Reports (MakesText function)
         (FunctionGives now function (text given.now ∷ text part.now ∷ [])) (answer_outcome (datum_val s) result) }
 {
     match function {
@@ -148,7 +148,7 @@ pub fn called_on_three<'e>(
     third: Datum<'e>,
 ) -> Result<Datum<'e>, EvalFault>
     requires { (r : Reading) → Applies function (datum_val r first ∷ datum_val r second ∷ datum_val r third ∷ []) }
-    ensures { (now : MomentParts) (r s : Reading) → Tells (MakesText function)
+    ensures { (now : MomentParts) (r s : Reading) → Reports (MakesText function)
         (CallGives now function (datum_val r first.entry ∷ datum_val r second.entry ∷ datum_val r third.entry ∷ []))
         (answer_outcome (datum_val s) result) }
 {

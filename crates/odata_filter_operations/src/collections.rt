@@ -9,7 +9,7 @@ ghost use Rattle.odata_filter_operations.specs.HasGives.{HasGives};
 ghost use Rattle.odata_filter_operations.specs.LambdaGives.{InGives};
 ghost use Rattle.odata_filter_operations.specs.Outcome.{gives};
 ghost use Rattle.odata_filter_operations.specs.DatumView.{answer_outcome, reading_at};
-ghost use Rattle.odata_filter_operations.specs.Members.{HasMembers, IsAmong, IsOfEnumeration, MayBeAmong, MayBeMember};
+ghost use Rattle.odata_filter_operations.specs.Collections.{HasMembers, IsAmong, IsOfEnumeration, MayBeAmong, MayBeMember};
 
 use super::fault::EvalFault;
 use super::stored_values::datum_of;

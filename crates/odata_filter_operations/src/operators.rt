@@ -8,7 +8,7 @@ ghost use Rattle.odata_functions.specs.KeptVal.{Contents, kept_val};
 ghost use Rattle.odata_signatures.specs.TypeView.{expr_type};
 ghost use Rattle.odata_filter_operations.specs.CalculationGives.{CalculationGives, NegatedGives, number_outcome, number_val};
 ghost use Rattle.odata_filter_operations.specs.DatumView.{answer_outcome};
-ghost use Rattle.odata_filter_operations.specs.Operands.{AreNumbers, IsOneNumber};
+ghost use Rattle.odata_filter_operations.specs.Operators.{AreNumbers, IsOneNumber};
 
 use super::fault::EvalFault;
 use edm_values::{Prim, Value};
@@ -78,7 +78,8 @@ pub fn calculated(
     left: Option<i64>,
     right: Option<i64>,
 ) -> Result<Option<i64>, EvalFault>
-    requires { (schema : SchemaModel) → AreNumbers (expr_type schema edm_type.now) (number_val left) (number_val right) }
+    requires { (schema : SchemaModel)
+        → AreNumbers (expr_type schema edm_type.now) (number_val left) (number_val right) }
     ensures { (schema : SchemaModel) → IsSomeAnd (answer_outcome number_val result)
         (CalculationGives operator (expr_type schema edm_type.now) (number_val left) (number_val right)) }
 {
@@ -88,7 +89,7 @@ pub fn calculated(
     };
     match left {
         Some(a) => match right {
-            Some(b) => told_number(arith(operator, prim, Some(a), Some(b))),
+            Some(b) => reported_number(arith(operator, prim, Some(a), Some(b))),
             None => Ok(None),
         },
         None => Ok(None),
@@ -107,7 +108,7 @@ pub fn negated(edm_type: &EdmType, operand: Option<i64>) -> Result<Option<i64>, 
         None => return Ok(None),
     };
     match operand {
-        Some(n) => told_number(negate(prim, Some(n))),
+        Some(n) => reported_number(negate(prim, Some(n))),
         None => Ok(None),
     }
 }
@@ -125,7 +126,7 @@ fn prim_of(edm_type: &EdmType) -> Option<Prim>
 }
 
 /// What came of numbers, its fault as one of the evaluator's.
-fn told_number(answer: Result<Option<i64>, ArithFault>) -> Result<Option<i64>, EvalFault>
+fn reported_number(answer: Result<Option<i64>, ArithFault>) -> Result<Option<i64>, EvalFault>
     ensures { answer_outcome number_val result ≡ Some (number_outcome answer) }
 {
     match answer {

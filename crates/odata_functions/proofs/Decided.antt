@@ -18,61 +18,61 @@ use Rattle.odata_syntax.specs.declared.binary_operator.ComparisonOperator.TheVar
 use Rattle.odata_functions.proofs.TextOrder.{only_greater}
 
 -- a fact that a test shows
-abbrev pub Told : Type 0 → Type 0
-Told P = (answer : Bool) × (IsTrue answer ↔ P)
+abbrev pub Reported : Type 0 → Type 0
+Reported P = (answer : Bool) × (IsTrue answer ↔ P)
 
-pub never : {P : Type 0} → (P → ⊥) → Told P
+pub never : {P : Type 0} → (P → ⊥) → Reported P
 never none = (false, (λ is. cc, λ p. absurd (none p)))
 
-told_not : {P : Type 0} → Told P → Told (¬ P)
-told_not (true, is) = never (λ none. none (is.0 refl))
-told_not (false, is) = (true, (λ e. λ p. cc (is.1 p), λ none. refl))
+reported_not : {P : Type 0} → Reported P → Reported (¬ P)
+reported_not (true, is) = never (λ none. none (is.0 refl))
+reported_not (false, is) = (true, (λ e. λ p. cc (is.1 p), λ none. refl))
 
-told_or : {P Q : Type 0} → Told P → Told Q → Told (P ⊎ Q)
-told_or (true, is) other = (true, (λ e. inl (is.0 refl), λ p. refl))
-told_or (false, is) (true, is_other) = (true, (λ e. inr (is_other.0 refl), λ p. refl))
-told_or (false, is) (false, is_other) = (false, (λ e. cc, λ either. ⊎_elim is.1 is_other.1 either))
+reported_or : {P Q : Type 0} → Reported P → Reported Q → Reported (P ⊎ Q)
+reported_or (true, is) other = (true, (λ e. inl (is.0 refl), λ p. refl))
+reported_or (false, is) (true, is_other) = (true, (λ e. inr (is_other.0 refl), λ p. refl))
+reported_or (false, is) (false, is_other) = (false, (λ e. cc, λ either. ⊎_elim is.1 is_other.1 either))
 
-below : (a b : ℤ) → Told (a <ℤ b)
+below : (a b : ℤ) → Reported (a <ℤ b)
 below a b = by_lt_z a b (λ less. (true, (λ is. less, λ p. refl))) (λ more. never (λ less. omega (arith, ints)))
 
-same_truth : (a b : Bool) → Told (a ≡ b)
+same_truth : (a b : Bool) → Reported (a ≡ b)
 same_truth true true = (true, (λ is. refl, λ e. refl))
 same_truth false false = (true, (λ is. refl, λ e. refl))
 same_truth true false = never (λ e. cc)
 same_truth false true = never (λ e. cc)
 
-equal_told : (v w : Val) → Told (AreEqual v w)
-equal_told null null = (true, (λ is. tt, λ p. refl))
-equal_told (boolean a) (boolean b) = same_truth a b
-equal_told (whole a) (whole b) = (int_eq a b, Decides-int_eq a b)
-equal_told (text a) (text b) = (pointwise nat_eq (chars a) (chars b), bytes_decides (chars a) (chars b))
-equal_told (date a) (date b) = (int_eq (epoch_day a) (epoch_day b), Decides-int_eq (epoch_day a) (epoch_day b))
-equal_told (moment a) (moment b) = (int_eq (instant a) (instant b), Decides-int_eq (instant a) (instant b))
-equal_told (guid a) (guid b) = (pointwise nat_eq a b, bytes_decides a b)
-equal_told (member a) (member b) = (int_eq a b, Decides-int_eq a b)
-equal_told _ _ = never (λ p. p)
+equal_reported : (v w : Val) → Reported (AreEqual v w)
+equal_reported null null = (true, (λ is. tt, λ p. refl))
+equal_reported (boolean a) (boolean b) = same_truth a b
+equal_reported (whole a) (whole b) = (int_eq a b, Decides-int_eq a b)
+equal_reported (text a) (text b) = (pointwise nat_eq (chars a) (chars b), bytes_decides (chars a) (chars b))
+equal_reported (date a) (date b) = (int_eq (epoch_day a) (epoch_day b), Decides-int_eq (epoch_day a) (epoch_day b))
+equal_reported (moment a) (moment b) = (int_eq (instant a) (instant b), Decides-int_eq (instant a) (instant b))
+equal_reported (guid a) (guid b) = (pointwise nat_eq a b, bytes_decides a b)
+equal_reported (member a) (member b) = (int_eq a b, Decides-int_eq a b)
+equal_reported _ _ = never (λ p. p)
 
-greater_truth : (a b : Bool) → Told ((a ≡ true) × (b ≡ false))
+greater_truth : (a b : Bool) → Reported ((a ≡ true) × (b ≡ false))
 greater_truth true false = (true, (λ is. (refl, refl), λ p. refl))
 greater_truth true true = never (λ p. cc (p.1))
 greater_truth false b = never (λ p. cc (p.0))
 
-greater_told : (v w : Val) → Told (IsGreater v w)
-greater_told (boolean a) (boolean b) = greater_truth a b
-greater_told (whole a) (whole b) = below b a
-greater_told (text a) (text b) = (is_gt (text_cmp a b), (λ is. only_greater (text_cmp a b) is, λ greater. ap is_gt greater))
-greater_told (date a) (date b) = below (epoch_day b) (epoch_day a)
-greater_told (moment a) (moment b) = below (instant b) (instant a)
-greater_told _ _ = never (λ p. p)
+greater_reported : (v w : Val) → Reported (IsGreater v w)
+greater_reported (boolean a) (boolean b) = greater_truth a b
+greater_reported (whole a) (whole b) = below b a
+greater_reported (text a) (text b) = (is_gt (text_cmp a b), (λ is. only_greater (text_cmp a b) is, λ greater. ap is_gt greater))
+greater_reported (date a) (date b) = below (epoch_day b) (epoch_day a)
+greater_reported (moment a) (moment b) = below (instant b) (instant a)
+greater_reported _ _ = never (λ p. p)
 
-pub comparison_told : (operator : ComparisonOperator) (v w : Val) → Told (ComparesTrue operator v w)
-comparison_told Eq v w = equal_told v w
-comparison_told Ne v w = told_not (equal_told v w)
-comparison_told Gt v w = greater_told v w
-comparison_told Ge v w = told_or (greater_told v w) (equal_told v w)
-comparison_told Lt v w = greater_told w v
-comparison_told Le v w = told_or (greater_told w v) (equal_told v w)
+pub comparison_reported : (operator : ComparisonOperator) (v w : Val) → Reported (ComparesTrue operator v w)
+comparison_reported Eq v w = equal_reported v w
+comparison_reported Ne v w = reported_not (equal_reported v w)
+comparison_reported Gt v w = greater_reported v w
+comparison_reported Ge v w = reported_or (greater_reported v w) (equal_reported v w)
+comparison_reported Lt v w = greater_reported w v
+comparison_reported Le v w = reported_or (greater_reported w v) (equal_reported v w)
 
 -- whether values are comparable does not hang on how records and lists are read
 module _ (l r k s : Reading) where

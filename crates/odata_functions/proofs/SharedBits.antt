@@ -3,7 +3,7 @@ use Rattle.std.proofs.Common.{◌≡◌, refl, sym, ap, subst, ◌∙◌, inl, i
 use Rattle.std.specs.Int.{bit_at}
 use Rattle.std.proofs.lemmas.Bool.{cases_lt}
 use Rattle.std.proofs.lemmas.Nat.Bits.{bit_at-lt, bit_at_above, bit_at_and, same_from_bits}
-use Rattle.odata_functions.proofs.Decided.{Told}
+use Rattle.odata_functions.proofs.Decided.{Reported}
 
 -- where the bits that they share are those of the second
 pub each_shared : (v f k : ℕ) → bit_and v f ≡ f → bit_at f k ≡ 1 → bit_at v k ≡ 1
@@ -32,13 +32,13 @@ all_shared v f small each =
 
 -- ---- whether it has them, by bits
 
-told_number : (a b : ℕ) → Told (a ≡ b)
-told_number a b = (eqb a b, (eqb-true a b, eq-eqb a b))
+reported_number : (a b : ℕ) → Reported (a ≡ b)
+reported_number a b = (eqb a b, (eqb-true a b, eq-eqb a b))
 
-told_if : {P Q : Type 0} → Told P → Told Q → Told (P → Q)
-told_if (false, is) other = (true, (λ e p. cc (is.1 p), λ any. refl))
-told_if (true, is) (true, other) = (true, (λ e p. other.0 refl, λ any. refl))
-told_if (true, is) (false, other) = (false, (λ e. cc, λ any. other.1 (any (is.0 refl))))
+reported_if : {P Q : Type 0} → Reported P → Reported Q → Reported (P → Q)
+reported_if (false, is) other = (true, (λ e p. cc (is.1 p), λ any. refl))
+reported_if (true, is) (true, other) = (true, (λ e p. other.0 refl, λ any. refl))
+reported_if (true, is) (false, other) = (false, (λ e. cc, λ any. other.1 (any (is.0 refl))))
 
 abbrev BitsBelow : ℕ → ℕ → ℕ → Type 0
 BitsBelow v f n = (k : ℕ) → k < n → bit_at f k ≡ 1 → bit_at v k ≡ 1
@@ -50,11 +50,11 @@ one_more v f n each last k below =
       | inr later ↦ let same : n ≡ k = omega (arith, below, later) in subst (λ i. bit_at f i ≡ 1 → bit_at v i ≡ 1) same last
     ]
 
-more_told : (v f n : ℕ) → Told (BitsBelow v f n) → Told (bit_at f n ≡ 1 → bit_at v n ≡ 1) → Told (BitsBelow v f (suc n))
-more_told v f n (true, is) (true, last) = (true, (λ e. one_more v f n (is.0 refl) (last.0 refl), λ all. refl))
-more_told v f n (true, is) (false, last) = (false, (λ e. cc, λ all. last.1 (all n (omega arith))))
-more_told v f n (false, is) other = (false, (λ e. cc, λ all. is.1 (λ k below. all k (omega (arith, below)))))
+more_reported : (v f n : ℕ) → Reported (BitsBelow v f n) → Reported (bit_at f n ≡ 1 → bit_at v n ≡ 1) → Reported (BitsBelow v f (suc n))
+more_reported v f n (true, is) (true, last) = (true, (λ e. one_more v f n (is.0 refl) (last.0 refl), λ all. refl))
+more_reported v f n (true, is) (false, last) = (false, (λ e. cc, λ all. last.1 (all n (omega arith))))
+more_reported v f n (false, is) other = (false, (λ e. cc, λ all. is.1 (λ k below. all k (omega (arith, below)))))
 
-pub bits_told : (v f n : ℕ) → Told (BitsBelow v f n)
-bits_told v f zero = (true, (λ e k below. absurd (omega (arith, below)), λ all. refl))
-bits_told v f (suc n) = more_told v f n (bits_told v f n) (told_if (told_number (bit_at f n) 1) (told_number (bit_at v n) 1))
+pub bits_reported : (v f n : ℕ) → Reported (BitsBelow v f n)
+bits_reported v f zero = (true, (λ e k below. absurd (omega (arith, below)), λ all. refl))
+bits_reported v f (suc n) = more_reported v f n (bits_reported v f n) (reported_if (reported_number (bit_at f n) 1) (reported_number (bit_at v n) 1))

@@ -45,7 +45,7 @@ only_greater Equal is = cc
 only_greater Greater is = refl
 
 pub greater_test : (s t : List ℕ) (b : Bool) → IsUtf8 s → IsUtf8 t → b ≡ is_gt (slice_cmp nat_cmp s t) → IsTrue b ↔ (text_cmp s t ≡ Greater)
-greater_test s t b of_s of_t told = (
-  λ is. text_cmp-bytes s t of_s of_t ∙ only_greater (slice_cmp nat_cmp s t) (sym told ∙ is),
-  λ greater. told ∙ ap is_gt (sym (text_cmp-bytes s t of_s of_t) ∙ greater),
+greater_test s t b of_s of_t reported = (
+  λ is. text_cmp-bytes s t of_s of_t ∙ only_greater (slice_cmp nat_cmp s t) (sym reported ∙ is),
+  λ greater. reported ∙ ap is_gt (sym (text_cmp-bytes s t of_s of_t) ∙ greater),
 )

@@ -2,7 +2,7 @@
 ghost use Rattle.std.specs.Prelude.{◌≡◌};
 ghost use Rattle.std.specs.Str.{chars};
 ghost use Rattle.odata_functions.specs.Texts.{IsTrimmed, from_zero};
-ghost use Rattle.odata_functions.specs.private.Cuts.{IsOffset, IsRest};
+ghost use Rattle.odata_functions.specs.private.Cuts.{IsOffset, IsRemaining};
 
 /// Returns the text without the white space at both ends (section 5.1.1.7.4).
 pub fn trim(text: &str) -> &str
@@ -26,7 +26,7 @@ pub(crate) fn offset_of(text: &str, count: usize) -> usize
 
 /// What stands after the first characters of the text.
 fn rest_behind(text: &str, count: usize) -> &str
-    ensures { IsRest text.now result.now count }
+    ensures { IsRemaining text.now result.now count }
 {
     let mut rest = text.chars();
     for _ in 0..count {

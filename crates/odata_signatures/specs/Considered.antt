@@ -22,7 +22,8 @@ children_in_scope shape = children_of shape
 
 -- the body of a lambda operator that binds its variable, in the scope with that variable
 pub record IsBodyInScope
-    (scope : Scope) (variable : List ℕ) (Base : ExprType → Type 0) (body : Tree) (at : Scope) (part : Tree) : Type 0 where
+    (scope : Scope) (variable : List ℕ) (Base : ExprType → Type 0) (body : Tree) (at : Scope)
+    (part : Tree) : Type 0 where
   pub member_type : SingleType
   pub binds : BindsVariable scope variable Base member_type
   pub itself : IsItself (with_variable scope variable (single member_type)) body at part

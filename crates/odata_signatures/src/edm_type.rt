@@ -30,7 +30,7 @@ pub enum EdmType {
 /// The type of the literals `true` and `false`, and of what the logical operators and comparisons give.
 pub const BOOLEAN: EdmType = EdmType::Single(ValueType::Prim(Prim::Bool));
 
-ghost use Rattle.odata_signatures.specs.ManyValues.{type_of_many};
+ghost use Rattle.odata_signatures.specs.EdmType.{type_of_many};
 ghost use Rattle.odata_signatures.specs.declared.edm_type.EdmType.{EdmType};
 
 impl EdmType {

@@ -37,7 +37,7 @@ pub use membership::in_path_type;
 pub use normal_form_laws::{
     canonical_texts_keep_types, canonical_texts_need_the_same, normal_forms_keep_types,
 };
-pub use operator_types::{made_type, negated_type, opposite_type};
+pub use operator_types::{binary_type, negated_type, not_type};
 pub use refusal::{Refusal, TypeFault, TypeFaultCode};
 pub use tree_type_laws::{
     a_filter_of_items_is_boolean, a_number_is_no_text, children_come_first,

@@ -15,7 +15,7 @@ use odata_syntax::BinaryOperator;
 /// Returns the type that the operator makes of operands of these types, by the types alone. `None` where it takes none
 /// of these.
 #[inline(always)]
-pub fn made_type(
+pub fn binary_type(
     schema: &Schema,
     operator: BinaryOperator,
     left: &EdmType,
@@ -78,7 +78,7 @@ pub fn negated_type(operand: &EdmType) -> Option<EdmType>
 }
 
 /// Returns the type of `not` before an operand of this type. `None` where it is neither a truth value nor null.
-pub fn opposite_type(operand: &EdmType) -> Option<EdmType>
+pub fn not_type(operand: &EdmType) -> Option<EdmType>
     ensures typed { (schema : SchemaModel) → IfSome result
         (λ t. NotTyped (expr_type schema operand.now) (expr_type schema t)) }
     ensures there { (schema : SchemaModel) → IfSome result (IsTypeThere schema) }

@@ -39,7 +39,7 @@ pub fn canonical_texts_read_back()
 }
 
 /// Two expressions have one canonical text exactly if their normal forms are one but for places.
-pub fn texts_tell_normal_forms()
+pub fn texts_determine_normal_forms()
     ensures { (a b m n : Tree) (s t : List ℕ) → IsExpression a → IsExpression b
         → IsCanonicalText a s → IsCanonicalText b t → IsNormalForm a m → IsNormalForm b n
         → (s ≡ t) ↔ (bare m ≡ bare n) }

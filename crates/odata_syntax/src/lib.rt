@@ -26,7 +26,9 @@ mod syntax_list;
 pub use binary_operator::{
     ArithmeticOperator, BinaryOperator, ComparisonOperator, LogicalOperator,
 };
-pub use canonical_laws::{canonical_texts_read_back, one_canonical_text, texts_tell_normal_forms};
+pub use canonical_laws::{
+    canonical_texts_read_back, one_canonical_text, texts_determine_normal_forms,
+};
 pub use expr::Expr;
 pub use level::operator_level;
 pub use node::{LiteralKind, Node, Quantifier};

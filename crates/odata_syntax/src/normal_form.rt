@@ -5,8 +5,8 @@ ghost use Rattle.odata_syntax.specs.NormalForm.{IsNormalForm};
 ghost use Rattle.odata_syntax.specs.Tree.{Tree, shape_of};
 ghost use Rattle.odata_syntax.specs.TreeView.{tree_of};
 ghost use Rattle.odata_syntax.specs.private.Forests.{forest_trees};
-ghost use Rattle.odata_syntax.specs.private.Normals.{IsMade, IsNormalText, IsReady, all_wanted, children_wanted};
-ghost use Rattle.odata_syntax.specs.private.Normals.{item_count, over, shape_kind, wanted, whole};
+ghost use Rattle.odata_syntax.specs.private.NormalForm.{IsMade, IsNormalText, IsReady, all_wanted, children_wanted};
+ghost use Rattle.odata_syntax.specs.private.NormalForm.{item_count, over, shape_kind, wanted, whole};
 
 use crate::parser::Forest;
 use crate::printer::write_literal;

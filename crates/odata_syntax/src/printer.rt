@@ -4,7 +4,7 @@ ghost use Rattle.std.specs.Prelude.{◌≡◌, ◌∷◌, [], ◌++◌, OnOk, If
 ghost use Rattle.odata_syntax.specs.CanonicalText.{IsCanonicalText};
 ghost use Rattle.odata_syntax.specs.Tree.{shape_of};
 ghost use Rattle.odata_syntax.specs.TreeView.{tree_of, trees_of};
-ghost use Rattle.odata_syntax.specs.private.Prints.{Writes, after_first, listed, operand, piece_of, plain};
+ghost use Rattle.odata_syntax.specs.private.Printer.{Writes, after_first, listed, operand, piece_of, plain};
 
 mod enumeration_text;
 mod literal_text;
@@ -20,7 +20,7 @@ use std::alloc::{AllocError, Global};
 
 /// What is still to be written.
 #[derive(Clone, Copy, Debug)]
-enum Part<'t> {
+enum PrintTask<'t> {
     /// A node, in parentheses where it binds less tightly than needed.
     Operand { node: &'t Node, needed: u8 },
     /// What a node has after its first operand.
@@ -39,44 +39,44 @@ pub fn print(alloc: Global, expr: &Expr) -> Result<String, AllocError>
 {
     let mut text = String::new(alloc);
     let mut pending = Vec::new(alloc);
-    pending.push(Part::Operand {
+    pending.push(PrintTask::Operand {
         node: expr.root(),
         needed: 0,
     })?;
-    while let Some(part) = pending.pop() {
-        write_part(part, &mut text, &mut pending)?;
+    while let Some(task) = pending.pop() {
+        write_task(task, &mut text, &mut pending)?;
     }
     Ok(text)
 }
 
 /// Writes a part, or its beginning, and puts the rest on the stack: of a node that binds less tightly than needed `(`,
 /// and of further items a comma.
-fn write_part<'t>(
-    part: Part<'t>,
+fn write_task<'t>(
+    task: PrintTask<'t>,
     text: &mut String,
-    pending: &mut Vec<Part<'t>>,
+    pending: &mut Vec<PrintTask<'t>>,
 ) -> Result<(), AllocError>
-    ensures { OnOk result (Writes (piece_of part.entry) (string_bytes text.old) (string_bytes text.new)
+    ensures { OnOk result (Writes (piece_of task.entry) (string_bytes text.old) (string_bytes text.new)
         (map piece_of pending.old.items) (map piece_of pending.new.items)) }
 {
-    match part {
-        Part::Operand { node, needed } => {
+    match task {
+        PrintTask::Operand { node, needed } => {
             if node_level(node) < needed {
                 text.push('(')?;
-                pending.push(Part::Close)?;
+                pending.push(PrintTask::Close)?;
                 return put_operand(node, 0, pending);
             }
             write_node(node, text, pending)
         }
-        Part::Joint { node } => write_joint(node, text, pending),
-        Part::Further { items } => {
+        PrintTask::Joint { node } => write_joint(node, text, pending),
+        PrintTask::Further { items } => {
             if items.is_empty() {
                 return Ok(());
             }
             text.push(',')?;
             put_items(items, pending)
         }
-        Part::Close => text.push(')'),
+        PrintTask::Close => text.push(')'),
     }
 }
 
@@ -84,7 +84,7 @@ fn write_part<'t>(
 fn write_node<'t>(
     node: &'t Node,
     text: &mut String,
-    pending: &mut Vec<Part<'t>>,
+    pending: &mut Vec<PrintTask<'t>>,
 ) -> Result<(), AllocError>
     ensures { OnOk result (Writes (operand 0 (tree_of node.now)) (string_bytes text.old) (string_bytes text.new)
         (map piece_of pending.old.items) (map piece_of pending.new.items)) }
@@ -134,12 +134,12 @@ fn put_joint<'t>(
     node: &'t Node,
     needed: u8,
     first: &'t Node,
-    pending: &mut Vec<Part<'t>>,
+    pending: &mut Vec<PrintTask<'t>>,
 ) -> Result<(), AllocError>
     ensures { OnOk result (map piece_of pending.new.items ≡ map piece_of pending.old.items
         ++ (after_first (shape_of (tree_of node.now)) ∷ operand needed (tree_of first.now) ∷ [])) }
 {
-    pending.push(Part::Joint { node })?;
+    pending.push(PrintTask::Joint { node })?;
     put_operand(first, needed, pending)
 }
 
@@ -147,7 +147,7 @@ fn put_joint<'t>(
 fn write_joint<'t>(
     node: &'t Node,
     text: &mut String,
-    pending: &mut Vec<Part<'t>>,
+    pending: &mut Vec<PrintTask<'t>>,
 ) -> Result<(), AllocError>
     ensures { OnOk result (Writes (after_first (shape_of (tree_of node.now))) (string_bytes text.old)
         (string_bytes text.new) (map piece_of pending.old.items) (map piece_of pending.new.items)) }
@@ -189,7 +189,7 @@ fn write_right<'t>(
     needed: u8,
     right: &'t Node,
     text: &mut String,
-    pending: &mut Vec<Part<'t>>,
+    pending: &mut Vec<PrintTask<'t>>,
 ) -> Result<(), AllocError>
     ensures text { OnOk result (string_bytes text.new ≡ string_bytes text.old ++ (32 ∷ (word.now ++ 32 ∷ []))) }
     ensures pending { OnOk result (map piece_of pending.new.items ≡ map piece_of pending.old.items
@@ -208,7 +208,7 @@ fn write_body<'t>(
     variable: &str,
     body: &'t Node,
     text: &mut String,
-    pending: &mut Vec<Part<'t>>,
+    pending: &mut Vec<PrintTask<'t>>,
 ) -> Result<(), AllocError>
     ensures text { OnOk result (string_bytes text.new
         ≡ string_bytes text.old ++ (before.now ++ (variable.now ++ 58 ∷ []))) }
@@ -218,7 +218,7 @@ fn write_body<'t>(
     text.push_str(before)?;
     text.push_str(variable)?;
     text.push(':')?;
-    pending.push(Part::Close)?;
+    pending.push(PrintTask::Close)?;
     put_operand(body, 0, pending)
 }
 
@@ -227,26 +227,26 @@ fn write_list<'t>(
     before: &str,
     items: &'t [Node],
     text: &mut String,
-    pending: &mut Vec<Part<'t>>,
+    pending: &mut Vec<PrintTask<'t>>,
 ) -> Result<(), AllocError>
     ensures text { OnOk result (string_bytes text.new ≡ string_bytes text.old ++ before.now) }
     ensures pending { OnOk result (map piece_of pending.new.items ≡ map piece_of pending.old.items
         ++ (plain (41 ∷ []) ∷ listed (trees_of items.now))) }
 {
     text.push_str(before)?;
-    pending.push(Part::Close)?;
+    pending.push(PrintTask::Close)?;
     put_items(items, pending)
 }
 
 /// Puts items on the stack, the first on top.
-fn put_items<'t>(items: &'t [Node], pending: &mut Vec<Part<'t>>) -> Result<(), AllocError>
+fn put_items<'t>(items: &'t [Node], pending: &mut Vec<PrintTask<'t>>) -> Result<(), AllocError>
     ensures { OnOk result (map piece_of pending.new.items
         ≡ map piece_of pending.old.items ++ listed (trees_of items.now)) }
 {
     let Some((first, rest)) = items.split_first() else {
         return Ok(());
     };
-    pending.push(Part::Further { items: rest })?;
+    pending.push(PrintTask::Further { items: rest })?;
     put_operand(first, 0, pending)
 }
 
@@ -254,11 +254,11 @@ fn put_items<'t>(items: &'t [Node], pending: &mut Vec<Part<'t>>) -> Result<(), A
 fn put_operand<'t>(
     node: &'t Node,
     needed: u8,
-    pending: &mut Vec<Part<'t>>,
+    pending: &mut Vec<PrintTask<'t>>,
 ) -> Result<(), AllocError>
     ensures { OnOk result (map piece_of pending.new.items ≡ map piece_of pending.old.items
         ++ operand needed (tree_of node.now) ∷ []) }
 {
-    pending.push(Part::Operand { node, needed })?;
+    pending.push(PrintTask::Operand { node, needed })?;
     Ok(())
 }

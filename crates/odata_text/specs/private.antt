@@ -1,4 +1,4 @@
-pub mod FindParts
+pub mod Find
 pub mod Lengths
 pub mod Patterns
 pub mod PlainTokens

@@ -4,7 +4,7 @@ ghost use Rattle.percent_encoding.specs.Percent.{percent_decode};
 ghost use Rattle.odata_text.specs.Disguise.{is_disguised};
 ghost use Rattle.odata_text.specs.Find.{FoundModel, IsClear, IsFindFault, IsFoundIn, IsPieceFault, IsTextFault, found_in, found_model};
 ghost use Rattle.odata_text.specs.Query.{IsDecodable, is_filter, value_of};
-ghost use Rattle.odata_text.specs.private.FindParts.{AreTwoFound, IsFilterAmong, IsReadablePiece, KeepsFound, found_of};
+ghost use Rattle.odata_text.specs.private.Find.{AreTwoFound, IsFilterAmong, IsReadablePiece, KeepsFound, found_of};
 
 use super::disguise::is_disguised;
 use super::find_fault::FindFault;

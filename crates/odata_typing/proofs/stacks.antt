@@ -12,7 +12,7 @@ pub mod Onward
 pub mod Placed
 pub mod Ranges
 pub mod Runs
-pub mod Settings
+pub mod Contexts
 pub mod Slices
 pub mod Stacks
 pub mod Steps

@@ -10,16 +10,16 @@ ghost use Rattle.odata_signatures.specs.TypeThere.{IsTypeThere};
 ghost use Rattle.odata_signatures.specs.TypeView.{expr_type};
 ghost use Rattle.odata_typing.specs.private.Items.{IsUnreadLeft};
 ghost use Rattle.odata_typing.specs.private.Judging.{AreChildren, IsNodeJudged};
-ghost use Rattle.odata_typing.specs.private.Settings.{IsNodeReady};
+ghost use Rattle.odata_typing.specs.private.CheckContexts.{IsNodeReady};
 
+use super::check_context::{CheckContext, Judged};
 use super::judged_list::Walk;
 use super::laws_below::laws_below;
 use super::operand_text::{OperandRead, operand_read};
-use super::setting::{Judged, Setting};
 use csdl_schema::Schema;
 use odata_checked_filter::NodeKind;
 use odata_signatures::{
-    BOOLEAN, EdmType, TypeFaultCode, ValueType, has_type, in_path_type, made_type,
+    BOOLEAN, EdmType, TypeFaultCode, ValueType, binary_type, has_type, in_path_type,
 };
 use odata_syntax::{BinaryOperator, ComparisonOperator};
 
@@ -39,24 +39,24 @@ ghost use Rattle.odata_typing.specs.private.Walks.{IsReadPut};
 /// An operator between its operands.
 #[inline(always)]
 pub(crate) fn checked_operator(
-    setting: &Setting<'_>,
+    context: &CheckContext<'_>,
     judged: &Judged<'_>,
     operator: BinaryOperator,
     walk: &mut Walk,
 ) -> bool
-    requires ready { IsNodeReady setting.now walk.old judged.now }
-    requires operands { (l : Tree) × (r : Tree) × AreChildren setting.now walk.old judged.now (l ∷ r ∷ []) }
-    ensures { (l r : Tree) → AreChildren setting.now walk.old judged.now (l ∷ r ∷ [])
-        → IsNodeJudged setting.now judged.now (binary operator l r) walk.old walk.new result }
+    requires ready { IsNodeReady context.now walk.old judged.now }
+    requires operands { (l : Tree) × (r : Tree) × AreChildren context.now walk.old judged.now (l ∷ r ∷ []) }
+    ensures { (l r : Tree) → AreChildren context.now walk.old judged.now (l ∷ r ∷ [])
+        → IsNodeJudged context.now judged.now (binary operator l r) walk.old walk.new result }
 {
     laws_below();
     let left = judged.number + 1;
     let left_type = walk.type_at(left);
     let right_type = walk.type_at(walk.stop_at(left));
     if may_be_read(operator, left_type, right_type) {
-        return checked_infix(setting, judged, NodeKind::Binary { operator }, walk);
+        return checked_infix(context, judged, NodeKind::Binary { operator }, walk);
     }
-    let edm_type = made_type(setting.schema, operator, left_type, right_type);
+    let edm_type = binary_type(context.schema, operator, left_type, right_type);
     let kind = NodeKind::Binary { operator };
     walk.put_typed(judged, kind, edm_type, TypeFaultCode::OperandTypes)
 }
@@ -97,16 +97,16 @@ pub(crate) fn is_enumeration(edm_type: &EdmType) -> bool
 /// The node between two operands, of which one may be a String literal that is read as an enumeration's.
 #[inline(never)]
 pub(crate) fn checked_infix(
-    setting: &Setting<'_>,
+    context: &CheckContext<'_>,
     judged: &Judged<'_>,
     kind: NodeKind,
     walk: &mut Walk,
 ) -> bool
     requires kind { IsInfix kind }
-    requires ready { IsNodeReady setting.now walk.old judged.now }
-    requires operands { (l : Tree) × (r : Tree) × AreChildren setting.now walk.old judged.now (l ∷ r ∷ []) }
-    ensures { (l r : Tree) → AreChildren setting.now walk.old judged.now (l ∷ r ∷ [])
-        → IsNodeJudged setting.now judged.now (infix_shape kind l r) walk.old walk.new result }
+    requires ready { IsNodeReady context.now walk.old judged.now }
+    requires operands { (l : Tree) × (r : Tree) × AreChildren context.now walk.old judged.now (l ∷ r ∷ []) }
+    ensures { (l r : Tree) → AreChildren context.now walk.old judged.now (l ∷ r ∷ [])
+        → IsNodeJudged context.now judged.now (infix_shape kind l r) walk.old walk.new result }
 {
     laws_below();
     let left = judged.number + 1;
@@ -117,8 +117,8 @@ pub(crate) fn checked_infix(
         left_quoted: walk.quoted_at(left),
         right_quoted: walk.quoted_at(right),
     };
-    let read = operand_read(setting.schema, kind, &types);
-    let edm_type = infix_type(setting.schema, kind, &types);
+    let read = operand_read(context.schema, kind, &types);
+    let edm_type = infix_type(context.schema, kind, &types);
     let code = reason_of(kind, &types.right);
     match read {
         OperandRead::Neither => walk.put_typed(judged, kind, edm_type, code),
@@ -154,7 +154,7 @@ fn infix_type(schema: &Schema, kind: NodeKind, types: &OperandTypes<'_>) -> Opti
         (expr_type schema.now types.now.left) (expr_type schema.now types.now.right) type) }
 {
     match kind {
-        NodeKind::Binary { operator } => made_type(schema, operator, &types.left, &types.right),
+        NodeKind::Binary { operator } => binary_type(schema, operator, &types.left, &types.right),
         NodeKind::Has => has_type(schema, &types.left, &types.right),
         NodeKind::InPath => in_path_type(schema, &types.left, &types.right),
         _ => None,

@@ -8,11 +8,11 @@ ghost use Rattle.odata_signatures.specs.FirstUntypable.{code_of_call};
 ghost use Rattle.odata_checked_filter.specs.Stands.{IsCallNode};
 ghost use Rattle.odata_typing.specs.private.Judging.{AreChildren, IsNodeJudged};
 ghost use Rattle.odata_typing.specs.private.Rows.{AreInRow};
-ghost use Rattle.odata_typing.specs.private.Settings.{IsNodeReady, name_of};
+ghost use Rattle.odata_typing.specs.private.CheckContexts.{IsNodeReady, name_of};
 
+use super::check_context::{CheckContext, Judged};
 use super::judged_list::Walk;
 use super::laws_below::laws_below;
-use super::setting::{Judged, Setting};
 use odata_checked_filter::{CheckedNode, NodeKind};
 use odata_signatures::{CallFault, EdmType, Function, TypeFaultCode, judged_call};
 
@@ -21,20 +21,20 @@ const MOST_ARGUMENTS: usize = 3;
 
 /// The node of a call over its arguments.
 #[inline(never)]
-pub(crate) fn checked_call(setting: &Setting<'_>, judged: &Judged<'_>, walk: &mut Walk) -> bool
-    requires ready { IsNodeReady setting.now walk.old judged.now }
-    requires text { IsTextRange setting.now.text.now judged.now.node.now.text }
-    requires arguments { (arguments : List Tree) × AreChildren setting.now walk.old judged.now arguments }
-    ensures { (arguments : List Tree) → AreChildren setting.now walk.old judged.now arguments
-        → IsNodeJudged setting.now judged.now
-        (call (str_to_ascii_lowercase (name_of setting.now judged.now)) (trees_of_list arguments))
+pub(crate) fn checked_call(context: &CheckContext<'_>, judged: &Judged<'_>, walk: &mut Walk) -> bool
+    requires ready { IsNodeReady context.now walk.old judged.now }
+    requires text { IsTextRange context.now.text.now judged.now.node.now.text }
+    requires arguments { (arguments : List Tree) × AreChildren context.now walk.old judged.now arguments }
+    ensures { (arguments : List Tree) → AreChildren context.now walk.old judged.now arguments
+        → IsNodeJudged context.now judged.now
+        (call (str_to_ascii_lowercase (name_of context.now judged.now)) (trees_of_list arguments))
         walk.old walk.new result }
 {
     laws_below();
     // One more than any function takes is as bad as many more.
     let mut types = [EdmType::Null; MOST_ARGUMENTS + 1];
     let count = first_types(walk, judged.number + 1, judged.stop, &mut types);
-    match judged_call(setting.text_in(judged.node.text), &types[..count]) {
+    match judged_call(context.text_in(judged.node.text), &types[..count]) {
         Ok(call) => { walk.put_nameless(judged, kind_of(call.function), &call.edm_type) }
         Err(fault) => walk.refuse(judged.node.span, code_of(fault)),
     }

@@ -7,14 +7,14 @@ ghost use Rattle.odata_checked_filter.specs.FlatTree.{tree_of_nodes};
 ghost use Rattle.odata_signatures.specs.HasTyping.{HasNoTyping, HasTyping, IsRefusal, UnlessMemory};
 ghost use Rattle.odata_typing.specs.private.Answer.{IsTypeRefusal, refusal_of};
 ghost use Rattle.odata_typing.specs.private.Judging.{IsStanding};
-ghost use Rattle.odata_typing.specs.private.Settings.{IsReady, IsSetting, whole_tree};
+ghost use Rattle.odata_typing.specs.private.CheckContexts.{IsReady, IsContext, whole_tree};
 ghost use Rattle.odata_typing.specs.private.Variables.{scope_of};
-ghost use Rattle.odata_typing.specs.private.Wholes.{IsRefusedFor, IsWalked};
+ghost use Rattle.odata_typing.specs.private.Checker.{IsRefusedFor, IsWalked};
 
+use super::check_context::CheckContext;
 use super::judged_list::Walk;
 use super::laws_below::laws_below;
 use super::node_walk::checked_nodes;
-use super::setting::Setting;
 use super::variables::Variables;
 use csdl_schema::{Expansion, Schema, TypeId};
 use odata_checked_filter::{
@@ -126,7 +126,7 @@ fn walk_text(
         Ok(()) => {}
         Err(_) => return Err(Refusal::Memory),
     }
-    let setting = Setting {
+    let context = CheckContext {
         alloc,
         schema,
         filtered_type,
@@ -134,28 +134,28 @@ fn walk_text(
         text,
         nodes,
     };
-    judge_nodes(&setting, walk)
+    judge_nodes(&context, walk)
 }
 
-/// Judges all nodes of a setting without variables, and puts them into the list.
+/// Judges all nodes of a context without variables, and puts them into the list.
 #[inline(always)]
-fn judge_nodes(setting: &Setting<'_>, walk: &mut Walk) -> Result<(), Refusal>
-    requires setting { IsSetting setting.now }
-    requires ready { IsReady setting.now walk.old }
-    requires scope { scope_of setting.now ≡ [] }
-    ensures stands { IfOk result (λ _. IsStanding setting.now.schema.now setting.now.filtered_type [] walk.new
-        0 (length walk.new.list.nodes) (whole_tree setting.now)) }
+fn judge_nodes(context: &CheckContext<'_>, walk: &mut Walk) -> Result<(), Refusal>
+    requires context { IsContext context.now }
+    requires ready { IsReady context.now walk.old }
+    requires scope { scope_of context.now ≡ [] }
+    ensures stands { IfOk result (λ _. IsStanding context.now.schema.now context.now.filtered_type [] walk.new
+        0 (length walk.new.list.nodes) (whole_tree context.now)) }
     ensures truth { IfOk result (λ _. (found : CheckedNode) → slice_get walk.new.list.nodes 0 ≡ Some found
-        → IsBooleanOrNull (expr_type setting.now.schema.now found.edm_type)) }
-    ensures fault { IfErr result (IsTypeRefusal (slots_of setting.now.schema.now)
-        (type_name_at setting.now.schema.now setting.now.filtered_type) (whole_tree setting.now)
-        (length setting.now.text.now)) }
+        → IsBooleanOrNull (expr_type context.now.schema.now found.edm_type)) }
+    ensures fault { IfErr result (IsTypeRefusal (slots_of context.now.schema.now)
+        (type_name_at context.now.schema.now context.now.filtered_type) (whole_tree context.now)
+        (length context.now.text.now)) }
 {
-    if checked_nodes(setting, 0, setting.nodes.len(), walk) {
+    if checked_nodes(context, 0, context.nodes.len(), walk) {
         if walk.type_at(0).is_truth() {
             Ok(())
         } else {
-            Err(Refusal::Typing(not_boolean(setting.text.len())))
+            Err(Refusal::Typing(not_boolean(context.text.len())))
         }
     } else {
         match walk.fault {

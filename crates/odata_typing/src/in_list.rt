@@ -8,13 +8,13 @@ ghost use Rattle.odata_signatures.specs.TypeView.{expr_type};
 ghost use Rattle.odata_checked_filter.specs.ListChanges.{IsKeptOutside};
 ghost use Rattle.odata_typing.specs.private.Judging.{AreChildren, IsNodeJudged};
 ghost use Rattle.odata_typing.specs.private.Rows.{AreInRow, AreTypesThere, quoted_in, row_sides};
-ghost use Rattle.odata_typing.specs.private.Settings.{IsNodeReady};
+ghost use Rattle.odata_typing.specs.private.CheckContexts.{IsNodeReady};
 
 use super::binary_node::is_enumeration;
+use super::check_context::{CheckContext, Judged};
 use super::judged_list::Walk;
 use super::laws_below::laws_below;
-use super::setting::{Judged, Setting};
-use super::text_beside::{Beside, number_beside};
+use super::resolved_text::{ResolvedText, number_beside};
 use csdl_schema::Schema;
 use odata_checked_filter::{CheckedNode, NodeKind};
 use odata_signatures::{BOOLEAN, EdmType, TypeFaultCode, are_comparable};
@@ -36,21 +36,25 @@ ghost use Rattle.odata_typing.specs.private.Walks.{list_put};
 
 /// The node between its operand and its items.
 #[inline(never)]
-pub(crate) fn checked_in_list(setting: &Setting<'_>, judged: &Judged<'_>, walk: &mut Walk) -> bool
-    requires ready { IsNodeReady setting.now walk.old judged.now }
-    requires children { (l : Tree) × (items : List Tree) × AreChildren setting.now walk.old judged.now (l ∷ items) }
-    ensures { (l : Tree) (items : List Tree) → AreChildren setting.now walk.old judged.now (l ∷ items)
-        → IsNodeJudged setting.now judged.now (in_list l (trees_of_list items)) walk.old walk.new result }
+pub(crate) fn checked_in_list(
+    context: &CheckContext<'_>,
+    judged: &Judged<'_>,
+    walk: &mut Walk,
+) -> bool
+    requires ready { IsNodeReady context.now walk.old judged.now }
+    requires children { (l : Tree) × (items : List Tree) × AreChildren context.now walk.old judged.now (l ∷ items) }
+    ensures { (l : Tree) (items : List Tree) → AreChildren context.now walk.old judged.now (l ∷ items)
+        → IsNodeJudged context.now judged.now (in_list l (trees_of_list items)) walk.old walk.new result }
 {
     laws_below();
     let left = judged.number + 1;
     let items = walk.stop_at(left);
     let left_type = *walk.type_at(left);
     if is_enumeration(&left_type) {
-        let fit = put_items(setting.schema, &left_type, items, judged.stop, walk);
+        let fit = put_items(context.schema, &left_type, items, judged.stop, walk);
         put_list(judged, fit, walk)
     } else {
-        let fit = fit_of(setting.schema, &left_type, items, judged.stop, walk);
+        let fit = fit_of(context.schema, &left_type, items, judged.stop, walk);
         put_list(judged, fit, walk)
     }
 }
@@ -135,15 +139,15 @@ fn put_item(schema: &Schema, left: &EdmType, item: usize, walk: &mut Walk) -> It
     ensures walk { walk.new ≡ record walk.old { list = walk.new.list } }
 {
     match number_beside(schema, left, walk.quoted_at(item)) {
-        Beside::Number(number) => {
+        ResolvedText::Number(number) => {
             if walk.put_number(item, number) {
                 ItemsFit::All
             } else {
                 ItemsFit::OutOfMemory
             }
         }
-        Beside::Unknown => ItemsFit::Unknown,
-        Beside::Unread => {
+        ResolvedText::Unknown => ItemsFit::Unknown,
+        ResolvedText::Unread => {
             if are_comparable(schema, left, walk.type_at(item)) {
                 ItemsFit::All
             } else {

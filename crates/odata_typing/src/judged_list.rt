@@ -6,7 +6,7 @@ ghost use Rattle.odata_syntax.specs.TextTree.{IsTextRange, text_in};
 ghost use Rattle.odata_checked_filter.specs.ListChanges.{no_nodes};
 ghost use Rattle.odata_typing.specs.private.Rows.{quoted_in};
 
-use super::setting::Judged;
+use super::check_context::Judged;
 use csdl_schema::Property;
 use edm_values::Value;
 use odata_checked_filter::{CheckedNode, NodeKind, NodeList};

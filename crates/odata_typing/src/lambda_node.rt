@@ -3,13 +3,13 @@ ghost use Rattle.std.specs.Prelude.{◌≡◌};
 ghost use Rattle.odata_syntax.specs.TextTree.{IsTextRange};
 ghost use Rattle.odata_syntax.specs.Tree.{Tree, lambda};
 ghost use Rattle.odata_typing.specs.private.Judging.{IsNodeJudged};
-ghost use Rattle.odata_typing.specs.private.Lambda.{IsLambdaReady, IsOverBody};
-ghost use Rattle.odata_typing.specs.private.Settings.{IsNodeReady, name_of, run_tree};
+ghost use Rattle.odata_typing.specs.private.LambdaNode.{IsLambdaReady, IsOverBody};
+ghost use Rattle.odata_typing.specs.private.CheckContexts.{IsNodeReady, name_of, run_tree};
 
+use super::check_context::{CheckContext, Judged};
 use super::judged_list::Walk;
 use super::laws_below::laws_below;
 use super::node_walk::checked_nodes;
-use super::setting::{Judged, Setting};
 use super::variables::{Variables, variable_named};
 use odata_checked_filter::NodeKind;
 use odata_signatures::{BOOLEAN, EdmType, TypeFaultCode};
@@ -20,52 +20,52 @@ use odata_syntax::{Quantifier, SyntaxKind};
 #[cycle(typing)]
 #[inline(never)]
 pub(crate) fn checked_lambda(
-    setting: &Setting<'_>,
+    context: &CheckContext<'_>,
     from: usize,
     index: usize,
     walk: &mut Walk,
 ) -> bool
     requires { (judged : Judged) × (quantifier : Quantifier) × (base : Tree)
-        × IsLambdaReady setting.now walk.old from index judged quantifier base }
+        × IsLambdaReady context.now walk.old from index judged quantifier base }
     ensures { (judged : Judged) (quantifier : Quantifier) (base : Tree)
-        → IsLambdaReady setting.now walk.old from index judged quantifier base
-        → IsNodeJudged setting.now judged
-        (lambda quantifier base (name_of setting.now judged) (run_tree setting.now from index))
+        → IsLambdaReady context.now walk.old from index judged quantifier base
+        → IsNodeJudged context.now judged
+        (lambda quantifier base (name_of context.now judged) (run_tree context.now from index))
         walk.old walk.new result }
 {
     laws_below();
-    let lambda = setting.node_at(index);
+    let lambda = context.node_at(index);
     let span = lambda.node.span;
-    let variable = setting.text_in(lambda.node.text);
+    let variable = context.text_in(lambda.node.text);
     let EdmType::Collection(member) = *walk.type_at(lambda.number + 1) else {
         return walk.refuse(span, TypeFaultCode::NotCollection);
     };
-    match variable_named(setting.variables, variable) {
+    match variable_named(context.variables, variable) {
         Ok(None) => {}
         Ok(Some(_)) => return walk.refuse(span, TypeFaultCode::VariableTaken),
         Err(_) => return false,
     }
-    let variables = Variables::Bound(variable, EdmType::Single(member), setting.variables);
-    let within = Setting {
-        alloc: setting.alloc,
-        schema: setting.schema,
-        filtered_type: setting.filtered_type,
+    let variables = Variables::Bound(variable, EdmType::Single(member), context.variables);
+    let within = CheckContext {
+        alloc: context.alloc,
+        schema: context.schema,
+        filtered_type: context.filtered_type,
         variables: &variables,
-        text: setting.text,
-        nodes: setting.nodes,
+        text: context.text,
+        nodes: context.nodes,
     };
-    checked_nodes(&within, from, index, walk) && close_lambda(setting, &lambda, walk)
+    checked_nodes(&within, from, index, walk) && close_lambda(context, &lambda, walk)
 }
 
 /// The node of an expression whose body has been judged. No other node is put.
-fn close_lambda(setting: &Setting<'_>, judged: &Judged<'_>, walk: &mut Walk) -> bool
-    requires ready { IsNodeReady setting.now walk.old judged.now }
-    requires text { IsTextRange setting.now.text.now judged.now.node.now.text }
-    requires children { (base : Tree) × (body : Tree) × IsOverBody setting.now walk.old judged.now base body }
+fn close_lambda(context: &CheckContext<'_>, judged: &Judged<'_>, walk: &mut Walk) -> bool
+    requires ready { IsNodeReady context.now walk.old judged.now }
+    requires text { IsTextRange context.now.text.now judged.now.node.now.text }
+    requires children { (base : Tree) × (body : Tree) × IsOverBody context.now walk.old judged.now base body }
     ensures { (quantifier : Quantifier) (base body : Tree)
         → judged.now.node.now.kind ≡ SyntaxKind.Lambda quantifier
-        → IsOverBody setting.now walk.old judged.now base body
-        → IsNodeJudged setting.now judged.now (lambda quantifier base (name_of setting.now judged.now) body)
+        → IsOverBody context.now walk.old judged.now base body
+        → IsNodeJudged context.now judged.now (lambda quantifier base (name_of context.now judged.now) body)
         walk.old walk.new result }
 {
     laws_below();

@@ -14,6 +14,7 @@
 
 mod binary_node;
 mod call_node;
+mod check_context;
 mod checker;
 mod enumeration_literal;
 mod in_list;
@@ -25,8 +26,7 @@ mod node_walk;
 mod operand_text;
 mod property_node;
 mod reading;
-mod setting;
-mod text_beside;
+mod resolved_text;
 mod unary_node;
 mod variables;
 

@@ -4,7 +4,7 @@ ghost use Rattle.odata_signatures.specs.OperatorTyped.{IsEquality};
 ghost use Rattle.odata_typing.specs.private.OperandTexts.{IsOperandRead, left_side, right_side};
 
 use super::binary_node::OperandTypes;
-use super::text_beside::{Beside, number_beside};
+use super::resolved_text::{ResolvedText, number_beside};
 use csdl_schema::Schema;
 use odata_checked_filter::NodeKind;
 use odata_syntax::{BinaryOperator, ComparisonOperator};
@@ -42,9 +42,9 @@ pub(crate) fn operand_read(
             BinaryOperator::Logical(_) | BinaryOperator::Arithmetic(_) => OperandRead::Neither,
         },
         NodeKind::Has => match number_beside(schema, &operands.left, operands.right_quoted) {
-            Beside::Unread => OperandRead::Neither,
-            Beside::Number(number) => OperandRead::Right(number),
-            Beside::Unknown => OperandRead::Unknown,
+            ResolvedText::Unread => OperandRead::Neither,
+            ResolvedText::Number(number) => OperandRead::Right(number),
+            ResolvedText::Unknown => OperandRead::Unknown,
         },
         _ => OperandRead::Neither,
     }
@@ -61,12 +61,12 @@ fn equality_read(
         (right_side schema.now operands.now) result }
 {
     match number_beside(schema, &operands.left, operands.right_quoted) {
-        Beside::Number(number) => OperandRead::Right(number),
-        Beside::Unknown => OperandRead::Unknown,
-        Beside::Unread => match number_beside(schema, &operands.right, operands.left_quoted) {
-            Beside::Unread => OperandRead::Neither,
-            Beside::Number(number) => OperandRead::Left(number),
-            Beside::Unknown => OperandRead::Unknown,
+        ResolvedText::Number(number) => OperandRead::Right(number),
+        ResolvedText::Unknown => OperandRead::Unknown,
+        ResolvedText::Unread => match number_beside(schema, &operands.right, operands.left_quoted) {
+            ResolvedText::Unread => OperandRead::Neither,
+            ResolvedText::Number(number) => OperandRead::Left(number),
+            ResolvedText::Unknown => OperandRead::Unknown,
         },
     }
 }

@@ -11,11 +11,11 @@ ghost use Rattle.odata_signatures.specs.FirstUntypable.{NameReason, PropertyReas
 ghost use Rattle.odata_signatures.specs.NeededPaths.{Navigates};
 ghost use Rattle.odata_signatures.specs.Typed.{PropertyTyped, named_type};
 ghost use Rattle.odata_typing.specs.private.Judging.{AreChildren, IsNodeJudged};
-ghost use Rattle.odata_typing.specs.private.Settings.{IsNodeReady, name_of};
+ghost use Rattle.odata_typing.specs.private.CheckContexts.{IsNodeReady, name_of};
 
+use super::check_context::{CheckContext, Judged};
 use super::judged_list::Walk;
 use super::laws_below::laws_below;
-use super::setting::{Judged, Setting};
 use super::variables::variable_in_scope;
 use csdl_schema::{Property, PropertyKind, TypeId};
 use odata_checked_filter::NodeKind;
@@ -24,15 +24,15 @@ use odata_signatures::{EdmType, TypeFaultCode, ValueType};
 /// Puts the node of the variable of that name at its index, or where there is none that of the property of the filtered
 /// type.
 #[inline(never)]
-pub(crate) fn checked_name(setting: &Setting<'_>, judged: &Judged<'_>, walk: &mut Walk) -> bool
-    requires ready { IsNodeReady setting.now walk.old judged.now }
-    requires text { IsTextRange setting.now.text.now judged.now.node.now.text }
+pub(crate) fn checked_name(context: &CheckContext<'_>, judged: &Judged<'_>, walk: &mut Walk) -> bool
+    requires ready { IsNodeReady context.now walk.old judged.now }
+    requires text { IsTextRange context.now.text.now judged.now.node.now.text }
     requires leaf { judged.now.stop ≡ judged.now.number + 1 }
-    ensures { IsNodeJudged setting.now judged.now (name (name_of setting.now judged.now)) walk.old walk.new result }
+    ensures { IsNodeJudged context.now judged.now (name (name_of context.now judged.now)) walk.old walk.new result }
 {
     laws_below();
-    match variable_in_scope(setting.variables, setting.text_in(judged.node.text)) {
-        Ok(None) => match put_property(setting, setting.filtered_type, judged, walk) {
+    match variable_in_scope(context.variables, context.text_in(judged.node.text)) {
+        Ok(None) => match put_property(context, context.filtered_type, judged, walk) {
             Some((slot, edm_type)) => walk.put(judged, NodeKind::Property { slot }, &edm_type),
             None => false,
         },
@@ -48,16 +48,20 @@ pub(crate) fn checked_name(setting: &Setting<'_>, judged: &Judged<'_>, walk: &mu
 
 /// Puts the node of a step at its index: only one value of a structured type has properties.
 #[inline(never)]
-pub(crate) fn checked_member(setting: &Setting<'_>, judged: &Judged<'_>, walk: &mut Walk) -> bool
-    requires ready { IsNodeReady setting.now walk.old judged.now }
-    requires text { IsTextRange setting.now.text.now judged.now.node.now.text }
-    requires base { (base : Tree) × AreChildren setting.now walk.old judged.now (base ∷ []) }
-    ensures { (base : Tree) → AreChildren setting.now walk.old judged.now (base ∷ [])
-        → IsNodeJudged setting.now judged.now (member base (name_of setting.now judged.now)) walk.old walk.new result }
+pub(crate) fn checked_member(
+    context: &CheckContext<'_>,
+    judged: &Judged<'_>,
+    walk: &mut Walk,
+) -> bool
+    requires ready { IsNodeReady context.now walk.old judged.now }
+    requires text { IsTextRange context.now.text.now judged.now.node.now.text }
+    requires base { (base : Tree) × AreChildren context.now walk.old judged.now (base ∷ []) }
+    ensures { (base : Tree) → AreChildren context.now walk.old judged.now (base ∷ [])
+        → IsNodeJudged context.now judged.now (member base (name_of context.now judged.now)) walk.old walk.new result }
 {
     laws_below();
     match owner_of(walk.type_at(judged.number + 1)) {
-        Some(owner) => match put_property(setting, owner, judged, walk) {
+        Some(owner) => match put_property(context, owner, judged, walk) {
             Some((slot, edm_type)) => walk.put(judged, NodeKind::Member { slot }, &edm_type),
             None => false,
         },
@@ -84,34 +88,34 @@ fn owner_of(edm_type: &EdmType) -> Option<TypeId>
 /// refused.
 #[inline(always)]
 fn put_property(
-    setting: &Setting<'_>,
+    context: &CheckContext<'_>,
     owner: TypeId,
     judged: &Judged<'_>,
     walk: &mut Walk,
 ) -> Option<(usize, EdmType)>
-    requires ready { IsNodeReady setting.now walk.old judged.now }
-    requires text { IsTextRange setting.now.text.now judged.now.node.now.text }
+    requires ready { IsNodeReady context.now walk.old judged.now }
+    requires text { IsTextRange context.now.text.now judged.now.node.now.text }
     ensures slot { IfSome result
-        (λ p. slot_named (properties_at setting.now.schema.now owner) (name_of setting.now judged.now) ≡ Some p.0) }
-    ensures typed { IfSome result (λ p. PropertyTyped (properties_at setting.now.schema.now owner)
-        (name_of setting.now judged.now) (expr_type setting.now.schema.now p.1)) }
-    ensures there { IfSome result (λ p. IsTypeThere setting.now.schema.now p.1) }
+        (λ p. slot_named (properties_at context.now.schema.now owner) (name_of context.now judged.now) ≡ Some p.0) }
+    ensures typed { IfSome result (λ p. PropertyTyped (properties_at context.now.schema.now owner)
+        (name_of context.now judged.now) (expr_type context.now.schema.now p.1)) }
+    ensures there { IfSome result (λ p. IsTypeThere context.now.schema.now p.1) }
     ensures walk { OnSome result (walk.new ≡ record walk.old { navigates = walk.new.navigates }) }
     ensures before { OnSome result (walk.new.navigates ≡ false → walk.old.navigates ≡ false) }
     ensures idle { OnSome result (walk.new.navigates ≡ false
-        → ¬ Navigates (properties_at setting.now.schema.now owner) (name_of setting.now judged.now)) }
+        → ¬ Navigates (properties_at context.now.schema.now owner) (name_of context.now judged.now)) }
     ensures reason { IfNone result (IsSomeAnd walk.new.fault (λ fault.
-        NameReason (properties_at setting.now.schema.now owner) (name_of setting.now judged.now) fault.code)) }
+        NameReason (properties_at context.now.schema.now owner) (name_of context.now judged.now) fault.code)) }
     ensures span { IfNone result (IsSomeAnd walk.new.fault (λ fault. fault.span ≡ judged.now.node.now.span)) }
-    ensures untyped { IfNone result ((type : ExprType) → ¬ PropertyTyped (properties_at setting.now.schema.now owner)
-        (name_of setting.now judged.now) type) }
+    ensures untyped { IfNone result ((type : ExprType) → ¬ PropertyTyped (properties_at context.now.schema.now owner)
+        (name_of context.now judged.now) type) }
 {
-    match setting
+    match context
         .schema
-        .slot(owner, setting.text_in(judged.node.text))
+        .slot(owner, context.text_in(judged.node.text))
     {
         Some(slot) => {
-            let property = setting.schema.property(owner, slot);
+            let property = context.schema.property(owner, slot);
             walk.go_over(property);
             match property_edm_type(property) {
                 Some(edm_type) => Some((slot, edm_type)),

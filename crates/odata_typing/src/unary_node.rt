@@ -6,15 +6,13 @@ ghost use Rattle.csdl_schema.specs.SchemaModel.{SchemaModel};
 ghost use Rattle.odata_signatures.specs.TypeThere.{IsTypeThere};
 ghost use Rattle.odata_signatures.specs.TypeView.{expr_type};
 ghost use Rattle.odata_typing.specs.private.Judging.{AreChildren, IsNodeJudged};
-ghost use Rattle.odata_typing.specs.private.Settings.{IsNodeReady};
+ghost use Rattle.odata_typing.specs.private.CheckContexts.{IsNodeReady};
 
+use super::check_context::{CheckContext, Judged};
 use super::judged_list::Walk;
 use super::laws_below::laws_below;
-use super::setting::{Judged, Setting};
 use odata_checked_filter::NodeKind;
-use odata_signatures::{
-    EdmType, TypeFaultCode, any_item_type, count_type, negated_type, opposite_type,
-};
+use odata_signatures::{EdmType, TypeFaultCode, any_item_type, count_type, negated_type, not_type};
 
 /// What is asked of the one operand.
 #[derive(Clone, Copy)]
@@ -30,15 +28,15 @@ ghost use Rattle.odata_typing.specs.private.Forms.{UnaryTyped, unary_code, unary
 /// The node over its operand.
 #[inline(always)]
 pub(crate) fn checked_unary(
-    setting: &Setting<'_>,
+    context: &CheckContext<'_>,
     judged: &Judged<'_>,
     unary: Unary,
     walk: &mut Walk,
 ) -> bool
-    requires ready { IsNodeReady setting.now walk.old judged.now }
-    requires operand { (operand : Tree) × AreChildren setting.now walk.old judged.now (operand ∷ []) }
-    ensures { (operand : Tree) → AreChildren setting.now walk.old judged.now (operand ∷ [])
-        → IsNodeJudged setting.now judged.now (unary_shape unary operand) walk.old walk.new result }
+    requires ready { IsNodeReady context.now walk.old judged.now }
+    requires operand { (operand : Tree) × AreChildren context.now walk.old judged.now (operand ∷ []) }
+    ensures { (operand : Tree) → AreChildren context.now walk.old judged.now (operand ∷ [])
+        → IsNodeJudged context.now judged.now (unary_shape unary operand) walk.old walk.new result }
 {
     laws_below();
     let edm_type = unary_type(unary, walk.type_at(judged.number + 1));
@@ -56,7 +54,7 @@ fn unary_type(unary: Unary, operand: &EdmType) -> Option<EdmType>
 {
     match unary {
         Unary::Negation => negated_type(operand),
-        Unary::Not => opposite_type(operand),
+        Unary::Not => not_type(operand),
         Unary::Count => count_type(operand),
         Unary::AnyItem => any_item_type(operand),
     }

@@ -2,7 +2,7 @@
 #![tactic(auto)]
 
 use odata_filter::command_line::{Plan, PlanFault};
-use odata_filter::{NotWhole, plan, read_whole, run};
+use odata_filter::{ReadAllError, plan, read_whole, run};
 use std::fmt::Display;
 use std::fs::File;
 use std::io::{ErrorKind, Read};
@@ -16,34 +16,34 @@ const SCHEMA_BYTES: u64 = 1_048_577;
 const STACK_BYTES: usize = 196_608;
 
 /// Writes a line to standard error. The status was decided before, so it stands where standard error fails.
-fn tell<D: Display + Drop>(rt: &HostRuntime, line: D, status: u8) -> u8 {
+fn report<D: Display + Drop>(rt: &HostRuntime, line: D, status: u8) -> u8 {
     let _ = eprintln!(rt; "{line}");
     status
 }
 
 /// Reports that an allocation failed.
-fn tell_memory(rt: &HostRuntime) -> u8 {
-    tell(rt, "memory", 6)
+fn report_memory(rt: &HostRuntime) -> u8 {
+    report(rt, "memory", 6)
 }
 
 /// Reports why there is no plan, or what `clap` was asked for.
-fn tell_fault(rt: &HostRuntime, fault: PlanFault) -> u8 {
+fn report_fault(rt: &HostRuntime, fault: PlanFault) -> u8 {
     match fault {
         PlanFault::Clap(error) => {
             let _ = error.print(rt);
             if error.use_stderr() { 2 } else { 0 }
         }
-        PlanFault::OneOf => tell(rt, format_args!("usage {fault}"), 2),
-        PlanFault::Memory => tell_memory(rt),
+        PlanFault::OneOf => report(rt, format_args!("usage {fault}"), 2),
+        PlanFault::Memory => report_memory(rt),
     }
 }
 
 /// The bytes of the schema file, as many as matter.
-fn schema_bytes(rt: &HostRuntime, name: &str) -> Result<Vec<u8>, NotWhole> {
+fn schema_bytes(rt: &HostRuntime, name: &str) -> Result<Vec<u8>, ReadAllError> {
     match File::open(rt, name) {
         Ok(file) => read_whole(rt.alloc(), &mut file.take(SCHEMA_BYTES)),
-        Err(error) if error.kind() == ErrorKind::OutOfMemory => Err(NotWhole::Memory),
-        Err(_) => Err(NotWhole::Read),
+        Err(error) if error.kind() == ErrorKind::OutOfMemory => Err(ReadAllError::Memory),
+        Err(_) => Err(ReadAllError::Read),
     }
 }
 
@@ -51,8 +51,8 @@ fn schema_bytes(rt: &HostRuntime, name: &str) -> Result<Vec<u8>, NotWhole> {
 fn carry_out(rt: &HostRuntime, plan: &Plan<'_>) -> u8 {
     let document = match schema_bytes(rt, plan.schema) {
         Ok(document) => document,
-        Err(NotWhole::Memory) => return tell_memory(rt),
-        Err(NotWhole::Read) => return tell(rt, format_args!("read {}", plan.schema), 5),
+        Err(ReadAllError::Memory) => return report_memory(rt),
+        Err(ReadAllError::Read) => return report(rt, format_args!("read {}", plan.schema), 5),
     };
     let (alloc, document) = (rt.alloc(), document.as_slice());
     let (mut out, mut err) = (rt.stdout(), rt.stderr());
@@ -84,7 +84,7 @@ fn status(rt: &HostRuntime) -> io::Result<u8> {
     }
     Ok(match plan(rt.alloc(), texts.as_slice()) {
         Ok(plan) => carry_out(rt, &plan),
-        Err(fault) => tell_fault(rt, fault),
+        Err(fault) => report_fault(rt, fault),
     })
 }
 
@@ -101,7 +101,7 @@ fn main(rt: HostRuntime) -> ExitCode {
     let _ = taken_stack();
     ExitCode::from(match status(&rt) {
         Ok(status) => status,
-        Err(error) if error.kind() == ErrorKind::OutOfMemory => tell_memory(&rt),
-        Err(_) => tell(&rt, "usage not UTF-8", 2),
+        Err(error) if error.kind() == ErrorKind::OutOfMemory => report_memory(&rt),
+        Err(_) => report(&rt, "usage not UTF-8", 2),
     })
 }

@@ -12,7 +12,7 @@ use denote.RawPtr.{Ptr, RawPtr, ptr_val}
 use denote.Steps.{nothing}
 use denote.Struct.Struct.{within}
 use denote.Struct.Owning.{shape}
-use Rattle.odfilter_c.specs.Ownership.{owned_or_null}
+use Rattle.odfilter_c.specs.Owned.{owned_or_null}
 use Rattle.odfilter_c.specs.declared.handle.Handle.{Handle}
 use Rattle.odfilter_c.specs.contracts.owned.Owned.{the_row, the_type}
 use Rattle.odfilter_c.proofs.owned.Owned.TheLaws.{lowered}

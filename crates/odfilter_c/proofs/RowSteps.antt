@@ -4,19 +4,19 @@ use Rattle.edm_values.specs.MomentParts.{MomentParts}
 use Rattle.line_filter.specs.declared.tally.Tally.{Tally}
 use Rattle.odata_checked_filter.specs.Filter.{Filter}
 use Rattle.odata_eval.specs.declared.verdict.Verdict.{Verdict}
-use Rattle.odata_filter.specs.RowAnswer.{TellsRow}
+use Rattle.odata_filter.specs.RowAnswer.{ReportsRow}
 use Rattle.odata_filter.specs.RowCosts.{ReportsRowWithin}
 use Rattle.odata_filter.specs.declared.bad_row.BadRow.{BadRow}
 use Rattle.odata_filter.specs.declared.no_verdict.NoVerdict.{NoVerdict}
 use Rattle.odfilter_c.specs.RowCalls.{IsMomentFor, IsOutcomeAt, IsOutcomeOn, IsRunAt, IsRunOver}
-use Rattle.odfilter_c.specs.private.RowFaults.{row_fault}
+use Rattle.odfilter_c.specs.private.JudgeCalls.{row_fault}
 use Rattle.odfilter_c.specs.declared.call_fault.Fault.{Fault}
 
 -- what is said at the moment that was taken, of the filter as it was put together
 pub at_moment : (P : Filter → MomentParts → Type 0) (checked filter : Filter) (given : Option MomentParts) (now : MomentParts)
     → checked ≡ filter → IsMomentFor checked given now → P checked now → (x : MomentParts) × (IsMomentFor filter given x × P filter x)
-at_moment P checked filter given now same moment told =
-    (now, (subst (λ (f : Filter). IsMomentFor f given now) same moment, subst (λ (f : Filter). P f now) same told))
+at_moment P checked filter given now same moment reported =
+    (now, (subst (λ (f : Filter). IsMomentFor f given now) same moment, subst (λ (f : Filter). P f now) same reported))
 
 -- a run at that moment is one over the rows
 pub run_there : (filter : Filter) (given : Option MomentParts) (rows : List ℕ) (outcome : Result Tally Fault) (text : List ℕ)
@@ -66,16 +66,16 @@ outcome_there filter given bound row (Err (Fault.LineTooLong line)) there = ther
 outcome_there filter given bound row (Err Fault.TooCostly) there = there
 
 -- what is reported about a row without a bound, and within one
-pub plain_row : (filter : Filter) (now : MomentParts) (row : List ℕ) (why : NoVerdict) → TellsRow filter now row (Err why)
+pub plain_row : (filter : Filter) (now : MomentParts) (row : List ℕ) (why : NoVerdict) → ReportsRow filter now row (Err why)
     → IsOutcomeAt filter now None row (Err (row_fault why))
-plain_row filter now row (NoVerdict.Bad BadRow.NotJson) told = (refl, told)
-plain_row filter now row (NoVerdict.Bad (BadRow.NoEntity fault)) told = (refl, told)
-plain_row filter now row (NoVerdict.Bad (BadRow.NoValue fault)) told = (refl, (told, tt))
-plain_row filter now row NoVerdict.Memory told = tt
+plain_row filter now row (NoVerdict.Bad BadRow.NotJson) reported = (refl, reported)
+plain_row filter now row (NoVerdict.Bad (BadRow.NoEntity fault)) reported = (refl, reported)
+plain_row filter now row (NoVerdict.Bad (BadRow.NoValue fault)) reported = (refl, (reported, tt))
+plain_row filter now row NoVerdict.Memory reported = tt
 
 pub bounded_row : (filter : Filter) (now : MomentParts) (row : List ℕ) (most : ℕ) (why : NoVerdict)
     → ReportsRowWithin filter now row most (Err why) → IsOutcomeAt filter now (Some most) row (Err (row_fault why))
-bounded_row filter now row most (NoVerdict.Bad BadRow.NotJson) told = (refl, told)
-bounded_row filter now row most (NoVerdict.Bad (BadRow.NoEntity fault)) told = (refl, told)
-bounded_row filter now row most (NoVerdict.Bad (BadRow.NoValue fault)) told = (refl, told)
-bounded_row filter now row most NoVerdict.Memory told = tt
+bounded_row filter now row most (NoVerdict.Bad BadRow.NotJson) reported = (refl, reported)
+bounded_row filter now row most (NoVerdict.Bad (BadRow.NoEntity fault)) reported = (refl, reported)
+bounded_row filter now row most (NoVerdict.Bad (BadRow.NoValue fault)) reported = (refl, reported)
+bounded_row filter now row most NoVerdict.Memory reported = tt

@@ -5,7 +5,7 @@ use Rattle.odata_text.specs.declared.query_fault.QueryFault.{QueryFault}
 use Rattle.odata_text.specs.declared.span.Span.{Span}
 use Rattle.odata_signatures.specs.declared.refusal.Refusal.{Refusal}
 use Rattle.edm_entities.specs.declared.row_fault.RowFault.{RowFault}
-use Rattle.odata_filter.specs.FaultNumbers.{evaluation_number, path_told, query_number, row_number, schema_number, span_told, syntax_number, text_number, type_number}
+use Rattle.odata_filter.specs.FaultNumbers.{evaluation_number, path_reported, query_number, row_number, schema_number, span_reported, syntax_number, text_number, type_number}
 use Rattle.odfilter_c.specs.declared.c_types.Answer.{Answer}
 use Rattle.odfilter_c.specs.declared.call_fault.Fault.{Fault}
 
@@ -79,7 +79,7 @@ path_or_none (Some path) = path
 path_or_none None = []
 
 abbrev pub path_bytes : RowFault → List ℕ
-path_bytes fault = path_or_none (path_told fault)
+path_bytes fault = path_or_none (path_reported fault)
 
 -- the status that reports a fault
 abbrev pub fault_status : Fault → ℕ
@@ -114,8 +114,12 @@ fault_answer Fault.MomentNeeded = empty_answer
 fault_answer Fault.NotAMoment = empty_answer
 fault_answer Fault.UnknownNumber = empty_answer
 fault_answer (Fault.Schema fault) = record empty_answer { fault = schema_number fault }
-fault_answer (Fault.Refused refusal) = record empty_answer
-    { fault = refusal_number refusal; start = span_start (span_told refusal); stop = span_stop (span_told refusal) }
+fault_answer (Fault.Refused refusal) = record empty_answer {
+  fault = refusal_number refusal;
+  start = span_start (span_reported refusal);
+  stop = span_stop
+      (span_reported refusal);
+}
 fault_answer (Fault.Query fault) = record empty_answer { fault = query_number fault; number = query_place fault }
 fault_answer (Fault.Whole fault) = record empty_answer { fault = find_number fault; number = find_place fault }
 fault_answer (Fault.Json line) = record empty_answer { number = line }

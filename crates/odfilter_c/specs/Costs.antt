@@ -7,7 +7,7 @@ use Rattle.odata_checked_filter.specs.PropertyPaths.{property_paths}
 use Rattle.odata_signatures.specs.PreOrder.{pre_order}
 use Rattle.odfilter_c.specs.Answers.{empty_answer}
 use Rattle.odfilter_c.specs.FilterCalls.{IsNoText}
-use Rattle.odfilter_c.specs.Outcomes.{IsTold}
+use Rattle.odfilter_c.specs.Outcomes.{IsReported}
 use Rattle.odfilter_c.specs.Texts.{IsTooSmall, IsWritten}
 use Rattle.odfilter_c.specs.declared.c_types.Answer.{Answer}
 use Rattle.odfilter_c.specs.declared.call_fault.Fault.{Fault}
@@ -21,13 +21,13 @@ ReportsNumber number answer status = (answer ≡ record empty_answer { number = 
 abbrev pub ReportsNodeCount : Handle → Answer → ℕ → Type 0
 ReportsNodeCount (Handle.Filter filter) answer status =
     ReportsNumber (length (pre_order (tree_of_filter filter))) answer status
-ReportsNodeCount handle answer status = IsTold Fault.OtherKind answer status
+ReportsNodeCount handle answer status = IsReported Fault.OtherKind answer status
 
 -- how many lambda operators stand in one another
 abbrev pub ReportsLambdaDepth : Handle → Answer → ℕ → Type 0
 ReportsLambdaDepth (Handle.Filter filter) answer status =
     ReportsNumber (lambda_depth (tree_of_filter filter)) answer status
-ReportsLambdaDepth handle answer status = IsTold Fault.OtherKind answer status
+ReportsLambdaDepth handle answer status = IsReported Fault.OtherKind answer status
 
 -- texts, each followed by a line feed
 abbrev pub line_of : List ℕ → List ℕ
@@ -50,11 +50,11 @@ ArePaths handle count text = ⊥
 abbrev pub ReportsLines : ℕ → List ℕ → List ℕ → List ℕ → Answer → ℕ → Type 0
 ReportsLines count text old new answer status =
     (IsWritten text old new × (answer ≡ record empty_answer { number = count; length = length text }) × (status ≡ 0))
-    ⊎ (IsTooSmall text old new × IsTold (Fault.TooSmall (length text)) answer status)
+    ⊎ (IsTooSmall text old new × IsReported (Fault.TooSmall (length text)) answer status)
 
 abbrev pub ReportsLinesOrFault : Result (ℕ × List ℕ) Fault → List ℕ → List ℕ → Answer → ℕ → Type 0
 ReportsLinesOrFault (Ok lines) old new answer status = ReportsLines lines.0 lines.1 old new answer status
-ReportsLinesOrFault (Err fault) old new answer status = (new ≡ old) × IsTold fault answer status
+ReportsLinesOrFault (Err fault) old new answer status = (new ≡ old) × IsReported fault answer status
 
 -- the paths of the properties that the filter reads
 pub record ReportsPaths (filter : Handle) (old new : List ℕ) (answer : Answer) (status : ℕ) : Type 0 where

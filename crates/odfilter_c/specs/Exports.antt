@@ -8,8 +8,8 @@ use Rattle.odfilter_c.specs.declared.c_types.Bytes.{Bytes}
 use Rattle.odfilter_c.specs.declared.c_types.Room.{Room}
 use Rattle.odfilter_c.specs.declared.handle.Handle.{Handle}
 use Rattle.odfilter_c.specs.declared.owned.Owned.{Owned}
-use Rattle.odfilter_c.specs.Tells.{ReadsSchema, FindsType, ChecksText, ChecksQuery, Frees, TellsVersion, TellsStatus, TellsFault}
-use Rattle.odfilter_c.specs.RowTells.{TellsNeed, MakesJudge, SetsBound, SetsMoment, JudgesOne, FiltersLines, TellsPath}
+use Rattle.odfilter_c.specs.Reports.{ReadsSchema, FindsType, ChecksText, ChecksQuery, Frees, ReportsVersion, ReportsStatus, ReportsFault}
+use Rattle.odfilter_c.specs.RowReports.{ReportsNeed, MakesJudge, SetsBound, SetsMoment, JudgesOne, FiltersLines, ReportsPath}
 
 -- what `odfilter_read_schema` borrows: bytes, a buffer, the new handle's variable and the answer
 abbrev pub lent_to_read_schema : Loan → Bytes → Room → Ptr → Ptr → Fml
@@ -22,7 +22,9 @@ left_by_read_schema l document names schema answer result = unless_null (names.a
     (fsep (feq ℕ result 1) (lent_to_read_schema l document names schema answer))
     (fex (List ℕ) (λ names'. fex Owned (λ schema'. fex Answer (λ answer'.
     fsep (left_room l names names') (fsep (left_made l schema schema') (fsep (left_answer l answer answer')
-    (holds (of_bytes document.at document.length l.bytes ((names' ≡ l.room) × ((schema' ≡ l.made) × ((answer' ≡ l.answer) × (result ≡ 1)))) (λ bytes. ReadsSchema bytes l.room names' schema' answer' result)))))))))
+    (holds (of_bytes document.at document.length l.bytes
+    ((names' ≡ l.room) × ((schema' ≡ l.made) × ((answer' ≡ l.answer) × (result ≡ 1))))
+    (λ bytes. ReadsSchema bytes l.room names' schema' answer' result)))))))))
 
 -- what `odfilter_find_type` borrows: a handle, bytes and the new handle's variable
 abbrev pub lent_to_find_type : Loan → Ptr → Bytes → Ptr → Fml
@@ -34,7 +36,8 @@ left_by_find_type l schema name made result = unless_null (schema ∷ made ∷ [
     (fsep (feq ℕ result 1) (lent_to_find_type l schema name made))
     (fex Owned (λ made'.
     fsep (left_made l made made')
-    (holds (of_bytes name.at name.length l.bytes ((made' ≡ l.made) × (result ≡ 1)) (λ bytes. FindsType l.handle bytes made' result)))))
+    (holds (of_bytes name.at name.length l.bytes ((made' ≡ l.made) × (result ≡ 1))
+    (λ bytes. FindsType l.handle bytes made' result)))))
 
 -- what `odfilter_check` borrows: a handle, bytes, the new handle's variable and the answer
 abbrev pub lent_to_check : Loan → Ptr → Bytes → Ptr → Ptr → Fml
@@ -47,7 +50,8 @@ left_by_check l given text made answer result = unless_null (given ∷ made ∷ 
     (fsep (feq ℕ result 1) (lent_to_check l given text made answer))
     (fex Owned (λ made'. fex Answer (λ answer'.
     fsep (left_made l made made') (fsep (left_answer l answer answer')
-    (holds (of_bytes text.at text.length l.bytes ((made' ≡ l.made) × ((answer' ≡ l.answer) × (result ≡ 1))) (λ bytes. ChecksText l.handle bytes made' answer' result)))))))
+    (holds (of_bytes text.at text.length l.bytes ((made' ≡ l.made) × ((answer' ≡ l.answer) × (result ≡ 1)))
+    (λ bytes. ChecksText l.handle bytes made' answer' result)))))))
 
 -- what `odfilter_check_query` borrows: a handle, bytes, the new handle's variable and the answer
 abbrev pub lent_to_check_query : Loan → Ptr → Bytes → Ptr → Ptr → Fml
@@ -60,18 +64,19 @@ left_by_check_query l given query made answer result = unless_null (given ∷ ma
     (fsep (feq ℕ result 1) (lent_to_check_query l given query made answer))
     (fex Owned (λ made'. fex Answer (λ answer'.
     fsep (left_made l made made') (fsep (left_answer l answer answer')
-    (holds (of_bytes query.at query.length l.bytes ((made' ≡ l.made) × ((answer' ≡ l.answer) × (result ≡ 1))) (λ bytes. ChecksQuery l.handle bytes made' answer' result)))))))
+    (holds (of_bytes query.at query.length l.bytes ((made' ≡ l.made) × ((answer' ≡ l.answer) × (result ≡ 1)))
+    (λ bytes. ChecksQuery l.handle bytes made' answer' result)))))))
 
 -- what `odfilter_needs_moment` borrows: a handle and the answer
 abbrev pub lent_to_needs_moment : Loan → Ptr → Ptr → Fml
 lent_to_needs_moment l filter answer = fsep (lent_handle l filter) (lent_answer l answer)
 
--- what it leaves: all unchanged and the status 1 where an address may not be null and is, else what `TellsNeed` says
+-- what it leaves: all unchanged and the status 1 where an address may not be null and is, else what `ReportsNeed` says
 abbrev pub left_by_needs_moment : Loan → Ptr → Ptr → ℕ → Fml
 left_by_needs_moment l filter answer result = unless_null (filter ∷ answer ∷ [])
     (fsep (feq ℕ result 1) (lent_to_needs_moment l filter answer))
     (fex Answer (λ answer'.
-    fsep (left_answer l answer answer') (holds (TellsNeed l.handle answer' result))))
+    fsep (left_answer l answer answer') (holds (ReportsNeed l.handle answer' result))))
 
 -- what `odfilter_new_judge` borrows: the new handle's variable
 abbrev pub lent_to_new_judge : Loan → Ptr → Fml
@@ -94,7 +99,8 @@ left_by_set_moment l judge moment result = unless_null (judge ∷ [])
     (fsep (feq ℕ result 1) (lent_to_set_moment l judge moment))
     (fex Handle (λ judge'.
     fsep (left_judge l judge judge')
-    (holds (of_bytes moment.at moment.length l.bytes ((judge' ≡ l.judge) × (result ≡ 1)) (λ bytes. SetsMoment l.judge judge' bytes result)))))
+    (holds (of_bytes moment.at moment.length l.bytes ((judge' ≡ l.judge) × (result ≡ 1))
+    (λ bytes. SetsMoment l.judge judge' bytes result)))))
 
 -- what `odfilter_set_bound` borrows: a judge that may change
 abbrev pub lent_to_set_bound : Loan → Ptr → Fml
@@ -118,7 +124,8 @@ left_by_judge l filter judge row answer result = unless_null (filter ∷ judge �
     (fsep (feq ℕ result 1) (lent_to_judge l filter judge row answer))
     (fex Handle (λ judge'. fex Answer (λ answer'.
     fsep (left_judge l judge judge') (fsep (left_answer l answer answer')
-    (holds (of_bytes row.at row.length l.bytes ((judge' ≡ l.judge) × ((answer' ≡ l.answer) × (result ≡ 1))) (λ bytes. JudgesOne l.handle l.judge judge' bytes answer' result)))))))
+    (holds (of_bytes row.at row.length l.bytes ((judge' ≡ l.judge) × ((answer' ≡ l.answer) × (result ≡ 1)))
+    (λ bytes. JudgesOne l.handle l.judge judge' bytes answer' result)))))))
 
 -- what `odfilter_filter_lines` borrows: a handle, a judge that may change, bytes, a buffer and the answer
 abbrev pub lent_to_filter_lines : Loan → Ptr → Ptr → Bytes → Room → Ptr → Fml
@@ -132,19 +139,21 @@ left_by_filter_lines l filter judge rows kept answer result = unless_null (filte
     (fsep (feq ℕ result 1) (lent_to_filter_lines l filter judge rows kept answer))
     (fex Handle (λ judge'. fex (List ℕ) (λ kept'. fex Answer (λ answer'.
     fsep (left_judge l judge judge') (fsep (left_room l kept kept') (fsep (left_answer l answer answer')
-    (holds (of_bytes rows.at rows.length l.bytes ((judge' ≡ l.judge) × ((kept' ≡ l.room) × ((answer' ≡ l.answer) × (result ≡ 1)))) (λ bytes. FiltersLines l.handle l.judge judge' bytes l.room kept' answer' result)))))))))
+    (holds (of_bytes rows.at rows.length l.bytes
+    ((judge' ≡ l.judge) × ((kept' ≡ l.room) × ((answer' ≡ l.answer) × (result ≡ 1))))
+    (λ bytes. FiltersLines l.handle l.judge judge' bytes l.room kept' answer' result)))))))))
 
 -- what `odfilter_path` borrows: a handle, a buffer and the answer
 abbrev pub lent_to_path : Loan → Ptr → Room → Ptr → Fml
 lent_to_path l judge path answer = fsep (lent_handle l judge) (fsep (lent_room l path) (lent_answer l answer))
 
--- what it leaves: all unchanged and the status 1 where an address may not be null and is, else what `TellsPath` says
+-- what it leaves: all unchanged and the status 1 where an address may not be null and is, else what `ReportsPath` says
 abbrev pub left_by_path : Loan → Ptr → Room → Ptr → ℕ → Fml
 left_by_path l judge path answer result = unless_null (judge ∷ path.at ∷ answer ∷ [])
     (fsep (feq ℕ result 1) (lent_to_path l judge path answer))
     (fex (List ℕ) (λ path'. fex Answer (λ answer'.
     fsep (left_room l path path') (fsep (left_answer l answer answer')
-    (holds (TellsPath l.handle l.room path' answer' result))))))
+    (holds (ReportsPath l.handle l.room path' answer' result))))))
 
 -- what `odfilter_free` borrows: a handle's variable
 abbrev pub lent_to_free : Loan → Ptr → Fml
@@ -161,34 +170,36 @@ left_by_free l handle result = unless_null (handle ∷ [])
 abbrev pub lent_to_version : Loan → Room → Ptr → Fml
 lent_to_version l text answer = fsep (lent_room l text) (lent_answer l answer)
 
--- what it leaves: all unchanged and the status 1 where an address may not be null and is, else what `TellsVersion` says
+-- what it leaves: all unchanged and the status 1 where an address may not be null and is, else what `ReportsVersion`
+-- says
 abbrev pub left_by_version : Loan → Room → Ptr → ℕ → Fml
 left_by_version l text answer result = unless_null (text.at ∷ answer ∷ [])
     (fsep (feq ℕ result 1) (lent_to_version l text answer))
     (fex (List ℕ) (λ text'. fex Answer (λ answer'.
     fsep (left_room l text text') (fsep (left_answer l answer answer')
-    (holds (TellsVersion l.room text' answer' result))))))
+    (holds (ReportsVersion l.room text' answer' result))))))
 
 -- what `odfilter_status_name` borrows: a buffer and the answer
 abbrev pub lent_to_status_name : Loan → Room → Ptr → Fml
 lent_to_status_name l text answer = fsep (lent_room l text) (lent_answer l answer)
 
--- what it leaves: all unchanged and the status 1 where an address may not be null and is, else what `TellsStatus` says
+-- what it leaves: all unchanged and the status 1 where an address may not be null and is, else what `ReportsStatus`
+-- says
 abbrev pub left_by_status_name : Loan → ℕ → Room → Ptr → ℕ → Fml
 left_by_status_name l status text answer result = unless_null (text.at ∷ answer ∷ [])
     (fsep (feq ℕ result 1) (lent_to_status_name l text answer))
     (fex (List ℕ) (λ text'. fex Answer (λ answer'.
     fsep (left_room l text text') (fsep (left_answer l answer answer')
-    (holds (TellsStatus status l.room text' answer' result))))))
+    (holds (ReportsStatus status l.room text' answer' result))))))
 
 -- what `odfilter_fault_name` borrows: a buffer and the answer
 abbrev pub lent_to_fault_name : Loan → Room → Ptr → Fml
 lent_to_fault_name l text answer = fsep (lent_room l text) (lent_answer l answer)
 
--- what it leaves: all unchanged and the status 1 where an address may not be null and is, else what `TellsFault` says
+-- what it leaves: all unchanged and the status 1 where an address may not be null and is, else what `ReportsFault` says
 abbrev pub left_by_fault_name : Loan → ℕ → ℕ → Room → Ptr → ℕ → Fml
 left_by_fault_name l status fault text answer result = unless_null (text.at ∷ answer ∷ [])
     (fsep (feq ℕ result 1) (lent_to_fault_name l text answer))
     (fex (List ℕ) (λ text'. fex Answer (λ answer'.
     fsep (left_room l text text') (fsep (left_answer l answer answer')
-    (holds (TellsFault status fault l.room text' answer' result))))))
+    (holds (ReportsFault status fault l.room text' answer' result))))))

@@ -9,7 +9,7 @@ use Rattle.odfilter_c.specs.declared.c_types.Room.{Room}
 use Rattle.odfilter_c.specs.declared.handle.Handle.{Handle}
 use Rattle.odfilter_c.specs.declared.owned.Owned.{Owned}
 use Rattle.odfilter_c.specs.UrlCalls.{ChecksUrl}
-use Rattle.odfilter_c.specs.Tells.{TellsCanonical, TellsNodes}
+use Rattle.odfilter_c.specs.Reports.{ReportsCanonical, ReportsNodes}
 use Rattle.odfilter_c.specs.Costs.{ReportsNodeCount, ReportsLambdaDepth, ReportsPaths}
 use Rattle.odfilter_c.specs.Sentences.{ReportsSentenceFor, ReportsSentence}
 
@@ -25,32 +25,34 @@ left_by_check_url l given query text made answer result = unless_null (given ∷
     (fsep (feq ℕ result 1) (lent_to_check_url l given query text made answer))
     (fex (List ℕ) (λ text'. fex Owned (λ made'. fex Answer (λ answer'.
     fsep (left_room l text text') (fsep (left_made l made made') (fsep (left_answer l answer answer')
-    (holds (of_bytes query.at query.length l.bytes ((text' ≡ l.room) × ((made' ≡ l.made) × ((answer' ≡ l.answer) × (result ≡ 1)))) (λ bytes. ChecksUrl l.handle bytes l.room text' made' answer' result)))))))))
+    (holds (of_bytes query.at query.length l.bytes
+    ((text' ≡ l.room) × ((made' ≡ l.made) × ((answer' ≡ l.answer) × (result ≡ 1))))
+    (λ bytes. ChecksUrl l.handle bytes l.room text' made' answer' result)))))))))
 
 -- what `odfilter_canonical` borrows: a handle, a buffer and the answer
 abbrev pub lent_to_canonical : Loan → Ptr → Room → Ptr → Fml
 lent_to_canonical l filter text answer = fsep (lent_handle l filter) (fsep (lent_room l text) (lent_answer l answer))
 
--- what it leaves: all unchanged and the status 1 where an address may not be null and is, else what `TellsCanonical`
+-- what it leaves: all unchanged and the status 1 where an address may not be null and is, else what `ReportsCanonical`
 -- says
 abbrev pub left_by_canonical : Loan → Ptr → Room → Ptr → ℕ → Fml
 left_by_canonical l filter text answer result = unless_null (filter ∷ text.at ∷ answer ∷ [])
     (fsep (feq ℕ result 1) (lent_to_canonical l filter text answer))
     (fex (List ℕ) (λ text'. fex Answer (λ answer'.
     fsep (left_room l text text') (fsep (left_answer l answer answer')
-    (holds (TellsCanonical l.handle l.room text' answer' result))))))
+    (holds (ReportsCanonical l.handle l.room text' answer' result))))))
 
 -- what `odfilter_explain` borrows: a handle, a buffer and the answer
 abbrev pub lent_to_explain : Loan → Ptr → Room → Ptr → Fml
 lent_to_explain l filter text answer = fsep (lent_handle l filter) (fsep (lent_room l text) (lent_answer l answer))
 
--- what it leaves: all unchanged and the status 1 where an address may not be null and is, else what `TellsNodes` says
+-- what it leaves: all unchanged and the status 1 where an address may not be null and is, else what `ReportsNodes` says
 abbrev pub left_by_explain : Loan → Ptr → Room → Ptr → ℕ → Fml
 left_by_explain l filter text answer result = unless_null (filter ∷ text.at ∷ answer ∷ [])
     (fsep (feq ℕ result 1) (lent_to_explain l filter text answer))
     (fex (List ℕ) (λ text'. fex Answer (λ answer'.
     fsep (left_room l text text') (fsep (left_answer l answer answer')
-    (holds (TellsNodes l.handle l.room text' answer' result))))))
+    (holds (ReportsNodes l.handle l.room text' answer' result))))))
 
 -- what `odfilter_node_count` borrows: a handle and the answer
 abbrev pub lent_to_node_count : Loan → Ptr → Ptr → Fml
@@ -102,4 +104,8 @@ left_by_fault_text l given status text sentence fault answer result = unless_nul
     (fsep (feq ℕ result 1) (lent_to_fault_text l given text sentence fault answer))
     (fex (List ℕ) (λ sentence'. fex Answer (λ answer'.
     fsep (left_room l sentence sentence') (fsep (left_answer l answer answer')
-    (holds (of_optional given (of_bytes text.at text.length l.bytes ((sentence' ≡ l.room) × ((answer' ≡ l.answer) × (result ≡ 1))) (λ bytes. ReportsSentence status bytes l.room sentence' l.fault answer' result)) (of_bytes text.at text.length l.bytes ((sentence' ≡ l.room) × ((answer' ≡ l.answer) × (result ≡ 1))) (λ bytes. ReportsSentenceFor l.handle status bytes l.room sentence' l.fault answer' result))))))))
+    (holds (of_optional given
+    (of_bytes text.at text.length l.bytes ((sentence' ≡ l.room) × ((answer' ≡ l.answer) × (result ≡ 1)))
+    (λ bytes. ReportsSentence status bytes l.room sentence' l.fault answer' result))
+    (of_bytes text.at text.length l.bytes ((sentence' ≡ l.room) × ((answer' ≡ l.answer) × (result ≡ 1)))
+    (λ bytes. ReportsSentenceFor l.handle status bytes l.room sentence' l.fault answer' result))))))))

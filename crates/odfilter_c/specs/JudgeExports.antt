@@ -7,7 +7,7 @@ use Rattle.odfilter_c.specs.declared.c_types.Answer.{Answer}
 use Rattle.odfilter_c.specs.declared.c_types.Bytes.{Bytes}
 use Rattle.odfilter_c.specs.declared.handle.Handle.{Handle}
 use Rattle.odfilter_c.specs.declared.owned.Owned.{Owned}
-use Rattle.odfilter_c.specs.RowTells.{MakesJudgeOf, JudgesNext}
+use Rattle.odfilter_c.specs.RowReports.{MakesJudgeOf, JudgesNext}
 
 -- what `odfilter_new_judge_of` borrows: a handle and the new handle's variable
 abbrev pub lent_to_new_judge_of : Loan → Ptr → Ptr → Fml
@@ -30,4 +30,5 @@ left_by_judge_next l judge row answer result = unless_null (judge ∷ answer ∷
     (fsep (feq ℕ result 1) (lent_to_judge_next l judge row answer))
     (fex Handle (λ judge'. fex Answer (λ answer'.
     fsep (left_judge l judge judge') (fsep (left_answer l answer answer')
-    (holds (of_bytes row.at row.length l.bytes ((judge' ≡ l.judge) × ((answer' ≡ l.answer) × (result ≡ 1))) (λ bytes. JudgesNext l.judge judge' bytes answer' result)))))))
+    (holds (of_bytes row.at row.length l.bytes ((judge' ≡ l.judge) × ((answer' ≡ l.answer) × (result ≡ 1)))
+    (λ bytes. JudgesNext l.judge judge' bytes answer' result)))))))

@@ -6,16 +6,16 @@ use Rattle.odfilter_c.specs.declared.call_fault.Fault.{Fault}
 use Rattle.odfilter_c.specs.declared.handle.Handle.{Handle}
 
 -- the fault's status and numbers
-abbrev pub IsTold : Fault → Answer → ℕ → Type 0
-IsTold fault answer status = (answer ≡ fault_answer fault) × (status ≡ fault_status fault)
+abbrev pub IsReported : Fault → Answer → ℕ → Type 0
+IsReported fault answer status = (answer ≡ fault_answer fault) × (status ≡ fault_status fault)
 
 -- a handle is handed out with the status 0, or there was no memory for it; a fault is reported, and no handle handed
 -- out
 abbrev pub Gives : Result Handle Fault → Option Handle → Answer → ℕ → Type 0
 Gives (Ok handle) made answer status =
     ((made ≡ Some handle) × (answer ≡ empty_answer) × (status ≡ 0))
-    ⊎ ((made ≡ None) × IsTold Fault.Memory answer status)
-Gives (Err fault) made answer status = (made ≡ None) × IsTold fault answer status
+    ⊎ ((made ≡ None) × IsReported Fault.Memory answer status)
+Gives (Err fault) made answer status = (made ≡ None) × IsReported fault answer status
 
 -- the outcome is right, and so is how it is reported
 pub record Makes

@@ -6,7 +6,7 @@ use Rattle.edm_values.specs.MomentLiteral.{MomentValue}
 use Rattle.edm_values.specs.MomentParts.{MomentParts}
 use Rattle.line_filter.specs.Kept.{Filters, Stops}
 use Rattle.line_filter.specs.declared.judge.Judgment.{Judgment}
-use Rattle.line_filter.specs.declared.run_stop.Stop.{Stop}
+use Rattle.line_filter.specs.declared.run_stop.RunStop.{RunStop}
 use Rattle.line_filter.specs.declared.tally.Tally.{Tally}
 use Rattle.odata_checked_filter.specs.Calls.{UsesNow}
 use Rattle.odata_checked_filter.specs.Filter.{Filter, tree_of_filter}
@@ -88,11 +88,11 @@ IsOutcomeOn filter given bound row outcome =
     (now : MomentParts) × (IsMomentFor filter given now × IsOutcomeAt filter now bound row outcome)
 
 -- the stop of a run over lines that a fault reports
-abbrev pub stop_of : Fault → Option (Stop BadRow)
-stop_of (Fault.Json line) = Some (Stop.Fault line BadRow.NotJson)
-stop_of (Fault.Row line fault) = Some (Stop.Fault line (BadRow.NoEntity fault))
-stop_of (Fault.Evaluation line fault) = Some (Stop.Fault line (BadRow.NoValue fault))
-stop_of (Fault.LineTooLong line) = Some (Stop.TooLong line)
+abbrev pub stop_of : Fault → Option (RunStop BadRow)
+stop_of (Fault.Json line) = Some (RunStop.Fault line BadRow.NotJson)
+stop_of (Fault.Row line fault) = Some (RunStop.Fault line (BadRow.NoEntity fault))
+stop_of (Fault.Evaluation line fault) = Some (RunStop.Fault line (BadRow.NoValue fault))
+stop_of (Fault.LineTooLong line) = Some (RunStop.TooLong line)
 stop_of fault = None
 
 -- the text of the rows that the filter keeps at a moment, and how many; or of those before the first line at fault; no

@@ -4,7 +4,7 @@ use Rattle.fault_sentences.specs.Numbers.{is_known}
 use Rattle.fault_sentences.specs.declared.fault_class.FaultClass.{FaultClass}
 use Rattle.odfilter_c.specs.Kinds.{IsType}
 use Rattle.odfilter_c.specs.Names.{beside}
-use Rattle.odfilter_c.specs.Texts.{Tells}
+use Rattle.odfilter_c.specs.Texts.{Reports}
 use Rattle.odfilter_c.specs.declared.c_types.Answer.{Answer}
 use Rattle.odfilter_c.specs.declared.call_fault.Fault.{Fault}
 use Rattle.odfilter_c.specs.declared.handle.Handle.{Handle}
@@ -47,7 +47,7 @@ IsNoSentence status number text fault = ⊥
 -- a sentence about a fault
 abbrev pub ReportsSentence : ℕ → List ℕ → List ℕ → List ℕ → Answer → Answer → ℕ → Type 0
 ReportsSentence status text old new fault =
-    Tells (λ sentence. IsTrue (has_fault status fault.fault)) (IsNoSentence status fault.fault text) old new
+    Reports (λ sentence. IsTrue (has_fault status fault.fault)) (IsNoSentence status fault.fault text) old new
 
 -- likewise for a type
 abbrev pub IsSentenceFor : Handle → ℕ → ℕ → Type 0
@@ -61,4 +61,4 @@ IsNoSentenceFor given status number text fault = ⊥
 
 abbrev pub ReportsSentenceFor : Handle → ℕ → List ℕ → List ℕ → List ℕ → Answer → Answer → ℕ → Type 0
 ReportsSentenceFor given status text old new fault =
-    Tells (λ sentence. IsSentenceFor given status fault.fault) (IsNoSentenceFor given status fault.fault text) old new
+    Reports (λ sentence. IsSentenceFor given status fault.fault) (IsNoSentenceFor given status fault.fault text) old new

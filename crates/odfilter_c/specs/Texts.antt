@@ -1,7 +1,7 @@
 -- How a text is written into the caller's buffer.
 use Rattle.std.specs.Prelude.{◌≡◌, ◌<◌, ◌≤◌, ◌⊎◌, ◌++◌, ℕ, List, drop, length, Result, Ok, Err, MatchResult}
 use Rattle.odfilter_c.specs.Answers.{empty_answer}
-use Rattle.odfilter_c.specs.Outcomes.{IsTold}
+use Rattle.odfilter_c.specs.Outcomes.{IsReported}
 use Rattle.odfilter_c.specs.declared.c_types.Answer.{Answer}
 use Rattle.odfilter_c.specs.declared.call_fault.Fault.{Fault}
 
@@ -17,11 +17,11 @@ IsTooSmall text old new = (length old < length text) × (new ≡ old)
 abbrev pub Writes : Result (List ℕ) Fault → List ℕ → List ℕ → Answer → ℕ → Type 0
 Writes (Ok text) old new answer status =
     (IsWritten text old new × (answer ≡ record empty_answer { length = length text }) × (status ≡ 0))
-    ⊎ (IsTooSmall text old new × IsTold (Fault.TooSmall (length text)) answer status)
-Writes (Err fault) old new answer status = (new ≡ old) × IsTold fault answer status
+    ⊎ (IsTooSmall text old new × IsReported (Fault.TooSmall (length text)) answer status)
+Writes (Err fault) old new answer status = (new ≡ old) × IsReported fault answer status
 
 -- the text is right, and so is how it is written
-pub record Tells
+pub record Reports
     (Right : List ℕ → Type 0) (Wrong : Fault → Type 0) (old new : List ℕ) (answer : Answer) (status : ℕ)
     : Type 0 where
   pub outcome : Result (List ℕ) Fault

@@ -4,7 +4,7 @@ use Rattle.odata_text.specs.Find.{FoundModel, IsFindFault, IsFoundIn}
 use Rattle.odata_text.specs.declared.find_fault.FindFault.{FindFault}
 use Rattle.odfilter_c.specs.FilterCalls.{IsFilterIn, IsNoFilter}
 use Rattle.odfilter_c.specs.Kinds.{IsType}
-use Rattle.odfilter_c.specs.Outcomes.{IsTold, Makes}
+use Rattle.odfilter_c.specs.Outcomes.{IsReported, Makes}
 use Rattle.odfilter_c.specs.Texts.{IsTooSmall, IsWritten}
 use Rattle.odfilter_c.specs.declared.c_types.Answer.{Answer}
 use Rattle.odfilter_c.specs.declared.call_fault.Fault.{Fault}
@@ -49,7 +49,7 @@ abbrev pub ChecksFoundOrNot :
     Handle → Result FoundModel Fault → List ℕ → List ℕ → Option Handle → Answer → ℕ → Type 0
 ChecksFoundOrNot given (Ok found) old new made answer status = ChecksFound given found old new made answer status
 ChecksFoundOrNot given (Err fault) old new made answer status =
-    (new ≡ old) × (made ≡ None) × IsTold fault answer status
+    (new ≡ old) × (made ≡ None) × IsReported fault answer status
 
 -- checking the filter of a whole query
 pub record ChecksUrl

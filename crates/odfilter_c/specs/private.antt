@@ -1,2 +1,2 @@
 -- Definitions that private clauses alone cite.
-pub mod RowFaults
+pub mod JudgeCalls

@@ -1,6 +1,6 @@
 //! How the result of a call is reported.
 ghost use Rattle.std.specs.Prelude.{Ok};
-ghost use Rattle.odfilter_c.specs.Outcomes.{Gives, IsTold};
+ghost use Rattle.odfilter_c.specs.Outcomes.{Gives, IsReported};
 
 use crate::c_types::Answer;
 use crate::call_fault::Fault;
@@ -9,8 +9,8 @@ use crate::owned::Owned;
 use std::alloc::Global;
 
 /// The status of a call that failed, with its answer.
-pub(crate) fn tell_fault(fault: &Fault, answer: &mut Answer) -> u32
-    ensures { IsTold fault.now answer.new result }
+pub(crate) fn report_fault(fault: &Fault, answer: &mut Answer) -> u32
+    ensures { IsReported fault.now answer.new result }
 {
     *answer = fault.answer();
     fault.status()
@@ -28,7 +28,7 @@ fn give_handle(alloc: Global, handle: Handle, made: &mut Owned, answer: &mut Ans
         }
         Err(_) => {
             *made = Owned::none();
-            tell_fault(&Fault::Memory, answer)
+            report_fault(&Fault::Memory, answer)
         }
     }
 }
@@ -46,7 +46,7 @@ pub(crate) fn give(
         Ok(handle) => give_handle(alloc, handle, made, answer),
         Err(fault) => {
             *made = Owned::none();
-            tell_fault(&fault, answer)
+            report_fault(&fault, answer)
         }
     }
 }

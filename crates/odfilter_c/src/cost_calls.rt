@@ -5,7 +5,7 @@ ghost use Rattle.odfilter_c.specs.Costs.{ArePaths, ArePathsOf, ReportsLines, lin
 ghost use Rattle.odfilter_c.specs.FilterCalls.{IsNoText};
 
 use crate::c_types::Answer;
-use crate::call_answers::tell_fault;
+use crate::call_answers::report_fault;
 use crate::call_fault::Fault;
 use crate::handle::{FilterHandle, Handle};
 use crate::room::write_text;
@@ -74,7 +74,7 @@ pub(crate) fn report_lines(
     ensures { ReportsLines count lines.now buffer.old buffer.new answer.new result }
 {
     if !write_text(buffer, lines) {
-        return tell_fault(
+        return report_fault(
             &Fault::TooSmall {
                 wanted: lines.len(),
             },

@@ -67,7 +67,7 @@ impl Model for FilterHandle {
 
     ghost view = { λ held. filter_in held.schema.value held.filter.value };
 
-    ghost use Rattle.odfilter_c.specs.HeldFilter.{IsHeldFilter};
+    ghost use Rattle.odfilter_c.specs.Handle.{IsHeldFilter};
 
     ghost invariant = { λ held. IsHeldFilter (filter_in held.schema.value held.filter.value) held.plan.value };
 }

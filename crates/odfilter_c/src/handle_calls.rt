@@ -1,25 +1,25 @@
 //! The calls, over what is borrowed: each returns its status.
 ghost use Rattle.std.specs.Prelude.{Err};
-ghost use Rattle.odfilter_c.specs.Tells.{ChecksQuery, ChecksText, FindsType, Frees, GivesSchema, ReadsSchema};
-ghost use Rattle.odfilter_c.specs.Tells.{TellsCanonical, TellsFault, TellsNodes, TellsStatus, TellsVersion};
+ghost use Rattle.odfilter_c.specs.Reports.{ChecksQuery, ChecksText, FindsType, Frees, GivesSchema, ReadsSchema};
+ghost use Rattle.odfilter_c.specs.Reports.{ReportsCanonical, ReportsFault, ReportsNodes, ReportsStatus, ReportsVersion};
 ghost use Rattle.odfilter_c.specs.Sentences.{ReportsSentence, ReportsSentenceFor};
 ghost use Rattle.odfilter_c.specs.UrlCalls.{ChecksUrl};
 ghost use Rattle.odfilter_c.specs.Costs.{ReportsLambdaDepth, ReportsNodeCount, ReportsPaths};
-ghost use Rattle.odfilter_c.specs.RowTells.{FiltersLines, JudgesNext, JudgesOne, MakesJudge, MakesJudgeOf};
-ghost use Rattle.odfilter_c.specs.RowTells.{SetsBound, SetsMoment, TellsNeed, TellsPath};
+ghost use Rattle.odfilter_c.specs.RowReports.{FiltersLines, JudgesNext, JudgesOne, MakesJudge, MakesJudgeOf};
+ghost use Rattle.odfilter_c.specs.RowReports.{SetsBound, SetsMoment, ReportsNeed, ReportsPath};
 
 use crate::c_types::Answer;
-use crate::call_answers::{give, tell_fault};
+use crate::call_answers::{give, report_fault};
 use crate::call_fault::Fault;
 use crate::cost_calls::{counted, path_lines, report_lines};
 use crate::filter_calls::{canonical_of, explanation_of, filter_for, filter_in_query, filter_of};
 use crate::handle::Handle;
-use crate::judge_calls::{judge_of, judge_with, last_path, put_moment, tell_next, tell_row};
-use crate::line_calls::tell_rows;
+use crate::judge_calls::{judge_of, judge_with, last_path, put_moment, report_next, report_row};
+use crate::line_calls::report_rows;
 use crate::name_calls::{VERSION, name_of_fault, name_of_status};
 use crate::owned::Owned;
-use crate::room::tell_bytes;
-use crate::schema_calls::{schema_of, tell_names, type_of};
+use crate::room::report_bytes;
+use crate::schema_calls::{report_names, schema_of, type_of};
 use crate::sentence_calls::{sentence_for, sentence_of};
 use crate::url_calls::{found_for, report_found};
 use std::alloc::Global;
@@ -31,10 +31,10 @@ fn refuse_schema(fault: &Fault, names: &mut [u8], schema: &mut Owned, answer: &m
     *schema = Owned::none();
     match fault {
         Fault::Schema(why) => {
-            tell_names(why, names, answer);
+            report_names(why, names, answer);
             fault.status()
         }
-        _ => tell_fault(fault, answer),
+        _ => report_fault(fault, answer),
     }
 }
 
@@ -122,8 +122,8 @@ pub(crate) fn fault_text<'a>(
     ensures { ReportsSentenceFor given.now status text.now sentence.old sentence.new fault.now answer.new result }
 {
     match sentence_for(alloc, given, status, fault, text) {
-        Ok(words) => tell_bytes(words.as_bytes(), sentence, answer),
-        Err(fault) => tell_fault(&fault, answer),
+        Ok(words) => report_bytes(words.as_bytes(), sentence, answer),
+        Err(fault) => report_fault(&fault, answer),
     }
 }
 
@@ -139,8 +139,8 @@ pub(crate) fn fault_text_alone<'a>(
     ensures { ReportsSentence status text.now sentence.old sentence.new fault.now answer.new result }
 {
     match sentence_of(alloc, None, status, fault, text) {
-        Ok(words) => tell_bytes(words.as_bytes(), sentence, answer),
-        Err(fault) => tell_fault(&fault, answer),
+        Ok(words) => report_bytes(words.as_bytes(), sentence, answer),
+        Err(fault) => report_fault(&fault, answer),
     }
 }
 
@@ -150,11 +150,11 @@ pub(crate) fn canonical<'a>(
     text: &'a mut [u8],
     answer: &'a mut Answer,
 ) -> u32
-    ensures { TellsCanonical filter.now text.old text.new answer.new result }
+    ensures { ReportsCanonical filter.now text.old text.new answer.new result }
 {
     match canonical_of(alloc, filter) {
-        Ok(canonical) => tell_bytes(canonical.as_bytes(), text, answer),
-        Err(fault) => tell_fault(&fault, answer),
+        Ok(canonical) => report_bytes(canonical.as_bytes(), text, answer),
+        Err(fault) => report_fault(&fault, answer),
     }
 }
 
@@ -164,16 +164,16 @@ pub(crate) fn explain<'a>(
     text: &'a mut [u8],
     answer: &'a mut Answer,
 ) -> u32
-    ensures { TellsNodes filter.now text.old text.new answer.new result }
+    ensures { ReportsNodes filter.now text.old text.new answer.new result }
 {
     match explanation_of(alloc, filter) {
-        Ok(nodes) => tell_bytes(nodes.as_bytes(), text, answer),
-        Err(fault) => tell_fault(&fault, answer),
+        Ok(nodes) => report_bytes(nodes.as_bytes(), text, answer),
+        Err(fault) => report_fault(&fault, answer),
     }
 }
 
 pub(crate) fn needs_moment<'a>(filter: &'a Handle, answer: &'a mut Answer) -> u32
-    ensures { TellsNeed filter.now answer.new result }
+    ensures { ReportsNeed filter.now answer.new result }
 {
     match filter {
         Handle::Filter(held) => {
@@ -183,7 +183,7 @@ pub(crate) fn needs_moment<'a>(filter: &'a Handle, answer: &'a mut Answer) -> u3
             }
             0
         }
-        _ => tell_fault(&Fault::OtherKind, answer),
+        _ => report_fault(&Fault::OtherKind, answer),
     }
 }
 
@@ -195,7 +195,7 @@ pub(crate) fn node_count<'a>(filter: &'a Handle, answer: &'a mut Answer) -> u32
             *answer = counted(held.checked().node_count());
             0
         }
-        _ => tell_fault(&Fault::OtherKind, answer),
+        _ => report_fault(&Fault::OtherKind, answer),
     }
 }
 
@@ -207,7 +207,7 @@ pub(crate) fn lambda_depth<'a>(filter: &'a Handle, answer: &'a mut Answer) -> u3
             *answer = counted(held.checked().lambda_depth());
             0
         }
-        _ => tell_fault(&Fault::OtherKind, answer),
+        _ => report_fault(&Fault::OtherKind, answer),
     }
 }
 
@@ -221,7 +221,7 @@ pub(crate) fn property_paths<'a>(
 {
     match path_lines(alloc, filter) {
         Ok(lines) => report_lines(lines.count, lines.text.as_bytes(), paths, answer),
-        Err(fault) => tell_fault(&fault, answer),
+        Err(fault) => report_fault(&fault, answer),
     }
 }
 
@@ -265,13 +265,13 @@ pub(crate) fn judge<'a>(
 ) -> u32
     ensures { JudgesOne filter.now judge.old judge.new row.now answer.new result }
 {
-    tell_row(filter, judge, row, answer)
+    report_row(filter, judge, row, answer)
 }
 
 pub(crate) fn judge_next<'a>(judge: &'a mut Handle, row: &'a [u8], answer: &'a mut Answer) -> u32
     ensures { JudgesNext judge.old judge.new row.now answer.new result }
 {
-    tell_next(judge, row, answer)
+    report_next(judge, row, answer)
 }
 
 pub(crate) fn filter_lines<'a>(
@@ -283,15 +283,15 @@ pub(crate) fn filter_lines<'a>(
 ) -> u32
     ensures { FiltersLines filter.now judge.old judge.new rows.now kept.old kept.new answer.new result }
 {
-    tell_rows(filter, judge, rows, kept, answer)
+    report_rows(filter, judge, rows, kept, answer)
 }
 
 pub(crate) fn path<'a>(judge: &'a Handle, path: &'a mut [u8], answer: &'a mut Answer) -> u32
-    ensures { TellsPath judge.now path.old path.new answer.new result }
+    ensures { ReportsPath judge.now path.old path.new answer.new result }
 {
     match judge {
-        Handle::Judge(judge) => tell_bytes(last_path(judge).as_bytes(), path, answer),
-        _ => tell_fault(&Fault::OtherKind, answer),
+        Handle::Judge(judge) => report_bytes(last_path(judge).as_bytes(), path, answer),
+        _ => report_fault(&Fault::OtherKind, answer),
     }
 }
 
@@ -308,17 +308,17 @@ pub(crate) fn free<'a>(alloc: Global, handle: &'a mut Owned) -> u32
 }
 
 pub(crate) fn version<'a>(text: &'a mut [u8], answer: &'a mut Answer) -> u32
-    ensures { TellsVersion text.old text.new answer.new result }
+    ensures { ReportsVersion text.old text.new answer.new result }
 {
-    tell_bytes(VERSION.as_bytes(), text, answer)
+    report_bytes(VERSION.as_bytes(), text, answer)
 }
 
 pub(crate) fn status_name<'a>(status: u32, text: &'a mut [u8], answer: &'a mut Answer) -> u32
-    ensures { TellsStatus status text.old text.new answer.new result }
+    ensures { ReportsStatus status text.old text.new answer.new result }
 {
     match name_of_status(status) {
-        Ok(name) => tell_bytes(name.as_bytes(), text, answer),
-        Err(fault) => tell_fault(&fault, answer),
+        Ok(name) => report_bytes(name.as_bytes(), text, answer),
+        Err(fault) => report_fault(&fault, answer),
     }
 }
 
@@ -328,10 +328,10 @@ pub(crate) fn fault_name<'a>(
     text: &'a mut [u8],
     answer: &'a mut Answer,
 ) -> u32
-    ensures { TellsFault status fault text.old text.new answer.new result }
+    ensures { ReportsFault status fault text.old text.new answer.new result }
 {
     match name_of_fault(status, fault) {
-        Ok(name) => tell_bytes(name.as_bytes(), text, answer),
-        Err(fault) => tell_fault(&fault, answer),
+        Ok(name) => report_bytes(name.as_bytes(), text, answer),
+        Err(fault) => report_fault(&fault, answer),
     }
 }

@@ -4,18 +4,18 @@ ghost use Rattle.edm_values.specs.MomentParts.{MomentParts};
 ghost use Rattle.odata_checked_filter.specs.Calls.{UsesNow};
 ghost use Rattle.odata_checked_filter.specs.Filter.{Filter, tree_of_filter};
 ghost use Rattle.odata_filter.specs.FilterRows.{AreRowsOfFilter};
-ghost use Rattle.odata_filter.specs.RowAnswer.{TellsRow};
+ghost use Rattle.odata_filter.specs.RowAnswer.{ReportsRow};
 ghost use Rattle.odata_filter.specs.RowCosts.{ReportsRowWithin};
 ghost use Rattle.odfilter_c.specs.Answers.{empty_answer};
-ghost use Rattle.odfilter_c.specs.Outcomes.{IsTold};
+ghost use Rattle.odfilter_c.specs.Outcomes.{IsReported};
 ghost use Rattle.odfilter_c.specs.RowCalls.{IsJudgeOf, IsMomentFor, IsMomentOf, IsNewJudge, IsNoJudgeOf, IsNoMemory};
 ghost use Rattle.odfilter_c.specs.RowCalls.{IsOutcomeAt, IsOutcomeOn, Keeps, last_after, path_kept};
-ghost use Rattle.odfilter_c.specs.private.RowFaults.{row_fault};
-ghost use Rattle.odfilter_c.specs.RowTells.{JudgesNext, JudgesOne, JudgesOneBy, JudgesOwn, SetsMoment};
-ghost use Rattle.odfilter_c.specs.RowTells.{SetsMomentOf, TellsVerdict, verdict_number};
+ghost use Rattle.odfilter_c.specs.private.JudgeCalls.{row_fault};
+ghost use Rattle.odfilter_c.specs.RowReports.{JudgesNext, JudgesOne, JudgesOneBy, JudgesOwn, SetsMoment};
+ghost use Rattle.odfilter_c.specs.RowReports.{SetsMomentOf, ReportsVerdict, verdict_number};
 
 use crate::c_types::Answer;
-use crate::call_answers::tell_fault;
+use crate::call_answers::report_fault;
 use crate::call_fault::{Fault, path_of};
 use crate::handle::{FilterHandle, Handle, JudgeHandle, OwnFilter};
 use edm_entities::RowReader;
@@ -140,22 +140,22 @@ fn row_fault(why: NoVerdict) -> Fault
 }
 
 /// What a filter says of a row without a bound, as a call reports it.
-fn plain_outcome(told: Result<Verdict, NoVerdict>) -> Result<Verdict, Fault>
-    ensures { (filter : Filter) → (now : MomentParts) → (row : List ℕ) → TellsRow filter now row told
+fn plain_outcome(reported: Result<Verdict, NoVerdict>) -> Result<Verdict, Fault>
+    ensures { (filter : Filter) → (now : MomentParts) → (row : List ℕ) → ReportsRow filter now row reported
         → IsOutcomeAt filter now None row result }
 {
-    match told {
+    match reported {
         Ok(verdict) => Ok(verdict),
         Err(why) => Err(row_fault(why)),
     }
 }
 
 /// What a filter says of a row within a bound, as a call reports it.
-fn bounded_outcome(told: Result<Option<Verdict>, NoVerdict>) -> Result<Verdict, Fault>
+fn bounded_outcome(reported: Result<Option<Verdict>, NoVerdict>) -> Result<Verdict, Fault>
     ensures { (filter : Filter) → (now : MomentParts) → (row : List ℕ) → (most : ℕ)
-        → ReportsRowWithin filter now row most told → IsOutcomeAt filter now (Some most) row result }
+        → ReportsRowWithin filter now row most reported → IsOutcomeAt filter now (Some most) row result }
 {
-    match told {
+    match reported {
         Ok(found) => match found {
             Some(verdict) => Ok(verdict),
             None => Err(Fault::TooCostly),
@@ -182,8 +182,8 @@ fn verdict_on(held: &FilterHandle, judge: &mut JudgeHandle, row: &[u8]) -> Resul
             bounded_outcome(by.judge(&mut judge.reader, row))
         }
         None => {
-            let told = judge_row(&checked, &now, &held.plan, &mut judge.reader, row);
-            plain_outcome(told)
+            let reported = judge_row(&checked, &now, &held.plan, &mut judge.reader, row);
+            plain_outcome(reported)
         }
     }
 }
@@ -248,7 +248,7 @@ fn report_verdict(
     judge: &mut JudgeHandle,
     answer: &mut Answer,
 ) -> u32
-    ensures { TellsVerdict outcome judge.old judge.new answer.new result }
+    ensures { ReportsVerdict outcome judge.old judge.new answer.new result }
 {
     match outcome {
         Ok(verdict) => {
@@ -258,7 +258,7 @@ fn report_verdict(
             0
         }
         Err(fault) => {
-            let status = tell_fault(&fault, answer);
+            let status = report_fault(&fault, answer);
             keep_fault(fault, judge);
             status
         }
@@ -266,7 +266,7 @@ fn report_verdict(
 }
 
 /// Judges a row, and reports the verdict, or why there is none.
-fn tell_verdict(
+fn report_row_verdict(
     held: &FilterHandle,
     judge: &mut JudgeHandle,
     row: &[u8],
@@ -279,17 +279,24 @@ fn tell_verdict(
 }
 
 /// Judges a row by handles, where they are a filter and a judge.
-pub(crate) fn tell_row(filter: &Handle, handle: &mut Handle, row: &[u8], answer: &mut Answer) -> u32
+pub(crate) fn report_row(
+    filter: &Handle,
+    handle: &mut Handle,
+    row: &[u8],
+    answer: &mut Answer,
+) -> u32
     ensures { JudgesOne filter.now handle.old handle.new row.now answer.new result }
 {
     match (filter, handle) {
-        (Handle::Filter(held), Handle::Judge(judge)) => tell_verdict(held, judge, row, answer),
-        _ => tell_fault(&Fault::OtherKind, answer),
+        (Handle::Filter(held), Handle::Judge(judge)) => report_row_verdict(
+            held, judge, row, answer,
+        ),
+        _ => report_fault(&Fault::OtherKind, answer),
     }
 }
 
 /// Judges a row by the judge's own filter, if it has one.
-fn tell_own_verdict(judge: &mut JudgeHandle, row: &[u8], answer: &mut Answer) -> u32
+fn report_own_verdict(judge: &mut JudgeHandle, row: &[u8], answer: &mut Answer) -> u32
     ensures { JudgesOwn judge.old.own judge.old judge.new row.now answer.new result }
 {
     match &mut judge.own {
@@ -297,17 +304,17 @@ fn tell_own_verdict(judge: &mut JudgeHandle, row: &[u8], answer: &mut Answer) ->
             let outcome = own_verdict(own, judge.moment, judge.bound, row);
             report_verdict(outcome, judge, answer)
         }
-        None => tell_fault(&Fault::OtherKind, answer),
+        None => report_fault(&Fault::OtherKind, answer),
     }
 }
 
 /// Judges a row by the filter of a handle that is a judge of one.
-pub(crate) fn tell_next(handle: &mut Handle, row: &[u8], answer: &mut Answer) -> u32
+pub(crate) fn report_next(handle: &mut Handle, row: &[u8], answer: &mut Answer) -> u32
     ensures { JudgesNext handle.old handle.new row.now answer.new result }
 {
     match handle {
-        Handle::Judge(judge) => tell_own_verdict(judge, row, answer),
-        _ => tell_fault(&Fault::OtherKind, answer),
+        Handle::Judge(judge) => report_own_verdict(judge, row, answer),
+        _ => report_fault(&Fault::OtherKind, answer),
     }
 }
 

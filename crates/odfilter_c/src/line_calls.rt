@@ -1,9 +1,9 @@
 //! Rows in memory, a line each, and those that a filter keeps.
 ghost use Rattle.odfilter_c.specs.RowCalls.{IsRunAt, IsRunOver};
-ghost use Rattle.odfilter_c.specs.RowTells.{FiltersBy, FiltersLines, TellsStop, TellsTally};
+ghost use Rattle.odfilter_c.specs.RowReports.{FiltersBy, FiltersLines, ReportsStop, ReportsTally};
 
 use crate::c_types::Answer;
-use crate::call_answers::tell_fault;
+use crate::call_answers::report_fault;
 use crate::call_fault::{Fault, measured};
 use crate::handle::{FilterHandle, Handle, JudgeHandle};
 use crate::judge_calls::{keep_fault, moment_for};
@@ -55,11 +55,11 @@ fn run_over(held: &FilterHandle, judge: &JudgeHandle, rows: &[u8]) -> Run
 }
 
 /// Reports how many rows a run kept, with their lines, or how large a buffer these need.
-fn tell_tally(tally: &Tally, kept: &[u8], room: &mut [u8], answer: &mut Answer) -> u32
-    ensures { TellsTally tally.now kept.now room.old room.new answer.new result }
+fn report_tally(tally: &Tally, kept: &[u8], room: &mut [u8], answer: &mut Answer) -> u32
+    ensures { ReportsTally tally.now kept.now room.old room.new answer.new result }
 {
     if !write_text(room, kept) {
-        return tell_fault(&Fault::TooSmall { wanted: kept.len() }, answer);
+        return report_fault(&Fault::TooSmall { wanted: kept.len() }, answer);
     }
     *answer = measured(kept.len());
     answer.rows = tally.rows;
@@ -68,8 +68,8 @@ fn tell_tally(tally: &Tally, kept: &[u8], room: &mut [u8], answer: &mut Answer) 
 }
 
 /// Reports where a run stopped, with the lines that it kept before, if the buffer takes them.
-fn tell_stop(fault: &Fault, kept: &[u8], room: &mut [u8], answer: &mut Answer) -> u32
-    ensures { TellsStop fault.now kept.now room.old room.new answer.new result }
+fn report_stop(fault: &Fault, kept: &[u8], room: &mut [u8], answer: &mut Answer) -> u32
+    ensures { ReportsStop fault.now kept.now room.old room.new answer.new result }
 {
     write_text(room, kept);
     *answer = fault.answer();
@@ -78,7 +78,7 @@ fn tell_stop(fault: &Fault, kept: &[u8], room: &mut [u8], answer: &mut Answer) -
 }
 
 /// Judges rows, a line each, and reports what became of them.
-fn tell_lines(
+fn report_kept_lines(
     held: &FilterHandle,
     judge: &mut JudgeHandle,
     rows: &[u8],
@@ -91,10 +91,10 @@ fn tell_lines(
     match outcome {
         Ok(tally) => {
             judge.last = None;
-            tell_tally(&tally, &kept, room, answer)
+            report_tally(&tally, &kept, room, answer)
         }
         Err(fault) => {
-            let status = tell_stop(&fault, &kept, room, answer);
+            let status = report_stop(&fault, &kept, room, answer);
             keep_fault(fault, judge);
             status
         }
@@ -102,7 +102,7 @@ fn tell_lines(
 }
 
 /// Judges rows by handles, where they are a filter and a judge.
-pub(crate) fn tell_rows(
+pub(crate) fn report_rows(
     filter: &Handle,
     handle: &mut Handle,
     rows: &[u8],
@@ -112,7 +112,9 @@ pub(crate) fn tell_rows(
     ensures { FiltersLines filter.now handle.old handle.new rows.now room.old room.new answer.new result }
 {
     match (filter, handle) {
-        (Handle::Filter(held), Handle::Judge(judge)) => tell_lines(held, judge, rows, room, answer),
-        _ => tell_fault(&Fault::OtherKind, answer),
+        (Handle::Filter(held), Handle::Judge(judge)) => report_kept_lines(
+            held, judge, rows, room, answer,
+        ),
+        _ => report_fault(&Fault::OtherKind, answer),
     }
 }

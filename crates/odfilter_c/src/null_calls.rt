@@ -2,15 +2,15 @@
 //! status is that of a null address, and nothing is written.
 ghost use Rattle.std.specs.Prelude.{◌≡◌, []};
 ghost use Rattle.odfilter_c.specs.Loans.{UnlessLong};
-ghost use Rattle.odfilter_c.specs.Tells.{ReadsSchema, FindsType, ChecksText, ChecksQuery};
+ghost use Rattle.odfilter_c.specs.Reports.{ReadsSchema, FindsType, ChecksText, ChecksQuery};
 ghost use Rattle.odfilter_c.specs.UrlCalls.{ChecksUrl};
-ghost use Rattle.odfilter_c.specs.RowTells.{SetsMoment, JudgesOne, JudgesNext, FiltersLines};
+ghost use Rattle.odfilter_c.specs.RowReports.{SetsMoment, JudgesOne, JudgesNext, FiltersLines};
 ghost use Rattle.odfilter_c.specs.Sentences.{ReportsSentence, ReportsSentenceFor};
 
 use crate::c_types::Answer;
 use crate::handle::Handle;
 use crate::handle_calls;
-use crate::judge_calls::{put_moment, tell_next};
+use crate::judge_calls::{put_moment, report_next};
 use crate::owned::Owned;
 use std::alloc::Global;
 
@@ -21,7 +21,8 @@ pub(crate) fn read_schema_at_null<'a>(
     schema: &'a mut Owned,
     answer: &'a mut Answer,
 ) -> u32
-    ensures { UnlessLong length ((names.new ≡ names.old) × ((schema.new ≡ schema.old) × ((answer.new ≡ answer.old) × (result ≡ 1))))
+    ensures { UnlessLong length
+        ((names.new ≡ names.old) × ((schema.new ≡ schema.old) × ((answer.new ≡ answer.old) × (result ≡ 1))))
         (ReadsSchema [] names.old names.new schema.new answer.new result) }
 {
     if length > 0 {
@@ -84,7 +85,8 @@ pub(crate) fn check_url_at_null<'a>(
     made: &'a mut Owned,
     answer: &'a mut Answer,
 ) -> u32
-    ensures { UnlessLong length ((text.new ≡ text.old) × ((made.new ≡ made.old) × ((answer.new ≡ answer.old) × (result ≡ 1))))
+    ensures { UnlessLong length
+        ((text.new ≡ text.old) × ((made.new ≡ made.old) × ((answer.new ≡ answer.old) × (result ≡ 1))))
         (ChecksUrl given.now [] text.old text.new made.new answer.new result) }
 {
     if length > 0 {
@@ -128,7 +130,7 @@ pub(crate) fn judge_next_at_null<'a>(
     if length > 0 {
         return 1;
     }
-    tell_next(judge, b"".as_slice(), answer)
+    report_next(judge, b"".as_slice(), answer)
 }
 
 pub(crate) fn filter_lines_at_null<'a>(
@@ -138,7 +140,8 @@ pub(crate) fn filter_lines_at_null<'a>(
     kept: &'a mut [u8],
     answer: &'a mut Answer,
 ) -> u32
-    ensures { UnlessLong length ((judge.new ≡ judge.old) × ((kept.new ≡ kept.old) × ((answer.new ≡ answer.old) × (result ≡ 1))))
+    ensures { UnlessLong length
+        ((judge.new ≡ judge.old) × ((kept.new ≡ kept.old) × ((answer.new ≡ answer.old) × (result ≡ 1))))
         (FiltersLines filter.now judge.old judge.new [] kept.old kept.new answer.new result) }
 {
     if length > 0 {

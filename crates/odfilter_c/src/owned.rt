@@ -1,6 +1,6 @@
 //! A handle as C holds it.
 ghost use Rattle.std.specs.Prelude.{◌≡◌, Option, None, Some, MatchOption};
-ghost use Rattle.odfilter_c.specs.Ownership.{owned_code};
+ghost use Rattle.odfilter_c.specs.Owned.{owned_code};
 ghost use Rattle.odfilter_c.specs.declared.handle.Handle.{Handle};
 
 use crate::handle::Handle;
@@ -18,7 +18,7 @@ pub struct Owned {
 }
 
 impl Model for Owned {
-    ghost use Rattle.odfilter_c.specs.Ownership.{owned_or_null};
+    ghost use Rattle.odfilter_c.specs.Owned.{owned_or_null};
 
     ghost also_owns = { λ o. owned_or_null o.at o.value };
 }

@@ -3,7 +3,7 @@ ghost use Rattle.std.specs.Prelude.{◌++◌, Ok, MatchBool};
 ghost use Rattle.odfilter_c.specs.Texts.{IsTooSmall, IsWritten, Writes};
 
 use crate::c_types::Answer;
-use crate::call_answers::tell_fault;
+use crate::call_answers::report_fault;
 use crate::call_fault::{Fault, measured};
 
 /// Writes a text at the front of the buffer, whole or not at all, and returns whether it did.
@@ -32,13 +32,13 @@ pub(crate) fn write_both(room: &mut [u8], first: &[u8], second: &[u8]) -> bool
 }
 
 /// Writes a text, and reports how long it is, or would be.
-pub(crate) fn tell_bytes(text: &[u8], room: &mut [u8], answer: &mut Answer) -> u32
+pub(crate) fn report_bytes(text: &[u8], room: &mut [u8], answer: &mut Answer) -> u32
     ensures { Writes (Ok text.now) room.old room.new answer.new result }
 {
     if write_text(room, text) {
         *answer = measured(text.len());
         0
     } else {
-        tell_fault(&Fault::TooSmall { wanted: text.len() }, answer)
+        report_fault(&Fault::TooSmall { wanted: text.len() }, answer)
     }
 }

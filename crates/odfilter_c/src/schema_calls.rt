@@ -2,7 +2,7 @@
 ghost use Rattle.std.specs.Prelude.{◌≡◌, MatchResult};
 ghost use Rattle.csdl_schema.specs.SchemaModel.{HoldsType, IsEntityAt};
 ghost use Rattle.odfilter_c.specs.SchemaCalls.{IsNoSchema, IsNoType, IsSchemaOf, IsTypeOf, first_name, second_name};
-ghost use Rattle.odfilter_c.specs.Tells.{TellsNames};
+ghost use Rattle.odfilter_c.specs.Reports.{ReportsNames};
 
 use crate::c_types::Answer;
 use crate::call_fault::Fault;
@@ -103,8 +103,8 @@ fn second_name(fault: &SchemaFault) -> &str
 }
 
 /// Reports a schema's fault, and its names if the buffer takes both.
-pub(crate) fn tell_names(fault: &SchemaFault, room: &mut [u8], answer: &mut Answer)
-    ensures { TellsNames fault.now room.old room.new answer.new }
+pub(crate) fn report_names(fault: &SchemaFault, room: &mut [u8], answer: &mut Answer)
+    ensures { ReportsNames fault.now room.old room.new answer.new }
 {
     let first = first_name(fault).as_bytes();
     let second = second_name(fault).as_bytes();

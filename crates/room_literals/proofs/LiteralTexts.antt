@@ -16,7 +16,7 @@ use Rattle.edm_values.specs.MomentParts.{IsFourDigitYear}
 use Rattle.edm_values.proofs.literals.Dates.{date_from_bytes, IsDateSpelling-date}
 use Rattle.json_tokens.specs.private.Lexemes.{IsTextAt}
 use Rattle.json_tokens.proofs.LexemeLemmas.{text_lexed}
-use Rattle.json_room.proofs.RoomLemmas.{byte_told, other_default, plain_here, plain_within, within_byte}
+use Rattle.json_room.proofs.RoomLemmas.{byte_reported, other_default, plain_here, plain_within, within_byte}
 use Rattle.room_literals.specs.private.SureTexts.{AreWithin, IsDayAt, IsDaySpelled, IsDigitAt}
 
 -- ---- texts of plain bytes
@@ -80,11 +80,11 @@ module _ (line bytes : List ℕ) (front : take (length line) bytes ≡ line) (fe
       → IsTextAt line place s (place + 1 + length s + 1)
   text_quoted place s begins opens plain is closes =
       let n = length s in
-      let opened : get_or line place 10 ≡ 34 = sym (byte_told line bytes front feed room place begins) ∙ opens in
+      let opened : get_or line place 10 ≡ 34 = sym (byte_reported line bytes front feed room place begins) ∙ opens in
       let within : place < length line = within_byte line place 34 opened (λ e. omega arith) in
       let between_them : PlainBetween bytes (place + 1) (place + 1 + n) = plain_stands s (place + 1) plain is in
       let ends : place + 1 + n ≤ length line = plain_within line bytes front feed room (place + 1) (place + 1 + n) (omega (arith, within)) between_them in
-      let closed : get_or line (place + 1 + n) 10 ≡ 34 = sym (byte_told line bytes front feed room (place + 1 + n) ends) ∙ closes in
+      let closed : get_or line (place + 1 + n) 10 ≡ 34 = sym (byte_reported line bytes front feed room (place + 1 + n) ends) ∙ closes in
       let last : place + 1 + n < length line = within_byte line (place + 1 + n) 34 closed (λ e. omega arith) in
       let count : place + 1 + n - (place + 1) ≡ n = omega arith in
       let content : take (place + 1 + n - (place + 1)) (drop (place + 1) line) ≡ s =

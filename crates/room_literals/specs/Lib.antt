@@ -1,2 +1,2 @@
-pub mod LiteralsAt
+pub mod SureTexts
 pub mod private

@@ -6,7 +6,7 @@ ghost use Rattle.edm_values.specs.DateLiteral.{DateValue};
 ghost use Rattle.edm_values.specs.GuidLiteral.{GuidValue};
 ghost use Rattle.edm_values.specs.MomentLiteral.{MomentValue};
 ghost use Rattle.edm_values.specs.MomentParts.{MomentParts};
-ghost use Rattle.room_literals.specs.LiteralsAt.{IsLiteralAt};
+ghost use Rattle.room_literals.specs.SureTexts.{IsLiteralAt};
 ghost use Rattle.room_literals.specs.private.SureTexts.{AreWithin, IsDayAt, IsDaySpelled, IsFractionAt, IsGuidAt};
 ghost use Rattle.room_literals.specs.private.SureTexts.{IsMinutesAt, IsOffsetAt};
 

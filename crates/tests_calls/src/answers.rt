@@ -41,17 +41,17 @@ fn push_answer(text: &mut String, answer: &Result<Tally, RunFault>) -> Result<()
 }
 
 /// Fails if an answer is shown by another line.
-pub(crate) fn is_told(
+pub(crate) fn is_reported(
     alloc: Global,
     answer: &Result<Tally, RunFault>,
     wanted: &str,
 ) -> Result<(), Fail> {
-    let mut told = String::new(alloc);
-    push_answer(&mut told, answer)?;
-    if told.as_str() == wanted {
+    let mut reported = String::new(alloc);
+    push_answer(&mut reported, answer)?;
+    if reported.as_str() == wanted {
         Ok(())
     } else {
-        Err(Fail::new(format_args!("{told}, not {wanted}")))
+        Err(Fail::new(format_args!("{reported}, not {wanted}")))
     }
 }
 
@@ -63,7 +63,7 @@ pub(crate) fn answers<R: Read + Drop, W: Write>(
     wanted: &str,
 ) -> Result<(), Fail> {
     let answer = answer_to(alloc, rows, out)?;
-    is_told(alloc, &answer, wanted)
+    is_reported(alloc, &answer, wanted)
 }
 
 /// Fails if a run over rows answers otherwise, or writes another text.

@@ -1,14 +1,14 @@
 //! Lines read without a tree and with one: the same answer both ways.
-use spelled_answers::entities::{is_read_by_bytes, line_answer};
-use spelled_answers::filters::TypeOf;
 use std::alloc::Global;
 use std::test::Fail;
+use suite_driver::entities::{is_read_by_bytes, line_answer};
+use suite_driver::filters::TypeOf;
 
 /// What a line is by what is reported about it, and by whether it was read without a tree.
-fn word_of(told: &str, is_read: bool) -> &'static str {
-    if told.contains(" by its bytes") {
+fn word_of(reported: &str, is_read: bool) -> &'static str {
+    if reported.contains(" by its bytes") {
         "differs"
-    } else if told.starts_with("fits ") {
+    } else if reported.starts_with("fits ") {
         if is_read {
             "entity"
         } else {
@@ -29,11 +29,11 @@ pub(crate) fn is_entity(
     line: &[u8],
     wanted: &str,
 ) -> Result<bool, Fail> {
-    let told = line_answer(alloc, named, line)?;
-    let word = word_of(told.as_str(), is_read_by_bytes(alloc, named, line)?);
+    let reported = line_answer(alloc, named, line)?;
+    let word = word_of(reported.as_str(), is_read_by_bytes(alloc, named, line)?);
     if wanted.contains(word) {
         Ok(word == "entity")
     } else {
-        Err(Fail::new(format_args!("{word}, not {wanted}: {told}")))
+        Err(Fail::new(format_args!("{word}, not {wanted}: {reported}")))
     }
 }

@@ -1,9 +1,9 @@
 //! Rows drawn by a fixed generator, read without a tree and with one: the same answer both ways.
 use crate::both_ways::is_entity;
 use crate::shop::{E0, ITEMS, SHOP};
-use spelled_answers::filters::TypeOf;
 use std::alloc::{AllocError, Global};
 use std::test::Fail;
+use suite_driver::filters::TypeOf;
 
 /// Members that a row is drawn from, as JSON.
 const MEMBERS: &[&str] = &[

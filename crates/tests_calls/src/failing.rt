@@ -134,13 +134,13 @@ fn fails_behind(
     alloc: Global,
     first: &str,
     behind: &str,
-    told: &str,
+    reported: &str,
     kept: &str,
 ) -> Result<(), Fail> {
     for &piece in PIECES {
         let mut failure = stumbling(Some(ErrorKind::Interrupted), behind.as_bytes());
         let rows = cut(first.as_bytes().chain(&mut failure), piece);
-        keeps(alloc, rows, told, kept)?;
+        keeps(alloc, rows, reported, kept)?;
         is_called(failure.calls.max(1), 1)?;
     }
     Ok(())
@@ -150,8 +150,8 @@ fn fails_behind(
 /// is not tried again.
 #[test]
 fn complete_lines_are_judged_before_a_failed_read(rt: HostRuntime) -> Result<(), Fail> {
-    for &(first, behind, told, kept) in BEFORE {
-        fails_behind(rt.alloc(), first, behind, told, kept)?;
+    for &(first, behind, reported, kept) in BEFORE {
+        fails_behind(rt.alloc(), first, behind, reported, kept)?;
     }
     Ok(())
 }

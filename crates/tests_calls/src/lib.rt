@@ -24,6 +24,8 @@ mod items;
 #[cfg(test)]
 mod line_readers;
 #[cfg(test)]
+mod logged_tests;
+#[cfg(test)]
 mod moments;
 #[cfg(test)]
 mod more_expanded;
@@ -33,8 +35,6 @@ mod order;
 mod place_tests;
 #[cfg(test)]
 mod properties;
-#[cfg(test)]
-mod recorded_tests;
 #[cfg(test)]
 mod refused;
 #[cfg(test)]

@@ -74,7 +74,7 @@ fn verdict_with(
 }
 
 /// Fails if the filter reports entities with what it needs from those with a path more.
-fn tells_the_same(alloc: Global, checked: &Checked<'_>, case: &Further) -> Result<(), Fail> {
+fn reports_the_same(alloc: Global, checked: &Checked<'_>, case: &Further) -> Result<(), Fail> {
     let needed = checked.expansion();
     let mut more = needed.copy(alloc)?;
     more.add(case.path)?;
@@ -84,9 +84,9 @@ fn tells_the_same(alloc: Global, checked: &Checked<'_>, case: &Further) -> Resul
         (needed, case.row, case.verdict),
         (&more, case.row, case.lacking),
     ] {
-        let told = verdict_with(alloc, checked, expansion, row)?;
-        if told.as_str() != wanted {
-            return Err(Fail::new(format_args!("{told}, not {wanted}: {row}")));
+        let reported = verdict_with(alloc, checked, expansion, row)?;
+        if reported.as_str() != wanted {
+            return Err(Fail::new(format_args!("{reported}, not {wanted}: {row}")));
         }
     }
     Ok(())
@@ -106,7 +106,7 @@ fn further_paths(rt: HostRuntime) -> Result<(), Fail> {
     }
     for case in CASES {
         let checked = check(alloc, &schema, id, case.filter)?;
-        tells_the_same(alloc, &checked, case)?;
+        reports_the_same(alloc, &checked, case)?;
     }
     Ok(())
 }

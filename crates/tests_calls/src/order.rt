@@ -28,7 +28,7 @@ struct Stream<'a> {
 }
 
 impl Stream<'_> {
-    fn tell(&self, call: u64) {
+    fn report(&self, call: u64) {
         let calls = self.calls.get();
         if calls % 10 != call {
             self.calls.set(calls.wrapping_mul(10).wrapping_add(call));
@@ -38,7 +38,7 @@ impl Stream<'_> {
 
 impl Write for Stream<'_> {
     fn write(&mut self, bytes: &[u8]) -> io::Result<usize> {
-        self.tell(self.write);
+        self.report(self.write);
         self.writes = self.writes.saturating_add(1);
         if self.writes == self.interrupted {
             return Err(io::Error::from(io::ErrorKind::Interrupted));
@@ -48,7 +48,7 @@ impl Write for Stream<'_> {
     }
 
     fn flush(&mut self) -> io::Result<()> {
-        self.tell(self.flush);
+        self.report(self.flush);
         Ok(())
     }
 }
@@ -120,11 +120,11 @@ fn comes_in_order(alloc: Global, asked: Asked, wanted: u64, status: u8) -> Resul
     let calls = Cell::new(0);
     let mut both = both_streams(alloc, &calls, NEVER, NEVER);
     let ended = status_of(alloc, asked, &mut both);
-    let told = calls.get();
-    if told == wanted && ended == status {
+    let reported = calls.get();
+    if reported == wanted && ended == status {
         Ok(())
     } else {
-        Err(Fail::new(format_args!("calls {told}, status {ended}, not {wanted}, {status}")))
+        Err(Fail::new(format_args!("calls {reported}, status {ended}, not {wanted}, {status}")))
     }
 }
 

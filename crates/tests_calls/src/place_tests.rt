@@ -1,9 +1,9 @@
 //! A piece of a text at each place of a short one, and of a name.
 use crate::both_ways::is_entity;
 use crate::shop::ITEMS;
-use spelled_answers::filters::TypeOf;
 use std::alloc::Global;
 use std::test::Fail;
+use suite_driver::filters::TypeOf;
 
 /// What stands in a text or a name, and the answer.
 const PIECES: &[(&str, &str)] = &[

@@ -6,7 +6,7 @@ mod refused_calls;
 mod refused_runs;
 
 /// Prints whether a call was refused an allocation, the first time or the second; fails if it was so both times.
-pub(crate) fn tell(
+pub(crate) fn report(
     rt: &impl Print,
     call: &str,
     is_refused: bool,
@@ -15,11 +15,11 @@ pub(crate) fn tell(
     if is_refused && is_refused_again {
         return Err(Fail::new(format_args!("{call} is refused memory again")));
     }
-    let told = if is_refused || is_refused_again {
+    let reported = if is_refused || is_refused_again {
         "no memory"
     } else {
         "ample"
     };
-    println!(rt; "{call} {told}")?;
+    println!(rt; "{call} {reported}")?;
     Ok(())
 }

@@ -112,7 +112,7 @@ const FAILED: &[(&str, usize, &str, &str, u8)] = &[
 /// A write fails, or the flush that ends a run without a fault: what was written stays. A flush after a fault changes
 /// nothing of what is reported.
 #[test]
-fn a_failed_write_or_flush_is_told(rt: HostRuntime) -> Result<(), Fail> {
+fn a_failed_write_or_flush_is_reported(rt: HostRuntime) -> Result<(), Fail> {
     let plan = plan_of("Mini.Item", FIRST, Some("rows.json"));
     for &(rows, fails_at, out, line, status) in FAILED {
         ends(

@@ -80,7 +80,7 @@ fn is_early_or_often<R>(reader: &Watched<'_, R>, out: &Counting<'_>) -> bool {
 
 /// Fails if a run over so many rows that are all kept, so many bytes at a time, does not write them all, those that
 /// came before the next read and in one call, or is not flushed once.
-fn writes_early(alloc: Global, count: usize, piece: usize, told: &str) -> Result<(), Fail> {
+fn writes_early(alloc: Global, count: usize, piece: usize, reported: &str) -> Result<(), Fail> {
     let rows = A.repeat(alloc, count)?;
     let written = Cell::new(0);
     let mut reader = Watched::new(cut(rows.as_bytes(), piece), &written);
@@ -89,7 +89,7 @@ fn writes_early(alloc: Global, count: usize, piece: usize, told: &str) -> Result
         writes: 0,
         flushes: 0,
     };
-    answers(alloc, &mut reader, &mut out, told)?;
+    answers(alloc, &mut reader, &mut out, reported)?;
     if is_early_or_often(&reader, &out) || written.get() != rows.len() {
         Err(Fail::new(format_args!("{piece} bytes at a time")))
     } else {
@@ -109,8 +109,8 @@ const KEPT: &[(usize, usize, &str)] = &[
 /// before it, in one call, and flushed once at the end.
 #[test]
 fn kept_rows_are_written_before_the_next_read(rt: HostRuntime) -> Result<(), Fail> {
-    for &(piece, count, told) in KEPT {
-        writes_early(rt.alloc(), count, piece, told)?;
+    for &(piece, count, reported) in KEPT {
+        writes_early(rt.alloc(), count, piece, reported)?;
     }
     Ok(())
 }

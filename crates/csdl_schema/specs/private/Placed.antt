@@ -218,13 +218,13 @@ abbrev pub lesser_of : Option (List ℕ) → Option (List ℕ) → Option (List 
 lesser_of None other = other
 lesser_of (Some name) other = lesser_name name other
 
-abbrev pub told_at : List (Option (List ℕ)) → ℕ → Option (List ℕ)
-told_at firsts n = option_and_then (λ o. o) (slice_get firsts n)
+abbrev pub reported_at : List (Option (List ℕ)) → ℕ → Option (List ℕ)
+reported_at firsts n = option_and_then (λ o. o) (slice_get firsts n)
 
 -- the first of the names that are reported for the types at some indexes
-abbrev pub first_told : List (Option (List ℕ)) → List ℕ → Option (List ℕ)
-first_told firsts [] = None
-first_told firsts (n ∷ places) = lesser_of (told_at firsts n) (first_told firsts places)
+abbrev pub first_reported : List (Option (List ℕ)) → List ℕ → Option (List ℕ)
+first_reported firsts [] = None
+first_reported firsts (n ∷ places) = lesser_of (reported_at firsts n) (first_reported firsts places)
 
 abbrev pub all_places : List PlacedType → ℕ → List ℕ
 all_places types n = places_within (length types) types n

@@ -142,8 +142,8 @@ first_clash slots type_name json v [] flaw fits other = other
 first_clash slots type_name json v (step ∷ path) flaw fits other =
     type_clash (step ∷ path) slots flaw false (single (structured type_name)) json v fits other
 
-at_clash : (slots : Slots) (type_name : List ℕ) (json : Data) (v : Val) (told : List ℕ) (flaw : Flaw) → Fits slots type_name json v → ¬ (IsFirstFaultAt slots type_name json told flaw)
-at_clash slots type_name json v told flaw fits other = first_clash slots type_name json v other.0 flaw fits other.1
+at_clash : (slots : Slots) (type_name : List ℕ) (json : Data) (v : Val) (reported : List ℕ) (flaw : Flaw) → Fits slots type_name json v → ¬ (IsFirstFaultAt slots type_name json reported flaw)
+at_clash slots type_name json v reported flaw fits other = first_clash slots type_name json v other.0 flaw fits other.1
 
 no_object_clash : (slots : Slots) (type_name : List ℕ) (json : Data) (v : Val) → Fits slots type_name json v → ¬ (as_object json ≡ None)
 no_object_clash slots type_name json v fits other = here_clash slots false (single (structured type_name)) json v wrong_kind fits other

@@ -7,7 +7,7 @@ use Rattle.edm_entities.specs.declared.flaw.ReadFlaw.{ReadFlaw}
 use Rattle.edm_entities.specs.declared.flaw.ReadFlaw.TheVariants as code
 use Rattle.edm_entities.specs.declared.flaw.ReadFault.{ReadFault}
 
-pub on_flaw : (told : ReadFlaw) (P Q : Flaw → Type 0) → ((flaw : Flaw) → P flaw → Q flaw) → OnFlaw told P → OnFlaw told Q
+pub on_flaw : (reported : ReadFlaw) (P Q : Flaw → Type 0) → ((flaw : Flaw) → P flaw → Q flaw) → OnFlaw reported P → OnFlaw reported Q
 on_flaw code.Missing P Q by holds = by missing holds
 on_flaw code.WrongKind P Q by holds = by wrong_kind holds
 on_flaw code.NullNotAllowed P Q by holds = by null_not_allowed holds
@@ -17,22 +17,22 @@ on_flaw code.NotExpanded P Q by holds = by not_expanded holds
 on_flaw code.Memory P Q by holds = tt
 
 -- a flaw of a value itself has the way without steps
-pub flaw_here : (P : Path → Flaw → Type 0) (told : ReadFault) → told.path ≡ None → OnFlaw told.flaw (P []) → IsFaultOf P told
-flaw_here P told none holds =
-    on_flaw told.flaw (P []) (λ flaw. (path : Path) × IsPathText path told.path × P path flaw)
+pub flaw_here : (P : Path → Flaw → Type 0) (reported : ReadFault) → reported.path ≡ None → OnFlaw reported.flaw (P []) → IsFaultOf P reported
+flaw_here P reported none holds =
+    on_flaw reported.flaw (P []) (λ flaw. (path : Path) × IsPathText path reported.path × P path flaw)
     (λ flaw here. ([], subst (IsPathText []) (sym none) tt, here)) holds
 
-pub fault_by : (P Q : Path → Flaw → Type 0) (told : ReadFault) → ((path : Path) (flaw : Flaw) → P path flaw → Q path flaw) → IsFaultOf P told → IsFaultOf Q told
-fault_by P Q told by fault =
-    on_flaw told.flaw (λ flaw. (path : Path) × IsPathText path told.path × P path flaw) (λ flaw. (path : Path) × IsPathText path told.path × Q path flaw)
+pub fault_by : (P Q : Path → Flaw → Type 0) (reported : ReadFault) → ((path : Path) (flaw : Flaw) → P path flaw → Q path flaw) → IsFaultOf P reported → IsFaultOf Q reported
+fault_by P Q reported by fault =
+    on_flaw reported.flaw (λ flaw. (path : Path) × IsPathText path reported.path × P path flaw) (λ flaw. (path : Path) × IsPathText path reported.path × Q path flaw)
     (λ flaw here. (here.0, here.1, by here.0 flaw here.2)) fault
 
 -- a fault within a part is a fault of the whole
-pub fault_below : (P Q : Path → Flaw → Type 0) (step : List ℕ) (told result : ReadFault) → IsBelow step told result
-    → ((path : Path) (flaw : Flaw) → P path flaw → Q (step ∷ path) flaw) → IsFaultOf P told → IsFaultOf Q result
-fault_below P Q step told result (inl memory) by fault =
+pub fault_below : (P Q : Path → Flaw → Type 0) (step : List ℕ) (reported result : ReadFault) → IsBelow step reported result
+    → ((path : Path) (flaw : Flaw) → P path flaw → Q (step ∷ path) flaw) → IsFaultOf P reported → IsFaultOf Q result
+fault_below P Q step reported result (inl memory) by fault =
     subst (λ (f : ReadFlaw). OnFlaw f (λ flaw. (path : Path) × IsPathText path result.path × Q path flaw)) (sym memory) tt
-fault_below P Q step told result (inr (same, texts)) by fault =
+fault_below P Q step reported result (inr (same, texts)) by fault =
     subst (λ (f : ReadFlaw). OnFlaw f (λ flaw. (path : Path) × IsPathText path result.path × Q path flaw)) (sym same)
-    (on_flaw told.flaw (λ flaw. (path : Path) × IsPathText path told.path × P path flaw) (λ flaw. (path : Path) × IsPathText path result.path × Q path flaw)
+    (on_flaw reported.flaw (λ flaw. (path : Path) × IsPathText path reported.path × P path flaw) (λ flaw. (path : Path) × IsPathText path result.path × Q path flaw)
     (λ flaw here. (step ∷ here.0, texts here.0 here.1, by here.0 flaw here.2)) fault)

@@ -36,8 +36,8 @@ err_by (Result.Ok v) P Q by holds = tt
 err_by (Result.Err e) P Q by holds = by e holds
 
 -- a flaw of a value itself
-pub told_here : (P : Path → Flaw → Type 0) (told : ReadFault) (code : ReadFlaw) → told.flaw ≡ code → told.path ≡ None → OnFlaw code (P []) → IsFaultOf P told
-told_here P told code is none holds = flaw_here P told none (subst (λ (f : ReadFlaw). OnFlaw f (P [])) (sym is) holds)
+pub reported_here : (P : Path → Flaw → Type 0) (reported : ReadFault) (code : ReadFlaw) → reported.flaw ≡ code → reported.path ≡ None → OnFlaw code (P []) → IsFaultOf P reported
+reported_here P reported code is none holds = flaw_here P reported none (subst (λ (f : ReadFlaw). OnFlaw f (P [])) (sym is) holds)
 
 -- ---- null and other JSON
 
@@ -176,12 +176,12 @@ seen_flaw slots nullable (navigation None) wanted json path flaw is fault = absu
 seen_flaw slots nullable (navigation (Some type)) wanted json path flaw is fault =
     (is.0, subst (λ (t : ExprType). IsFoundFault (Some json) (takes_null t nullable) path flaw (λ there. IsValueFault slots false path t there flaw)) (sym is.1) fault)
 
-pub seen_fault : (slots : Slots) (nullable : Bool) (type : PropertyType) (wanted : ExprType) (json : Data) (told : ReadFault) → IsLookedAt slots type wanted
-    → IsFaultOf (λ path flaw. IsFoundFault (Some json) (takes_null wanted nullable) path flaw (λ there. IsValueFault slots (items_null type nullable) path wanted there flaw)) told
-    → IsFaultOf (IsPropertyFault slots nullable type (Some json)) told
-seen_fault slots nullable type wanted json told is fault =
+pub seen_fault : (slots : Slots) (nullable : Bool) (type : PropertyType) (wanted : ExprType) (json : Data) (reported : ReadFault) → IsLookedAt slots type wanted
+    → IsFaultOf (λ path flaw. IsFoundFault (Some json) (takes_null wanted nullable) path flaw (λ there. IsValueFault slots (items_null type nullable) path wanted there flaw)) reported
+    → IsFaultOf (IsPropertyFault slots nullable type (Some json)) reported
+seen_fault slots nullable type wanted json reported is fault =
     fault_by (λ path flaw. IsFoundFault (Some json) (takes_null wanted nullable) path flaw (λ there. IsValueFault slots (items_null type nullable) path wanted there flaw))
-    (IsPropertyFault slots nullable type (Some json)) told (λ path flaw here. seen_flaw slots nullable type wanted json path flaw is here) fault
+    (IsPropertyFault slots nullable type (Some json)) reported (λ path flaw here. seen_flaw slots nullable type wanted json path flaw is here) fault
 
 -- the same of what a call answers
 pub ok_seen : (r : Result Value ReadFault) (slots : Slots) (nullable : Bool) (type : PropertyType) (wanted : ExprType) (json : Data) (found : Option Data) (takes items : Bool)
@@ -200,11 +200,11 @@ pub err_seen : (r : Result Value ReadFault) (slots : Slots) (nullable : Bool) (t
     → IfErr r (IsFaultOf (λ path flaw. IsFoundFault (Some json) takes path flaw (λ there. IsValueFault slots items path wanted there flaw)))
     → IfErr r (IsFaultOf (IsPropertyFault slots nullable type found))
 err_seen (Result.Ok v) slots nullable type wanted json found takes items here seen same_takes same_items fault = tt
-err_seen (Result.Err told) slots nullable type wanted json found takes items here seen same_takes same_items fault =
-    subst (λ (o : Option Data). IsFaultOf (IsPropertyFault slots nullable type o) told) (sym here)
-    (seen_fault slots nullable type wanted json told seen
-    (subst (λ (b : Bool). IsFaultOf (λ path flaw. IsFoundFault (Some json) (takes_null wanted nullable) path flaw (λ there. IsValueFault slots b path wanted there flaw)) told) same_items
-    (subst (λ (b : Bool). IsFaultOf (λ path flaw. IsFoundFault (Some json) b path flaw (λ there. IsValueFault slots items path wanted there flaw)) told) same_takes fault)))
+err_seen (Result.Err reported) slots nullable type wanted json found takes items here seen same_takes same_items fault =
+    subst (λ (o : Option Data). IsFaultOf (IsPropertyFault slots nullable type o) reported) (sym here)
+    (seen_fault slots nullable type wanted json reported seen
+    (subst (λ (b : Bool). IsFaultOf (λ path flaw. IsFoundFault (Some json) (takes_null wanted nullable) path flaw (λ there. IsValueFault slots b path wanted there flaw)) reported) same_items
+    (subst (λ (b : Bool). IsFaultOf (λ path flaw. IsFoundFault (Some json) b path flaw (λ there. IsValueFault slots items path wanted there flaw)) reported) same_takes fault)))
 
 -- ---- nothing found
 

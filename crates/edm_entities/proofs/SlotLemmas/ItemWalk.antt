@@ -66,11 +66,11 @@ module _ (slots : Slots) (nullable : Bool) (type : SingleType) where
         fault = fault;
       }
 
-  pub list_fault : (xs : List json.Value) (n : ℕ) (values : List Value) (x : json.Value) (told result : ReadFault) → slice_get xs n ≡ Some x
-      → FitList slots nullable type (items_view (take n xs)) values → IsBelow (decimal n) told result
-      → IsFaultOf (λ path flaw. IsFoundFault (Some (view x)) nullable path flaw (λ found. IsValueFault slots nullable path (single type) found flaw)) told
+  pub list_fault : (xs : List json.Value) (n : ℕ) (values : List Value) (x : json.Value) (reported result : ReadFault) → slice_get xs n ≡ Some x
+      → FitList slots nullable type (items_view (take n xs)) values → IsBelow (decimal n) reported result
+      → IsFaultOf (λ path flaw. IsFoundFault (Some (view x)) nullable path flaw (λ found. IsValueFault slots nullable path (single type) found flaw)) reported
       → IsFaultOf (λ path flaw. IsValueFault slots nullable path (collection type) (array (items_view xs)) flaw) result
-  list_fault xs n values x told result at fits below fault =
+  list_fault xs n values x reported result at fits below fault =
       fault_below (λ path flaw. IsFoundFault (Some (view x)) nullable path flaw (λ found. IsValueFault slots nullable path (single type) found flaw))
-      (λ path flaw. IsValueFault slots nullable path (collection type) (array (items_view xs)) flaw) (decimal n) told result below
+      (λ path flaw. IsValueFault slots nullable path (collection type) (array (items_view xs)) flaw) (decimal n) reported result below
       (λ path flaw here. item_fault xs n values x path flaw at fits here) fault

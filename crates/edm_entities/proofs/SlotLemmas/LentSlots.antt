@@ -25,9 +25,9 @@ first_slot schema (p ∷ ps) (f ∷ es) (suc i) e first at =
     let further = first_slot schema ps es i e first.2 at in
     record { name = further.name; property = further.property }
 
-pub lent_slot : (schema : SchemaModel) (ps : List PropertyModel) (es : List (List ℕ × Property)) (from i slot : ℕ) (e : List ℕ × Property) → AreFirstOf schema (drop from ps) es
+pub cursor_slot : (schema : SchemaModel) (ps : List PropertyModel) (es : List (List ℕ × Property)) (from i slot : ℕ) (e : List ℕ × Property) → AreFirstOf schema (drop from ps) es
     → slice_get es i ≡ Some e → from + i ≡ slot → IsSlot schema ps slot e
-lent_slot schema ps es from i slot e first at is =
+cursor_slot schema ps es from i slot e first at is =
     let found = first_slot schema (drop from ps) es i e first at in
     let name = λ (p : PropertyModel). p.name in
     record {

@@ -8,7 +8,7 @@ use Rattle.serde_json.specs.Find.{as_object, get, get_member}
 use Rattle.serde_json.specs.View.{view, members_view}
 use Rattle.serde_json.specs.declared.value.Value.{Value}
 use Rattle.serde_json.proofs.Views.{Entry, view-lookup}
-use Rattle.edm_entities.specs.private.Members.{IsMember}
+use Rattle.edm_entities.specs.private.MemberWalk.{IsMember}
 
 all_by : (P : Entry → Type 0) (es : List Entry) → All P es → AllByRecursion P es
 all_by P [] each = tt

@@ -110,10 +110,10 @@ module _ (schema : SchemaModel) (paths : PathSet) (id n : ℕ) (json : Data) (va
         fault = by_name;
       }
 
-  pub slots_fault : (nullable : Bool) (told result : ReadFault) → IsSome (as_object json) → IsBelow name told result
-      → IsFaultOf (IsPropertyFault (slots_behind (expanded (slots_of schema) paths) name) property.nullable (property_type schema property) (get name json)) told
+  pub slots_fault : (nullable : Bool) (reported result : ReadFault) → IsSome (as_object json) → IsBelow name reported result
+      → IsFaultOf (IsPropertyFault (slots_behind (expanded (slots_of schema) paths) name) property.nullable (property_type schema property) (get name json)) reported
       → IsFaultOf (λ path flaw. IsValueFault (expanded (slots_of schema) paths) nullable path (single (structured (type_name_at schema id))) json flaw) result
-  slots_fault nullable told result is_object below fault =
+  slots_fault nullable reported result is_object below fault =
       fault_below (IsPropertyFault (inner name) property.nullable (property_type schema property) (get name json))
-      (λ path flaw. IsValueFault whole nullable path (single (structured (type_name_at schema id))) json flaw) name told result below
+      (λ path flaw. IsValueFault whole nullable path (single (structured (type_name_at schema id))) json flaw) name reported result below
       (λ path flaw here. slot_fault nullable path flaw is_object here) fault

@@ -47,10 +47,10 @@ single_alike : (slots : Slots) (a b : Bool) (name : List ℕ) (json : Data) (pat
 single_alike slots a b name json [] flaw fault = fault
 single_alike slots a b name json (step ∷ path) flaw fault = fault
 
-pub record_fault : (slots : Slots) (a b : Bool) (name : List ℕ) (json : Data) (told : ReadFault)
-    → IsFaultOf (λ path flaw. IsValueFault slots a path (single (structured name)) json flaw) told → IsFaultOf (λ path flaw. IsValueFault slots b path (single (structured name)) json flaw) told
-record_fault slots a b name json told fault =
-    fault_by (λ path flaw. IsValueFault slots a path (single (structured name)) json flaw) (λ path flaw. IsValueFault slots b path (single (structured name)) json flaw) told
+pub record_fault : (slots : Slots) (a b : Bool) (name : List ℕ) (json : Data) (reported : ReadFault)
+    → IsFaultOf (λ path flaw. IsValueFault slots a path (single (structured name)) json flaw) reported → IsFaultOf (λ path flaw. IsValueFault slots b path (single (structured name)) json flaw) reported
+record_fault slots a b name json reported fault =
+    fault_by (λ path flaw. IsValueFault slots a path (single (structured name)) json flaw) (λ path flaw. IsValueFault slots b path (single (structured name)) json flaw) reported
     (λ path flaw here. single_alike slots a b name json path flaw here) fault
 
 -- ---- arrays
@@ -67,12 +67,12 @@ array_fits slots nullable type json jsons values is fits =
     (not_null json jsons is)
     (subst (FitsType slots nullable (collection type) json) (sym (val_of-List slots (collection type) values)) (jsons, is, fits))
 
-pub array_fault : (slots : Slots) (nullable : Bool) (type : SingleType) (json : Data) (jsons : Items) (told : ReadFault) → as_array json ≡ Some jsons
-    → IsFaultOf (λ path flaw. IsValueFault slots nullable path (collection type) (array jsons) flaw) told
-    → IsFaultOf (λ path flaw. IsFoundFault (Some json) false path flaw (λ found. IsValueFault slots nullable path (collection type) found flaw)) told
-array_fault slots nullable type json jsons told is fault =
+pub array_fault : (slots : Slots) (nullable : Bool) (type : SingleType) (json : Data) (jsons : Items) (reported : ReadFault) → as_array json ≡ Some jsons
+    → IsFaultOf (λ path flaw. IsValueFault slots nullable path (collection type) (array jsons) flaw) reported
+    → IsFaultOf (λ path flaw. IsFoundFault (Some json) false path flaw (λ found. IsValueFault slots nullable path (collection type) found flaw)) reported
+array_fault slots nullable type json jsons reported is fault =
     fault_by (λ path flaw. IsValueFault slots nullable path (collection type) (array jsons) flaw)
-    (λ path flaw. IsFoundFault (Some json) false path flaw (λ found. IsValueFault slots nullable path (collection type) found flaw)) told
+    (λ path flaw. IsFoundFault (Some json) false path flaw (λ found. IsValueFault slots nullable path (collection type) found flaw)) reported
     (λ path flaw here. other_fault json false path flaw (λ found. IsValueFault slots nullable path (collection type) found flaw) (not_null json jsons is)
     (subst (λ (d : Data). IsValueFault slots nullable path (collection type) d flaw) (sym (array_is json jsons is)) here)) fault
 

@@ -23,31 +23,31 @@ OnFlaw Memory P = Unit {0}
 -- the text of a path; none of the path without steps
 abbrev pub IsPathText : Path → Option (String Global) → Type 0
 IsPathText [] None = Unit {0}
-IsPathText (step ∷ path) (Some told) = string_bytes told ≡ join_with_byte 47 (step ∷ path)
-IsPathText path told = ⊥
+IsPathText (step ∷ path) (Some reported) = string_bytes reported ≡ join_with_byte 47 (step ∷ path)
+IsPathText path reported = ⊥
 
 -- P of the path and the flaw that the code reports
 abbrev pub IsFaultOf : (Path → Flaw → Type 0) → ReadFault → Type 0
-IsFaultOf P told = OnFlaw told.flaw (λ flaw. (path : Path) × IsPathText path told.path × P path flaw)
+IsFaultOf P reported = OnFlaw reported.flaw (λ flaw. (path : Path) × IsPathText path reported.path × P path flaw)
 
 -- the text of a path with one step more before it
 abbrev pub IsPathBelow : List ℕ → Option (String Global) → String Global → Type 0
-IsPathBelow step told result = (path : Path) → IsPathText path told → IsPathText (step ∷ path) (Some result)
+IsPathBelow step reported result = (path : Path) → IsPathText path reported → IsPathText (step ∷ path) (Some result)
 
 -- the same fault, reported from a step further up; running out of memory comes from anywhere
 abbrev pub IsBelow : List ℕ → ReadFault → ReadFault → Type 0
-IsBelow step told result =
+IsBelow step reported result =
     (result.flaw ≡ Memory)
-    ⊎ ((result.flaw ≡ told.flaw)
-    × ((path : Path) → IsPathText path told.path → IsPathText (step ∷ path) result.path))
+    ⊎ ((result.flaw ≡ reported.flaw)
+    × ((path : Path) → IsPathText path reported.path → IsPathText (step ∷ path) result.path))
 
 -- the fault of a row, from that of its value
-abbrev pub IsToldAs : ReadFault → RowFault → Type 0
-IsToldAs told fault.NotObject = (told.path ≡ None) × (¬ (told.flaw ≡ Memory))
-IsToldAs told (fault.Missing path) = (told.flaw ≡ Missing) × (told.path ≡ Some path)
-IsToldAs told (fault.WrongKind path) = (told.flaw ≡ WrongKind) × (told.path ≡ Some path)
-IsToldAs told (fault.NullNotAllowed path) = (told.flaw ≡ NullNotAllowed) × (told.path ≡ Some path)
-IsToldAs told (fault.OutOfRange path) = (told.flaw ≡ OutOfRange) × (told.path ≡ Some path)
-IsToldAs told (fault.BadText path) = (told.flaw ≡ BadText) × (told.path ≡ Some path)
-IsToldAs told (fault.NotExpanded path) = (told.flaw ≡ NotExpanded) × (told.path ≡ Some path)
-IsToldAs told fault.Memory = told.flaw ≡ Memory
+abbrev pub IsReportedAs : ReadFault → RowFault → Type 0
+IsReportedAs reported fault.NotObject = (reported.path ≡ None) × (¬ (reported.flaw ≡ Memory))
+IsReportedAs reported (fault.Missing path) = (reported.flaw ≡ Missing) × (reported.path ≡ Some path)
+IsReportedAs reported (fault.WrongKind path) = (reported.flaw ≡ WrongKind) × (reported.path ≡ Some path)
+IsReportedAs reported (fault.NullNotAllowed path) = (reported.flaw ≡ NullNotAllowed) × (reported.path ≡ Some path)
+IsReportedAs reported (fault.OutOfRange path) = (reported.flaw ≡ OutOfRange) × (reported.path ≡ Some path)
+IsReportedAs reported (fault.BadText path) = (reported.flaw ≡ BadText) × (reported.path ≡ Some path)
+IsReportedAs reported (fault.NotExpanded path) = (reported.flaw ≡ NotExpanded) × (reported.path ≡ Some path)
+IsReportedAs reported fault.Memory = reported.flaw ≡ Memory

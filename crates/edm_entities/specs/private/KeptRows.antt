@@ -5,17 +5,17 @@ use Rattle.csdl_schema.specs.SchemaModel.{SchemaModel}
 use Rattle.edm_values.specs.declared.value.Value.{Value}
 use Rattle.edm_entities.specs.Row.{Row}
 use Rattle.edm_entities.specs.declared.kept_row.KeptRow.{KeptRow}
-use Rattle.edm_entities.specs.declared.kept_row.KeptRow.TheVariants.{Own, Lent}
+use Rattle.edm_entities.specs.declared.kept_row.KeptRow.TheVariants.{Own, Borrowed}
 
 -- what is expanded in it, its own or borrowed
 abbrev pub expansion_in : KeptRow → List StepModel
 expansion_in (Own expansion value) = expansion
-expansion_in (Lent expansion value) = expansion.now
+expansion_in (Borrowed expansion value) = expansion.now
 
 -- its value, its own or borrowed
 abbrev pub value_in : KeptRow → Value
 value_in (Own expansion value) = value
-value_in (Lent expansion value) = value.now
+value_in (Borrowed expansion value) = value.now
 
 -- the row of a type that it is
 abbrev pub row_kept : SchemaModel → ℕ → KeptRow → Row

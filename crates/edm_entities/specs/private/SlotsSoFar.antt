@@ -11,11 +11,11 @@ use Rattle.edm_entities.specs.private.NextMember.{ReadsMember}
 use Rattle.edm_entities.specs.private.Walk.{FitsSlot}
 use Rattle.edm_entities.specs.declared.row_member.Member.{Member}
 use Rattle.edm_entities.specs.declared.row_member.Member.TheVariants.{OfSlot, Other, End}
-use Rattle.edm_entities.specs.declared.row_walk.RowScene.{RowScene}
+use Rattle.edm_entities.specs.declared.row_walk.ReadContext.{ReadContext}
 
 -- the types of a row's schema, where what stands after a node of its expansion is expanded
-abbrev pub slots_below : RowScene → Option ℕ → Slots
-slots_below scene node = slots_at scene.schema.now scene.expansion.now node
+abbrev pub slots_below : ReadContext → Option ℕ → Slots
+slots_below context node = slots_at context.schema.now context.expansion.now node
 
 -- what stands in a slot that was filled fits what was found; for another nothing was found, and what stands there says
 -- nothing: it is of an earlier row

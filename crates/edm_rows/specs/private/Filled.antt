@@ -12,7 +12,7 @@ use Rattle.edm_entities.specs.private.Walk.{FitList, FitSlots, HoldInItems}
 use Rattle.json_tokens.specs.declared.lexeme.Turn.TheVariants.{Fresh, AfterValue}
 use Rattle.json_room.specs.Lexemes.{tokens_at}
 use Rattle.edm_rows.specs.declared.kept_value.Progress.{Progress}
-use Rattle.edm_rows.specs.declared.passed_value.Scene.{Scene}
+use Rattle.edm_rows.specs.declared.passed_value.ReadContext.{ReadContext}
 use Rattle.edm_rows.specs.declared.row_types.RowSlot.{RowSlot}
 use Rattle.edm_rows.specs.declared.row_types.RowType.{RowType}
 use Rattle.edm_rows.specs.declared.row_types.Task.{Task}
@@ -21,20 +21,20 @@ use Rattle.edm_rows.specs.private.KeptRows.{RowConforms}
 use Rattle.edm_rows.specs.private.KeptSoFar.{SameMarks}
 use Rattle.edm_rows.specs.private.MembersSoFar.{MembersRead, MembersUpTo}
 use Rattle.edm_rows.specs.private.RowSlots.{kinds_of}
-use Rattle.edm_rows.specs.private.Scenes.{slots_behind_node}
+use Rattle.edm_rows.specs.private.Contexts.{slots_behind_node}
 
 -- what a slot's value, or an item of it, is of JSON
-abbrev pub IsFilledIn : Scene → RowSlot → Task → Value → Data → Type 0
-IsFilledIn scene slot task value json =
-    FilledAs (slots_behind_node scene slot.node) (kinds_of scene.schema.now scene.plan.now.plans.items slot)
+abbrev pub IsFilledIn : ReadContext → RowSlot → Task → Value → Data → Type 0
+IsFilledIn context slot task value json =
+    FilledAs (slots_behind_node context slot.node) (kinds_of context.schema.now context.plan.now.plans.items slot)
     slot.is_nullable slot.item task value json
 
 -- a slot's value, or an item of it, stands from one place to the other, nested no deeper than that, and is the value;
 -- which is that of some JSON, whether or not it may end there
-abbrev pub FillsValue : Scene → RowSlot → Task → ℕ → Value → ℕ → ℕ → Type 0
-FillsValue scene slot task depth value from to =
-    ReadsTo depth scene.line from to (IsFilledIn scene slot task value)
-    × ((json : Data) × IsFilledIn scene slot task value json)
+abbrev pub FillsValue : ReadContext → RowSlot → Task → ℕ → Value → ℕ → ℕ → Type 0
+FillsValue context slot task depth value from to =
+    ReadsTo depth context.line from to (IsFilledIn context slot task value)
+    × ((json : Data) × IsFilledIn context slot task value json)
 
 -- values of that type that are read of the items of an array
 abbrev pub AreFilled : Slots → Bool → SingleType → List Value → Items → Type 0
@@ -43,47 +43,49 @@ AreFilled slots nullable type values jsons =
 
 -- after an opening bracket the items of a slot's array stand from one place to the other, with the closing one, and are
 -- the values
-abbrev pub FillsItems : Scene → RowSlot → ℕ → List Value → ℕ → ℕ → Type 0
-FillsItems scene slot depth values from to =
-    PassesTo scene.line from to
-    × ReadsItems depth (tokens_at Fresh scene.line from) (tokens_at AfterValue scene.line to)
-    (AreFilled (slots_behind_node scene slot.node) slot.is_nullable
-    (type_of (kinds_of scene.schema.now scene.plan.now.plans.items slot) slot.item) values)
+abbrev pub FillsItems : ReadContext → RowSlot → ℕ → List Value → ℕ → ℕ → Type 0
+FillsItems context slot depth values from to =
+    PassesTo context.line from to
+    × ReadsItems depth (tokens_at Fresh context.line from) (tokens_at AfterValue context.line to)
+    (AreFilled (slots_behind_node context slot.node) slot.is_nullable
+    (type_of (kinds_of context.schema.now context.plan.now.plans.items slot) slot.item) values)
 
 -- after an opening brace the members of an object of a type stand from one place to the other, with the closing one,
 -- and the values fit them
-abbrev pub FillsMembers : Scene → RowType → ℕ → List Value → ℕ → ℕ → Type 0
-FillsMembers scene type depth values from to =
-    PassesTo scene.line from to
-    × ReadsMembers depth (tokens_at Fresh scene.line from) (tokens_at AfterValue scene.line to)
-    (λ found. FitSlots (slots_behind_node scene type.node) (object found)
-    (properties_at scene.schema.now type.type_id) values)
+abbrev pub FillsMembers : ReadContext → RowType → ℕ → List Value → ℕ → ℕ → Type 0
+FillsMembers context type depth values from to =
+    PassesTo context.line from to
+    × ReadsMembers depth (tokens_at Fresh context.line from) (tokens_at AfterValue context.line to)
+    (λ found. FitSlots (slots_behind_node context type.node) (object found)
+    (properties_at context.schema.now type.type_id) values)
 
 -- ---- while the members are read
 
 -- the members before a place, of which these slots were seen; and up to where the value of one ends
-pub record FilledUpTo (scene : Scene) (type : RowType) (depth from place seen : ℕ) (values : List Value) : Type 0 where
+pub record FilledUpTo (context : ReadContext) (type : RowType) (depth from place seen : ℕ)
+    (values : List Value) : Type 0 where
   pub filled : List Bool
-  pub long : length filled ≡ length (properties_at scene.schema.now type.type_id)
+  pub long : length filled ≡ length (properties_at context.schema.now type.type_id)
   pub marks : SameMarks seen filled
-  pub members : MembersUpTo depth scene.line from place
-      (λ found. SlotsSoFar (slots_behind_node scene type.node) (properties_at scene.schema.now type.type_id)
+  pub members : MembersUpTo depth context.line from place
+      (λ found. SlotsSoFar (slots_behind_node context type.node) (properties_at context.schema.now type.type_id)
       found filled values)
 
-pub record FilledRead (scene : Scene) (type : RowType) (depth from end seen : ℕ) (values : List Value) : Type 0 where
+pub record FilledRead (context : ReadContext) (type : RowType) (depth from end seen : ℕ)
+    (values : List Value) : Type 0 where
   pub filled : List Bool
-  pub long : length filled ≡ length (properties_at scene.schema.now type.type_id)
+  pub long : length filled ≡ length (properties_at context.schema.now type.type_id)
   pub marks : SameMarks seen filled
-  pub members : MembersRead depth scene.line from end
-      (λ found. SlotsSoFar (slots_behind_node scene type.node) (properties_at scene.schema.now type.type_id)
+  pub members : MembersRead depth context.line from end
+      (λ found. SlotsSoFar (slots_behind_node context type.node) (properties_at context.schema.now type.type_id)
       found filled values)
 
 -- the same of how far it was read
-abbrev pub IsFilledUpTo : Scene → RowType → ℕ → ℕ → List Value → Progress → Type 0
-IsFilledUpTo scene type depth from values so_far = FilledUpTo scene type depth from so_far.place so_far.seen values
+abbrev pub IsFilledUpTo : ReadContext → RowType → ℕ → ℕ → List Value → Progress → Type 0
+IsFilledUpTo context type depth from values so_far = FilledUpTo context type depth from so_far.place so_far.seen values
 
-abbrev pub IsFilledTo : Scene → RowType → ℕ → ℕ → List Value → Progress → Type 0
-IsFilledTo scene type depth from values read = FilledRead scene type depth from read.place read.seen values
+abbrev pub IsFilledTo : ReadContext → RowType → ℕ → ℕ → List Value → Progress → Type 0
+IsFilledTo context type depth from values read = FilledRead context type depth from read.place read.seen values
 
 -- values that conform to properties go on to conform, where each slot that was not seen may be absent
 abbrev pub GoOnConforming : ℕ → List Value → List Value → Type 0

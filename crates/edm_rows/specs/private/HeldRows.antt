@@ -17,7 +17,7 @@ use Rattle.edm_values.specs.declared.sieve.Sieve.{Sieve}
 use Rattle.edm_values.specs.declared.value.Value.{Value, Record}
 use Rattle.edm_rows.specs.declared.kept_leaf.Taken.{Taken}
 use Rattle.edm_rows.specs.declared.kept_leaf.Taken.TheVariants.{Broken, Nothing, Put, Rejected}
-use Rattle.edm_rows.specs.declared.passed_value.Scene.{Scene}
+use Rattle.edm_rows.specs.declared.passed_value.ReadContext.{ReadContext}
 use Rattle.edm_rows.specs.private.KeptRows.{TakesFound}
 use Rattle.edm_rows.specs.declared.row_types.RowSlot.{RowSlot}
 use Rattle.edm_rows.specs.declared.row_types.RowType.{RowType}
@@ -81,28 +81,28 @@ pub record IsRowsOfType (rows : Inside) : Type 0 where
 
 -- the line is the text of an object, of which a value is rejected, or which the values of these slots fit but for those
 -- that are not kept
-abbrev pub ReadsSlots : Scene → Bool → List Value → Type 0
-ReadsSlots scene is_left_out values =
-    (type : RowType) × (slice_get scene.types.now 0 ≡ Some type)
-    × ((found : Members) × (read scene.line ≡ Some (object found)) × TakesFound scene type is_left_out values found)
+abbrev pub ReadsSlots : ReadContext → Bool → List Value → Type 0
+ReadsSlots context is_left_out values =
+    (type : RowType) × (slice_get context.types.now 0 ≡ Some type)
+    × ((found : Members) × (read context.line ≡ Some (object found)) × TakesFound context type is_left_out values found)
 
 -- the same of a row's
-abbrev pub ReadsLine : Scene → Bool → Value → Type 0
-ReadsLine scene is_left_out row =
-    (values : Vec Value Global) × (row ≡ Record values) × ReadsSlots scene is_left_out values.items
+abbrev pub ReadsLine : ReadContext → Bool → Value → Type 0
+ReadsLine context is_left_out row =
+    (values : Vec Value Global) × (row ≡ Record values) × ReadsSlots context is_left_out values.items
 
 -- what became of a line whose values were put into slots, and into a row
-abbrev pub TakesSlots : Scene → List Value → Taken → Type 0
-TakesSlots scene values Nothing = Unit {0}
-TakesSlots scene values Broken = Unit {0}
-TakesSlots scene values (Put to) = ReadsSlots scene false values
-TakesSlots scene values (Rejected to) = ReadsSlots scene true values
+abbrev pub TakesSlots : ReadContext → List Value → Taken → Type 0
+TakesSlots context values Nothing = Unit {0}
+TakesSlots context values Broken = Unit {0}
+TakesSlots context values (Put to) = ReadsSlots context false values
+TakesSlots context values (Rejected to) = ReadsSlots context true values
 
-abbrev pub TakesLine : Scene → Value → Taken → Type 0
-TakesLine scene row Nothing = Unit {0}
-TakesLine scene row Broken = Unit {0}
-TakesLine scene row (Put to) = ReadsLine scene false row
-TakesLine scene row (Rejected to) = ReadsLine scene true row
+abbrev pub TakesLine : ReadContext → Value → Taken → Type 0
+TakesLine context row Nothing = Unit {0}
+TakesLine context row Broken = Unit {0}
+TakesLine context row (Put to) = ReadsLine context false row
+TakesLine context row (Rejected to) = ReadsLine context true row
 
 -- what was taken of a line ends within it
 abbrev pub IsTakenWithin : List ℕ → Taken → Type 0

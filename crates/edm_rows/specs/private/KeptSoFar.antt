@@ -9,7 +9,7 @@ use Rattle.edm_entities.specs.private.Passed.{MayBeAbsent, PassedSoFar, SlotsSoF
 use Rattle.edm_rows.specs.declared.kept_value.Progress.{Progress}
 use Rattle.edm_rows.specs.declared.kept_value.Step.{Step}
 use Rattle.edm_rows.specs.declared.kept_value.Step.TheVariants.{Broken, Nothing, Read, Rejected}
-use Rattle.edm_rows.specs.declared.passed_value.Scene.{Scene}
+use Rattle.edm_rows.specs.declared.passed_value.ReadContext.{ReadContext}
 use Rattle.edm_rows.specs.declared.row_types.RowSlot.{RowSlot}
 use Rattle.edm_rows.specs.declared.row_types.RowType.{RowType}
 use Rattle.edm_rows.specs.private.KeptRows.{IsRejectedIn, names_unkept_in, root_properties, root_slots}
@@ -22,56 +22,57 @@ pub record SameMarks (seen : ℕ) (filled : List Bool) : Type 0 where
 
 -- a value was found in a kept slot, whose sieve rejects it
 pub record RejectedSoFar
-    (scene : Scene) (rows : List RowSlot) (seen : ℕ) (found : Members) : Type 0 where
+    (context : ReadContext) (rows : List RowSlot) (seen : ℕ) (found : Members) : Type 0 where
   pub slot : RowSlot
   pub is_slot : slice_get rows slot.index ≡ Some slot
   pub is_kept : slot.is_kept ≡ true
   pub was_seen : bit_at seen slot.index ≡ 1
   pub name : List ℕ
-  pub named : slice_get (map (λ p. p.name) (root_properties scene)) slot.index ≡ Some name
+  pub named : slice_get (map (λ p. p.name) (root_properties context)) slot.index ≡ Some name
   pub json : Data
   pub is_found : get_member name found ≡ Some json
-  pub rejected : IsRejectedIn scene slot slot.sieve json
+  pub rejected : IsRejectedIn context slot slot.sieve json
 
 -- what was found fits, and a value was rejected; or the values are it, but for those that are not kept
-abbrev pub SoFar : Scene → List RowSlot → Bool → ℕ → List Bool → List Value → Members → Type 0
-SoFar scene rows is_left_out seen filled values found =
-    MatchBool is_left_out (PassedSoFar (root_slots scene) (root_properties scene) found filled
-    × RejectedSoFar scene rows seen found)
-    (SlotsSoFarBut (root_slots scene) (names_unkept_in (root_properties scene) rows)
-    (root_properties scene) found filled values)
+abbrev pub SoFar : ReadContext → List RowSlot → Bool → ℕ → List Bool → List Value → Members → Type 0
+SoFar context rows is_left_out seen filled values found =
+    MatchBool is_left_out (PassedSoFar (root_slots context) (root_properties context) found filled
+    × RejectedSoFar context rows seen found)
+    (SlotsSoFarBut (root_slots context) (names_unkept_in (root_properties context) rows)
+    (root_properties context) found filled values)
 
 -- the members before a place, of which these slots were seen; and up to where the value of one ends
 pub record KeptUpTo
-    (scene : Scene) (rows : List RowSlot) (from place seen : ℕ) (is_left_out : Bool)
+    (context : ReadContext) (rows : List RowSlot) (from place seen : ℕ) (is_left_out : Bool)
     (values : List Value) : Type 0 where
   pub filled : List Bool
-  pub long : length filled ≡ length (root_properties scene)
+  pub long : length filled ≡ length (root_properties context)
   pub marks : SameMarks seen filled
-  pub members : MembersUpTo 126 scene.line from place (SoFar scene rows is_left_out seen filled values)
+  pub members : MembersUpTo 126 context.line from place (SoFar context rows is_left_out seen filled values)
 
 pub record KeptRead
-    (scene : Scene) (rows : List RowSlot) (from end seen : ℕ) (is_left_out : Bool) (values : List Value) : Type 0 where
+    (context : ReadContext) (rows : List RowSlot) (from end seen : ℕ) (is_left_out : Bool)
+    (values : List Value) : Type 0 where
   pub filled : List Bool
-  pub long : length filled ≡ length (root_properties scene)
+  pub long : length filled ≡ length (root_properties context)
   pub marks : SameMarks seen filled
-  pub members : MembersRead 126 scene.line from end (SoFar scene rows is_left_out seen filled values)
+  pub members : MembersRead 126 context.line from end (SoFar context rows is_left_out seen filled values)
 
 -- the same of how far it was read
-abbrev pub IsUpTo : Scene → RowType → Bool → ℕ → List Value → Progress → Type 0
-IsUpTo scene type is_left_out from values so_far =
-    KeptUpTo scene type.slots.items from so_far.place so_far.seen is_left_out values
+abbrev pub IsUpTo : ReadContext → RowType → Bool → ℕ → List Value → Progress → Type 0
+IsUpTo context type is_left_out from values so_far =
+    KeptUpTo context type.slots.items from so_far.place so_far.seen is_left_out values
 
-abbrev pub IsReadTo : Scene → RowType → Bool → ℕ → List Value → Progress → Type 0
-IsReadTo scene type is_left_out from values read =
-    KeptRead scene type.slots.items from read.place read.seen is_left_out values
+abbrev pub IsReadTo : ReadContext → RowType → Bool → ℕ → List Value → Progress → Type 0
+IsReadTo context type is_left_out from values read =
+    KeptRead context type.slots.items from read.place read.seen is_left_out values
 
 -- what became of a member: the members were read up to its end, and its value was put or is rejected
-abbrev pub StepsTo : Scene → RowType → ℕ → List Value → Step → Type 0
-StepsTo scene type from values (Read read) = IsReadTo scene type false from values read
-StepsTo scene type from values (Rejected read) = IsReadTo scene type true from values read
-StepsTo scene type from values Nothing = Unit {0}
-StepsTo scene type from values Broken = Unit {0}
+abbrev pub StepsTo : ReadContext → RowType → ℕ → List Value → Step → Type 0
+StepsTo context type from values (Read read) = IsReadTo context type false from values read
+StepsTo context type from values (Rejected read) = IsReadTo context type true from values read
+StepsTo context type from values Nothing = Unit {0}
+StepsTo context type from values Broken = Unit {0}
 
 -- a member that was read ends after that place
 abbrev pub StepsFrom : ℕ → Step → Type 0
@@ -82,10 +83,10 @@ StepsFrom place Broken = Unit {0}
 
 -- what the row becomes: slots that were seen stay, and those that are kept and were not are null
 pub record FillsAbsent
-    (scene : Scene) (rows : List RowSlot) (seen : ℕ) (old new : List Value) : Type 0 where
-  pub may : (k : ℕ) → k < length (root_properties scene) → bit_at seen k ≡ 0
-      → IfSome (slice_get (root_properties scene) k) (MayBeAbsent (root_slots scene))
-  pub long : length new ≡ length (root_properties scene)
+    (context : ReadContext) (rows : List RowSlot) (seen : ℕ) (old new : List Value) : Type 0 where
+  pub may : (k : ℕ) → k < length (root_properties context) → bit_at seen k ≡ 0
+      → IfSome (slice_get (root_properties context) k) (MayBeAbsent (root_slots context))
+  pub long : length new ≡ length (root_properties context)
   pub seen_stay : (k : ℕ) → bit_at seen k ≡ 1 → slice_get new k ≡ slice_get old k
   pub absent_null : (k : ℕ) → bit_at seen k ≡ 0 → slice_get (map (λ s. s.is_kept) rows) k ≡ Some true
       → slice_get new k ≡ Some Null

@@ -13,7 +13,7 @@ use Rattle.jiff.specs.Words.{civil_nanos, IsCivilNanos, civil_seconds}
 use Rattle.edm_values.specs.Instant.{instant, moment_cmp}
 use Rattle.edm_values.specs.MomentParts.{MomentParts, IsMoment}
 use Rattle.edm_values.specs.Civil.{DateTime, IsBetween}
-use Rattle.edm_values.specs.private.Seconds.{CountsSeconds, instant_seconds}
+use Rattle.edm_values.specs.private.Moment.{CountsSeconds, instant_seconds}
 
 pub instant-civil_nanos : (m : MomentParts) → instant m ≡ civil_nanos m.civil -ℤ (m.offset_minutes *ℤ pos 60_000_000_000)
 unfolding instant civil_nanos

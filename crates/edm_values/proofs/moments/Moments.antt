@@ -15,7 +15,7 @@ use Rattle.jiff.proofs.SpanFacts.{signed_arith}
 use Rattle.edm_values.specs.MomentParts.{MomentParts, IsMoment}
 use Rattle.edm_values.specs.DateLiteral.{DateValue, date_spelling}
 use Rattle.edm_values.specs.MomentLiteral.{MinutesValue, SecondsValue, OffsetValue, MomentValue}
-use Rattle.edm_values.specs.private.Clock.{AreClockDigits}
+use Rattle.edm_values.specs.private.MomentLiteral.{AreClockDigits}
 use Rattle.edm_values.proofs.moments.Offsets.{OffsetValue-within, signed_clock}
 
 -- a time of day is its hour, minute, second and fraction

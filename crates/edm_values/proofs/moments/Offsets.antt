@@ -7,7 +7,7 @@ use Rattle.jiff.proofs.SpanFacts.{signed_arith}
 use Rattle.std.proofs.lemmas.List.{get_or-append-add}
 use Rattle.std.proofs.lemmas.Slice.Eq.{text_from_reads}
 use Rattle.edm_values.specs.MomentLiteral.{clock_text, OffsetValue}
-use Rattle.edm_values.specs.private.Clock.{AreClockDigits}
+use Rattle.edm_values.specs.private.MomentLiteral.{AreClockDigits}
 use Rattle.edm_values.specs.MomentParts.{IsOffset}
 
 -- the bytes of `+hh:mm` or `-hh:mm`

@@ -12,11 +12,11 @@ pub record EscapesAt (text : List ℕ) (from character to : ℕ) : Type 0 where
       ≡ prepend (encode_utf8 character) (content plain (drop to text))
 
 -- what was decoded of a text, and what the rest of it stands for
-abbrev pub told_and_rest : List ℕ → List ℕ → ℕ → Option (List ℕ)
-told_and_rest told text place = prepend told (content plain (drop place text))
+abbrev pub reported_and_rest : List ℕ → List ℕ → ℕ → Option (List ℕ)
+reported_and_rest reported text place = prepend reported (content plain (drop place text))
 
 -- what stands between two offsets was decoded
-pub record TellsTo (text : List ℕ) (told : List ℕ) (from : ℕ) (more : List ℕ) (to : ℕ) : Type 0 where
+pub record ReportsTo (text : List ℕ) (reported : List ℕ) (from : ℕ) (more : List ℕ) (to : ℕ) : Type 0 where
   pub bounds : (from < to) × (to ≤ length text)
   pub boundary : IsCharBoundary text to
-  pub same : told_and_rest told text from ≡ told_and_rest more text to
+  pub same : reported_and_rest reported text from ≡ reported_and_rest more text to

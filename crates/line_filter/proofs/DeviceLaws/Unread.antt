@@ -3,10 +3,10 @@ use Rattle.std.proofs.Common.{◌≡◌, ℕ, ◌+◌, ◌≤◌, List, [], ◌+
 use Rattle.std.specs.Prelude.{◌↔◌}
 use Rattle.std.specs.Io.KnownBytes.{Consumes, Keeps}
 use Rattle.std.proofs.KnownBytes.{Consumes-nil, Consumes-trans}
-use Rattle.line_filter.specs.declared.device_calls.Calls.{Calls}
+use Rattle.line_filter.specs.declared.call_log.CallLog.{CallLog}
 use Rattle.line_filter.specs.declared.line_reader.Course.{Course}
 use Rattle.line_filter.specs.declared.line_reader.LineFault.{LineFault}
-use Rattle.line_filter.specs.DeviceCalls.{after_work, after_failure, StaysWell}
+use Rattle.line_filter.specs.CallLogs.{after_work, after_failure, StaysWell}
 use Rattle.line_filter.specs.LineSource.{LineSource}
 use Rattle.line_filter.specs.LineStreams.{IsReadOut, WhyUnread}
 use Rattle.line_filter.specs.private.Giving.{IsGoing}
@@ -26,7 +26,7 @@ counted_out (Some x) None bytes most left consumed counted none = absurd consume
 counted_out (Some x) (Some y) bytes most left consumed counted none =
     let all : length x ≡ length bytes + length y = ap length consumed ∙ length-append bytes y in omega arith
 
-module _ {R : Type 0} (calls : R → Calls) (remaining : R → Option (List ℕ)) where
+module _ {R : Type 0} (calls : R → CallLog) (remaining : R → Option (List ℕ)) where
   counted_refl : (a b : LineSource R) → b.reader ≡ a.reader → b.unread ≡ a.unread → ReadsCounted remaining a b
   counted_refl a b reader unread = ([], rw reader (Consumes-nil (remaining a.reader)), omega (arith, unread))
 
@@ -79,7 +79,7 @@ module _ {R : Type 0} (calls : R → Calls) (remaining : R → Option (List ℕ)
   reads_failed a b kept unread failed is = record {
     counted = ([], Consumes-kept_all _ _ kept, omega (arith, unread));
     well = λ well. absurd (well is);
-    unread = λ told. inl (fails_last_by_failure (calls a.reader) (calls b.reader) failed);
+    unread = λ reported. inl (fails_last_by_failure (calls a.reader) (calls b.reader) failed);
   }
 
   -- ---- reads after others
@@ -89,8 +89,8 @@ module _ {R : Type 0} (calls : R → Calls) (remaining : R → Option (List ℕ)
   why_after a b c counted stays before (inl failed) = inl (fails_last_after (calls a.reader) (calls b.reader) (calls c.reader) stays failed)
   why_after a b c counted stays before (inr (well, inl out)) =
       inr (stays_well_trans (calls a.reader) (calls b.reader) (calls c.reader) stays well, inl (counted_read_out a c counted out.0))
-  why_after a b c counted stays before (inr (well, inr told)) =
-      inr (stays_well_trans (calls a.reader) (calls b.reader) (calls c.reader) stays well, inr (before told))
+  why_after a b c counted stays before (inr (well, inr reported)) =
+      inr (stays_well_trans (calls a.reader) (calls b.reader) (calls c.reader) stays well, inr (before reported))
 
   -- only what was open was read
   pub reads_more : (a b c : LineSource R) → ReadsOn calls remaining a b → b.course ≡ Course.Open → ReadsOn calls remaining b c → ReadsOn calls remaining a c
@@ -101,23 +101,23 @@ module _ {R : Type 0} (calls : R → Calls) (remaining : R → Option (List ℕ)
       record {
         counted = counted;
         well = λ well. stays_well_trans (calls a.reader) (calls b.reader) (calls c.reader) stays (second.well well);
-        unread = λ is. why_after a b c counted stays (λ told. absurd (not told)) (second.unread is);
+        unread = λ is. why_after a b c counted stays (λ reported. absurd (not reported)) (second.unread is);
       }
 
   given_why : (a b c : LineSource R) → c.reader ≡ b.reader → c.unread ≡ b.unread → WhyUnread calls remaining a b → WhyUnread calls remaining a c
   given_why a b c reader unread (inl failed) = inl (rw reader failed)
   given_why a b c reader unread (inr (well, inl out)) = inr (rw reader well, inl (unread ∙ out.0, out.1))
-  given_why a b c reader unread (inr (well, inr told)) = inr (rw reader well, inr told)
+  given_why a b c reader unread (inr (well, inr reported)) = inr (rw reader well, inr reported)
 
   -- what comes next is given without a read
   pub reads_given : (a b c : LineSource R) → ReadsOn calls remaining a b → c.reader ≡ b.reader → c.unread ≡ b.unread → IsUnread c ↔ IsUnread b → ReadsOn calls remaining a c
-  reads_given a b c first reader unread told =
+  reads_given a b c first reader unread reported =
       let counted = counted_trans a b c first.counted (counted_refl b c reader unread) in
       let next : StaysWell (calls b.reader) (calls c.reader) = rw reader (stays_well_refl (calls b.reader)) in
       record {
         counted = counted;
-        well = λ well. stays_well_trans (calls a.reader) (calls b.reader) (calls c.reader) (first.well (λ is. well (told.1 is))) next;
-        unread = λ is. given_why a b c reader unread (first.unread (told.0 is));
+        well = λ well. stays_well_trans (calls a.reader) (calls b.reader) (calls c.reader) (first.well (λ is. well (reported.1 is))) next;
+        unread = λ is. given_why a b c reader unread (first.unread (reported.0 is));
       }
 
   -- ---- the reads of a run, line by line

@@ -8,44 +8,44 @@ use Rattle.line_filter.specs.LineItems.{LineJudge, IsFoundOf}
 use Rattle.line_filter.specs.Once.{kind_found, IsFaulty, JudgesItemsOnce, JudgesOnce}
 use Rattle.line_filter.specs.Places.{IsJudged, ItemJudge}
 use Rattle.line_filter.specs.declared.judge.Judgment.{Judgment}
-use Rattle.line_filter.specs.declared.finding.Finding.{Finding}
+use Rattle.line_filter.specs.declared.line_class.LineClass.{LineClass}
 use Rattle.line_filter.specs.declared.tally.Tally.{Tally}
 
 -- ---- findings of one kind
 
 module _ {F : Type 0} where
-  faultless_alike : (f g : Finding F) → kind_found f ≡ kind_found g → IsFaultless f → IsFaultless g
-  faultless_alike Finding.TooLong g same fine = absurd fine
-  faultless_alike Finding.PassedOver Finding.TooLong same fine = absurd cc
-  faultless_alike Finding.PassedOver Finding.PassedOver same fine = tt
-  faultless_alike Finding.PassedOver (Finding.Judged j) same fine = absurd cc
-  faultless_alike (Finding.Judged j) Finding.TooLong same fine = absurd cc
-  faultless_alike (Finding.Judged j) Finding.PassedOver same fine = absurd cc
-  faultless_alike (Finding.Judged j) (Finding.Judged Judgment.Kept) same fine = tt
-  faultless_alike (Finding.Judged j) (Finding.Judged Judgment.LeftOut) same fine = tt
-  faultless_alike (Finding.Judged Judgment.Kept) (Finding.Judged (Judgment.Fault e)) same fine = absurd cc
-  faultless_alike (Finding.Judged Judgment.LeftOut) (Finding.Judged (Judgment.Fault e)) same fine = absurd cc
-  faultless_alike (Finding.Judged (Judgment.Fault d)) (Finding.Judged (Judgment.Fault e)) same fine = absurd fine
+  faultless_alike : (f g : LineClass F) → kind_found f ≡ kind_found g → IsFaultless f → IsFaultless g
+  faultless_alike LineClass.TooLong g same fine = absurd fine
+  faultless_alike LineClass.PassedOver LineClass.TooLong same fine = absurd cc
+  faultless_alike LineClass.PassedOver LineClass.PassedOver same fine = tt
+  faultless_alike LineClass.PassedOver (LineClass.Judged j) same fine = absurd cc
+  faultless_alike (LineClass.Judged j) LineClass.TooLong same fine = absurd cc
+  faultless_alike (LineClass.Judged j) LineClass.PassedOver same fine = absurd cc
+  faultless_alike (LineClass.Judged j) (LineClass.Judged Judgment.Kept) same fine = tt
+  faultless_alike (LineClass.Judged j) (LineClass.Judged Judgment.LeftOut) same fine = tt
+  faultless_alike (LineClass.Judged Judgment.Kept) (LineClass.Judged (Judgment.Fault e)) same fine = absurd cc
+  faultless_alike (LineClass.Judged Judgment.LeftOut) (LineClass.Judged (Judgment.Fault e)) same fine = absurd cc
+  faultless_alike (LineClass.Judged (Judgment.Fault d)) (LineClass.Judged (Judgment.Fault e)) same fine = absurd fine
 
   -- whether an item is kept shows in the kind
-  kept_by_kind : (f : Finding F) → is_kept f ≡ is_kept (kind_found f)
-  kept_by_kind Finding.TooLong = refl
-  kept_by_kind Finding.PassedOver = refl
-  kept_by_kind (Finding.Judged Judgment.Kept) = refl
-  kept_by_kind (Finding.Judged Judgment.LeftOut) = refl
-  kept_by_kind (Finding.Judged (Judgment.Fault e)) = refl
+  kept_by_kind : (f : LineClass F) → is_kept f ≡ is_kept (kind_found f)
+  kept_by_kind LineClass.TooLong = refl
+  kept_by_kind LineClass.PassedOver = refl
+  kept_by_kind (LineClass.Judged Judgment.Kept) = refl
+  kept_by_kind (LineClass.Judged Judgment.LeftOut) = refl
+  kept_by_kind (LineClass.Judged (Judgment.Fault e)) = refl
 
-  kept_alike : (f g : Finding F) → kind_found f ≡ kind_found g → is_kept f ≡ is_kept g
-  kept_alike f g same = kept_by_kind f ∙ ap (λ (k : Finding (Unit {0})). is_kept k) same ∙ sym (kept_by_kind g)
+  kept_alike : (f g : LineClass F) → kind_found f ≡ kind_found g → is_kept f ≡ is_kept g
+  kept_alike f g same = kept_by_kind f ∙ ap (λ (k : LineClass (Unit {0})). is_kept k) same ∙ sym (kept_by_kind g)
 
   -- and so does whether it is a row
-  row_by_kind : (f : Finding F) → is_row f ≡ is_row (kind_found f)
-  row_by_kind Finding.TooLong = refl
-  row_by_kind Finding.PassedOver = refl
-  row_by_kind (Finding.Judged j) = refl
+  row_by_kind : (f : LineClass F) → is_row f ≡ is_row (kind_found f)
+  row_by_kind LineClass.TooLong = refl
+  row_by_kind LineClass.PassedOver = refl
+  row_by_kind (LineClass.Judged j) = refl
 
-  row_alike : (f g : Finding F) → kind_found f ≡ kind_found g → is_row f ≡ is_row g
-  row_alike f g same = row_by_kind f ∙ ap (λ (k : Finding (Unit {0})). is_row k) same ∙ sym (row_by_kind g)
+  row_alike : (f g : LineClass F) → kind_found f ≡ kind_found g → is_row f ≡ is_row g
+  row_alike f g same = row_by_kind f ∙ ap (λ (k : LineClass (Unit {0})). is_row k) same ∙ sym (row_by_kind g)
 
 -- two tallies of the same counts
 abbrev tally_of : ℕ → ℕ → Tally
@@ -55,24 +55,24 @@ same_tally : (m n : Tally) → m.rows ≡ n.rows → m.kept ≡ n.kept → m ≡
 same_tally m n rows kept = ap (λ (r : ℕ). tally_of r m.kept) rows ∙ ap (λ (k : ℕ). tally_of n.rows k) kept
 
 -- of a line one kind is found, where the judge says one
-pub IsFoundOf-once : {F : Type 0} (judge : LineJudge F) → JudgesOnce judge → (line : List ℕ) (f g : Finding F) → IsFoundOf judge line f → IsFoundOf judge line g → kind_found f ≡ kind_found g
-IsFoundOf-once judge once line Finding.TooLong Finding.TooLong p q = refl
-IsFoundOf-once judge once line Finding.TooLong Finding.PassedOver p q = absurd (omega (arith, p, q.0))
-IsFoundOf-once judge once line Finding.TooLong (Finding.Judged k) p q = absurd (omega (arith, p, q.0))
-IsFoundOf-once judge once line Finding.PassedOver Finding.TooLong p q = absurd (omega (arith, q, p.0))
-IsFoundOf-once judge once line Finding.PassedOver Finding.PassedOver p q = refl
-IsFoundOf-once judge once line Finding.PassedOver (Finding.Judged k) p q = absurd (q.1 p.1)
-IsFoundOf-once judge once line (Finding.Judged j) Finding.TooLong p q = absurd (omega (arith, q, p.0))
-IsFoundOf-once judge once line (Finding.Judged j) Finding.PassedOver p q = absurd (p.1 q.1)
-IsFoundOf-once judge once line (Finding.Judged j) (Finding.Judged k) p q = ap Finding.Judged (once line j k p.2 q.2)
+pub IsFoundOf-once : {F : Type 0} (judge : LineJudge F) → JudgesOnce judge → (line : List ℕ) (f g : LineClass F) → IsFoundOf judge line f → IsFoundOf judge line g → kind_found f ≡ kind_found g
+IsFoundOf-once judge once line LineClass.TooLong LineClass.TooLong p q = refl
+IsFoundOf-once judge once line LineClass.TooLong LineClass.PassedOver p q = absurd (omega (arith, p, q.0))
+IsFoundOf-once judge once line LineClass.TooLong (LineClass.Judged k) p q = absurd (omega (arith, p, q.0))
+IsFoundOf-once judge once line LineClass.PassedOver LineClass.TooLong p q = absurd (omega (arith, q, p.0))
+IsFoundOf-once judge once line LineClass.PassedOver LineClass.PassedOver p q = refl
+IsFoundOf-once judge once line LineClass.PassedOver (LineClass.Judged k) p q = absurd (q.1 p.1)
+IsFoundOf-once judge once line (LineClass.Judged j) LineClass.TooLong p q = absurd (omega (arith, q, p.0))
+IsFoundOf-once judge once line (LineClass.Judged j) LineClass.PassedOver p q = absurd (p.1 q.1)
+IsFoundOf-once judge once line (LineClass.Judged j) (LineClass.Judged k) p q = ap LineClass.Judged (once line j k p.2 q.2)
 
 -- and so of an item
-pub IsJudged-once : {X F : Type 0} (judge : ItemJudge X F) → JudgesItemsOnce judge → (item : X) (f g : Finding F) → IsJudged judge item f → IsJudged judge item g → kind_found f ≡ kind_found g
-IsJudged-once judge once item (Finding.Judged j) (Finding.Judged k) p q = ap Finding.Judged (once item j k p q)
-IsJudged-once judge once item (Finding.Judged j) Finding.TooLong p q = absurd q
-IsJudged-once judge once item (Finding.Judged j) Finding.PassedOver p q = absurd q
-IsJudged-once judge once item Finding.TooLong g p q = absurd p
-IsJudged-once judge once item Finding.PassedOver g p q = absurd p
+pub IsJudged-once : {X F : Type 0} (judge : ItemJudge X F) → JudgesItemsOnce judge → (item : X) (f g : LineClass F) → IsJudged judge item f → IsJudged judge item g → kind_found f ≡ kind_found g
+IsJudged-once judge once item (LineClass.Judged j) (LineClass.Judged k) p q = ap LineClass.Judged (once item j k p q)
+IsJudged-once judge once item (LineClass.Judged j) LineClass.TooLong p q = absurd q
+IsJudged-once judge once item (LineClass.Judged j) LineClass.PassedOver p q = absurd q
+IsJudged-once judge once item LineClass.TooLong g p q = absurd p
+IsJudged-once judge once item LineClass.PassedOver g p q = absurd p
 
 -- ---- items of which one kind is found
 
@@ -82,12 +82,12 @@ All-first P x xs all = all 0 x (omega arith)
 All-later : {X : Type 0} (P : X → Type 0) (x : X) (xs : List X) → All P (x ∷ xs) → All P xs
 All-later P x xs all k d below = all (suc k) d (omega arith)
 
-module _ {X F : Type 0} (sieve : Sieve X F) (once : (x : X) (f g : Finding F) → sieve.finds x f → sieve.finds x g → kind_found f ≡ kind_found g) where
+module _ {X F : Type 0} (sieve : Sieve X F) (once : (x : X) (f g : LineClass F) → sieve.finds x f → sieve.finds x g → kind_found f ≡ kind_found g) where
   abbrev IsFine : SiftedItem X F → Type 0
-  IsFine s = sieve.finds s.item s.finding × IsFaultless s.finding
+  IsFine s = sieve.finds s.item s.line_class × IsFaultless s.line_class
 
-  kept_first : (s : SiftedItem X F) (ss : List (SiftedItem X F)) → kept_text sieve.text_of (s ∷ ss) ≡ cond (is_kept s.finding) (sieve.text_of s.item) [] ++ kept_text sieve.text_of ss
-  kept_first s ss = elim (cases_Bool (is_kept s.finding)) [ inl is ↦ rw is refl | inr is ↦ rw is refl ]
+  kept_first : (s : SiftedItem X F) (ss : List (SiftedItem X F)) → kept_text sieve.text_of (s ∷ ss) ≡ cond (is_kept s.line_class) (sieve.text_of s.item) [] ++ kept_text sieve.text_of ss
+  kept_first s ss = elim (cases_Bool (is_kept s.line_class)) [ inl is ↦ rw is refl | inr is ↦ rw is refl ]
 
   texts_alike : (all other : List (SiftedItem X F)) → map (λ s. s.item) all ≡ map (λ s. s.item) other → All IsFine all → All IsFine other → kept_text sieve.text_of all ≡ kept_text sieve.text_of other
   texts_alike [] [] same fine fine' = refl
@@ -99,20 +99,20 @@ module _ {X F : Type 0} (sieve : Sieve X F) (once : (x : X) (f g : Finding F) �
       let rest = texts_alike ss ts items (All-later IsFine s ss fine) (All-later IsFine t ts fine') in
       let here = All-first IsFine s ss fine in
       let there = All-first IsFine t ts fine' in
-      let kind = once t.item s.finding t.finding (subst (λ (x : X). sieve.finds x s.finding) item here.0) there.0 in
-      let kept = kept_alike s.finding t.finding kind in
-      let first : cond (is_kept s.finding) (sieve.text_of s.item) [] ≡ cond (is_kept t.finding) (sieve.text_of t.item) [] =
-      ap (λ (b : Bool). cond b (sieve.text_of s.item) []) kept ∙ ap (λ (x : X). cond (is_kept t.finding) (sieve.text_of x) []) item in
-      kept_first s ss ∙ ap (λ l. l ++ kept_text sieve.text_of ss) first ∙ ap (λ l. cond (is_kept t.finding) (sieve.text_of t.item) [] ++ l) rest ∙ sym (kept_first t ts)
+      let kind = once t.item s.line_class t.line_class (subst (λ (x : X). sieve.finds x s.line_class) item here.0) there.0 in
+      let kept = kept_alike s.line_class t.line_class kind in
+      let first : cond (is_kept s.line_class) (sieve.text_of s.item) [] ≡ cond (is_kept t.line_class) (sieve.text_of t.item) [] =
+      ap (λ (b : Bool). cond b (sieve.text_of s.item) []) kept ∙ ap (λ (x : X). cond (is_kept t.line_class) (sieve.text_of x) []) item in
+      kept_first s ss ∙ ap (λ l. l ++ kept_text sieve.text_of ss) first ∙ ap (λ l. cond (is_kept t.line_class) (sieve.text_of t.item) [] ++ l) rest ∙ sym (kept_first t ts)
 
   -- what is counted by the kinds is counted alike
-  count_first : (of : Finding F → Bool) (s : SiftedItem X F) (ss : List (SiftedItem X F))
-      → count_by (λ r. of r.finding) (s ∷ ss) ≡ cond (of s.finding) 1 0 + count_by (λ r. of r.finding) ss
-  count_first of s ss = sum_by-cons (λ (r : SiftedItem X F). cond (of r.finding) 1 0) s ss
+  count_first : (of : LineClass F → Bool) (s : SiftedItem X F) (ss : List (SiftedItem X F))
+      → count_by (λ r. of r.line_class) (s ∷ ss) ≡ cond (of s.line_class) 1 0 + count_by (λ r. of r.line_class) ss
+  count_first of s ss = sum_by-cons (λ (r : SiftedItem X F). cond (of r.line_class) 1 0) s ss
 
-  module _ (of : Finding F → Bool) (alike : (f g : Finding F) → kind_found f ≡ kind_found g → of f ≡ of g) where
+  module _ (of : LineClass F → Bool) (alike : (f g : LineClass F) → kind_found f ≡ kind_found g → of f ≡ of g) where
     counts_alike : (all other : List (SiftedItem X F)) → map (λ s. s.item) all ≡ map (λ s. s.item) other → All IsFine all → All IsFine other
-        → count_by (λ s. of s.finding) all ≡ count_by (λ s. of s.finding) other
+        → count_by (λ s. of s.line_class) all ≡ count_by (λ s. of s.line_class) other
     counts_alike [] [] same fine fine' = refl
     counts_alike [] (t ∷ ts) same fine fine' = absurd cc
     counts_alike (s ∷ ss) [] same fine fine' = absurd cc
@@ -122,9 +122,9 @@ module _ {X F : Type 0} (sieve : Sieve X F) (once : (x : X) (f g : Finding F) �
         let rest = counts_alike ss ts items (All-later IsFine s ss fine) (All-later IsFine t ts fine') in
         let here = All-first IsFine s ss fine in
         let there = All-first IsFine t ts fine' in
-        let kind = once t.item s.finding t.finding (subst (λ (x : X). sieve.finds x s.finding) item here.0) there.0 in
-        let first : cond (of s.finding) 1 0 ≡ cond (of t.finding) 1 0 = ap (λ (b : Bool). cond b 1 0) (alike s.finding t.finding kind) in
-        count_first of s ss ∙ ap (λ (n : ℕ). n + count_by (λ r. of r.finding) ss) first ∙ ap (λ (n : ℕ). cond (of t.finding) 1 0 + n) rest ∙ sym (count_first of t ts)
+        let kind = once t.item s.line_class t.line_class (subst (λ (x : X). sieve.finds x s.line_class) item here.0) there.0 in
+        let first : cond (of s.line_class) 1 0 ≡ cond (of t.line_class) 1 0 = ap (λ (b : Bool). cond b 1 0) (alike s.line_class t.line_class kind) in
+        count_first of s ss ∙ ap (λ (n : ℕ). n + count_by (λ r. of r.line_class) ss) first ∙ ap (λ (n : ℕ). cond (of t.line_class) 1 0 + n) rest ∙ sym (count_first of t ts)
 
   -- items that pass have one tally
   pub Passes-one_tally : (xs : List X) (text other : List ℕ) (m n : Tally) → Passes sieve xs text m → Passes sieve xs other n → m ≡ n
@@ -139,26 +139,26 @@ module _ {X F : Type 0} (sieve : Sieve X F) (once : (x : X) (f g : Finding F) �
 
   -- no fault is found of items that pass
   passing_fine : (xs : List X) (all : List (SiftedItem X F)) → map (λ s. s.item) all ≡ xs → All IsFine all → (before : List X) (bad : X) (after : List X) → xs ≡ before ++ bad ∷ after
-      → (f : Finding F) → sieve.finds bad f → IsFaultless f
+      → (f : LineClass F) → sieve.finds bad f → IsFaultless f
   passing_fine xs [] same fine [] bad after split f finds = absurd cc
   passing_fine xs [] same fine (b ∷ before) bad after split f finds = absurd cc
   passing_fine xs (s ∷ ss) same fine [] bad after split f finds =
       let item : s.item ≡ bad = cc in
       let here = All-first IsFine s ss fine in
-      faultless_alike s.finding f (once bad s.finding f (subst (λ (x : X). sieve.finds x s.finding) item here.0) finds) here.1
+      faultless_alike s.line_class f (once bad s.line_class f (subst (λ (x : X). sieve.finds x s.line_class) item here.0) finds) here.1
   passing_fine xs (s ∷ ss) same fine (b ∷ before) bad after split f finds =
       let rest : map (λ (r : SiftedItem X F). r.item) ss ≡ before ++ bad ∷ after = cc in
       passing_fine (before ++ bad ∷ after) ss rest (All-later IsFine s ss fine) before bad after refl f finds
 
   pub Passes-fine : (xs : List X) (text : List ℕ) (m : _) → Passes sieve xs text m → (before : List X) (bad : X) (after : List X) → xs ≡ before ++ bad ∷ after
-      → (f : Finding F) → sieve.finds bad f → IsFaulty f → ⊥
+      → (f : LineClass F) → sieve.finds bad f → IsFaulty f → ⊥
   Passes-fine xs text m p before bad after split f finds faulty = faulty (passing_fine xs p.all p.in_order p.found before bad after split f finds)
 
   -- two beginnings of one list, each before one at fault
   splits_meet : (before other : List X) (bad worse : X) (after behind : List X) → before ++ bad ∷ after ≡ other ++ worse ∷ behind
-      → ((x : X) (more : List X) (l : List X) → before ≡ l ++ x ∷ more → (f : Finding F) → sieve.finds x f → IsFaulty f → ⊥)
-      → ((x : X) (more : List X) (l : List X) → other ≡ l ++ x ∷ more → (f : Finding F) → sieve.finds x f → IsFaulty f → ⊥)
-      → (f g : Finding F) → sieve.finds bad f → sieve.finds worse g → IsFaulty f → IsFaulty g → (before ≡ other) × (bad ≡ worse)
+      → ((x : X) (more : List X) (l : List X) → before ≡ l ++ x ∷ more → (f : LineClass F) → sieve.finds x f → IsFaulty f → ⊥)
+      → ((x : X) (more : List X) (l : List X) → other ≡ l ++ x ∷ more → (f : LineClass F) → sieve.finds x f → IsFaulty f → ⊥)
+      → (f g : LineClass F) → sieve.finds bad f → sieve.finds worse g → IsFaulty f → IsFaulty g → (before ≡ other) × (bad ≡ worse)
   splits_meet [] [] bad worse after behind same fine fine' f g finds finds' faulty faulty' = (refl, cc)
   splits_meet [] (y ∷ ys) bad worse after behind same fine fine' f g finds finds' faulty faulty' =
       let item : bad ≡ y = cc in
@@ -177,7 +177,7 @@ module _ {X F : Type 0} (sieve : Sieve X F) (once : (x : X) (f g : Finding F) �
     these = record { all = items; sieve = sieve; CameWhole = CameWhole }
 
     -- one item is the first at fault
-    pub StopsAt-once : (text other : List ℕ) (m n : ℕ) (f g : Finding F) → IsFaulty f → IsFaulty g → (a : StopsAt these text m f) (b : StopsAt these other n g) → (m ≡ n) × (text ≡ other) × (a.bad ≡ b.bad)
+    pub StopsAt-once : (text other : List ℕ) (m n : ℕ) (f g : LineClass F) → IsFaulty f → IsFaulty g → (a : StopsAt these text m f) (b : StopsAt these other n g) → (m ≡ n) × (text ≡ other) × (a.bad ≡ b.bad)
     StopsAt-once text other m n f g faulty faulty' a b =
         let (front, bad) = splits_meet a.before b.before a.bad b.bad a.after b.after (sym a.whole ∙ b.whole)
         (λ x more l e. Passes-fine a.before text a.tally a.passes l x more e) (λ x more l e. Passes-fine b.before other b.tally b.passes l x more e) f g a.found b.found faulty faulty' in
@@ -185,5 +185,5 @@ module _ {X F : Type 0} (sieve : Sieve X F) (once : (x : X) (f g : Finding F) �
         (number, Passes-once b.before text other a.tally b.tally (subst (λ l. Passes sieve l text a.tally) front a.passes) b.passes, bad)
 
     -- and none where all pass
-    pub StopsAt-never : (text other : List ℕ) (m : _) (n : ℕ) (f : Finding F) → Passes sieve items text m → IsFaulty f → StopsAt these other n f → ⊥
+    pub StopsAt-never : (text other : List ℕ) (m : _) (n : ℕ) (f : LineClass F) → Passes sieve items text m → IsFaulty f → StopsAt these other n f → ⊥
     StopsAt-never text other m n f passes faulty a = Passes-fine items text m passes a.before a.bad a.after a.whole f a.found faulty

@@ -4,45 +4,45 @@ use Rattle.std.specs.Prelude.{IfOk}
 use Rattle.line_filter.specs.Kept.{Items, Passes, StopsAt, StopsOn, StopsWithin, StopsWith, IsOfItem}
 use Rattle.line_filter.specs.private.Walk.{outcome_of, text_where_kept}
 use Rattle.line_filter.specs.declared.judge.Judgment.{Judgment}
-use Rattle.line_filter.specs.declared.finding.Finding.{Finding}
-use Rattle.line_filter.specs.declared.run_stop.Stop.{Stop}
+use Rattle.line_filter.specs.declared.line_class.LineClass.{LineClass}
+use Rattle.line_filter.specs.declared.run_stop.RunStop.{RunStop}
 use Rattle.line_filter.specs.declared.tally.Tally.{Tally}
 
 -- ---- the step of one item
 
-pub outcome_of-of_item : {F E : Type 0} (number : ℕ) (found : Result (Finding F) E) (stop : Stop F) → outcome_of number found ≡ Err stop → IsOfItem stop
-outcome_of-of_item number found (Stop.Fault line fault) step = tt
-outcome_of-of_item number found (Stop.TooLong line) step = tt
-outcome_of-of_item number found (Stop.Memory line) step = tt
-outcome_of-of_item number (Ok Finding.TooLong) (Stop.Read line) step = absurd cc
-outcome_of-of_item number (Ok Finding.PassedOver) (Stop.Read line) step = absurd cc
-outcome_of-of_item number (Ok (Finding.Judged Judgment.Kept)) (Stop.Read line) step = absurd cc
-outcome_of-of_item number (Ok (Finding.Judged Judgment.LeftOut)) (Stop.Read line) step = absurd cc
-outcome_of-of_item number (Ok (Finding.Judged (Judgment.Fault fault))) (Stop.Read line) step = absurd cc
-outcome_of-of_item number (Err e) (Stop.Read line) step = absurd cc
-outcome_of-of_item number (Ok Finding.TooLong) Stop.Write step = absurd cc
-outcome_of-of_item number (Ok Finding.PassedOver) Stop.Write step = absurd cc
-outcome_of-of_item number (Ok (Finding.Judged Judgment.Kept)) Stop.Write step = absurd cc
-outcome_of-of_item number (Ok (Finding.Judged Judgment.LeftOut)) Stop.Write step = absurd cc
-outcome_of-of_item number (Ok (Finding.Judged (Judgment.Fault fault))) Stop.Write step = absurd cc
-outcome_of-of_item number (Err e) Stop.Write step = absurd cc
+pub outcome_of-of_item : {F E : Type 0} (number : ℕ) (found : Result (LineClass F) E) (stop : RunStop F) → outcome_of number found ≡ Err stop → IsOfItem stop
+outcome_of-of_item number found (RunStop.Fault line fault) step = tt
+outcome_of-of_item number found (RunStop.TooLong line) step = tt
+outcome_of-of_item number found (RunStop.Memory line) step = tt
+outcome_of-of_item number (Ok LineClass.TooLong) (RunStop.Read line) step = absurd cc
+outcome_of-of_item number (Ok LineClass.PassedOver) (RunStop.Read line) step = absurd cc
+outcome_of-of_item number (Ok (LineClass.Judged Judgment.Kept)) (RunStop.Read line) step = absurd cc
+outcome_of-of_item number (Ok (LineClass.Judged Judgment.LeftOut)) (RunStop.Read line) step = absurd cc
+outcome_of-of_item number (Ok (LineClass.Judged (Judgment.Fault fault))) (RunStop.Read line) step = absurd cc
+outcome_of-of_item number (Err e) (RunStop.Read line) step = absurd cc
+outcome_of-of_item number (Ok LineClass.TooLong) RunStop.Write step = absurd cc
+outcome_of-of_item number (Ok LineClass.PassedOver) RunStop.Write step = absurd cc
+outcome_of-of_item number (Ok (LineClass.Judged Judgment.Kept)) RunStop.Write step = absurd cc
+outcome_of-of_item number (Ok (LineClass.Judged Judgment.LeftOut)) RunStop.Write step = absurd cc
+outcome_of-of_item number (Ok (LineClass.Judged (Judgment.Fault fault))) RunStop.Write step = absurd cc
+outcome_of-of_item number (Err e) RunStop.Write step = absurd cc
 
 -- nothing is written of an item where a run stops
-pub text_where_stopped : {F E : Type 0} (number : ℕ) (found : Result (Finding F) E) (stop : Stop F) (text : List ℕ) → outcome_of number found ≡ Err stop → text_where_kept found text ≡ []
-text_where_stopped number (Ok Finding.TooLong) stop text step = refl
-text_where_stopped number (Ok Finding.PassedOver) stop text step = refl
-text_where_stopped number (Ok (Finding.Judged Judgment.Kept)) stop text step = absurd cc
-text_where_stopped number (Ok (Finding.Judged Judgment.LeftOut)) stop text step = refl
-text_where_stopped number (Ok (Finding.Judged (Judgment.Fault fault))) stop text step = refl
+pub text_where_stopped : {F E : Type 0} (number : ℕ) (found : Result (LineClass F) E) (stop : RunStop F) (text : List ℕ) → outcome_of number found ≡ Err stop → text_where_kept found text ≡ []
+text_where_stopped number (Ok LineClass.TooLong) stop text step = refl
+text_where_stopped number (Ok LineClass.PassedOver) stop text step = refl
+text_where_stopped number (Ok (LineClass.Judged Judgment.Kept)) stop text step = absurd cc
+text_where_stopped number (Ok (LineClass.Judged Judgment.LeftOut)) stop text step = refl
+text_where_stopped number (Ok (LineClass.Judged (Judgment.Fault fault))) stop text step = refl
 text_where_stopped number (Err e) stop text step = refl
 
 module _ {X F : Type 0} (items : Items X F) (Lacks : List ℕ → ℕ → Type 0) where
   -- the items before this one are those that passed
-  pub Stops-one : {E : Type 0} (before after : List X) (item : X) (text : List ℕ) (tally : Tally) (number : ℕ) (found : Result (Finding F) E) (stop : Stop F)
+  pub Stops-one : {E : Type 0} (before after : List X) (item : X) (text : List ℕ) (tally : Tally) (number : ℕ) (found : Result (LineClass F) E) (stop : RunStop F)
       → items.all ≡ before ++ item ∷ after → items.CameWhole before → Passes items.sieve before text tally → number ≡ length before + 1
       → IfOk found (items.sieve.finds item) → outcome_of number found ≡ Err stop → StopsWith items Lacks text stop
-  Stops-one before after item text tally number (Ok Finding.TooLong) stop whole came passes counted finds step =
-      let same : Stop.TooLong number ≡ stop = cc in
+  Stops-one before after item text tally number (Ok LineClass.TooLong) stop whole came passes counted finds step =
+      let same : RunStop.TooLong number ≡ stop = cc in
       subst (StopsWith items Lacks text) same (record {
         before = before;
         bad = item;
@@ -53,11 +53,11 @@ module _ {X F : Type 0} (items : Items X F) (Lacks : List ℕ → ℕ → Type 0
         passes = passes;
         found = finds;
       })
-  Stops-one before after item text tally number (Ok Finding.PassedOver) stop whole came passes counted finds step = absurd cc
-  Stops-one before after item text tally number (Ok (Finding.Judged Judgment.Kept)) stop whole came passes counted finds step = absurd cc
-  Stops-one before after item text tally number (Ok (Finding.Judged Judgment.LeftOut)) stop whole came passes counted finds step = absurd cc
-  Stops-one before after item text tally number (Ok (Finding.Judged (Judgment.Fault fault))) stop whole came passes counted finds step =
-      let same : Stop.Fault number fault ≡ stop = cc in
+  Stops-one before after item text tally number (Ok LineClass.PassedOver) stop whole came passes counted finds step = absurd cc
+  Stops-one before after item text tally number (Ok (LineClass.Judged Judgment.Kept)) stop whole came passes counted finds step = absurd cc
+  Stops-one before after item text tally number (Ok (LineClass.Judged Judgment.LeftOut)) stop whole came passes counted finds step = absurd cc
+  Stops-one before after item text tally number (Ok (LineClass.Judged (Judgment.Fault fault))) stop whole came passes counted finds step =
+      let same : RunStop.Fault number fault ≡ stop = cc in
       subst (StopsWith items Lacks text) same (record {
         before = before;
         bad = item;
@@ -69,7 +69,7 @@ module _ {X F : Type 0} (items : Items X F) (Lacks : List ℕ → ℕ → Type 0
         found = finds;
       })
   Stops-one before after item text tally number (Err e) stop whole came passes counted finds step =
-      let same : Stop.Memory number ≡ stop = cc in
+      let same : RunStop.Memory number ≡ stop = cc in
       subst (StopsWith items Lacks text) same (inr (record {
         before = before;
         here = item;
@@ -84,8 +84,8 @@ module _ {X F : Type 0} (items : Items X F) (Lacks : List ℕ → ℕ → Type 0
 module _ {X F : Type 0} (items : Items X F) where
   -- ---- of the text that was to be written, a beginning was
 
-  StopsAt-within : (text rest : List ℕ) (number : ℕ) (finding : Finding F) → StopsAt items (text ++ rest) number finding → StopsWithin items text
-  StopsAt-within text rest number finding stop = record {
+  StopsAt-within : (text rest : List ℕ) (number : ℕ) (line_class : LineClass F) → StopsAt items (text ++ rest) number line_class → StopsWithin items text
+  StopsAt-within text rest number line_class stop = record {
     before = stop.before;
     after = stop.bad ∷ stop.after;
     tally = stop.tally;
@@ -126,10 +126,10 @@ module _ {X F : Type 0} (items : Items X F) where
 
   module _ (Lacks : List ℕ → ℕ → Type 0) where
     pub StopsWith-within : ((text rest : List ℕ) (number : ℕ) → Lacks (text ++ rest) number → StopsWithin items text)
-        → (text rest : List ℕ) (stop : Stop F) → StopsWith items Lacks (text ++ rest) stop → StopsWithin items text
-    StopsWith-within short text rest (Stop.Fault line fault) stop = StopsAt-within text rest line _ stop
-    StopsWith-within short text rest (Stop.TooLong line) stop = StopsAt-within text rest line _ stop
-    StopsWith-within short text rest (Stop.Read line) stop = short text rest line stop
-    StopsWith-within short text rest Stop.Write stop = StopsWithin-within text rest stop
-    StopsWith-within short text rest (Stop.Memory line) (inl stop) = short text rest line stop
-    StopsWith-within short text rest (Stop.Memory line) (inr stop) = StopsOn-within text rest line stop
+        → (text rest : List ℕ) (stop : RunStop F) → StopsWith items Lacks (text ++ rest) stop → StopsWithin items text
+    StopsWith-within short text rest (RunStop.Fault line fault) stop = StopsAt-within text rest line _ stop
+    StopsWith-within short text rest (RunStop.TooLong line) stop = StopsAt-within text rest line _ stop
+    StopsWith-within short text rest (RunStop.Read line) stop = short text rest line stop
+    StopsWith-within short text rest RunStop.Write stop = StopsWithin-within text rest stop
+    StopsWith-within short text rest (RunStop.Memory line) (inl stop) = short text rest line stop
+    StopsWith-within short text rest (RunStop.Memory line) (inr stop) = StopsOn-within text rest line stop

@@ -7,8 +7,8 @@ use Rattle.line_filter.specs.Kept.{Items, Filters, Passes, StopsWithin, StopsWit
 use Rattle.line_filter.specs.private.HeldBack.{WritesBut}
 use Rattle.line_filter.specs.private.Walk.{sum_of, outcome_of, text_where_kept}
 use Rattle.line_filter.specs.declared.judge.Judgment.{Judgment}
-use Rattle.line_filter.specs.declared.finding.Finding.{Finding}
-use Rattle.line_filter.specs.declared.run_stop.Stop.{Stop}
+use Rattle.line_filter.specs.declared.line_class.LineClass.{LineClass}
+use Rattle.line_filter.specs.declared.run_stop.RunStop.{RunStop}
 use Rattle.line_filter.specs.declared.tally.Tally.{Tally}
 use Rattle.line_filter.proofs.ItemLaws.Passing.{Passes-none, Passes-kept, Passes-one, Passes-append}
 use Rattle.line_filter.proofs.ItemLaws.Stopping.{Stops-one, text_where_stopped}
@@ -42,7 +42,7 @@ module _ {X F : Type 0} (items : Items X F) where
       let passes = subst (λ l. Passes items.sieve l so_far.text tally) (sym all) so_far.passes in
       (so_far.text, so_far.holds, passes)
 
-module _ {X F E : Type 0} (items : Items X F) (item : X) (rest after : List X) (a b c : Option (List ℕ)) (h₁ h₂ : List ℕ) (passed : ℕ) (tally : Tally) (found : Result (Finding F) E)
+module _ {X F E : Type 0} (items : Items X F) (item : X) (rest after : List X) (a b c : Option (List ℕ)) (h₁ h₂ : List ℕ) (passed : ℕ) (tally : Tally) (found : Result (LineClass F) E)
     (first : rest ≡ item ∷ after) (finds : IfOk found (items.sieve.finds item)) (so_far : HasWalked items rest a b h₁ passed tally) where
   whole : items.all ≡ so_far.before ++ item ∷ after
   whole = so_far.whole ∙ ap (λ l. so_far.before ++ l) first
@@ -66,11 +66,11 @@ module _ {X F E : Type 0} (items : Items X F) (item : X) (rest after : List X) (
       }
 
   -- it is kept, and not all of its text could be written
-  pub HasWalked-failed : found ≡ Ok (Finding.Judged Judgment.Kept) → WritesFront b c (h₁ ++ items.sieve.text_of item) → Writes a c (StopsWithin items)
+  pub HasWalked-failed : found ≡ Ok (LineClass.Judged Judgment.Kept) → WritesFront b c (h₁ ++ items.sieve.text_of item) → Writes a c (StopsWithin items)
   HasWalked-failed is_kept (second_text, more, (unwritten, f)) =
       let (first_text, wrote, e) = so_far.holds in
       let one : Tally = record { rows = 1; kept = 1 } in
-      let finds_kept : items.sieve.finds item (Finding.Judged Judgment.Kept) = subst (λ r. IfOk r (items.sieve.finds item)) is_kept finds in
+      let finds_kept : items.sieve.finds item (LineClass.Judged Judgment.Kept) = subst (λ r. IfOk r (items.sieve.finds item)) is_kept finds in
       let all = Passes-append items.sieve so_far.before (item ∷ []) so_far.text (items.sieve.text_of item) tally one so_far.passes (Passes-kept items.sieve item finds_kept) in
       let stop : StopsWithin items (first_text ++ second_text) = record {
         before = so_far.before ++ item ∷ [];
@@ -83,7 +83,7 @@ module _ {X F E : Type 0} (items : Items X F) (item : X) (rest after : List X) (
       (first_text ++ second_text, Appends-trans a b c first_text second_text wrote more, stop)
 
   -- the run stops at it
-  pub HasWalked-stopped : (Lacks : List ℕ → ℕ → Type 0) (stop : Stop F) → items.CameWhole so_far.before → WritesBut b c h₂ (h₁ ++ text_where_kept found (items.sieve.text_of item)) → outcome_of (passed + 1) found ≡ Err stop
+  pub HasWalked-stopped : (Lacks : List ℕ → ℕ → Type 0) (stop : RunStop F) → items.CameWhole so_far.before → WritesBut b c h₂ (h₁ ++ text_where_kept found (items.sieve.text_of item)) → outcome_of (passed + 1) found ≡ Err stop
       → (text : List ℕ) × WritesBut a c h₂ text × StopsWith items Lacks text stop
   HasWalked-stopped Lacks stop came more step =
       let text = text_where_kept found (items.sieve.text_of item) in

@@ -12,6 +12,6 @@ pub put_whole : (old new text : List ℕ) → new ≡ old ++ text → WritesBut 
 put_whole old new text is = (text, is, sym (append-nil text))
 
 -- what was found of a line is said of it, where there was room for it
-pub found_put : {T E : Type 0} (P : T → Type 0) (put found : Result T E) → IfOk put (λ finding. found ≡ Ok finding) → IfOk found P → IfOk put P
-found_put P (Ok finding) found same finds = subst (λ r. IfOk r P) same finds
+pub found_put : {T E : Type 0} (P : T → Type 0) (put found : Result T E) → IfOk put (λ line_class. found ≡ Ok line_class) → IfOk found P → IfOk put P
+found_put P (Ok line_class) found same finds = subst (λ r. IfOk r P) same finds
 found_put P (Err refused) found same finds = tt

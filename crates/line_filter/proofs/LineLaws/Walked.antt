@@ -9,8 +9,8 @@ use Rattle.line_filter.specs.Lines.{lines_of, text_of_line, text_of_lines}
 use Rattle.line_filter.specs.private.HeldBack.{WritesBut}
 use Rattle.line_filter.specs.private.Walk.{sum_of, outcome_of, text_where_kept}
 use Rattle.line_filter.specs.declared.judge.Judgment.{Judgment}
-use Rattle.line_filter.specs.declared.finding.Finding.{Finding}
-use Rattle.line_filter.specs.declared.run_stop.Stop.{Stop}
+use Rattle.line_filter.specs.declared.line_class.LineClass.{LineClass}
+use Rattle.line_filter.specs.declared.run_stop.RunStop.{RunStop}
 use Rattle.line_filter.specs.declared.tally.Tally.{Tally}
 use Rattle.line_filter.proofs.ItemLaws.Walked.{HasWalked, HasWalked-none, HasWalked-more, HasWalked-failed, HasWalked-stopped}
 
@@ -29,7 +29,7 @@ text_of_lines-more before line after =
     let one : text_of_lines (line ∷ []) ++ after ≡ line ++ 10 ∷ after = ap (λ l. l ++ after) (append-nil (line ++ 10 ∷ [])) ∙ append_assoc line (10 ∷ []) after in
     sym (ap (λ l. l ++ after) (flat_map-append text_of_line before (line ∷ [])) ∙ append_assoc (text_of_lines before) (text_of_lines (line ∷ [])) after ∙ ap (λ l. text_of_lines before ++ l) one)
 
-module _ {F E : Type 0} (judge : LineJudge F) (bytes line rest after : List ℕ) (goes_on : Type 0) (a b c : Option (List ℕ)) (h₁ h₂ : List ℕ) (passed : ℕ) (tally : Tally) (found : Result (Finding F) E)
+module _ {F E : Type 0} (judge : LineJudge F) (bytes line rest after : List ℕ) (goes_on : Type 0) (a b c : Option (List ℕ)) (h₁ h₂ : List ℕ) (passed : ℕ) (tally : Tally) (found : Result (LineClass F) E)
     (first : lines_of rest ≡ line ∷ lines_of after) (finds : IfOk found (IsFoundOf judge line)) (so_far : HasPassed judge bytes rest goes_on a b h₁ passed tally) where
   -- the line after those that passed passes too
   pub HasPassed-more : (one : Tally) (goes_further : Type 0) → (goes_further → rest ≡ line ++ 10 ∷ after) → goes_on → WritesBut b c h₂ (h₁ ++ text_where_kept found (line ++ 10 ∷ []))
@@ -42,11 +42,11 @@ module _ {F E : Type 0} (judge : LineJudge F) (bytes line rest after : List ℕ)
   }
 
   -- it is kept, and not all of it could be written
-  pub HasPassed-failed : found ≡ Ok (Finding.Judged Judgment.Kept) → WritesFront b c (h₁ ++ (line ++ 10 ∷ [])) → Writes a c (StopsWithin (lines judge bytes))
+  pub HasPassed-failed : found ≡ Ok (LineClass.Judged Judgment.Kept) → WritesFront b c (h₁ ++ (line ++ 10 ∷ [])) → Writes a c (StopsWithin (lines judge bytes))
   HasPassed-failed = HasWalked-failed (lines judge bytes) line (lines_of rest) (lines_of after) a b c h₁ h₂ passed tally found first finds so_far.walked
 
   -- the run stops at it
-  pub HasPassed-stopped : (Lacks : List ℕ → ℕ → Type 0) (stop : Stop F) → goes_on → WritesBut b c h₂ (h₁ ++ text_where_kept found (line ++ 10 ∷ [])) → outcome_of (passed + 1) found ≡ Err stop
+  pub HasPassed-stopped : (Lacks : List ℕ → ℕ → Type 0) (stop : RunStop F) → goes_on → WritesBut b c h₂ (h₁ ++ text_where_kept found (line ++ 10 ∷ [])) → outcome_of (passed + 1) found ≡ Err stop
       → (text : List ℕ) × WritesBut a c h₂ text × StopsWith (lines judge bytes) Lacks text stop
   HasPassed-stopped Lacks stop some =
       HasWalked-stopped (lines judge bytes) line (lines_of rest) (lines_of after) a b c h₁ h₂ passed tally found first finds so_far.walked Lacks stop (rest, so_far.complete some)

@@ -8,13 +8,13 @@ use Rattle.line_filter.specs.Places.{ItemJudge, IsJudged, Placed, placed_from, p
 use Rattle.line_filter.specs.private.HeldBack.{WritesBut}
 use Rattle.line_filter.specs.private.Walk.{sum_of, outcome_of, text_where_kept}
 use Rattle.line_filter.specs.declared.judge.Judgment.{Judgment}
-use Rattle.line_filter.specs.declared.finding.Finding.{Finding}
-use Rattle.line_filter.specs.declared.run_stop.Stop.{Stop}
+use Rattle.line_filter.specs.declared.line_class.LineClass.{LineClass}
+use Rattle.line_filter.specs.declared.run_stop.RunStop.{RunStop}
 use Rattle.line_filter.specs.declared.tally.Tally.{Tally}
 use Rattle.line_filter.proofs.ItemLaws.Walked.{HasWalked, HasWalked-more, HasWalked-failed, HasWalked-stopped}
 use Rattle.line_filter.proofs.PlaceLaws.Placed.{placed_next}
 
-module _ {X F E : Type 0} (judge : ItemJudge X F) (items : List X) (index place : ℕ) (item : X) (text : List ℕ) (a b c : Option (List ℕ)) (h₁ h₂ : List ℕ) (tally : Tally) (found : Result (Finding F) E)
+module _ {X F E : Type 0} (judge : ItemJudge X F) (items : List X) (index place : ℕ) (item : X) (text : List ℕ) (a b c : Option (List ℕ)) (h₁ h₂ : List ℕ) (tally : Tally) (found : Result (LineClass F) E)
     (counted : place ≡ index) (within : index < length items) (is : item ≡ get_or items index item) (written : text ≡ decimal place) (finds : IfOk found (IsJudged judge item))
     (so_far : HasWalked (places judge items) (placed_from index (drop index items)) a b h₁ place tally) where
   abbrev here : Placed X
@@ -24,22 +24,22 @@ module _ {X F E : Type 0} (judge : ItemJudge X F) (items : List X) (index place 
   left k = placed_from k (drop k items)
 
   -- the text is that of the index
-  told : text ≡ decimal index
-  told = written ∙ ap decimal counted
+  reported : text ≡ decimal index
+  reported = written ∙ ap decimal counted
 
   pub HasPlaced-more : (one : Tally) → WritesBut b c h₂ (h₁ ++ text_where_kept found (text_of_line text)) → outcome_of (place + 1) found ≡ Ok one
       → HasWalked (places judge items) (left (index + 1)) a c h₂ (place + 1) (sum_of tally one)
   HasPlaced-more one more step =
       HasWalked-more (places judge items) here (left index) (left (index + 1)) a b c h₁ h₂ place tally found (placed_next items index item within is) finds so_far one
-      (subst (λ t. WritesBut b c h₂ (h₁ ++ text_where_kept found (text_of_line t))) told more) step
+      (subst (λ t. WritesBut b c h₂ (h₁ ++ text_where_kept found (text_of_line t))) reported more) step
 
-  pub HasPlaced-failed : found ≡ Ok (Finding.Judged Judgment.Kept) → WritesFront b c (h₁ ++ text_of_line text) → Writes a c (StopsWithin (places judge items))
+  pub HasPlaced-failed : found ≡ Ok (LineClass.Judged Judgment.Kept) → WritesFront b c (h₁ ++ text_of_line text) → Writes a c (StopsWithin (places judge items))
   HasPlaced-failed is_kept more =
       HasWalked-failed (places judge items) here (left index) (left (index + 1)) a b c h₁ h₂ place tally found (placed_next items index item within is) finds so_far is_kept
-      (subst (λ t. WritesFront b c (h₁ ++ text_of_line t)) told more)
+      (subst (λ t. WritesFront b c (h₁ ++ text_of_line t)) reported more)
 
-  pub HasPlaced-stopped : (stop : Stop F) → WritesBut b c h₂ (h₁ ++ text_where_kept found (text_of_line text)) → outcome_of (place + 1) found ≡ Err stop
+  pub HasPlaced-stopped : (stop : RunStop F) → WritesBut b c h₂ (h₁ ++ text_where_kept found (text_of_line text)) → outcome_of (place + 1) found ≡ Err stop
       → (kept : List ℕ) × WritesBut a c h₂ kept × StopsHeld (places judge items) kept stop
   HasPlaced-stopped stop more step =
       HasWalked-stopped (places judge items) here (left index) (left (index + 1)) a b c h₁ h₂ place tally found (placed_next items index item within is) finds so_far (λ text line. ⊥) stop tt
-      (subst (λ t. WritesBut b c h₂ (h₁ ++ text_where_kept found (text_of_line t))) told more) step
+      (subst (λ t. WritesBut b c h₂ (h₁ ++ text_where_kept found (text_of_line t))) reported more) step

@@ -64,9 +64,9 @@ module _ {R : Type 0} (remaining : R → Option (List ℕ)) (old new : LineSourc
   left_kept waiting = rw (same, waiting) (Keeps-refl (left_of remaining old))
 
   -- a fault that is reported, or reported again
-  pub fault_told : (fault : LineFault) → new.waiting ≡ old.waiting → new.course ≡ Course.Failed fault → (fault ≡ LineFault.TooLong → IsLongBy old.waiting)
+  pub fault_reported : (fault : LineFault) → new.waiting ≡ old.waiting → new.course ≡ Course.Failed fault → (fault ≡ LineFault.TooLong → IsLongBy old.waiting)
       → (fault ≢ LineFault.TooLong → IsNoWholeLine old.waiting) → IsFault remaining old new fault
-  fault_told fault waiting course long unended = record {
+  fault_reported fault waiting course long unended = record {
     long = λ is. known_one (remaining old.reader) old.waiting BeginsTooLong (long is);
     held = unended;
     unended = λ not. subst IsNoWholeLine (sym waiting) (unended not);

@@ -12,9 +12,9 @@ use Rattle.line_filter.specs.LineSource.{IsFirstLine, BeginsTooLong, IsNoWholeLi
 use Rattle.line_filter.specs.private.HeldBack.{WritesBut}
 use Rattle.line_filter.specs.private.Walk.{sum_of, outcome_of, text_where_kept, fault_stop, GoesOn}
 use Rattle.line_filter.specs.declared.judge.Judgment.{Judgment}
-use Rattle.line_filter.specs.declared.finding.Finding.{Finding}
+use Rattle.line_filter.specs.declared.line_class.LineClass.{LineClass}
 use Rattle.line_filter.specs.declared.line_reader.LineFault.{LineFault}
-use Rattle.line_filter.specs.declared.run_stop.Stop.{Stop}
+use Rattle.line_filter.specs.declared.run_stop.RunStop.{RunStop}
 use Rattle.line_filter.specs.declared.tally.Tally.{Tally}
 use Rattle.line_filter.proofs.ItemLaws.Stopping.{Passes-within}
 use Rattle.line_filter.proofs.ItemLaws.Walked.{HasWalked, HasWalked-end}
@@ -146,7 +146,7 @@ module _ {F : Type 0} (judge : LineJudge F) where
 
 -- ---- a line is given
 
-module _ {F E : Type 0} (judge : LineJudge F) (line : List ℕ) (goes_on : Type 0) (u v w : Option (List ℕ)) (h₁ h₂ : List ℕ) (passed : ℕ) (tally : Tally) (found : Result (Finding F) E)
+module _ {F E : Type 0} (judge : LineJudge F) (line : List ℕ) (goes_on : Type 0) (u v w : Option (List ℕ)) (h₁ h₂ : List ℕ) (passed : ℕ) (tally : Tally) (found : Result (LineClass F) E)
     (finds : IfOk found (IsFoundOf judge line)) (more : goes_on) where
   -- of a list that has no more lines, or has an LF after this one
   behind : (Over : Type 0) (rest after : List ℕ) → Over ⊎ (rest ≡ line ++ 10 ∷ after) → (Over → ⊥) → rest ≡ line ++ 10 ∷ after
@@ -164,7 +164,7 @@ module _ {F E : Type 0} (judge : LineJudge F) (line : List ℕ) (goes_on : Type 
       HasPassed-more judge bytes line rest after goes_on u v w h₁ h₂ passed tally found first.first finds so_far one (Over → ⊥) (behind Over rest after whole) more wrote step
 
   -- the run stops at it
-  pub HasCome-stopped : (waiting : List ℕ) (known a r s : Option (List ℕ)) (stop : Stop F) → HasCome judge a r goes_on u v h₁ passed tally → WhereKnown r s (λ rest after. IsFirstLine rest line after)
+  pub HasCome-stopped : (waiting : List ℕ) (known a r s : Option (List ℕ)) (stop : RunStop F) → HasCome judge a r goes_on u v h₁ passed tally → WhereKnown r s (λ rest after. IsFirstLine rest line after)
       → WritesBut v w h₂ (h₁ ++ text_where_kept found (line ++ 10 ∷ [])) → outcome_of (passed + 1) found ≡ Err stop
       → IfSome a (λ bytes. (text : List ℕ) × WritesBut u w h₂ text × StopsWith (lines judge bytes) (LacksLine judge bytes waiting known) text stop)
   HasCome-stopped waiting known None r s stop so_far first wrote step = tt
@@ -175,7 +175,7 @@ module _ {F E : Type 0} (judge : LineJudge F) (line : List ℕ) (goes_on : Type 
 
   -- it is kept, and not all of it could be written
   pub HasCome-failed : (a r s : Option (List ℕ)) → HasCome judge a r goes_on u v h₁ passed tally → WhereKnown r s (λ rest after. IsFirstLine rest line after)
-      → found ≡ Ok (Finding.Judged Judgment.Kept) → WritesFront v w (h₁ ++ (line ++ 10 ∷ [])) → IfSome a (λ bytes. Writes u w (StopsWithin (lines judge bytes)))
+      → found ≡ Ok (LineClass.Judged Judgment.Kept) → WritesFront v w (h₁ ++ (line ++ 10 ∷ [])) → IfSome a (λ bytes. Writes u w (StopsWithin (lines judge bytes)))
   HasCome-failed None r s so_far first is_kept wrote = tt
   HasCome-failed (Some bytes) None s so_far first is_kept wrote = absurd so_far
   HasCome-failed (Some bytes) (Some rest) None so_far first is_kept wrote = absurd first
@@ -185,13 +185,13 @@ module _ {F E : Type 0} (judge : LineJudge F) (line : List ℕ) (goes_on : Type 
 -- ---- what is held back at the end could not be written
 
 module _ {F : Type 0} (judge : LineJudge F) (waiting : List ℕ) (known : Option (List ℕ)) where
-  pub left_unwritten : (a u v w : Option (List ℕ)) (held : List ℕ) (outcome : Result Tally (Stop F)) → IfSome a (λ bytes. (text : List ℕ) × WritesBut u v held text × GoesOn judge bytes waiting known text outcome)
+  pub left_unwritten : (a u v w : Option (List ℕ)) (held : List ℕ) (outcome : Result Tally (RunStop F)) → IfSome a (λ bytes. (text : List ℕ) × WritesBut u v held text × GoesOn judge bytes waiting known text outcome)
       → WritesFront v w held → IfSome a (λ bytes. Writes u w (StopsWithin (lines judge bytes)))
   left_unwritten None u v w held outcome goes failed = tt
   left_unwritten (Some bytes) u v w held outcome (text, holds, goes) failed =
       GoesWith-failed (lines judge bytes) (LacksLine judge bytes waiting known) (LacksLine-within judge bytes waiting known) outcome u v w held text holds goes failed
 
-  pub left_written : (a u v w : Option (List ℕ)) (held : List ℕ) (outcome : Result Tally (Stop F)) → IfSome a (λ bytes. (text : List ℕ) × WritesBut u v held text × GoesOn judge bytes waiting known text outcome)
+  pub left_written : (a u v w : Option (List ℕ)) (held : List ℕ) (outcome : Result Tally (RunStop F)) → IfSome a (λ bytes. (text : List ℕ) × WritesBut u v held text × GoesOn judge bytes waiting known text outcome)
       → Appends v w held → IfSome a (λ bytes. Writes u w (λ text. GoesOn judge bytes waiting known text outcome))
   left_written None u v w held outcome goes wrote = tt
   left_written (Some bytes) u v w held outcome (text, holds, goes) wrote = (text, WritesBut-written u v w held text holds wrote, goes)

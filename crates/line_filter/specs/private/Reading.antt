@@ -1,7 +1,7 @@
 -- What the reads between two lines make of a reader of lines. Private clauses alone cite these.
 use Rattle.std.specs.Prelude.{◌≡◌, ℕ, ◌+◌, List, length, Option}
 use Rattle.std.specs.Io.KnownBytes.{Consumes}
-use Rattle.line_filter.specs.declared.device_calls.Calls.{Calls}
+use Rattle.line_filter.specs.declared.call_log.CallLog.{CallLog}
 use Rattle.line_filter.specs.declared.line_reader.Course.{Course}
 use Rattle.line_filter.specs.declared.line_reader.LineFault.{LineFault}
 use Rattle.line_filter.specs.LineSource.{LineSource}
@@ -19,14 +19,14 @@ ReadsCounted remaining old new =
 
 -- Each read did its work, but where one is reported as failed, and then it is said why.
 pub record ReadsOn {R : Type 0}
-    (calls : R → Calls) (remaining : R → Option (List ℕ)) (old new : LineSource R) : Type 0 where
+    (calls : R → CallLog) (remaining : R → Option (List ℕ)) (old new : LineSource R) : Type 0 where
   pub counted : ReadsCounted remaining old new
   pub well : ¬ IsUnread new → ReadWell calls old new
   pub unread : IsUnread new → WhyUnread calls remaining old new
 
 -- Each read did its work, and a read that is reported as failed was reported so before.
 pub record ReadsWell {R : Type 0}
-    (calls : R → Calls) (remaining : R → Option (List ℕ)) (old new : LineSource R) : Type 0 where
+    (calls : R → CallLog) (remaining : R → Option (List ℕ)) (old new : LineSource R) : Type 0 where
   pub counted : ReadsCounted remaining old new
   pub well : ReadWell calls old new
   pub before : IsUnread new → IsUnread old

@@ -1,12 +1,12 @@
 -- What a run over items gives, item by item. Private clauses alone cite these.
 use Rattle.std.specs.Prelude.{◌≡◌, ℕ, ◌+◌, List, [], Bool, true, false, Option, MatchResult, Result, Ok, Err}
 use Rattle.line_filter.specs.declared.judge.Judgment.{Judgment}
-use Rattle.line_filter.specs.declared.finding.Finding.{Finding}
+use Rattle.line_filter.specs.declared.line_class.LineClass.{LineClass}
 use Rattle.line_filter.specs.declared.line_reader.LineFault.{LineFault}
-use Rattle.line_filter.specs.declared.run_stop.Stop.{Stop}
+use Rattle.line_filter.specs.declared.run_stop.RunStop.{RunStop}
 use Rattle.line_filter.specs.declared.tally.Tally.{Tally}
-use Rattle.line_filter.specs.declared.device_calls.Calls.{Calls}
-use Rattle.line_filter.specs.DeviceCalls.{StaysWell, FlushesLast, FailsLast}
+use Rattle.line_filter.specs.declared.call_log.CallLog.{CallLog}
+use Rattle.line_filter.specs.CallLogs.{StaysWell, FlushesLast, FailsLast}
 use Rattle.line_filter.specs.Kept.{Items, Filters, StopsWith, is_kept}
 use Rattle.line_filter.specs.LineItems.{LineJudge, lines}
 use Rattle.line_filter.specs.LineStreams.{LacksLine}
@@ -16,23 +16,23 @@ abbrev pub sum_of : Tally → Tally → Tally
 sum_of a b = record { rows = a.rows + b.rows; kept = a.kept + b.kept }
 
 -- what the item of this number counts, of which this is found, or why the run stops at it
-abbrev pub outcome_of : {F E : Type 0} → ℕ → Result (Finding F) E → Result Tally (Stop F)
-outcome_of number (Ok Finding.TooLong) = Err (Stop.TooLong number)
-outcome_of number (Ok Finding.PassedOver) = Ok (record { rows = 0; kept = 0 })
-outcome_of number (Ok (Finding.Judged Judgment.Kept)) = Ok (record { rows = 1; kept = 1 })
-outcome_of number (Ok (Finding.Judged Judgment.LeftOut)) = Ok (record { rows = 1; kept = 0 })
-outcome_of number (Ok (Finding.Judged (Judgment.Fault fault))) = Err (Stop.Fault number fault)
-outcome_of number (Err _) = Err (Stop.Memory number)
+abbrev pub outcome_of : {F E : Type 0} → ℕ → Result (LineClass F) E → Result Tally (RunStop F)
+outcome_of number (Ok LineClass.TooLong) = Err (RunStop.TooLong number)
+outcome_of number (Ok LineClass.PassedOver) = Ok (record { rows = 0; kept = 0 })
+outcome_of number (Ok (LineClass.Judged Judgment.Kept)) = Ok (record { rows = 1; kept = 1 })
+outcome_of number (Ok (LineClass.Judged Judgment.LeftOut)) = Ok (record { rows = 1; kept = 0 })
+outcome_of number (Ok (LineClass.Judged (Judgment.Fault fault))) = Err (RunStop.Fault number fault)
+outcome_of number (Err _) = Err (RunStop.Memory number)
 
 -- what a run answers where the line of this number does not come
-abbrev pub fault_stop : {F : Type 0} → LineFault → ℕ → Stop F
-fault_stop LineFault.TooLong number = Stop.TooLong number
-fault_stop LineFault.Read number = Stop.Read number
-fault_stop LineFault.Memory number = Stop.Memory number
+abbrev pub fault_stop : {F : Type 0} → LineFault → ℕ → RunStop F
+fault_stop LineFault.TooLong number = RunStop.TooLong number
+fault_stop LineFault.Read number = RunStop.Read number
+fault_stop LineFault.Memory number = RunStop.Memory number
 
 -- the item is kept, of which this is found
-abbrev pub is_kept_by : {F E : Type 0} → Result (Finding F) E → Bool
-is_kept_by (Ok finding) = is_kept finding
+abbrev pub is_kept_by : {F E : Type 0} → Result (LineClass F) E → Bool
+is_kept_by (Ok line_class) = is_kept line_class
 is_kept_by (Err _) = false
 
 -- the text of an item that is kept, and nothing of one that is left out
@@ -41,7 +41,7 @@ text_where true text = text
 text_where false text = []
 
 -- the text of an item of which this is found: nothing where it is not kept
-abbrev pub text_where_kept : {F E : Type 0} → Result (Finding F) E → List ℕ → List ℕ
+abbrev pub text_where_kept : {F E : Type 0} → Result (LineClass F) E → List ℕ → List ℕ
 text_where_kept found text = text_where (is_kept_by found) text
 
 -- how many items that is
@@ -50,30 +50,30 @@ count_where true = 1
 count_where false = 0
 
 -- the stop is reported of no writer
-abbrev pub IsUnwritten : {F : Type 0} → Stop F → Type 0
-IsUnwritten Stop.Write = ⊥
+abbrev pub IsUnwritten : {F : Type 0} → RunStop F → Type 0
+IsUnwritten RunStop.Write = ⊥
 IsUnwritten _ = Unit {0}
 
 -- what a run over the items gives, and the text of the kept ones; `Lacks` is said where an item did not come
-abbrev pub GoesWith : {X F : Type 0} → Items X F → (List ℕ → ℕ → Type 0) → List ℕ → Result Tally (Stop F) → Type 0
+abbrev pub GoesWith : {X F : Type 0} → Items X F → (List ℕ → ℕ → Type 0) → List ℕ → Result Tally (RunStop F) → Type 0
 GoesWith items Lacks text outcome =
     MatchResult outcome (λ tally. Filters items text tally) (λ stop. StopsWith items Lacks text stop)
 
 -- that, of items that stand in memory
-abbrev pub GoesOver : {X F : Type 0} → Items X F → List ℕ → Result Tally (Stop F) → Type 0
+abbrev pub GoesOver : {X F : Type 0} → Items X F → List ℕ → Result Tally (RunStop F) → Type 0
 GoesOver items = GoesWith items (λ text line. ⊥)
 
 -- that, of the lines of a reader, of which this waits, and which has that left
 abbrev pub GoesOn : {F : Type 0} →
-    LineJudge F → List ℕ → List ℕ → Option (List ℕ) → List ℕ → Result Tally (Stop F) → Type 0
+    LineJudge F → List ℕ → List ℕ → Option (List ℕ) → List ℕ → Result Tally (RunStop F) → Type 0
 GoesOn judge bytes waiting known = GoesWith (lines judge bytes) (LacksLine judge bytes waiting known)
 
 -- which calls of its writer a run made by its end: one flush where it came to no stop, and none at a stop
-abbrev pub Closes : {F : Type 0} → Result Tally (Stop F) → Result Tally (Stop F) → Calls → Calls → Type 0
+abbrev pub Closes : {F : Type 0} → Result Tally (RunStop F) → Result Tally (RunStop F) → CallLog → CallLog → Type 0
 Closes outcome answer old new = MatchResult outcome
     (λ tally. MatchResult answer (λ t. FlushesLast old new) (λ stop. FailsLast old new)) (λ stop. StaysWell old new)
 
 -- what a run answers: the stop at an item, or else the tally, unless the last flush fails
-abbrev pub Ends : {F : Type 0} → Result Tally (Stop F) → Result Tally (Stop F) → Type 0
+abbrev pub Ends : {F : Type 0} → Result Tally (RunStop F) → Result Tally (RunStop F) → Type 0
 Ends outcome answer = MatchResult outcome
-    (λ tally. MatchResult answer (λ t. t ≡ tally) (λ stop. stop ≡ Stop.Write)) (λ stop. answer ≡ Err stop)
+    (λ tally. MatchResult answer (λ t. t ≡ tally) (λ stop. stop ≡ RunStop.Write)) (λ stop. answer ≡ Err stop)

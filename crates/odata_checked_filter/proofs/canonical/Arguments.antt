@@ -7,12 +7,12 @@ use Rattle.odata_syntax.specs.NormalForm.{AreNormalForms}
 use Rattle.odata_syntax.specs.Tree.{Shape, Tree, Trees, call, more_trees, no_trees, node}
 use Rattle.csdl_schema.specs.SchemaModel.{SchemaModel}
 use Rattle.odata_signatures.specs.Typed.{Scope}
-use Rattle.odata_checked_filter.specs.declared.canonical_text.Part.{Part}
-use Rattle.odata_checked_filter.specs.declared.canonical_text.Part.TheVariants.{Close, Further, Operand}
+use Rattle.odata_checked_filter.specs.declared.canonical_text.PrintTask.{PrintTask}
+use Rattle.odata_checked_filter.specs.declared.canonical_text.PrintTask.TheVariants.{Close, Further, Operand}
 use Rattle.odata_checked_filter.specs.declared.checked_node.NodeKind.{NodeKind}
 use Rattle.odata_checked_filter.specs.FlatTree.{FlatTree}
 use Rattle.odata_checked_filter.specs.private.Layout.{AllLie}
-use Rattle.odata_checked_filter.specs.private.CanonicalWalk.{AllThere, AreFurtherPut, ArePieceTexts, ArePiecesOf, GoesOn, HasTreeAt, IsCallAt, IsCallOf, IsPieceOf, IsPieceText, Piece, StandsThere, WritesNode, WritesPart, arguments_of, comma_before, further, operand, part_weight, plain, stop_at, weight}
+use Rattle.odata_checked_filter.specs.private.CanonicalText.{AllThere, AreFurtherPut, ArePieceTexts, ArePiecesOf, GoesOn, HasTreeAt, IsCallAt, IsCallOf, IsPieceOf, IsPieceText, Piece, StandsThere, WritesNode, WritesTask, arguments_of, comma_before, further, operand, task_weight, plain, stop_at, weight}
 use Rattle.odata_checked_filter.proofs.flat.Standing.{lie_onward, lies_nonempty}
 use Rattle.odata_checked_filter.proofs.canonical.Kinds.{Matches, shape_there}
 use Rattle.odata_checked_filter.proofs.canonical.Leaves.{above, below, place_of, stop_is, ungrouped}
@@ -20,10 +20,10 @@ use Rattle.odata_checked_filter.proofs.canonical.Leaves.{above, below, place_of,
 -- ---- arguments on the stack
 
 -- the pieces of arguments, and that their texts are that of the arguments
-pub record HasArguments (list : FlatTree) (parts : List Part) (comma : List ℕ) (trees : Trees) (most : ℕ) : Type 0 where
+pub record HasArguments (list : FlatTree) (tasks : List PrintTask) (comma : List ℕ) (trees : Trees) (most : ℕ) : Type 0 where
   pub pieces : List Piece
-  pub are : ArePiecesOf list parts pieces
-  pub light : weight list parts ≤ most
+  pub are : ArePiecesOf list tasks pieces
+  pub light : weight list tasks ≤ most
   pub whole : (rest : List ℕ) → ArePieceTexts pieces rest → (normals : Trees) × AreNormalForms trees normals × (rest ≡ trees_text normals) × (comma ++ rest ≡ further_text normals)
 
 no_arguments : (list : FlatTree) (most : ℕ) → HasArguments list [] [] no_trees most
@@ -117,24 +117,24 @@ further_there list i j (further trees) of = within_list of.schema of.filtered of
 further_there list i j (plain text) of = absurd of
 further_there list i j (operand level tree) of = absurd of
 
-pub further_part : (list : FlatTree) (i j : ℕ) (piece : Piece) (before after : List ℕ) (parts new : List Part)
-    → IsPieceOf list (Further i j) piece → AreFurtherPut list i j before after parts new → WritesPart list (Further i j) [] before after parts new
-further_part list i j piece before after parts new of put =
+pub further_task : (list : FlatTree) (i j : ℕ) (piece : Piece) (before after : List ℕ) (tasks new : List PrintTask)
+    → IsPieceOf list (Further i j) piece → AreFurtherPut list i j before after tasks new → WritesTask list (Further i j) [] before after tasks new
+further_task list i j piece before after tasks new of put =
     let light : weight list (arguments_of list i j) ≤ 4 * (j - i) = further_light list i j piece of in
     let alone : weight list (arguments_of list i j ++ []) ≡ weight list (arguments_of list i j) =
     ap (weight list) (append-nil (arguments_of list i j)) in
     record {
-      parts = arguments_of list i j;
+      tasks = arguments_of list i j;
       pushed = put.pending;
       lighter = omega (arith, light, alone);
       text = comma_before i j;
       written = put.text;
-      goes_on = λ piece of. subst (λ (ps : List Part). GoesOn list ps (comma_before i j) (IsPieceText piece))
+      goes_on = λ piece of. subst (λ (ps : List PrintTask). GoesOn list ps (comma_before i j) (IsPieceText piece))
           (sym (append-nil (arguments_of list i j))) (further_goes list i j piece of);
     }
 
-pub closing_weight : (list : FlatTree) (parts : List Part) → weight list (Close ∷ parts) ≡ 1 + weight list parts
-closing_weight list parts = sum_by-append (part_weight list) (Close ∷ []) parts
+pub closing_weight : (list : FlatTree) (tasks : List PrintTask) → weight list (Close ∷ tasks) ≡ 1 + weight list tasks
+closing_weight list tasks = sum_by-append (task_weight list) (Close ∷ []) tasks
 
 -- ---- a call
 
@@ -202,19 +202,19 @@ module _ (list : FlatTree) (i : ℕ) (called : List ℕ) (is : IsCallAt list i c
       let c = call_there list i called tree is there in
       within_list c.all.schema c.all.filtered c.all.scope list (i + 1) (stop_at list i) c.arguments c.all.stand some
 
-  pub call_written : (before between_texts after : List ℕ) (parts more new : List Part)
-      → HasTreeAt list i → between_texts ≡ before ++ called → after ≡ between_texts ++ 40 ∷ [] → more ≡ parts ++ Close ∷ []
-      → new ≡ more ++ arguments_of list (i + 1) (stop_at list i) → WritesNode list i [] before after parts new
-  call_written before between_texts after parts more new has named opened closed pushed =
-      let arguments : List Part = arguments_of list (i + 1) (stop_at list i) in
+  pub call_written : (before between_texts after : List ℕ) (tasks more new : List PrintTask)
+      → HasTreeAt list i → between_texts ≡ before ++ called → after ≡ between_texts ++ 40 ∷ [] → more ≡ tasks ++ Close ∷ []
+      → new ≡ more ++ arguments_of list (i + 1) (stop_at list i) → WritesNode list i [] before after tasks new
+  call_written before between_texts after tasks more new has named opened closed pushed =
+      let arguments : List PrintTask = arguments_of list (i + 1) (stop_at list i) in
       let light : weight list arguments ≤ 4 * (stop_at list i - (i + 1)) = arguments_light has.0 has.1 in
       let alone : weight list ((Close ∷ arguments) ++ []) ≡ weight list (Close ∷ arguments) = ap (weight list) (append-nil (Close ∷ arguments)) in
       record {
-        parts = Close ∷ arguments;
-        pushed = pushed ∙ ap (λ (ps : List Part). ps ++ arguments) closed ∙ append_assoc parts (Close ∷ []) arguments;
+        tasks = Close ∷ arguments;
+        pushed = pushed ∙ ap (λ (ps : List PrintTask). ps ++ arguments) closed ∙ append_assoc tasks (Close ∷ []) arguments;
         lighter = omega (arith, light, closing_weight list arguments, alone);
         text = called ++ 40 ∷ [];
         written = opened ∙ ap (λ (t : List ℕ). t ++ 40 ∷ []) named ∙ append_assoc before called (40 ∷ []);
-        goes_on = λ tree there. subst (λ (ps : List Part). GoesOn list ps (called ++ 40 ∷ []) (IsCanonicalText tree))
+        goes_on = λ tree there. subst (λ (ps : List PrintTask). GoesOn list ps (called ++ 40 ∷ []) (IsCanonicalText tree))
             (sym (append-nil (Close ∷ arguments))) (at_tree tree there);
       }

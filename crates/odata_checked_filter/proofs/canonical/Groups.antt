@@ -5,11 +5,11 @@ use Rattle.std.proofs.lemmas.Bool.Decides.{nat_tests}
 use Rattle.odata_syntax.specs.CanonicalText.{IsCanonicalText, tree_level, tree_text}
 use Rattle.odata_syntax.specs.Grammar.{Level}
 use Rattle.odata_syntax.specs.Tree.{Tree}
-use Rattle.odata_checked_filter.specs.declared.canonical_text.Part.{Part}
-use Rattle.odata_checked_filter.specs.declared.canonical_text.Part.TheVariants.{Close, Operand}
+use Rattle.odata_checked_filter.specs.declared.canonical_text.PrintTask.{PrintTask}
+use Rattle.odata_checked_filter.specs.declared.canonical_text.PrintTask.TheVariants.{Close, Operand}
 use Rattle.odata_checked_filter.specs.declared.checked_node.CheckedNode.{CheckedNode}
 use Rattle.odata_checked_filter.specs.FlatTree.{FlatTree}
-use Rattle.odata_checked_filter.specs.private.CanonicalWalk.{GoesOn, IsPieceOf, IsPieceText, Piece, StandsThere, WritesNode, WritesPart, closing, further, opening, operand, plain}
+use Rattle.odata_checked_filter.specs.private.CanonicalText.{GoesOn, IsPieceOf, IsPieceText, Piece, StandsThere, WritesNode, WritesTask, closing, further, opening, operand, plain}
 use Rattle.odata_checked_filter.specs.private.KindTexts.{kind_level}
 use Rattle.odata_checked_filter.proofs.canonical.Arguments.{closing_weight}
 use Rattle.odata_checked_filter.proofs.canonical.Kinds.{level_there}
@@ -41,12 +41,12 @@ module _ (list : FlatTree) (i : ℕ) (found : CheckedNode) (at : slice_get list.
         ap (λ (t : List ℕ). 40 ∷ (t ++ 41 ∷ [])) is.printed ∙ sym (in_group level (tree_level is.normal) (tree_text is.normal) close),
       )
 
-  bare_goes : (needed : ℕ) (parts : List Part) (text : List ℕ) → needed ≤ kind_level found.kind
-      → ((tree : Tree) → StandsThere list i tree → GoesOn list parts text (IsCanonicalText tree))
-      → (piece : Piece) → IsPieceOf list (Operand i needed) piece → GoesOn list parts text (IsPieceText piece)
-  bare_goes needed parts text fits goes (plain spelled) of = absurd of
-  bare_goes needed parts text fits goes (further trees) of = absurd of
-  bare_goes needed parts text fits goes (operand level tree) of =
+  bare_goes : (needed : ℕ) (tasks : List PrintTask) (text : List ℕ) → needed ≤ kind_level found.kind
+      → ((tree : Tree) → StandsThere list i tree → GoesOn list tasks text (IsCanonicalText tree))
+      → (piece : Piece) → IsPieceOf list (Operand i needed) piece → GoesOn list tasks text (IsPieceText piece)
+  bare_goes needed tasks text fits goes (plain spelled) of = absurd of
+  bare_goes needed tasks text fits goes (further trees) of = absurd of
+  bare_goes needed tasks text fits goes (operand level tree) of =
       let g = goes tree of.there in
       let within : level ≤ kind_level found.kind = subst (λ (n : ℕ). n ≤ kind_level found.kind) of.same fits in
       record {
@@ -55,12 +55,12 @@ module _ (list : FlatTree) (i : ℕ) (found : CheckedNode) (at : slice_get list.
         whole = λ rest texts. bare level tree (text ++ rest) within of.there (g.whole rest texts);
       }
 
-  group_goes : (needed : ℕ) (parts : List Part) (text : List ℕ) → kind_level found.kind < needed
-      → ((tree : Tree) → StandsThere list i tree → GoesOn list parts text (IsCanonicalText tree))
-      → (piece : Piece) → IsPieceOf list (Operand i needed) piece → GoesOn list (Close ∷ parts) (40 ∷ text) (IsPieceText piece)
-  group_goes needed parts text tight goes (plain spelled) of = absurd of
-  group_goes needed parts text tight goes (further trees) of = absurd of
-  group_goes needed parts text tight goes (operand level tree) of =
+  group_goes : (needed : ℕ) (tasks : List PrintTask) (text : List ℕ) → kind_level found.kind < needed
+      → ((tree : Tree) → StandsThere list i tree → GoesOn list tasks text (IsCanonicalText tree))
+      → (piece : Piece) → IsPieceOf list (Operand i needed) piece → GoesOn list (Close ∷ tasks) (40 ∷ text) (IsPieceText piece)
+  group_goes needed tasks text tight goes (plain spelled) of = absurd of
+  group_goes needed tasks text tight goes (further trees) of = absurd of
+  group_goes needed tasks text tight goes (operand level tree) of =
       let g = goes tree of.there in
       let over : kind_level found.kind < level = subst (λ (n : ℕ). kind_level found.kind < n) of.same tight in
       record {
@@ -74,39 +74,39 @@ module _ (list : FlatTree) (i : ℕ) (found : CheckedNode) (at : slice_get list.
             (group level tree (text ++ texts.front) over of.there (g.whole texts.front texts.is_front));
       }
 
-  bare_written : (needed : ℕ) (next : List Part) (before after : List ℕ) (parts new : List Part)
-      → needed ≤ kind_level found.kind → WritesNode list i next before after parts new
-      → WritesPart list (Operand i needed) next before after parts new
-  bare_written needed next before after parts new fits writes = record {
-    parts = writes.parts;
+  bare_written : (needed : ℕ) (next : List PrintTask) (before after : List ℕ) (tasks new : List PrintTask)
+      → needed ≤ kind_level found.kind → WritesNode list i next before after tasks new
+      → WritesTask list (Operand i needed) next before after tasks new
+  bare_written needed next before after tasks new fits writes = record {
+    tasks = writes.tasks;
     pushed = writes.pushed;
     lighter = omega (arith, writes.lighter);
     text = writes.text;
     written = writes.written;
-    goes_on = bare_goes needed (writes.parts ++ next) writes.text fits writes.goes_on;
+    goes_on = bare_goes needed (writes.tasks ++ next) writes.text fits writes.goes_on;
   }
 
-  group_written : (needed : ℕ) (next : List Part) (before between_texts after : List ℕ) (parts more new : List Part)
-      → kind_level found.kind < needed → between_texts ≡ before ++ 40 ∷ [] → more ≡ parts ++ Close ∷ []
+  group_written : (needed : ℕ) (next : List PrintTask) (before between_texts after : List ℕ) (tasks more new : List PrintTask)
+      → kind_level found.kind < needed → between_texts ≡ before ++ 40 ∷ [] → more ≡ tasks ++ Close ∷ []
       → WritesNode list i next between_texts after more new
-      → WritesPart list (Operand i needed) next before after parts new
-  group_written needed next before between_texts after parts more new tight opened closed writes = record {
-    parts = Close ∷ writes.parts;
-    pushed = writes.pushed ∙ ap (λ (ps : List Part). ps ++ writes.parts) closed ∙ append_assoc parts (Close ∷ []) writes.parts;
-    lighter = omega (arith, writes.lighter, closing_weight list (writes.parts ++ next));
+      → WritesTask list (Operand i needed) next before after tasks new
+  group_written needed next before between_texts after tasks more new tight opened closed writes = record {
+    tasks = Close ∷ writes.tasks;
+    pushed = writes.pushed ∙ ap (λ (ps : List PrintTask). ps ++ writes.tasks) closed ∙ append_assoc tasks (Close ∷ []) writes.tasks;
+    lighter = omega (arith, writes.lighter, closing_weight list (writes.tasks ++ next));
     text = 40 ∷ writes.text;
     written = writes.written ∙ ap (λ (t : List ℕ). t ++ writes.text) opened ∙ append_assoc before (40 ∷ []) writes.text;
-    goes_on = group_goes needed (writes.parts ++ next) writes.text tight writes.goes_on;
+    goes_on = group_goes needed (writes.tasks ++ next) writes.text tight writes.goes_on;
   }
 
   -- in parentheses, if it binds less tightly than needed
-  pub operand_written : (needed : ℕ) (next : List Part) (is_loose : Bool) (before between_texts after : List ℕ) (parts more new : List Part)
-      → is_loose ≡ nat_lt (kind_level found.kind) needed → between_texts ≡ before ++ opening is_loose → more ≡ parts ++ closing is_loose
+  pub operand_written : (needed : ℕ) (next : List PrintTask) (is_loose : Bool) (before between_texts after : List ℕ) (tasks more new : List PrintTask)
+      → is_loose ≡ nat_lt (kind_level found.kind) needed → between_texts ≡ before ++ opening is_loose → more ≡ tasks ++ closing is_loose
       → WritesNode list i next between_texts after more new
-      → WritesPart list (Operand i needed) next before after parts new
-  operand_written needed next true before between_texts after parts more new loose opened closed writes =
-      group_written needed next before between_texts after parts more new (lower (kind_level found.kind) needed (sym loose)) opened closed writes
-  operand_written needed next false before between_texts after parts more new loose opened closed writes =
-      bare_written needed next before after parts new (not_lower (kind_level found.kind) needed (sym loose))
-      (subst (λ (t : List ℕ). WritesNode list i next t after parts new) (opened ∙ append-nil before)
-      (subst (λ (ps : List Part). WritesNode list i next between_texts after ps new) (closed ∙ append-nil parts) writes))
+      → WritesTask list (Operand i needed) next before after tasks new
+  operand_written needed next true before between_texts after tasks more new loose opened closed writes =
+      group_written needed next before between_texts after tasks more new (lower (kind_level found.kind) needed (sym loose)) opened closed writes
+  operand_written needed next false before between_texts after tasks more new loose opened closed writes =
+      bare_written needed next before after tasks new (not_lower (kind_level found.kind) needed (sym loose))
+      (subst (λ (t : List ℕ). WritesNode list i next t after tasks new) (opened ∙ append-nil before)
+      (subst (λ (ps : List PrintTask). WritesNode list i next between_texts after ps new) (closed ∙ append-nil tasks) writes))

@@ -13,7 +13,7 @@ use Rattle.odata_checked_filter.specs.Stands.{IsKindOf}
 use Rattle.std.specs.Prelude.{codes}
 use Rattle.odata_signatures.specs.Functions.{row_of}
 use Rattle.odata_signatures.specs.Typed.{Scope}
-use Rattle.odata_checked_filter.specs.private.CanonicalWalk.{StandsThere}
+use Rattle.odata_checked_filter.specs.private.CanonicalText.{StandsThere}
 use Rattle.odata_checked_filter.specs.private.KindTexts.{kind_level}
 
 -- the shape is of the kind
@@ -74,28 +74,28 @@ shape_there list i found kind start stop shape at is there =
 
 -- ---- levels
 
-level_told : (slots : Slots) (root : List ℕ) (scope : Scope) (shape : Shape) (kind : NodeKind)
+level_reported : (slots : Slots) (root : List ℕ) (scope : Scope) (shape : Shape) (kind : NodeKind)
     → IsKindOf slots root scope shape kind → shape_level shape ≡ kind_level kind
-level_told slots root scope (literal k spelling) (NodeKind.Literal kind value) is = refl
-level_told slots root scope (literal k spelling) _ is = absurd is
-level_told slots root scope (name asked) (NodeKind.Property slot) is = refl
-level_told slots root scope (name asked) (NodeKind.Variable level) is = refl
-level_told slots root scope (name asked) _ is = absurd is
-level_told slots root scope (member base asked) (NodeKind.Member slot) is = refl
-level_told slots root scope (member base asked) _ is = absurd is
-level_told slots root scope (call asked arguments) NodeKind.Now is = refl
-level_told slots root scope (call asked arguments) (NodeKind.Call function) is = refl
-level_told slots root scope (call asked arguments) _ is = absurd is
-level_told slots root scope it kind is = rw is refl
-level_told slots root scope (count base) kind is = rw is refl
-level_told slots root scope (negation operand) kind is = rw is refl
-level_told slots root scope (logical_not operand) kind is = rw is refl
-level_told slots root scope (binary operator left right) kind is = rw is refl
-level_told slots root scope (has left right) kind is = rw is refl
-level_told slots root scope (in_list left items) kind is = rw is refl
-level_told slots root scope (in_path left path) kind is = rw is refl
-level_told slots root scope (any_item base) kind is = rw is refl
-level_told slots root scope (lambda quantifier base variable body) kind is = rw is refl
+level_reported slots root scope (literal k spelling) (NodeKind.Literal kind value) is = refl
+level_reported slots root scope (literal k spelling) _ is = absurd is
+level_reported slots root scope (name asked) (NodeKind.Property slot) is = refl
+level_reported slots root scope (name asked) (NodeKind.Variable level) is = refl
+level_reported slots root scope (name asked) _ is = absurd is
+level_reported slots root scope (member base asked) (NodeKind.Member slot) is = refl
+level_reported slots root scope (member base asked) _ is = absurd is
+level_reported slots root scope (call asked arguments) NodeKind.Now is = refl
+level_reported slots root scope (call asked arguments) (NodeKind.Call function) is = refl
+level_reported slots root scope (call asked arguments) _ is = absurd is
+level_reported slots root scope it kind is = rw is refl
+level_reported slots root scope (count base) kind is = rw is refl
+level_reported slots root scope (negation operand) kind is = rw is refl
+level_reported slots root scope (logical_not operand) kind is = rw is refl
+level_reported slots root scope (binary operator left right) kind is = rw is refl
+level_reported slots root scope (has left right) kind is = rw is refl
+level_reported slots root scope (in_list left items) kind is = rw is refl
+level_reported slots root scope (in_path left path) kind is = rw is refl
+level_reported slots root scope (any_item base) kind is = rw is refl
+level_reported slots root scope (lambda quantifier base variable body) kind is = rw is refl
 
 -- a normal form binds as tightly
 normal_level : (shape other : Shape) → IsNormalShape shape other → shape_level other ≡ shape_level shape
@@ -121,5 +121,5 @@ level_there list i found (node start stop shape) normal at there is =
     let top = there.stands.top in
     let same : top.found ≡ found = same_node list.nodes i top.found found top.stands_at at in
     ap tree_level is.2 ∙ normal_level shape is.0 is.1
-    ∙ level_told (slots_of there.schema) (type_name_at there.schema there.filtered) there.scope shape top.found.kind top.kind
+    ∙ level_reported (slots_of there.schema) (type_name_at there.schema there.filtered) there.scope shape top.found.kind top.kind
     ∙ ap (λ (f : CheckedNode). kind_level f.kind) same

@@ -3,21 +3,21 @@ use Rattle.std.proofs.lemmas.Bool.Decides.{nat_tests}
 use Rattle.std.proofs.Common.{◌≡◌, ◌∙◌, ℕ, ◌<◌, ◌≤◌, List, [], ◌∷◌, ◌++◌, Option, Some, Result, Ok, Err, OnOk, append-nil, slice_get, false, true, refl, sym, subst, ap, arith, unwrap_or, option_map, length}
 use Rattle.std.specs.Prelude.{codes, if◌then◌else◌, is_ok, nat_lt}
 use Rattle.odata_text.specs.LiteralSpelling.{IsLiteralSpelling}
-use Rattle.odata_syntax.specs.Appended.{IsAppended}
+use Rattle.odata_syntax.specs.LiteralText.{IsAppended}
 use Rattle.odata_syntax.specs.CanonicalText.{IsCanonicalText, grouped}
 use Rattle.odata_syntax.specs.Grammar.{Level}
 use Rattle.odata_syntax.specs.NormalForm.{literal_token}
 use Rattle.odata_syntax.specs.Tree.{Shape, Tree, it, literal, name, node}
 use Rattle.odata_syntax.specs.declared.node.LiteralKind.{LiteralKind}
 use Rattle.csdl_schema.specs.SchemaModel.{SchemaModel}
-use Rattle.odata_checked_filter.specs.declared.canonical_text.Part.{Part}
-use Rattle.odata_checked_filter.specs.declared.canonical_text.Part.TheVariants.{Operand}
+use Rattle.odata_checked_filter.specs.declared.canonical_text.PrintTask.{PrintTask}
+use Rattle.odata_checked_filter.specs.declared.canonical_text.PrintTask.TheVariants.{Operand}
 use Rattle.odata_checked_filter.specs.declared.checked_node.CheckedNode.{CheckedNode}
 use Rattle.odata_checked_filter.specs.declared.checked_node.NodeKind.{NodeKind}
 use Rattle.odata_checked_filter.specs.FlatTree.{FlatTree}
 use Rattle.odata_checked_filter.specs.private.Layout.{Lies}
 use Rattle.odata_signatures.specs.Typed.{Scope}
-use Rattle.odata_checked_filter.specs.private.CanonicalWalk.{HasTreeAt, IsPieceOf, IsTextAdded, Piece, StandsThere, WritesNode, further, operand, plain, stop_at}
+use Rattle.odata_checked_filter.specs.private.CanonicalText.{HasTreeAt, IsPieceOf, IsTextAdded, Piece, StandsThere, WritesNode, further, operand, plain, stop_at}
 use Rattle.odata_checked_filter.proofs.canonical.Kinds.{Matches, shape_there}
 use Rattle.odata_checked_filter.proofs.flat.Places.{found_before}
 
@@ -115,13 +115,13 @@ name_there list i found spelling (node start stop shape) at named beside there =
     there
 
 -- the text of a node was written, and nothing of it waits
-whole_written : (list : FlatTree) (i : ℕ) (text before after : List ℕ) (parts : List Part)
+whole_written : (list : FlatTree) (i : ℕ) (text before after : List ℕ) (tasks : List PrintTask)
     → after ≡ before ++ text
     → ((tree : Tree) → StandsThere list i tree → IsCanonicalText tree text)
-    → WritesNode list i [] before after parts parts
-whole_written list i text before after parts written is = record {
-  parts = [];
-  pushed = sym (append-nil parts);
+    → WritesNode list i [] before after tasks tasks
+whole_written list i text before after tasks written is = record {
+  tasks = [];
+  pushed = sym (append-nil tasks);
   lighter = omega arith;
   text = text;
   written = written;
@@ -132,25 +132,25 @@ whole_written list i text before after parts written is = record {
   };
 }
 
-pub literal_written : (list : FlatTree) (i : ℕ) (found : CheckedNode) (kind : LiteralKind) (value : ℕ) (spelling before after : List ℕ) (parts : List Part)
+pub literal_written : (list : FlatTree) (i : ℕ) (found : CheckedNode) (kind : LiteralKind) (value : ℕ) (spelling before after : List ℕ) (tasks : List PrintTask)
     → slice_get list.nodes i ≡ Some found → found.kind ≡ NodeKind.Literal kind value → slice_get list.texts i ≡ Some spelling
     → IsAppended (IsLiteralSpelling (literal_token kind) spelling) before after
-    → WritesNode list i [] before after parts parts
-literal_written list i found kind value spelling before after parts at is beside added =
-    whole_written list i added.text before after parts added.whole
+    → WritesNode list i [] before after tasks tasks
+literal_written list i found kind value spelling before after tasks at is beside added =
+    whole_written list i added.text before after tasks added.whole
     (λ tree there. literal_there list i found kind value spelling added.text tree at is beside added.is_text there)
 
-pub it_written : (list : FlatTree) (i : ℕ) (found : CheckedNode) (before after : List ℕ) (parts : List Part)
+pub it_written : (list : FlatTree) (i : ℕ) (found : CheckedNode) (before after : List ℕ) (tasks : List PrintTask)
     → slice_get list.nodes i ≡ Some found → found.kind ≡ NodeKind.It → after ≡ before ++ codes "$it"
-    → WritesNode list i [] before after parts parts
-it_written list i found before after parts at is added =
-    whole_written list i (codes "$it") before after parts added (λ tree there. it_there list i found tree at is there)
+    → WritesNode list i [] before after tasks tasks
+it_written list i found before after tasks at is added =
+    whole_written list i (codes "$it") before after tasks added (λ tree there. it_there list i found tree at is there)
 
-pub name_written : (list : FlatTree) (i : ℕ) (found : CheckedNode) (before after : List ℕ) (parts : List Part)
+pub name_written : (list : FlatTree) (i : ℕ) (found : CheckedNode) (before after : List ℕ) (tasks : List PrintTask)
     → slice_get list.nodes i ≡ Some found → IsNamed found.kind → IsTextAdded list i before after
-    → WritesNode list i [] before after parts parts
-name_written list i found before after parts at named text =
-    whole_written list i text.spelling before after parts text.added
+    → WritesNode list i [] before after tasks tasks
+name_written list i found before after tasks at named text =
+    whole_written list i text.spelling before after tasks text.added
     (λ tree there. name_there list i found text.spelling tree at named text.beside there)
 
 -- an operand's tree stands there

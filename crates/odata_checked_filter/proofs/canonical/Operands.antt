@@ -13,14 +13,14 @@ use Rattle.odata_syntax.specs.declared.node.LiteralKind.{LiteralKind}
 use Rattle.odata_signatures.specs.declared.function.Function.{Function}
 use Rattle.csdl_schema.specs.SchemaModel.{SchemaModel}
 use Rattle.odata_signatures.specs.Typed.{Scope, with_variable}
-use Rattle.odata_checked_filter.specs.declared.canonical_text.Part.{Part}
-use Rattle.odata_checked_filter.specs.declared.canonical_text.Part.TheVariants.{Close, Joint}
+use Rattle.odata_checked_filter.specs.declared.canonical_text.PrintTask.{PrintTask}
+use Rattle.odata_checked_filter.specs.declared.canonical_text.PrintTask.TheVariants.{Close, Joint}
 use Rattle.odata_checked_filter.specs.declared.checked_node.CheckedNode.{CheckedNode}
 use Rattle.odata_checked_filter.specs.declared.checked_node.NodeKind.{NodeKind}
 use Rattle.odata_checked_filter.specs.FlatTree.{FlatTree}
 use Rattle.odata_checked_filter.specs.private.Layout.{AllLie, Lies}
 use Rattle.odata_checked_filter.specs.Stands.{text_of_shape}
-use Rattle.odata_checked_filter.specs.private.CanonicalWalk.{HasTreeAt, IsJointAt, StandsThere, WritesNode, arguments_of, behind_kind, node_weight, operand, operand_of, plain, stop_at}
+use Rattle.odata_checked_filter.specs.private.CanonicalText.{HasTreeAt, IsJointAt, StandsThere, WritesNode, arguments_of, behind_kind, node_weight, operand, operand_of, plain, stop_at}
 use Rattle.odata_checked_filter.specs.private.KindTexts.{IsJoining, first_level, joint_text, quantifier_joint}
 use Rattle.odata_checked_filter.proofs.flat.Children.{body_there, one_there, two_there}
 use Rattle.odata_checked_filter.proofs.flat.Standing.{lie_onward, lies_nonempty}
@@ -265,10 +265,10 @@ lambda_joins : (list : FlatTree) (i start stop : ℕ) (quantifier : Quantifier) 
     → StandsThere list i (node start stop (lambda quantifier base variable body))
     → Joins list i (node start stop (lambda quantifier base variable body)) 0 (Close ∷ operand_of (stop_at list (i + 1)) 0)
 lambda_joins list i start stop quantifier base variable body joint there =
-    let parts = body_there there.schema there.filtered there.scope list (i + 1) there.stop base variable body there.stands.children in
-    let binds = parts.right in
+    let tasks = body_there there.schema there.filtered there.scope list (i + 1) there.stop base variable body there.stands.children in
+    let binds = tasks.right in
     let both = both_there list i (node start stop (lambda quantifier base variable body)) base body there
-    (with_variable there.scope variable (single binds.member_type)) parts.middle parts.left binds.body in
+    (with_variable there.scope variable (single binds.member_type)) tasks.middle tasks.left binds.body in
     record {
       first = base;
       there = both.first;
@@ -357,11 +357,11 @@ module _ (list : FlatTree) (i : ℕ) (found : CheckedNode) (at : slice_get list.
       (joint_here list i found (NodeKind.Lambda quantifier) start stop (lambda quantifier m.0 m.1 m.2) at is tt here) here) there
   joins _ tree is joining there = absurd joining
 
-  pub joined_written : (text : List ℕ) (parts new : List Part) → HasTreeAt list i → IsJoining found.kind
-      → new ≡ parts ++ (behind_kind list found.kind (stop_at list (i + 1)) (stop_at list i) ++ Joint i ∷ [])
-      → WritesNode list i (operand_of (i + 1) (first_level found.kind)) text text parts new
-  joined_written text parts new tree joining pushed =
-      joins_written list i (first_level found.kind) (behind_kind list found.kind (stop_at list (i + 1)) (stop_at list i)) text parts new
+  pub joined_written : (text : List ℕ) (tasks new : List PrintTask) → HasTreeAt list i → IsJoining found.kind
+      → new ≡ tasks ++ (behind_kind list found.kind (stop_at list (i + 1)) (stop_at list i) ++ Joint i ∷ [])
+      → WritesNode list i (operand_of (i + 1) (first_level found.kind)) text text tasks new
+  joined_written text tasks new tree joining pushed =
+      joins_written list i (first_level found.kind) (behind_kind list found.kind (stop_at list (i + 1)) (stop_at list i)) text tasks new
       (λ t there. joins found.kind t refl joining there) tree.0 tree.1 pushed
 
   -- the first operand is there

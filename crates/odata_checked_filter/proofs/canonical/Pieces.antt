@@ -5,11 +5,11 @@ use Rattle.std.specs.Option.{option_to_list}
 use Rattle.std.proofs.lemmas.List.Sums.{sum_by-append}
 use Rattle.odata_syntax.specs.CanonicalText.{IsCanonicalText, tree_level, tree_text}
 use Rattle.odata_syntax.specs.Tree.{Tree}
-use Rattle.odata_checked_filter.specs.declared.canonical_text.Part.{Part}
-use Rattle.odata_checked_filter.specs.declared.canonical_text.Part.TheVariants.{Close, Joint, Operand}
+use Rattle.odata_checked_filter.specs.declared.canonical_text.PrintTask.{PrintTask}
+use Rattle.odata_checked_filter.specs.declared.canonical_text.PrintTask.TheVariants.{Close, Joint, Operand}
 use Rattle.odata_checked_filter.specs.declared.checked_node.CheckedNode.{CheckedNode}
 use Rattle.odata_checked_filter.specs.FlatTree.{FlatTree}
-use Rattle.odata_checked_filter.specs.private.CanonicalWalk.{ArePieceTexts, ArePiecesOf, GoesOn, IsBehind, IsJointAt, IsPending, IsPieceOf, IsPieceText, Piece, StandsThere, WritesPart, behind_of, further, operand, part_weight, plain, spread, weight}
+use Rattle.odata_checked_filter.specs.private.CanonicalText.{ArePieceTexts, ArePiecesOf, GoesOn, IsBehind, IsJointAt, IsPending, IsPieceOf, IsPieceText, Piece, StandsThere, WritesTask, behind_of, further, operand, task_weight, plain, spread, weight}
 use Rattle.odata_checked_filter.specs.private.KindTexts.{joint_text}
 use Rattle.odata_checked_filter.proofs.canonical.Leaves.{below, ungrouped}
 use Rattle.odata_checked_filter.proofs.canonical.Spreads.{on_stack}
@@ -17,14 +17,14 @@ use Rattle.odata_checked_filter.proofs.flat.Places.{found_before, same_found}
 
 -- ---- pieces of two lists of parts
 
-record Parted (list : FlatTree) (xs ys : List Part) (pieces : List Piece) : Type 0 where
+record Parted (list : FlatTree) (xs ys : List PrintTask) (pieces : List Piece) : Type 0 where
   front : List Piece
   back : List Piece
   are_front : ArePiecesOf list xs front
   are_back : ArePiecesOf list ys back
   whole : pieces ≡ front ++ back
 
-parted : (list : FlatTree) (xs ys : List Part) (pieces : List Piece) → ArePiecesOf list (xs ++ ys) pieces → Parted list xs ys pieces
+parted : (list : FlatTree) (xs ys : List PrintTask) (pieces : List Piece) → ArePiecesOf list (xs ++ ys) pieces → Parted list xs ys pieces
 parted list [] ys pieces are = record { front = []; back = pieces; are_front = tt; are_back = are; whole = refl }
 parted list (x ∷ xs) ys [] are = absurd are
 parted list (x ∷ xs) ys (piece ∷ pieces) are =
@@ -37,22 +37,22 @@ parted list (x ∷ xs) ys (piece ∷ pieces) are =
       whole = ap (λ (ps : List Piece). piece ∷ ps) rest.whole;
     }
 
-pub joined : (list : FlatTree) (xs ys : List Part) (ps qs : List Piece) → ArePiecesOf list xs ps → ArePiecesOf list ys qs → ArePiecesOf list (xs ++ ys) (ps ++ qs)
+pub joined : (list : FlatTree) (xs ys : List PrintTask) (ps qs : List Piece) → ArePiecesOf list xs ps → ArePiecesOf list ys qs → ArePiecesOf list (xs ++ ys) (ps ++ qs)
 joined list [] ys [] qs first second = second
 joined list [] ys (p ∷ ps) qs first second = absurd first
 joined list (x ∷ xs) ys [] qs first second = absurd first
 joined list (x ∷ xs) ys (p ∷ ps) qs first second = (first.0, joined list xs ys ps qs first.1 second)
 
 -- the piece of one part
-record IsOnePiece (list : FlatTree) (part : Part) (pieces : List Piece) : Type 0 where
+record IsOnePiece (list : FlatTree) (task : PrintTask) (pieces : List Piece) : Type 0 where
   piece : Piece
-  is : IsPieceOf list part piece
+  is : IsPieceOf list task piece
   alone : pieces ≡ piece ∷ []
 
-one_piece : (list : FlatTree) (part : Part) (pieces : List Piece) → ArePiecesOf list (part ∷ []) pieces → IsOnePiece list part pieces
-one_piece list part [] are = absurd are
-one_piece list part (p ∷ []) are = record { piece = p; is = are.0; alone = refl }
-one_piece list part (p ∷ q ∷ ps) are = absurd are.1
+one_piece : (list : FlatTree) (task : PrintTask) (pieces : List Piece) → ArePiecesOf list (task ∷ []) pieces → IsOnePiece list task pieces
+one_piece list task [] are = absurd are
+one_piece list task (p ∷ []) are = record { piece = p; is = are.0; alone = refl }
+one_piece list task (p ∷ q ∷ ps) are = absurd are.1
 
 -- ---- their texts
 
@@ -85,26 +85,26 @@ regrouped a b c d = simp append_assoc
 
 -- ---- a step
 
-pub has_piece : (list : FlatTree) (W : List ℕ → Type 0) (text : List ℕ) (parts : List Part) (part : Part)
-    → GoesOn list (parts ++ part ∷ []) text W → (piece : Piece) × IsPieceOf list part piece
-has_piece list W text parts part pending =
-    let halves = parted list parts (part ∷ []) pending.pieces pending.are in
-    let one = one_piece list part halves.back halves.are_back in
+pub has_piece : (list : FlatTree) (W : List ℕ → Type 0) (text : List ℕ) (tasks : List PrintTask) (task : PrintTask)
+    → GoesOn list (tasks ++ task ∷ []) text W → (piece : Piece) × IsPieceOf list task piece
+has_piece list W text tasks task pending =
+    let halves = parted list tasks (task ∷ []) pending.pieces pending.are in
+    let one = one_piece list task halves.back halves.are_back in
     (one.piece, one.is)
 
 -- the last part was written, or its beginning, and others stand for the rest
-pub step_on : (list : FlatTree) (W : List ℕ → Type 0) (text after added : List ℕ) (parts more : List Part) (part : Part)
-    → GoesOn list (parts ++ part ∷ []) text W
-    → ((piece : Piece) → IsPieceOf list part piece → GoesOn list more added (IsPieceText piece))
-    → after ≡ text ++ added → GoesOn list (parts ++ more) after W
-step_on list W text after added parts more part pending goes_on written =
-    let halves = parted list parts (part ∷ []) pending.pieces pending.are in
-    let one = one_piece list part halves.back halves.are_back in
+pub step_on : (list : FlatTree) (W : List ℕ → Type 0) (text after added : List ℕ) (tasks more : List PrintTask) (task : PrintTask)
+    → GoesOn list (tasks ++ task ∷ []) text W
+    → ((piece : Piece) → IsPieceOf list task piece → GoesOn list more added (IsPieceText piece))
+    → after ≡ text ++ added → GoesOn list (tasks ++ more) after W
+step_on list W text after added tasks more task pending goes_on written =
+    let halves = parted list tasks (task ∷ []) pending.pieces pending.are in
+    let one = one_piece list task halves.back halves.are_back in
     let goes = goes_on one.piece one.is in
     let before : pending.pieces ≡ halves.front ++ one.piece ∷ [] = halves.whole ∙ ap (λ (ps : List Piece). halves.front ++ ps) one.alone in
     record {
       pieces = halves.front ++ goes.pieces;
-      are = joined list parts more halves.front goes.pieces halves.are_front goes.are;
+      are = joined list tasks more halves.front goes.pieces halves.are_front goes.are;
       whole = λ rest are.
           let cut = split_texts halves.front goes.pieces rest are in
           let single : ArePieceTexts (one.piece ∷ []) (added ++ cut.front) =
@@ -118,22 +118,22 @@ step_on list W text after added parts more part pending goes_on written =
           (subst (λ (ps : List Piece). ArePieceTexts ps ((added ++ cut.front) ++ cut.back)) (sym before) all));
     }
 
-pub step : (list : FlatTree) (tree : Tree) (text after : List ℕ) (parts new : List Part) (part : Part)
-    → IsPending list tree text (parts ++ part ∷ []) → WritesPart list part [] text after parts new → IsPending list tree after new
-step list tree text after parts new part pending writes =
-    subst (λ (ps : List Part). IsPending list tree after ps) (sym writes.pushed)
-    (step_on list (IsCanonicalText tree) text after writes.text parts writes.parts part pending
-    (λ piece of. subst (λ (ps : List Part). GoesOn list ps writes.text (IsPieceText piece)) (append-nil writes.parts) (writes.goes_on piece of))
+pub step : (list : FlatTree) (tree : Tree) (text after : List ℕ) (tasks new : List PrintTask) (task : PrintTask)
+    → IsPending list tree text (tasks ++ task ∷ []) → WritesTask list task [] text after tasks new → IsPending list tree after new
+step list tree text after tasks new task pending writes =
+    subst (λ (ps : List PrintTask). IsPending list tree after ps) (sym writes.pushed)
+    (step_on list (IsCanonicalText tree) text after writes.text tasks writes.tasks task pending
+    (λ piece of. subst (λ (ps : List PrintTask). GoesOn list ps writes.text (IsPieceText piece)) (append-nil writes.tasks) (writes.goes_on piece of))
     writes.written)
 
-lighter_now : (list : FlatTree) (text after : List ℕ) (parts new : List Part) (part : Part)
-    → WritesPart list part [] text after parts new → weight list new < weight list (parts ++ part ∷ [])
-lighter_now list text after parts new part writes =
-    let now : weight list new ≡ weight list parts + weight list writes.parts =
-    ap (weight list) writes.pushed ∙ sum_by-append (part_weight list) parts writes.parts in
-    let then : weight list (parts ++ part ∷ []) ≡ weight list parts + weight list (part ∷ []) =
-    sum_by-append (part_weight list) parts (part ∷ []) in
-    let rest : weight list (writes.parts ++ []) ≡ weight list writes.parts = ap (weight list) (append-nil writes.parts) in
+lighter_now : (list : FlatTree) (text after : List ℕ) (tasks new : List PrintTask) (task : PrintTask)
+    → WritesTask list task [] text after tasks new → weight list new < weight list (tasks ++ task ∷ [])
+lighter_now list text after tasks new task writes =
+    let now : weight list new ≡ weight list tasks + weight list writes.tasks =
+    ap (weight list) writes.pushed ∙ sum_by-append (task_weight list) tasks writes.tasks in
+    let then : weight list (tasks ++ task ∷ []) ≡ weight list tasks + weight list (task ∷ []) =
+    sum_by-append (task_weight list) tasks (task ∷ []) in
+    let rest : weight list (writes.tasks ++ []) ≡ weight list writes.tasks = ap (weight list) (append-nil writes.tasks) in
     omega (arith, writes.lighter, now, then, rest)
 
 -- ---- the first part and the last
@@ -163,12 +163,12 @@ at_end list tree text pending = end_with list tree text pending.pieces pending.a
 -- ---- texts as they are
 
 -- a part was written whole
-plain_part : (list : FlatTree) (part : Part) (text before after : List ℕ) (parts : List Part)
-    → 0 < part_weight list part → after ≡ before ++ text → ((piece : Piece) → IsPieceOf list part piece → IsPieceText piece text)
-    → WritesPart list part [] before after parts parts
-plain_part list part text before after parts heavy written is = record {
-  parts = [];
-  pushed = sym (append-nil parts);
+plain_task : (list : FlatTree) (task : PrintTask) (text before after : List ℕ) (tasks : List PrintTask)
+    → 0 < task_weight list task → after ≡ before ++ text → ((piece : Piece) → IsPieceOf list task piece → IsPieceText piece text)
+    → WritesTask list task [] before after tasks tasks
+plain_task list task text before after tasks heavy written is = record {
+  tasks = [];
+  pushed = sym (append-nil tasks);
   lighter = heavy;
   text = text;
   written = written;
@@ -184,9 +184,9 @@ close_text list (plain text) is = sym is
 close_text list (further trees) is = absurd is
 close_text list (operand level tree) is = absurd is
 
-pub close_part : (list : FlatTree) (before after : List ℕ) (parts : List Part)
-    → after ≡ before ++ 41 ∷ [] → WritesPart list Close [] before after parts parts
-close_part list before after parts written = plain_part list Close (41 ∷ []) before after parts (omega arith) written (close_text list)
+pub close_task : (list : FlatTree) (before after : List ℕ) (tasks : List PrintTask)
+    → after ≡ before ++ 41 ∷ [] → WritesTask list Close [] before after tasks tasks
+close_task list before after tasks written = plain_task list Close (41 ∷ []) before after tasks (omega arith) written (close_text list)
 
 -- the node of a joint is there
 pub joint_there : (list : FlatTree) (i : ℕ) (piece : Piece) → IsPieceOf list (Joint i) piece → i < length list.nodes
@@ -207,44 +207,44 @@ joint_is list i found beside at text_at (plain text) is = joint_same list i foun
 joint_is list i found beside at text_at (further trees) is = absurd is
 joint_is list i found beside at text_at (operand level tree) is = absurd is
 
-pub joint_part : (list : FlatTree) (i : ℕ) (found : CheckedNode) (beside before after : List ℕ) (parts : List Part)
+pub joint_task : (list : FlatTree) (i : ℕ) (found : CheckedNode) (beside before after : List ℕ) (tasks : List PrintTask)
     → slice_get list.nodes i ≡ Some found → slice_get list.texts i ≡ Some beside → after ≡ before ++ joint_text found.kind beside
-    → WritesPart list (Joint i) [] before after parts parts
-joint_part list i found beside before after parts at text_at written =
-    plain_part list (Joint i) (joint_text found.kind beside) before after parts (omega arith) written (joint_is list i found beside at text_at)
+    → WritesTask list (Joint i) [] before after tasks tasks
+joint_task list i found beside before after tasks at text_at written =
+    plain_task list (Joint i) (joint_text found.kind beside) before after tasks (omega arith) written (joint_is list i found beside at text_at)
 
 -- ---- what the stack holds
 
-pub begun : (list : FlatTree) (tree : Tree) (text : List ℕ) (parts : List Part)
-    → StandsThere list 0 tree → text ≡ [] → parts ≡ Operand 0 0 ∷ [] → IsPending list tree text (spread list parts)
-begun list tree text parts there empty one =
-    subst (λ (t : List ℕ). IsPending list tree t (spread list parts)) (sym empty)
-    (subst (λ (ps : List Part). IsPending list tree [] (spread list ps)) (sym one) (at_start list tree there))
+pub begun : (list : FlatTree) (tree : Tree) (text : List ℕ) (tasks : List PrintTask)
+    → StandsThere list 0 tree → text ≡ [] → tasks ≡ Operand 0 0 ∷ [] → IsPending list tree text (spread list tasks)
+begun list tree text tasks there empty one =
+    subst (λ (t : List ℕ). IsPending list tree t (spread list tasks)) (sym empty)
+    (subst (λ (ps : List PrintTask). IsPending list tree [] (spread list ps)) (sym one) (at_start list tree there))
 
-pub on_top : (list : FlatTree) (tree : Tree) (text : List ℕ) (all parts : List Part) (part : Part)
-    → all ≡ parts ++ part ∷ [] → IsPending list tree text (spread list all)
-    → IsPending list tree text ((spread list parts ++ behind_of list part) ++ part ∷ [])
-on_top list tree text all parts part same pending =
-    subst (λ (ps : List Part). IsPending list tree text ps) (on_stack list all parts part same) pending
+pub on_top : (list : FlatTree) (tree : Tree) (text : List ℕ) (all tasks : List PrintTask) (task : PrintTask)
+    → all ≡ tasks ++ task ∷ [] → IsPending list tree text (spread list all)
+    → IsPending list tree text ((spread list tasks ++ behind_of list task) ++ task ∷ [])
+on_top list tree text all tasks task same pending =
+    subst (λ (ps : List PrintTask). IsPending list tree text ps) (on_stack list all tasks task same) pending
 
-pub lighter_than : (list : FlatTree) (text after : List ℕ) (all parts new : List Part) (part : Part)
-    → all ≡ parts ++ part ∷ [] → WritesPart list part [] text after (spread list parts ++ behind_of list part) new
+pub lighter_than : (list : FlatTree) (text after : List ℕ) (all tasks new : List PrintTask) (task : PrintTask)
+    → all ≡ tasks ++ task ∷ [] → WritesTask list task [] text after (spread list tasks ++ behind_of list task) new
     → weight list new < weight list (spread list all)
-lighter_than list text after all parts new part same writes =
-    subst (λ (ps : List Part). weight list new < weight list ps) (sym (on_stack list all parts part same))
-    (lighter_now list text after (spread list parts ++ behind_of list part) new part writes)
+lighter_than list text after all tasks new task same writes =
+    subst (λ (ps : List PrintTask). weight list new < weight list ps) (sym (on_stack list all tasks task same))
+    (lighter_now list text after (spread list tasks ++ behind_of list task) new task writes)
 
-emptied : (o : Option Part) (all new : List Part) (n m : ℕ) → o ≡ None → all ≡ new ++ option_to_list o
+emptied : (o : Option PrintTask) (all new : List PrintTask) (n m : ℕ) → o ≡ None → all ≡ new ++ option_to_list o
     → MatchOption o ((n ≡ 0) × (m ≡ 0)) (λ _. m + 1 ≡ n) → new ≡ take (n - 1) all → all ≡ []
 emptied None all new n m is items cases rest =
     let zero : n ≡ 0 = cases.0 in
     let before : n - 1 ≡ 0 = omega arith in
     let none : new ≡ [] = rest ∙ ap (λ (k : ℕ). take k all) before in
-    items ∙ ap (λ (xs : List Part). xs ++ []) none
+    items ∙ ap (λ (xs : List PrintTask). xs ++ []) none
 emptied (Some x) all new n m is items cases rest = cc
 
-pub ended : (list : FlatTree) (tree : Tree) (text : List ℕ) (o : Option Part) (all new : List Part) (n m : ℕ)
+pub ended : (list : FlatTree) (tree : Tree) (text : List ℕ) (o : Option PrintTask) (all new : List PrintTask) (n m : ℕ)
     → o ≡ None → all ≡ new ++ option_to_list o → MatchOption o ((n ≡ 0) × (m ≡ 0)) (λ _. m + 1 ≡ n) → new ≡ take (n - 1) all
     → IsPending list tree text (spread list all) → IsCanonicalText tree text
 ended list tree text o all new n m is items cases rest pending =
-    at_end list tree text (subst (λ (ps : List Part). IsPending list tree text (spread list ps)) (emptied o all new n m is items cases rest) pending)
+    at_end list tree text (subst (λ (ps : List PrintTask). IsPending list tree text (spread list ps)) (emptied o all new n m is items cases rest) pending)

@@ -5,12 +5,12 @@ use Rattle.odata_syntax.specs.CanonicalText.{IsCanonicalText, grouped, shape_tex
 use Rattle.odata_syntax.specs.Grammar.{unary_level}
 use Rattle.odata_syntax.specs.NormalForm.{IsNormalForm, IsNormalShape}
 use Rattle.odata_syntax.specs.Tree.{Shape, Tree, logical_not, negation, node}
-use Rattle.odata_checked_filter.specs.declared.canonical_text.Part.{Part}
+use Rattle.odata_checked_filter.specs.declared.canonical_text.PrintTask.{PrintTask}
 use Rattle.odata_checked_filter.specs.declared.checked_node.CheckedNode.{CheckedNode}
 use Rattle.odata_checked_filter.specs.declared.checked_node.NodeKind.{NodeKind}
 use Rattle.odata_checked_filter.specs.FlatTree.{FlatTree}
 use Rattle.odata_checked_filter.specs.private.Layout.{Lies}
-use Rattle.odata_checked_filter.specs.private.CanonicalWalk.{GoesOn, HasTreeAt, StandsThere, WritesNode, node_weight, operand, operand_of, stop_at}
+use Rattle.odata_checked_filter.specs.private.CanonicalText.{GoesOn, HasTreeAt, StandsThere, WritesNode, node_weight, operand, operand_of, stop_at}
 use Rattle.odata_checked_filter.proofs.flat.Children.{one_there}
 use Rattle.odata_checked_filter.proofs.flat.Standing.{lies_nonempty}
 use Rattle.odata_checked_filter.proofs.canonical.Kinds.{Matches, shape_there}
@@ -100,27 +100,27 @@ module _ (list : FlatTree) (i : ℕ) (found : CheckedNode) (kind : NodeKind) (at
       let child = signs.child list i start stop s.0 (subst P s.1 there) in
       child.lighter
 
-  sign_written : (before after : List ℕ) (parts : List Part) → HasTreeAt list i → after ≡ before ++ sign
-      → WritesNode list i (operand_of (i + 1) unary_level) before after parts parts
-  sign_written before after parts has written =
+  sign_written : (before after : List ℕ) (tasks : List PrintTask) → HasTreeAt list i → after ≡ before ++ sign
+      → WritesNode list i (operand_of (i + 1) unary_level) before after tasks tasks
+  sign_written before after tasks has written =
       let lighter : node_weight list (i + 1) + 3 < node_weight list i = light has.0 has.1 in
       record {
-        parts = [];
-        pushed = sym (append-nil parts);
+        tasks = [];
+        pushed = sym (append-nil tasks);
         lighter = omega (arith, lighter);
         text = sign;
         written = written;
         goes_on = goes_at;
       }
 
-pub neg_written : (list : FlatTree) (i : ℕ) (found : CheckedNode) (before after : List ℕ) (parts : List Part)
+pub neg_written : (list : FlatTree) (i : ℕ) (found : CheckedNode) (before after : List ℕ) (tasks : List PrintTask)
     → slice_get list.nodes i ≡ Some found → found.kind ≡ NodeKind.Neg → HasTreeAt list i → after ≡ before ++ codes "- "
-    → WritesNode list i (operand_of (i + 1) unary_level) before after parts parts
-neg_written list i found before after parts at is has written =
-    sign_written list i found NodeKind.Neg at is (codes "- ") negation negation_sign (λ shape m. (m.0, m.1)) before after parts has written
+    → WritesNode list i (operand_of (i + 1) unary_level) before after tasks tasks
+neg_written list i found before after tasks at is has written =
+    sign_written list i found NodeKind.Neg at is (codes "- ") negation negation_sign (λ shape m. (m.0, m.1)) before after tasks has written
 
-pub not_written : (list : FlatTree) (i : ℕ) (found : CheckedNode) (before after : List ℕ) (parts : List Part)
+pub not_written : (list : FlatTree) (i : ℕ) (found : CheckedNode) (before after : List ℕ) (tasks : List PrintTask)
     → slice_get list.nodes i ≡ Some found → found.kind ≡ NodeKind.Not → HasTreeAt list i → after ≡ before ++ codes "not "
-    → WritesNode list i (operand_of (i + 1) unary_level) before after parts parts
-not_written list i found before after parts at is has written =
-    sign_written list i found NodeKind.Not at is (codes "not ") logical_not not_sign (λ shape m. (m.0, m.1)) before after parts has written
+    → WritesNode list i (operand_of (i + 1) unary_level) before after tasks tasks
+not_written list i found before after tasks at is has written =
+    sign_written list i found NodeKind.Not at is (codes "not ") logical_not not_sign (λ shape m. (m.0, m.1)) before after tasks has written

@@ -12,22 +12,22 @@ use Rattle.odata_checked_filter.specs.private.Layout.{AllLie, ChildrenLie, Lies,
 use Rattle.odata_checked_filter.specs.Stands.{IsTop}
 use Rattle.odata_signatures.specs.Typed.{Scope, with_variable}
 use Rattle.csdl_schema.specs.ExprType.{single}
-use Rattle.odata_checked_filter.specs.private.ExplanationWalk.{still_around}
+use Rattle.odata_checked_filter.specs.private.Explanation.{still_around}
 use Rattle.odata_checked_filter.proofs.flat.Children.{body_there, one_there, two_there}
 use Rattle.odata_checked_filter.proofs.flat.Places.{drop_at}
 use Rattle.odata_checked_filter.proofs.flat.Standing.{lie_onward, lies_nonempty}
 
 -- the depths that the walk reports of nodes from an index on, by where those before them stop
-abbrev pub told_depths : ℕ → List CheckedNode → List ℕ → List ℕ
-told_depths place [] stops = []
-told_depths place (found ∷ rest) stops =
-    length (still_around place stops) ∷ told_depths (place + 1) rest (still_around place stops ++ found.stop ∷ [])
+abbrev pub reported_depths : ℕ → List CheckedNode → List ℕ → List ℕ
+reported_depths place [] stops = []
+reported_depths place (found ∷ rest) stops =
+    length (still_around place stops) ∷ reported_depths (place + 1) rest (still_around place stops ++ found.stop ∷ [])
 
 -- what stops there no longer counts
-told_alike : (place : ℕ) (nodes : List CheckedNode) (stops others : List ℕ) → still_around place stops ≡ still_around place others → told_depths place nodes stops ≡ told_depths place nodes others
-told_alike place [] stops others same = refl
-told_alike place (found ∷ rest) stops others same =
-    ap (λ (around : List ℕ). length around ∷ told_depths (place + 1) rest (around ++ found.stop ∷ [])) same
+reported_alike : (place : ℕ) (nodes : List CheckedNode) (stops others : List ℕ) → still_around place stops ≡ still_around place others → reported_depths place nodes stops ≡ reported_depths place nodes others
+reported_alike place [] stops others same = refl
+reported_alike place (found ∷ rest) stops others same =
+    ap (λ (around : List ℕ). length around ∷ reported_depths (place + 1) rest (around ++ found.stop ∷ [])) same
 
 -- none of these stops before that
 abbrev pub StopBehind : ℕ → List ℕ → Type 0
@@ -69,120 +69,120 @@ one_longer : (stops : List ℕ) (j : ℕ) → length (stops ++ j ∷ []) ≡ len
 one_longer stops j = length-append stops (j ∷ [])
 
 -- a node at its place, and what is reported after it
-top_told :
+top_reported :
     (schema : SchemaModel) (n : ℕ) (scope : Scope) (list : FlatTree) (i j start stop : ℕ) (shape : Shape) (stops : List ℕ)
     → IsTop schema n scope list i j start stop shape OfAnyValue
     → i < j
     → StopBehind j stops
-    → told_depths i (drop i list.nodes) stops ≡ length stops ∷ told_depths (i + 1) (drop (i + 1) list.nodes) (stops ++ j ∷ [])
-top_told schema n scope list i j start stop shape stops top before all =
-    ap (λ (nodes : List CheckedNode). told_depths i nodes stops) (drop_at list.nodes i top.found top.stands_at)
-    ∙ ap (λ (around : List ℕ). length around ∷ told_depths (i + 1) (drop (i + 1) list.nodes) (around ++ top.found.stop ∷ [])) (all_around i j stops before all)
-    ∙ ap (λ (last : ℕ). length stops ∷ told_depths (i + 1) (drop (i + 1) list.nodes) (stops ++ last ∷ [])) top.last
+    → reported_depths i (drop i list.nodes) stops ≡ length stops ∷ reported_depths (i + 1) (drop (i + 1) list.nodes) (stops ++ j ∷ [])
+top_reported schema n scope list i j start stop shape stops top before all =
+    ap (λ (nodes : List CheckedNode). reported_depths i nodes stops) (drop_at list.nodes i top.found top.stands_at)
+    ∙ ap (λ (around : List ℕ). length around ∷ reported_depths (i + 1) (drop (i + 1) list.nodes) (around ++ top.found.stop ∷ [])) (all_around i j stops before all)
+    ∙ ap (λ (last : ℕ). length stops ∷ reported_depths (i + 1) (drop (i + 1) list.nodes) (stops ++ last ∷ [])) top.last
 
 -- where its children have been reported, the node has
 closed :
     (list : FlatTree) (i j : ℕ) (stops below : List ℕ)
-    → told_depths i (drop i list.nodes) stops ≡ length stops ∷ told_depths (i + 1) (drop (i + 1) list.nodes) (stops ++ j ∷ [])
-    → told_depths (i + 1) (drop (i + 1) list.nodes) (stops ++ j ∷ []) ≡ below ++ told_depths j (drop j list.nodes) (stops ++ j ∷ [])
-    → told_depths i (drop i list.nodes) stops ≡ (length stops ∷ below) ++ told_depths j (drop j list.nodes) stops
+    → reported_depths i (drop i list.nodes) stops ≡ length stops ∷ reported_depths (i + 1) (drop (i + 1) list.nodes) (stops ++ j ∷ [])
+    → reported_depths (i + 1) (drop (i + 1) list.nodes) (stops ++ j ∷ []) ≡ below ++ reported_depths j (drop j list.nodes) (stops ++ j ∷ [])
+    → reported_depths i (drop i list.nodes) stops ≡ (length stops ∷ below) ++ reported_depths j (drop j list.nodes) stops
 closed list i j stops below first rest =
     first
     ∙ ap (λ (xs : List ℕ). length stops ∷ xs)
-    (rest ∙ ap (λ (xs : List ℕ). below ++ xs) (told_alike j (drop j list.nodes) (stops ++ j ∷ []) stops (passed j stops)))
+    (rest ∙ ap (λ (xs : List ℕ). below ++ xs) (reported_alike j (drop j list.nodes) (stops ++ j ∷ []) stops (passed j stops)))
 
 -- what is reported of two parts, one after the other
-both_told :
+both_reported :
     (list : FlatTree) (i m j : ℕ) (stops first second : List ℕ)
-    → told_depths i (drop i list.nodes) stops ≡ first ++ told_depths m (drop m list.nodes) stops
-    → told_depths m (drop m list.nodes) stops ≡ second ++ told_depths j (drop j list.nodes) stops
-    → told_depths i (drop i list.nodes) stops ≡ (first ++ second) ++ told_depths j (drop j list.nodes) stops
-both_told list i m j stops first second here behind =
-    here ∙ ap (λ (xs : List ℕ). first ++ xs) behind ∙ sym (append_assoc first second (told_depths j (drop j list.nodes) stops))
+    → reported_depths i (drop i list.nodes) stops ≡ first ++ reported_depths m (drop m list.nodes) stops
+    → reported_depths m (drop m list.nodes) stops ≡ second ++ reported_depths j (drop j list.nodes) stops
+    → reported_depths i (drop i list.nodes) stops ≡ (first ++ second) ++ reported_depths j (drop j list.nodes) stops
+both_reported list i m j stops first second here behind =
+    here ∙ ap (λ (xs : List ℕ). first ++ xs) behind ∙ sym (append_assoc first second (reported_depths j (drop j list.nodes) stops))
 
 -- the nodes of a tree are reported its depths, and then those after it
 mutual
-  pub tree_told :
+  pub tree_reported :
       (schema : SchemaModel) (n : ℕ) (scope : Scope) (list : FlatTree) (i j : ℕ) (tree : Tree) (stops : List ℕ)
       → Lies schema n scope list i j tree
       → StopBehind j stops
-      → told_depths i (drop i list.nodes) stops ≡ depths (length stops) tree ++ told_depths j (drop j list.nodes) stops
-  tree_told schema n scope list i j (node start stop shape) stops stands all =
+      → reported_depths i (drop i list.nodes) stops ≡ depths (length stops) tree ++ reported_depths j (drop j list.nodes) stops
+  tree_reported schema n scope list i j (node start stop shape) stops stands all =
       closed list i j stops (depths_below (length stops + 1) shape)
-      (top_told schema n scope list i j start stop shape stops stands.top (lies_nonempty schema n scope list i j (node start stop shape) stands) all)
-      (below_told schema n scope list (i + 1) j shape (stops ++ j ∷ []) (length stops + 1) (one_longer stops j) stands.children (one_more j stops all))
+      (top_reported schema n scope list i j start stop shape stops stands.top (lies_nonempty schema n scope list i j (node start stop shape) stands) all)
+      (below_reported schema n scope list (i + 1) j shape (stops ++ j ∷ []) (length stops + 1) (one_longer stops j) stands.children (one_more j stops all))
 
-  below_told :
+  below_reported :
       (schema : SchemaModel) (n : ℕ) (scope : Scope) (list : FlatTree) (i j : ℕ) (shape : Shape) (stops : List ℕ) (around : ℕ)
       → length stops ≡ around
       → ChildrenLie schema n scope list i j shape
       → StopBehind j stops
-      → told_depths i (drop i list.nodes) stops ≡ depths_below around shape ++ told_depths j (drop j list.nodes) stops
-  below_told schema n scope list i j (literal kind spelling) stops around deep stand all = ap (λ (k : ℕ). told_depths k (drop k list.nodes) stops) stand
-  below_told schema n scope list i j it stops around deep stand all = ap (λ (k : ℕ). told_depths k (drop k list.nodes) stops) stand
-  below_told schema n scope list i j (name asked) stops around deep stand all = ap (λ (k : ℕ). told_depths k (drop k list.nodes) stops) stand
-  below_told schema n scope list i j (member base asked) stops around deep stand all =
-      rw (← deep) (tree_told schema n scope list i j base stops (one_there schema n scope list i j base stand) all)
-  below_told schema n scope list i j (count base) stops around deep stand all =
-      rw (← deep) (tree_told schema n scope list i j base stops (one_there schema n scope list i j base stand) all)
-  below_told schema n scope list i j (any_item base) stops around deep stand all =
-      rw (← deep) (tree_told schema n scope list i j base stops (one_there schema n scope list i j base stand) all)
-  below_told schema n scope list i j (negation operand) stops around deep stand all =
-      rw (← deep) (tree_told schema n scope list i j operand stops (one_there schema n scope list i j operand stand) all)
-  below_told schema n scope list i j (logical_not operand) stops around deep stand all =
-      rw (← deep) (tree_told schema n scope list i j operand stops (one_there schema n scope list i j operand stand) all)
-  below_told schema n scope list i j (binary operator left right) stops around deep stands all =
+      → reported_depths i (drop i list.nodes) stops ≡ depths_below around shape ++ reported_depths j (drop j list.nodes) stops
+  below_reported schema n scope list i j (literal kind spelling) stops around deep stand all = ap (λ (k : ℕ). reported_depths k (drop k list.nodes) stops) stand
+  below_reported schema n scope list i j it stops around deep stand all = ap (λ (k : ℕ). reported_depths k (drop k list.nodes) stops) stand
+  below_reported schema n scope list i j (name asked) stops around deep stand all = ap (λ (k : ℕ). reported_depths k (drop k list.nodes) stops) stand
+  below_reported schema n scope list i j (member base asked) stops around deep stand all =
+      rw (← deep) (tree_reported schema n scope list i j base stops (one_there schema n scope list i j base stand) all)
+  below_reported schema n scope list i j (count base) stops around deep stand all =
+      rw (← deep) (tree_reported schema n scope list i j base stops (one_there schema n scope list i j base stand) all)
+  below_reported schema n scope list i j (any_item base) stops around deep stand all =
+      rw (← deep) (tree_reported schema n scope list i j base stops (one_there schema n scope list i j base stand) all)
+  below_reported schema n scope list i j (negation operand) stops around deep stand all =
+      rw (← deep) (tree_reported schema n scope list i j operand stops (one_there schema n scope list i j operand stand) all)
+  below_reported schema n scope list i j (logical_not operand) stops around deep stand all =
+      rw (← deep) (tree_reported schema n scope list i j operand stops (one_there schema n scope list i j operand stand) all)
+  below_reported schema n scope list i j (binary operator left right) stops around deep stands all =
       let stand = two_there schema n scope list i j left right stands in
       let m = stand.middle in
       let last : m < j = lies_nonempty schema n scope list m j right stand.right in
       rw (← deep)
-      (both_told list i m j stops (depths (length stops) left) (depths (length stops) right)
-      (tree_told schema n scope list i m left stops stand.left (earlier_too m j stops (omega arith) all))
-      (tree_told schema n scope list m j right stops stand.right all))
-  below_told schema n scope list i j (has left right) stops around deep stands all =
+      (both_reported list i m j stops (depths (length stops) left) (depths (length stops) right)
+      (tree_reported schema n scope list i m left stops stand.left (earlier_too m j stops (omega arith) all))
+      (tree_reported schema n scope list m j right stops stand.right all))
+  below_reported schema n scope list i j (has left right) stops around deep stands all =
       let stand = two_there schema n scope list i j left right stands in
       let m = stand.middle in
       let last : m < j = lies_nonempty schema n scope list m j right stand.right in
       rw (← deep)
-      (both_told list i m j stops (depths (length stops) left) (depths (length stops) right)
-      (tree_told schema n scope list i m left stops stand.left (earlier_too m j stops (omega arith) all))
-      (tree_told schema n scope list m j right stops stand.right all))
-  below_told schema n scope list i j (in_list left items) stops around deep stand all =
+      (both_reported list i m j stops (depths (length stops) left) (depths (length stops) right)
+      (tree_reported schema n scope list i m left stops stand.left (earlier_too m j stops (omega arith) all))
+      (tree_reported schema n scope list m j right stops stand.right all))
+  below_reported schema n scope list i j (in_list left items) stops around deep stand all =
       let m = stand.middle in
       let last : m ≤ j = lie_onward schema n scope list m j items stand.right in
       rw (← deep)
-      (both_told list i m j stops (depths (length stops) left) (depths_among (length stops) items)
-      (tree_told schema n scope list i m left stops stand.left (earlier_too m j stops last all))
-      (among_told schema n scope list m j items stops stand.right all))
-  below_told schema n scope list i j (in_path left path) stops around deep stands all =
+      (both_reported list i m j stops (depths (length stops) left) (depths_among (length stops) items)
+      (tree_reported schema n scope list i m left stops stand.left (earlier_too m j stops last all))
+      (among_reported schema n scope list m j items stops stand.right all))
+  below_reported schema n scope list i j (in_path left path) stops around deep stands all =
       let stand = two_there schema n scope list i j left path stands in
       let m = stand.middle in
       let last : m < j = lies_nonempty schema n scope list m j path stand.right in
       rw (← deep)
-      (both_told list i m j stops (depths (length stops) left) (depths (length stops) path)
-      (tree_told schema n scope list i m left stops stand.left (earlier_too m j stops (omega arith) all))
-      (tree_told schema n scope list m j path stops stand.right all))
-  below_told schema n scope list i j (call asked arguments) stops around deep stand all =
-      rw (← deep) (among_told schema n scope list i j arguments stops stand all)
-  below_told schema n scope list i j (lambda quantifier base variable body) stops around deep stands all =
+      (both_reported list i m j stops (depths (length stops) left) (depths (length stops) path)
+      (tree_reported schema n scope list i m left stops stand.left (earlier_too m j stops (omega arith) all))
+      (tree_reported schema n scope list m j path stops stand.right all))
+  below_reported schema n scope list i j (call asked arguments) stops around deep stand all =
+      rw (← deep) (among_reported schema n scope list i j arguments stops stand all)
+  below_reported schema n scope list i j (lambda quantifier base variable body) stops around deep stands all =
       let stand = body_there schema n scope list i j base variable body stands in
       let m = stand.middle in
       let inner = with_variable scope variable (single stand.right.member_type) in
       let last : m < j = lies_nonempty schema n inner list m j body stand.right.body in
       rw (← deep)
-      (both_told list i m j stops (depths (length stops) base) (depths (length stops) body)
-      (tree_told schema n scope list i m base stops stand.left (earlier_too m j stops (omega arith) all))
-      (tree_told schema n inner list m j body stops stand.right.body all))
+      (both_reported list i m j stops (depths (length stops) base) (depths (length stops) body)
+      (tree_reported schema n scope list i m base stops stand.left (earlier_too m j stops (omega arith) all))
+      (tree_reported schema n inner list m j body stops stand.right.body all))
 
-  among_told :
+  among_reported :
       (schema : SchemaModel) (n : ℕ) (scope : Scope) (list : FlatTree) (i j : ℕ) (trees : Trees) (stops : List ℕ)
       → AllLie schema n scope list i j trees
       → StopBehind j stops
-      → told_depths i (drop i list.nodes) stops ≡ depths_among (length stops) trees ++ told_depths j (drop j list.nodes) stops
-  among_told schema n scope list i j no_trees stops stand all = ap (λ (k : ℕ). told_depths k (drop k list.nodes) stops) stand
-  among_told schema n scope list i j (more_trees tree trees) stops stand all =
+      → reported_depths i (drop i list.nodes) stops ≡ depths_among (length stops) trees ++ reported_depths j (drop j list.nodes) stops
+  among_reported schema n scope list i j no_trees stops stand all = ap (λ (k : ℕ). reported_depths k (drop k list.nodes) stops) stand
+  among_reported schema n scope list i j (more_trees tree trees) stops stand all =
       let m = stand.middle in
       let last : m ≤ j = lie_onward schema n scope list m j trees stand.right in
-      both_told list i m j stops (depths (length stops) tree) (depths_among (length stops) trees)
-      (tree_told schema n scope list i m tree stops stand.left (earlier_too m j stops last all))
-      (among_told schema n scope list m j trees stops stand.right all)
+      both_reported list i m j stops (depths (length stops) tree) (depths_among (length stops) trees)
+      (tree_reported schema n scope list i m tree stops stand.left (earlier_too m j stops last all))
+      (among_reported schema n scope list m j trees stops stand.right all)

@@ -14,30 +14,30 @@ use Rattle.odata_signatures.specs.PreOrder.{span_of_tree}
 use Rattle.odata_checked_filter.specs.private.Layout.{Lies}
 use Rattle.odata_checked_filter.specs.Stands.{text_of_shape, variable_names}
 use Rattle.odata_signatures.specs.Typed.{Scope}
-use Rattle.odata_checked_filter.specs.private.ExplanationWalk.{IsLinePut, kind_label, listed_line, still_around}
+use Rattle.odata_checked_filter.specs.private.Explanation.{IsLinePut, kind_label, listed_line, still_around}
 use Rattle.odata_checked_filter.proofs.flat.Lying.{filter_lies}
 use Rattle.odata_checked_filter.proofs.flat.Numbered.{IsNumbered, count_of, numbered, type_at}
 use Rattle.odata_checked_filter.proofs.flat.Places.{drop_at, get_front, get_last, get_parts, same_found}
-use Rattle.odata_checked_filter.proofs.explained.Depths.{told_depths, tree_told}
-use Rattle.odata_checked_filter.proofs.explained.Labels.{label_told}
+use Rattle.odata_checked_filter.proofs.explained.Depths.{reported_depths, tree_reported}
+use Rattle.odata_checked_filter.proofs.explained.Labels.{label_reported}
 
 -- the lines of the nodes before an index are the text, and the depths of the others are still to be reported
-pub record IsTold (filter : Filter) (place : ℕ) (stops text : List ℕ) : Type 0 where
+pub record IsReported (filter : Filter) (place : ℕ) (stops text : List ℕ) : Type 0 where
   pub lines : List (List ℕ)
   pub as_many : length lines ≡ place
   pub each : (k : ℕ) (line : List ℕ) → slice_get lines k ≡ Some line → IsNodeLine filter k line
   pub whole : text ≡ flat_map (λ line. line ++ 10 ∷ []) lines
   pub done : List ℕ
   pub of_each : length done ≡ place
-  pub deep : depths 0 (tree_of_filter filter) ≡ done ++ told_depths place (drop place filter.list.nodes) stops
+  pub deep : depths 0 (tree_of_filter filter) ≡ done ++ reported_depths place (drop place filter.list.nodes) stops
 
-pub begun : (filter : Filter) (text : List ℕ) → IsFilter filter → text ≡ [] → IsTold filter 0 [] text
+pub begun : (filter : Filter) (text : List ℕ) → IsFilter filter → text ≡ [] → IsReported filter 0 [] text
 begun filter text is empty =
     let nodes = filter.list.nodes in
     let tree = tree_of_filter filter in
-    let told = tree_told filter.schema filter.filtered [] filter.list 0 (length nodes) tree [] (filter_lies filter is) tt in
-    let none : told_depths (length nodes) (drop (length nodes) nodes) [] ≡ [] =
-    ap (λ (rest : List CheckedNode). told_depths (length nodes) rest []) (drop_all (length nodes) nodes (omega arith)) in
+    let reported = tree_reported filter.schema filter.filtered [] filter.list 0 (length nodes) tree [] (filter_lies filter is) tt in
+    let none : reported_depths (length nodes) (drop (length nodes) nodes) [] ≡ [] =
+    ap (λ (rest : List CheckedNode). reported_depths (length nodes) rest []) (drop_all (length nodes) nodes (omega arith)) in
     record {
       lines = [];
       as_many = refl;
@@ -45,7 +45,7 @@ begun filter text is empty =
       whole = empty;
       done = [];
       of_each = refl;
-      deep = sym (told ∙ ap (λ (xs : List ℕ). depths 0 tree ++ xs) none ∙ append-nil (depths 0 tree));
+      deep = sym (reported ∙ ap (λ (xs : List ℕ). depths 0 tree ++ xs) none ∙ append-nil (depths 0 tree));
     }
 
 -- what a node of the list is called
@@ -60,7 +60,7 @@ called filter scope k j (node start stop shape) found beside stands here text =
     let same : top.found ≡ found = same_found (slice_get filter.list.nodes k) top.found found top.stands_at here in
     let spelled : text_of_shape shape ≡ beside = same_found (slice_get filter.list.texts k) (text_of_shape shape) beside top.text_at text in
     sym (ap (λ (f : CheckedNode). kind_label f.kind (text_of_shape shape)) same ∙ ap (kind_label found.kind) spelled)
-    ∙ label_told filter.list (slots_of filter.schema) (type_name_at filter.schema filter.filtered) scope shape top.found.kind top.kind
+    ∙ label_reported filter.list (slots_of filter.schema) (type_name_at filter.schema filter.filtered) scope shape top.found.kind top.kind
 
 -- its line
 line_same :
@@ -92,13 +92,13 @@ each_more filter lines line place k other many each last found =
     at_end (suc j) past is = absurd (none-some other is)
 
 -- one more line was put after the others
-pub one_told :
+pub one_reported :
     (filter : Filter) (place : ℕ) (stops stops' text text' : List ℕ)
     → IsFilter filter
-    → IsTold filter place stops text
+    → IsReported filter place stops text
     → IsLinePut filter.schema filter.list place stops stops' text text'
-    → IsTold filter (place + 1) stops' text'
-one_told filter place stops stops' text text' is told put =
+    → IsReported filter (place + 1) stops' text'
+one_reported filter place stops stops' text text' is reported put =
     let nodes = filter.list.nodes in
     let tree = tree_of_filter filter in
     let around = still_around place stops in
@@ -107,14 +107,14 @@ one_told filter place stops stops' text text' is told put =
     let line = listed_line filter.schema (length around) found put.beside in
     let lined : List ℕ → List ℕ = λ (l : List ℕ). l ++ 10 ∷ [] in
     let label = called filter n.scope place n.stop n.part found put.beside n.stands put.at put.text_at in
-    let rest = told_depths (place + 1) (drop (place + 1) nodes) (around ++ found.stop ∷ []) in
-    let deep : depths 0 tree ≡ (told.done ++ length around ∷ []) ++ rest =
-    told.deep
-    ∙ ap (λ (xs : List CheckedNode). told.done ++ told_depths place xs stops) (drop_at nodes place found put.at)
-    ∙ sym (append_assoc told.done (length around ∷ []) rest) in
+    let rest = reported_depths (place + 1) (drop (place + 1) nodes) (around ++ found.stop ∷ []) in
+    let deep : depths 0 tree ≡ (reported.done ++ length around ∷ []) ++ rest =
+    reported.deep
+    ∙ ap (λ (xs : List CheckedNode). reported.done ++ reported_depths place xs stops) (drop_at nodes place found put.at)
+    ∙ sym (append_assoc reported.done (length around ∷ []) rest) in
     let here : slice_get (depths 0 tree) place ≡ Some (length around) =
     ap (λ (xs : List ℕ). slice_get xs place) deep
-    ∙ get_front (told.done ++ length around ∷ []) rest place (length around) (get_last told.done place (length around) (sym told.of_each)) in
+    ∙ get_front (reported.done ++ length around ∷ []) rest place (length around) (get_last reported.done place (length around) (sym reported.of_each)) in
     let node : IsNodeLine filter place line = record {
       at = record { variables = variable_names n.scope; part = n.part };
       depth = length around;
@@ -125,30 +125,30 @@ one_told filter place stops stops' text text' is told put =
       spelled = line_same filter.schema (length around) found put.beside n.part (variable_names n.scope) n.says.span label;
     } in
     record {
-      lines = told.lines ++ line ∷ [];
-      as_many = length-append told.lines (line ∷ []) ∙ ap (λ (k : ℕ). k + 1) told.as_many;
-      each = λ k other at. each_more filter told.lines line place k other told.as_many told.each node at;
+      lines = reported.lines ++ line ∷ [];
+      as_many = length-append reported.lines (line ∷ []) ∙ ap (λ (k : ℕ). k + 1) reported.as_many;
+      each = λ k other at. each_more filter reported.lines line place k other reported.as_many reported.each node at;
       whole =
           put.text
-          ∙ ap (λ (t : List ℕ). t ++ lined line) told.whole
-          ∙ flat_map_more lined [] told.lines line;
-      done = told.done ++ length around ∷ [];
-      of_each = length-append told.done (length around ∷ []) ∙ ap (λ (k : ℕ). k + 1) told.of_each;
-      deep = deep ∙ ap (λ (xs : List ℕ). (told.done ++ length around ∷ []) ++ told_depths (place + 1) (drop (place + 1) nodes) xs) (sym put.around);
+          ∙ ap (λ (t : List ℕ). t ++ lined line) reported.whole
+          ∙ flat_map_more lined [] reported.lines line;
+      done = reported.done ++ length around ∷ [];
+      of_each = length-append reported.done (length around ∷ []) ∙ ap (λ (k : ℕ). k + 1) reported.of_each;
+      deep = deep ∙ ap (λ (xs : List ℕ). (reported.done ++ length around ∷ []) ++ reported_depths (place + 1) (drop (place + 1) nodes) xs) (sym put.around);
     }
 
 -- where each node has its line, the filter is explained
-pub all_told :
+pub all_reported :
     (filter : Filter) (place : ℕ) (stops text : List ℕ)
     → IsFilter filter
     → place ≡ length filter.list.nodes
-    → IsTold filter place stops text
+    → IsReported filter place stops text
     → IsExplanation filter text
-all_told filter place stops text is all told = record {
-  lines = told.lines;
-  as_many = told.as_many ∙ all ∙ count_of filter is;
-  each = told.each;
-  whole = told.whole;
+all_reported filter place stops text is all reported = record {
+  lines = reported.lines;
+  as_many = reported.as_many ∙ all ∙ count_of filter is;
+  each = reported.each;
+  whole = reported.whole;
 }
 
 -- two more spaces

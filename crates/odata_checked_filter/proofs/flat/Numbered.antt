@@ -22,7 +22,7 @@ use Rattle.odata_signatures.specs.Typed.{Scope, Typed}
 use Rattle.odata_signatures.specs.TypeView.{expr_type}
 use Rattle.odata_checked_filter.proofs.flat.Places.{found_within, same_found}
 use Rattle.odata_checked_filter.proofs.flat.Lying.{filter_lies}
-use Rattle.odata_checked_filter.proofs.flat.Parts.{IsPart, part_stands, parts_count, parts_of}
+use Rattle.odata_checked_filter.proofs.flat.Parts.{IsWalkOperand, part_stands, parts_count, parts_of}
 use Rattle.odata_checked_filter.proofs.flat.Standing.{lies_size}
 
 -- the level that a kind has
@@ -184,7 +184,7 @@ numbered filter k found is here =
     let parts : length (scoped_nodes [] tree) ≡ length (pre_order tree) = parts_count [] tree in
     let inside : k < length (scoped_nodes [] tree) = omega arith in
     let s = found_within (scoped_nodes [] tree) k inside in
-    let P : ℕ → Type 0 = λ (x : ℕ). IsPart filter.schema filter.filtered filter.list x (IsNode (slots_of filter.schema) (type_name_at filter.schema filter.filtered) [] tree k) s.0 in
+    let P : ℕ → Type 0 = λ (x : ℕ). IsWalkOperand filter.schema filter.filtered filter.list x (IsNode (slots_of filter.schema) (type_name_at filter.schema filter.filtered) [] tree k) s.0 in
     let zero_more : 0 + k ≡ k = omega arith in
     let part = subst P zero_more (part_stands filter.schema filter.filtered [] filter.list 0 (length filter.list.nodes) tree k s.0 (filter_lies filter is) s.1) in
     let at : List (List ℕ) → ScopedNode = λ (variables : List (List ℕ)). record { variables = variables; part = s.0.part } in

@@ -64,7 +64,7 @@ parts_count variables tree = sym (length-map (scoped_nodes variables tree) (λ (
 -- ---- what stands there
 
 -- a node stands at an index in a scope whose variables it has, and this holds of it there
-pub record IsPart (schema : SchemaModel) (n : ℕ) (list : FlatTree) (place : ℕ) (Node : Scope → Tree → Type 0) (at : ScopedNode) : Type 0 where
+pub record IsWalkOperand (schema : SchemaModel) (n : ℕ) (list : FlatTree) (place : ℕ) (Node : Scope → Tree → Type 0) (at : ScopedNode) : Type 0 where
   pub inner : Scope
   pub j : ℕ
   pub stands : Lies schema n inner list place j at.part
@@ -76,10 +76,10 @@ itself :
     → Lies schema n scope list i j tree
     → k ≡ i
     → record { variables = variable_names scope; part = tree } ≡ at
-    → IsPart schema n list k (IsItself scope tree) at
+    → IsWalkOperand schema n list k (IsItself scope tree) at
 itself schema n scope list i j k tree at stands same is =
-    let P : ℕ → Type 0 = λ (x : ℕ). IsPart schema n list x (IsItself scope tree) at in
-    let Q : ScopedNode → Type 0 = λ (x : ScopedNode). IsPart schema n list i (IsItself scope tree) x in
+    let P : ℕ → Type 0 = λ (x : ℕ). IsWalkOperand schema n list x (IsItself scope tree) at in
+    let Q : ScopedNode → Type 0 = λ (x : ScopedNode). IsWalkOperand schema n list i (IsItself scope tree) x in
     subst P (sym same) (subst Q is (record { inner = scope; j = j; stands = stands; variables = refl; is_node = (refl, refl) }))
 
 -- what holds more of it, where the place is given otherwise
@@ -87,10 +87,10 @@ part_also :
     (schema : SchemaModel) (n : ℕ) (list : FlatTree) (place other : ℕ) (Node Also : Scope → Tree → Type 0) (at : ScopedNode)
     → place ≡ other
     → ((scope : Scope) (part : Tree) → Node scope part → Also scope part)
-    → IsPart schema n list place Node at
-    → IsPart schema n list other Also at
+    → IsWalkOperand schema n list place Node at
+    → IsWalkOperand schema n list other Also at
 part_also schema n list place other Node Also at same also is =
-    subst (λ (x : ℕ). IsPart schema n list x Also at) same
+    subst (λ (x : ℕ). IsWalkOperand schema n list x Also at) same
     (record { inner = is.inner; j = is.j; stands = is.stands; variables = is.variables; is_node = also is.inner at.part is.is_node })
 
 first_of : {X : Type 0} (x y : X) (xs : List X) → slice_get (x ∷ xs) 0 ≡ Some y → x ≡ y
@@ -103,9 +103,9 @@ in_either :
     → length xs ≡ size
     → m ≡ i + size
     → slice_get (xs ++ ys) k ≡ Some at
-    → (slice_get xs k ≡ Some at → IsPart schema n list (i + k) (First k) at)
-    → ((h : ℕ) → slice_get ys h ≡ Some at → IsPart schema n list (m + h) (Second h) at)
-    → IsPart schema n list (i + k) (λ scope part. InEither size (λ j. First j scope part) (λ j. Second j scope part) k) at
+    → (slice_get xs k ≡ Some at → IsWalkOperand schema n list (i + k) (First k) at)
+    → ((h : ℕ) → slice_get ys h ≡ Some at → IsWalkOperand schema n list (m + h) (Second h) at)
+    → IsWalkOperand schema n list (i + k) (λ scope part. InEither size (λ j. First j scope part) (λ j. Second j scope part) k) at
 in_either schema n list i m k size xs ys at First Second as_many place found first second =
     let Either : Scope → Tree → Type 0 = λ (s : Scope) (p : Tree). InEither size (λ j. First j s p) (λ j. Second j s p) k in
     elim (get_parts xs ys k at found) [
@@ -125,7 +125,7 @@ mutual
       (schema : SchemaModel) (n : ℕ) (scope : Scope) (list : FlatTree) (i j : ℕ) (tree : Tree) (k : ℕ) (at : ScopedNode)
       → Lies schema n scope list i j tree
       → slice_get (scoped_nodes (variable_names scope) tree) k ≡ Some at
-      → IsPart schema n list (i + k) (IsNode (slots_of schema) (type_name_at schema n) scope tree k) at
+      → IsWalkOperand schema n list (i + k) (IsNode (slots_of schema) (type_name_at schema n) scope tree k) at
   part_stands schema n scope list i j (node start stop shape) zero at stands found =
       itself schema n scope list i j (i + 0) (node start stop shape) at stands (omega arith)
       (first_of (record { variables = variable_names scope; part = node start stop shape }) at (scoped_below (variable_names scope) shape) found)
@@ -138,7 +138,7 @@ mutual
       (schema : SchemaModel) (n : ℕ) (scope : Scope) (list : FlatTree) (i j : ℕ) (shape : Shape) (k : ℕ) (at : ScopedNode)
       → ChildrenLie schema n scope list i j shape
       → slice_get (scoped_below (variable_names scope) shape) k ≡ Some at
-      → IsPart schema n list (i + k) (IsNodeBelow (slots_of schema) (type_name_at schema n) scope shape k) at
+      → IsWalkOperand schema n list (i + k) (IsNodeBelow (slots_of schema) (type_name_at schema n) scope shape k) at
   part_below schema n scope list i j (literal kind spelling) k at stand found = absurd (none-some at found)
   part_below schema n scope list i j it k at stand found = absurd (none-some at found)
   part_below schema n scope list i j (name asked) k at stand found = absurd (none-some at found)
@@ -198,7 +198,7 @@ mutual
       (schema : SchemaModel) (n : ℕ) (scope : Scope) (list : FlatTree) (i j : ℕ) (trees : Trees) (k : ℕ) (at : ScopedNode)
       → AllLie schema n scope list i j trees
       → slice_get (scoped_among (variable_names scope) trees) k ≡ Some at
-      → IsPart schema n list (i + k) (IsNodeAmong (slots_of schema) (type_name_at schema n) scope trees k) at
+      → IsWalkOperand schema n list (i + k) (IsNodeAmong (slots_of schema) (type_name_at schema n) scope trees k) at
   part_among schema n scope list i j no_trees k at stand found = absurd (none-some at found)
   part_among schema n scope list i j (more_trees tree trees) k at stand found =
       in_either schema n list i stand.middle k (length (pre_order tree))

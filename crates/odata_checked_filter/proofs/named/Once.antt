@@ -46,16 +46,16 @@ unseen_texts text seen (first ∷ texts) = by (list_any (pointwise nat_eq first)
     is_seen = list_any (pointwise nat_eq text) seen
 
     as_first : (b : Bool) → list_any (pointwise nat_eq first) seen ≡ b → is_first ≡ true → is_seen ≡ b
-    as_first b told is = ap (λ (t : List ℕ). list_any (pointwise nat_eq t) seen) (same text first is) ∙ told
+    as_first b reported is = ap (λ (t : List ℕ). list_any (pointwise nat_eq t) seen) (same text first is) ∙ reported
 
     by : (b : Bool) → list_any (pointwise nat_eq first) seen ≡ b
         → list_any (pointwise nat_eq text) (unseen seen texts) ≡ (is_later && not is_seen)
         → list_any (pointwise nat_eq text) (unseen (seen ++ first ∷ []) texts) ≡ (is_later && not (list_any (pointwise nat_eq text) (seen ++ first ∷ [])))
         → list_any (pointwise nat_eq text) (cond b (unseen seen texts) (first ∷ unseen (seen ++ first ∷ []) texts)) ≡ ((is_first || is_later) && not is_seen)
-    by true told there put = there ∙ seen_already is_first is_later is_seen (as_first true told)
-    by false told there put =
+    by true reported there put = there ∙ seen_already is_first is_later is_seen (as_first true reported)
+    by false reported there put =
         ap (λ (b : Bool). is_first || b) (put ∙ ap (λ (b : Bool). is_later && not b) (list_any-append (pointwise nat_eq text) seen (first ∷ [])))
-        ∙ seen_now is_first is_later is_seen (as_first false told)
+        ∙ seen_now is_first is_later is_seen (as_first false reported)
 
 -- ---- each once
 
@@ -68,9 +68,9 @@ distinct_texts seen (text ∷ texts) are =
         → IsDistinct (pointwise nat_eq) (seen ++ unseen seen texts)
         → (IsDistinct (pointwise nat_eq) (seen ++ text ∷ []) → IsDistinct (pointwise nat_eq) ((seen ++ text ∷ []) ++ unseen (seen ++ text ∷ []) texts))
         → IsDistinct (pointwise nat_eq) (seen ++ cond b (unseen seen texts) (text ∷ unseen (seen ++ text ∷ []) texts))
-    by true told there put = there
-    by false told there put =
-        subst (IsDistinct (pointwise nat_eq)) (append_append seen (text ∷ []) (unseen (seen ++ text ∷ []) texts)) (put (IsDistinct-push nat_list_eq_equiv seen text are told))
+    by true reported there put = there
+    by false reported there put =
+        subst (IsDistinct (pointwise nat_eq)) (append_append seen (text ∷ []) (unseen (seen ++ text ∷ []) texts)) (put (IsDistinct-push nat_list_eq_equiv seen text are reported))
 
 pub paths_once : (tree : Tree) → IsDistinct (pointwise nat_eq) (property_paths tree)
 paths_once tree =

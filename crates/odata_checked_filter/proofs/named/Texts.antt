@@ -8,7 +8,7 @@ use Rattle.csdl_schema.specs.PathSet.{PropertyPath}
 use Rattle.odata_signatures.specs.NeededPaths.{VariablePaths, variable_path}
 use Rattle.odata_signatures.specs.Typed.{Scope}
 use Rattle.odata_checked_filter.specs.PropertyPaths.{path_text, unseen, with_step}
-use Rattle.odata_checked_filter.specs.private.PathWalk.{AreBound, NamedText, bound_in, text_named, with_texts}
+use Rattle.odata_checked_filter.specs.private.PropertyPaths.{AreBound, NamedText, bound_in, text_named, with_texts}
 use Rattle.odata_checked_filter.specs.declared.property_paths.Variables.{Variables, Bound, Empty, the_lemmas}
 
 append_nil : {X : Type 0} (xs : List X) → xs ++ [] ≡ xs
@@ -60,9 +60,9 @@ put_unseen found text is = sym (ap (λ (b : Bool). found ++ cond b [] (text ∷ 
 -- whether it is there, by the texts of the code
 pub seen_empty : (found : List (List ℕ)) (text asked : List ℕ) (empty : Bool) → asked ≡ text → empty ≡ nat_eq (length asked) 0 → empty ≡ true
     → list_any (pointwise nat_eq text) ([] ∷ found) ≡ true
-seen_empty found [] asked empty same told is = refl
-seen_empty found (code ∷ codes) asked empty same told is =
-    let none : length asked ≡ 0 = eqb-true (length asked) 0 (sym told ∙ is) in
+seen_empty found [] asked empty same reported is = refl
+seen_empty found (code ∷ codes) asked empty same reported is =
+    let none : length asked ≡ 0 = eqb-true (length asked) 0 (sym reported ∙ is) in
     let some : length asked ≡ suc (length codes) = ap length same in
     absurd (omega (arith, none, some))
 
@@ -72,8 +72,8 @@ seen_among found (code ∷ codes) is = is
 
 pub not_seen : (found : List (List ℕ)) (text asked : List ℕ) (empty : Bool) → asked ≡ text → empty ≡ nat_eq (length asked) 0 → empty ≡ false
     → list_any (pointwise nat_eq text) found ≡ false → list_any (pointwise nat_eq text) ([] ∷ found) ≡ false
-not_seen found [] asked empty same told some is = absurd (false≢true (sym some ∙ told ∙ eq-eqb (length asked) 0 (ap length same)))
-not_seen found (code ∷ codes) asked empty same told some is = is
+not_seen found [] asked empty same reported some is = absurd (false≢true (sym some ∙ reported ∙ eq-eqb (length asked) 0 (ap length same)))
+not_seen found (code ∷ codes) asked empty same reported some is = is
 
 -- ---- the texts of paths
 

@@ -14,7 +14,7 @@ use Rattle.odata_checked_filter.specs.PropertyPaths.{node_paths, path_text, path
 use Rattle.odata_checked_filter.specs.declared.checked_node.CheckedNode.{CheckedNode}
 use Rattle.odata_checked_filter.specs.declared.checked_node.NodeKind.{NodeKind}
 use Rattle.odata_checked_filter.specs.private.LambdaLines.{AreInLine, StandsBetween, kind_is_lambda}
-use Rattle.odata_checked_filter.specs.private.PathWalk.{texts_among, with_texts}
+use Rattle.odata_checked_filter.specs.private.PropertyPaths.{texts_among, with_texts}
 use Rattle.odata_checked_filter.proofs.flat.Children.{body_there}
 use Rattle.odata_checked_filter.proofs.flat.Places.{same_found}
 use Rattle.odata_checked_filter.proofs.flat.Standing.{lies_nonempty}

@@ -8,7 +8,7 @@ use Rattle.csdl_schema.specs.SchemaModel.{Slots}
 use Rattle.odata_signatures.specs.Laws.{OneType}
 use Rattle.odata_signatures.specs.NeededPaths.{BodyNeeds, IsNeeded, VariablePaths, path_of}
 use Rattle.odata_signatures.specs.Typed.{BindsVariable, Scope, Typed, with_variable}
-use Rattle.odata_checked_filter.specs.private.NeededWalk.{LambdaNeeds, NeedsAmong, NeedsOnWay, Puts}
+use Rattle.odata_checked_filter.specs.private.NeededPaths.{LambdaNeeds, NeedsAmong, NeedsOnWay, Puts}
 use Rattle.odata_checked_filter.proofs.needed.Sets.{puts_as, puts_both}
 use Rattle.odata_checked_filter.proofs.needed.Ways.{way_needed}
 

@@ -13,7 +13,7 @@ use Rattle.odata_checked_filter.specs.Stands.{InBody, IsCallNode, IsKindOf, IsLi
 use Rattle.odata_checked_filter.specs.declared.checked_node.CheckedNode.{CheckedNode}
 use Rattle.odata_checked_filter.specs.declared.checked_node.NodeKind.{NodeKind}
 use Rattle.odata_checked_filter.specs.declared.needed_paths.NeedClass.{NeedClass}
-use Rattle.odata_checked_filter.specs.private.NeededWalk.{StandInLine, need_class}
+use Rattle.odata_checked_filter.specs.private.NeededPaths.{StandInLine, need_class}
 use Rattle.odata_checked_filter.proofs.flat.Places.{same_found}
 
 -- ---- the class of a node of each shape

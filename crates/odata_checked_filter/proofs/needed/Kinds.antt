@@ -16,7 +16,7 @@ use Rattle.odata_checked_filter.specs.Stands.{IsKindOf, IsMemberNode, IsNameNode
 use Rattle.odata_checked_filter.specs.declared.checked_node.CheckedNode.{CheckedNode}
 use Rattle.odata_checked_filter.specs.declared.checked_node.NodeKind.{NodeKind}
 use Rattle.odata_checked_filter.specs.declared.needed_paths.NeedClass.{NeedClass}
-use Rattle.odata_checked_filter.specs.private.NeededWalk.{NeedsOnWay, need_class, steps_of}
+use Rattle.odata_checked_filter.specs.private.NeededPaths.{NeedsOnWay, need_class, steps_of}
 use Rattle.odata_checked_filter.proofs.flat.Children.{one_there}
 use Rattle.odata_checked_filter.proofs.needed.Heads.{class_of, found_top}
 use Rattle.odata_checked_filter.proofs.needed.Lines.{some_variable}

@@ -8,7 +8,7 @@ use Rattle.odata_signatures.specs.Typed.{Scope, variable_type}
 use Rattle.odata_checked_filter.specs.Levels.{level_named}
 use Rattle.odata_checked_filter.specs.Stands.{variable_names}
 use Rattle.odata_checked_filter.specs.declared.needed_paths.VariableNodes.{VariableNodes, Bound, Empty, the_lemmas}
-use Rattle.odata_checked_filter.specs.private.NeededWalk.{LeadThere, node_of_level, nodes_in}
+use Rattle.odata_checked_filter.specs.private.NeededPaths.{LeadThere, node_of_level, nodes_in}
 
 pub level_below : (nodes : List ℕ) (level node : ℕ) → node_of_level nodes level ≡ Some node → level < length nodes
 level_below [] level node is = absurd (cc)

@@ -16,7 +16,7 @@ use Rattle.odata_checked_filter.specs.Stands.{IsMemberNode, IsNameNode, variable
 use Rattle.odata_checked_filter.specs.declared.checked_node.CheckedNode.{CheckedNode}
 use Rattle.odata_checked_filter.specs.declared.checked_node.NodeKind.{NodeKind}
 use Rattle.odata_checked_filter.specs.declared.needed_paths.NeedClass.{NeedClass}
-use Rattle.odata_checked_filter.specs.private.NeededWalk.{NeedsAmong, Puts, StandInLine, need_class}
+use Rattle.odata_checked_filter.specs.private.NeededPaths.{NeedsAmong, Puts, StandInLine, need_class}
 use Rattle.odata_checked_filter.proofs.flat.Children.{one_there, two_there}
 use Rattle.odata_checked_filter.proofs.flat.Places.{same_found}
 use Rattle.odata_checked_filter.proofs.flat.Standing.{lies_nonempty}

@@ -10,7 +10,7 @@ use Rattle.odata_checked_filter.specs.FlatTree.{FlatTree}
 use Rattle.odata_checked_filter.specs.private.Layout.{Lies}
 use Rattle.odata_checked_filter.specs.declared.checked_node.CheckedNode.{CheckedNode}
 use Rattle.odata_checked_filter.specs.declared.needed_paths.NeedClass.{NeedClass}
-use Rattle.odata_checked_filter.specs.private.NeededWalk.{LambdaNeeds, NeedsAmong, NeedsOnWay, Puts, StandInLine, base_of, need_class, steps_of}
+use Rattle.odata_checked_filter.specs.private.NeededPaths.{LambdaNeeds, NeedsAmong, NeedsOnWay, Puts, StandInLine, base_of, need_class, steps_of}
 use Rattle.odata_checked_filter.proofs.needed.Heads.{IsHead, IsLambdaTree, IsWay, head_of, last_there}
 use Rattle.odata_checked_filter.proofs.needed.Lines.{IsLeft, left_on, line_front, needs_by_children, one_line}
 use Rattle.odata_checked_filter.proofs.needed.Sets.{puts_nothing}

@@ -6,8 +6,8 @@ use Rattle.odata_checked_filter.specs.private.Layout.{Lies}
 use Rattle.odata_checked_filter.specs.Stands.{InBody}
 use Rattle.odata_checked_filter.specs.declared.checked_node.CheckedNode.{CheckedNode}
 use Rattle.odata_checked_filter.specs.declared.needed_paths.LambdaPlaces.{LambdaPlaces}
-use Rattle.odata_checked_filter.specs.declared.needed_paths.ListScene.{ListScene}
-use Rattle.odata_checked_filter.specs.private.NeededWalk.{ArePlacesOf, IsLambdaOf, root_there, slots_there}
+use Rattle.odata_checked_filter.specs.declared.needed_paths.ListContext.{ListContext}
+use Rattle.odata_checked_filter.specs.private.NeededPaths.{ArePlacesOf, IsLambdaOf, root_there, slots_there}
 use Rattle.odata_checked_filter.proofs.flat.Standing.{lies_nonempty}
 use Rattle.odata_checked_filter.proofs.needed.Heads.{IsLambdaTree, last_there}
 use Rattle.odata_checked_filter.proofs.needed.Kinds.{typed_there}
@@ -16,27 +16,27 @@ use Rattle.odata_checked_filter.proofs.needed.Kinds.{typed_there}
 at_found : (P : CheckedNode → Type 0) (o : Option CheckedNode) (found : CheckedNode) → o ≡ Some found → IsSomeAnd o P → P found
 at_found P o found at some = subst (λ (x : Option CheckedNode). IsSomeAnd x P) at some
 
-module _ (scene : ListScene) (scope : Scope) (place stop : ℕ) (tree : Tree) (found : CheckedNode) (places : LambdaPlaces)
-    (stands : Lies scene.schema.now scene.filtered_type scope scene.list.now place stop tree) (at : slice_get scene.list.now.nodes place ≡ Some found)
-    (are : ArePlacesOf scene.list.now place places) (operator : IsLambdaTree scene.schema.now scene.filtered_type scope scene.list.now place stop tree) where
+module _ (context : ListContext) (scope : Scope) (place stop : ℕ) (tree : Tree) (found : CheckedNode) (places : LambdaPlaces)
+    (stands : Lies context.schema.now context.filtered_type scope context.list.now place stop tree) (at : slice_get context.list.now.nodes place ≡ Some found)
+    (are : ArePlacesOf context.list.now place places) (operator : IsLambdaTree context.schema.now context.filtered_type scope context.list.now place stop tree) where
   abbrev StandHere : ℕ → ℕ → Tree → Type 0
-  StandHere = Lies scene.schema.now scene.filtered_type scope scene.list.now
+  StandHere = Lies context.schema.now context.filtered_type scope context.list.now
 
   pub body_begins : places.body ≡ operator.middle
   body_begins =
-      let base = typed_there scene.schema.now scene.filtered_type scope scene.list.now (place + 1) operator.middle operator.base operator.base_stands in
-      at_found (λ b. places.body ≡ b.stop) (slice_get scene.list.now.nodes (place + 1)) base.0 base.1.0 are.body_is
-      ∙ last_there scene.schema.now scene.filtered_type scope scene.list.now (place + 1) operator.middle operator.base base.0 operator.base_stands base.1.0
+      let base = typed_there context.schema.now context.filtered_type scope context.list.now (place + 1) operator.middle operator.base operator.base_stands in
+      at_found (λ b. places.body ≡ b.stop) (slice_get context.list.now.nodes (place + 1)) base.0 base.1.0 are.body_is
+      ∙ last_there context.schema.now context.filtered_type scope context.list.now (place + 1) operator.middle operator.base base.0 operator.base_stands base.1.0
 
   pub operator_stops : places.stop ≡ stop
   operator_stops =
-      at_found (λ f. places.stop ≡ f.stop) (slice_get scene.list.now.nodes place) found at are.stop_is
-      ∙ last_there scene.schema.now scene.filtered_type scope scene.list.now place stop tree found stands at
+      at_found (λ f. places.stop ≡ f.stop) (slice_get context.list.now.nodes place) found at are.stop_is
+      ∙ last_there context.schema.now context.filtered_type scope context.list.now place stop tree found stands at
 
   abbrev Body : ℕ → ℕ → Type 0
-  Body i j = InBody scope operator.variable (Typed (slots_there scene) (root_there scene) scope operator.base) (λ within. Lies scene.schema.now scene.filtered_type within scene.list.now i j operator.body)
+  Body i j = InBody scope operator.variable (Typed (slots_there context) (root_there context) scope operator.base) (λ within. Lies context.schema.now context.filtered_type within context.list.now i j operator.body)
 
-  pub lambda_of : IsLambdaOf scene scope places operator.base operator.variable operator.body
+  pub lambda_of : IsLambdaOf context scope places operator.base operator.variable operator.body
   lambda_of = record {
     base_stands = subst (λ (i : ℕ). StandHere i places.body operator.base) (sym are.base_is)
         (subst (λ (j : ℕ). StandHere (place + 1) j operator.base) (sym body_begins) operator.base_stands);
@@ -46,9 +46,9 @@ module _ (scene : ListScene) (scope : Scope) (place stop : ℕ) (tree : Tree) (f
   -- the parts lie one after another
   pub parts_onward : (places.base < places.body) × (places.body < places.stop)
   parts_onward =
-      let first = lies_nonempty scene.schema.now scene.filtered_type scope scene.list.now (place + 1) operator.middle operator.base operator.base_stands in
+      let first = lies_nonempty context.schema.now context.filtered_type scope context.list.now (place + 1) operator.middle operator.base operator.base_stands in
       let body = operator.body_stands in
-      let second = lies_nonempty scene.schema.now scene.filtered_type _ scene.list.now operator.middle stop operator.body body.body in
+      let second = lies_nonempty context.schema.now context.filtered_type _ context.list.now operator.middle stop operator.body body.body in
       let begins = are.base_is in
       let middle = body_begins in
       let last = operator_stops in

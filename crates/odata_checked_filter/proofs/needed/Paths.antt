@@ -18,7 +18,7 @@ use Rattle.odata_checked_filter.specs.private.Layout.{Lies}
 use Rattle.odata_checked_filter.specs.declared.checked_node.CheckedNode.{CheckedNode}
 use Rattle.odata_checked_filter.specs.declared.checked_node.NodeKind.{NodeKind}
 use Rattle.odata_checked_filter.specs.declared.needed_paths.PathEnd.{PathEnd}
-use Rattle.odata_checked_filter.specs.private.NeededWalk.{IsPathEnd, IsPutFrom, IsTargetAt, IsWithoutTarget, LeadThere, NeedsOnWay, Puts, node_of_level, steps_of}
+use Rattle.odata_checked_filter.specs.private.NeededPaths.{IsPathEnd, IsPutFrom, IsTargetAt, IsWithoutTarget, LeadThere, NeedsOnWay, Puts, node_of_level, steps_of}
 use Rattle.odata_checked_filter.proofs.flat.Places.{same_found}
 use Rattle.odata_checked_filter.proofs.needed.Kinds.{IsNoWay, IsPropertyThere, IsStepThere, IsVariableThere, owner_type, property_there, typed_there, variable_needs_none, way_none}
 use Rattle.odata_checked_filter.proofs.needed.Levels.{no_path, no_variable, variable_leads}

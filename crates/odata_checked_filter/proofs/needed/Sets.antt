@@ -5,7 +5,7 @@ use Rattle.csdl_schema.specs.ExpansionView.{KeepsPaths, LeadsTo, StepModel, path
 use Rattle.csdl_schema.specs.PathSet.{PathSet, PropertyPath, is_path, with_path}
 use Rattle.odata_signatures.specs.NeededPaths.{VariablePaths}
 use Rattle.odata_signatures.specs.Typed.{Scope}
-use Rattle.odata_checked_filter.specs.private.NeededWalk.{LeadThere, Puts}
+use Rattle.odata_checked_filter.specs.private.NeededPaths.{LeadThere, Puts}
 
 -- nothing is put there
 pub puts_nothing : (steps : List StepModel) → Puts steps steps (λ path. ⊥)

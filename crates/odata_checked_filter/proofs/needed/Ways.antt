@@ -7,7 +7,7 @@ use Rattle.odata_signatures.specs.NeededPaths.{IsNeeded, VariablePaths}
 use Rattle.odata_signatures.specs.Typed.{Scope}
 use Rattle.odata_checked_filter.specs.FlatTree.{FlatTree}
 use Rattle.odata_checked_filter.specs.private.Layout.{Lies}
-use Rattle.odata_checked_filter.specs.private.NeededWalk.{NeedsOnWay, base_of, steps_of}
+use Rattle.odata_checked_filter.specs.private.NeededPaths.{NeedsOnWay, base_of, steps_of}
 use Rattle.odata_checked_filter.proofs.flat.Children.{one_there}
 
 -- what stands before the first step

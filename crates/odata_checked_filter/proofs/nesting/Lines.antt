@@ -232,7 +232,7 @@ is_max a b =
 -- ---- what is left of a line on the way
 
 -- trees from an index on, with which a depth so far makes that of the whole
-pub record IsRest (list : FlatTree) (place stop so_far whole : ℕ) : Type 0 where
+pub record IsRemaining (list : FlatTree) (place stop so_far whole : ℕ) : Type 0 where
   pub trees : List Tree
   pub line : AreInLine list place stop trees
   pub deep : max so_far (deepest_of trees) ≡ whole
@@ -240,11 +240,11 @@ pub record IsRest (list : FlatTree) (place stop so_far whole : ℕ) : Type 0 whe
 -- past a node that is no lambda operator
 pub rest_below :
     (list : FlatTree) (place stop depth whole : ℕ) (found : CheckedNode)
-    → IsRest list place stop depth whole
+    → IsRemaining list place stop depth whole
     → place < stop
     → slice_get list.nodes place ≡ Some found
     → kind_is_lambda found.kind ≡ false
-    → IsRest list (place + 1) stop depth whole
+    → IsRemaining list (place + 1) stop depth whole
 rest_below list place stop depth whole found rest before at plain =
     let first = first_of list place stop found rest.trees rest.line before at in
     let deep : deepest_of rest.trees ≡ max (deepest_of first.below) (deepest_of first.behind) =
@@ -261,17 +261,17 @@ rest_below list place stop depth whole found rest before at plain =
 -- past a lambda operator, with what stands in it
 pub rest_behind :
     (list : FlatTree) (place stop depth whole inside : ℕ) (found : CheckedNode)
-    → IsRest list place stop depth whole
+    → IsRemaining list place stop depth whole
     → place < stop
     → slice_get list.nodes place ≡ Some found
     → kind_is_lambda found.kind ≡ true
     → ((trees : List Tree) → AreInLine list (place + 1) found.stop trees → inside ≡ deepest_of trees)
-    → IsRest list found.stop stop (max depth (inside + 1)) whole
-rest_behind list place stop depth whole inside found rest before at operator told =
+    → IsRemaining list found.stop stop (max depth (inside + 1)) whole
+rest_behind list place stop depth whole inside found rest before at operator reported =
     let first = first_of list place stop found rest.trees rest.line before at in
     let deep : deepest_of rest.trees ≡ max (deepest_of first.below + 1) (deepest_of first.behind) =
     first.depth ∙ ap (λ (b : Bool). max (cond b (deepest_of first.below + 1) (deepest_of first.below)) (deepest_of first.behind)) operator in
-    let below : inside ≡ deepest_of first.below = told first.below first.line_below in
+    let below : inside ≡ deepest_of first.below = reported first.below first.line_below in
     let is : max depth (deepest_of rest.trees) ≡ whole = rest.deep in
     record { trees = first.behind; line = first.line_behind; deep = omega (arith, deep, below, is) }
 
@@ -284,7 +284,7 @@ no_trees_left list i j (tree ∷ trees) line past =
     absurd (omega (arith, before, behind, past))
 
 -- at the end
-pub rest_none : (list : FlatTree) (place stop depth whole : ℕ) → IsRest list place stop depth whole → stop ≤ place → depth ≡ whole
+pub rest_none : (list : FlatTree) (place stop depth whole : ℕ) → IsRemaining list place stop depth whole → stop ≤ place → depth ≡ whole
 rest_none list place stop depth whole rest past =
     let none : deepest_of rest.trees ≡ 0 = no_trees_left list place stop rest.trees rest.line past in
     let is : max depth (deepest_of rest.trees) ≡ whole = rest.deep in

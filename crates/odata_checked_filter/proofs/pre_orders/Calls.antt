@@ -17,7 +17,7 @@ use Rattle.odata_checked_filter.specs.Calls.{CallsOne, TakesMemory, UsesNow}
 use Rattle.odata_checked_filter.specs.Filter.{Filter, IsFilter, tree_of_filter}
 use Rattle.odata_checked_filter.specs.private.Layout.{Lies}
 use Rattle.odata_checked_filter.specs.Stands.{IsKindOf}
-use Rattle.odata_checked_filter.specs.private.CalledKinds.{function_makes_text, kind_is_now, kind_makes_text}
+use Rattle.odata_checked_filter.specs.private.Called.{function_makes_text, kind_is_now, kind_makes_text}
 use Rattle.odata_checked_filter.proofs.flat.Numbered.{count_of, numbered}
 use Rattle.odata_checked_filter.proofs.flat.Nodes.{node_within}
 use Rattle.odata_checked_filter.proofs.flat.Places.{found_within, same_found}
@@ -231,13 +231,13 @@ now_complete distinct slots root scope called arguments (NodeKind.Call function)
 now_complete distinct slots root scope called arguments NodeKind.Now is one = refl
 now_complete distinct slots root scope called arguments _ is one = absurd is
 
-pub makers_told : AreDistinct → (filter : Filter) → IsFilter filter
+pub makers_reported : AreDistinct → (filter : Filter) → IsFilter filter
     → (list_any (λ (n : CheckedNode). kind_makes_text n.kind) filter.list.nodes ≡ true) ↔ TakesMemory (tree_of_filter filter)
-makers_told distinct filter is =
+makers_reported distinct filter is =
     calls_by_nodes kind_makes_text (codes "concat" ∷ codes "tolower" ∷ codes "toupper" ∷ []) filter
     (record { sound = maker_sound; complete = maker_complete distinct }) is
 
-pub now_told : AreDistinct → (filter : Filter) → IsFilter filter
+pub now_reported : AreDistinct → (filter : Filter) → IsFilter filter
     → (list_any (λ (n : CheckedNode). kind_is_now n.kind) filter.list.nodes ≡ true) ↔ UsesNow (tree_of_filter filter)
-now_told distinct filter is =
+now_reported distinct filter is =
     calls_by_nodes kind_is_now (codes "now" ∷ []) filter (record { sound = now_sound; complete = now_complete distinct }) is

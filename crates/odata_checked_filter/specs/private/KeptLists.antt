@@ -2,14 +2,14 @@
 use Rattle.std.specs.Prelude.{List}
 use Rattle.csdl_schema.specs.ExpansionView.{StepModel}
 use Rattle.odata_checked_filter.specs.FlatTree.{FlatTree}
-use Rattle.odata_checked_filter.specs.declared.kept_list.KeptList.{KeptList}
-use Rattle.odata_checked_filter.specs.declared.kept_list.KeptList.TheVariants.{Own, Lent}
+use Rattle.odata_checked_filter.specs.declared.list_cow.ListCow.{ListCow}
+use Rattle.odata_checked_filter.specs.declared.list_cow.ListCow.TheVariants.{Own, Lent}
 
 -- its own list, or the one that it borrows
-abbrev pub list_in : KeptList → FlatTree
+abbrev pub list_in : ListCow → FlatTree
 list_in (Own list expansion) = list
 list_in (Lent list expansion) = list.now
 
-abbrev pub expansion_in : KeptList → List StepModel
+abbrev pub expansion_in : ListCow → List StepModel
 expansion_in (Own list expansion) = expansion
 expansion_in (Lent list expansion) = expansion.now

@@ -1,5 +1,5 @@
 use Rattle.std.proofs.Common.{◌≤◌, ◌-◌}
-use Rattle.odata_eval.specs.private.SceneModel.{IsBeside}
+use Rattle.odata_eval.specs.private.ContextModel.{IsBeside}
 use Rattle.odata_eval.specs.private.Spending.{CountedDatum, CountedTruth, SpendsAt, Takes, datum_stop, stopped_by}
 use Rattle.odata_eval.specs.private.WalkAnswer.{AnswersNumber}
 use Rattle.odata_eval.proofs.spending.Members.{MembersPaid}
@@ -9,92 +9,92 @@ use Rattle.odata_eval.proofs.walking.Measures.{measure_at, rank_counted, rank_ea
 use Rattle.odata_eval.proofs.+evaluate.Given as goal
 
 abbrev pub decreases-number_walk::number_operand_at : goal.decreases-number_walk::number_operand_at
-decreases-number_walk::number_operand_at g l = measure_at l.scene.now.list.nodes l.place rank_number_operand
+decreases-number_walk::number_operand_at g l = measure_at l.context.now.list.nodes l.place rank_number_operand
 
 abbrev pub decreases-number_walk::made_number_at : goal.decreases-number_walk::made_number_at
-decreases-number_walk::made_number_at g l = measure_at l.scene.now.list.nodes l.place rank_made_number
+decreases-number_walk::made_number_at g l = measure_at l.context.now.list.nodes l.place rank_made_number
 
 abbrev pub decreases-walk::operand_at : goal.decreases-walk::operand_at
-decreases-walk::operand_at g l = measure_at l.scene.now.list.nodes l.place rank_operand
+decreases-walk::operand_at g l = measure_at l.context.now.list.nodes l.place rank_operand
 
 abbrev pub decreases-walk::likely_stored_at : goal.decreases-walk::likely_stored_at
-decreases-walk::likely_stored_at g l = measure_at l.scene.now.list.nodes l.place rank_operand
+decreases-walk::likely_stored_at g l = measure_at l.context.now.list.nodes l.place rank_operand
 
 abbrev pub decreases-walk::counted_at : goal.decreases-walk::counted_at
-decreases-walk::counted_at g l = measure_at l.scene.now.list.nodes l.place rank_counted
+decreases-walk::counted_at g l = measure_at l.context.now.list.nodes l.place rank_counted
 
 abbrev pub decreases-walk::side_at : goal.decreases-walk::side_at
-decreases-walk::side_at g l = measure_at l.scene.now.list.nodes l.place rank_counted
+decreases-walk::side_at g l = measure_at l.context.now.list.nodes l.place rank_counted
 
 abbrev pub decreases-walk::truth_at : goal.decreases-walk::truth_at
-decreases-walk::truth_at g l = measure_at l.scene.now.list.nodes l.place rank_truth
+decreases-walk::truth_at g l = measure_at l.context.now.list.nodes l.place rank_truth
 
 abbrev pub decreases-walk::plain_truth_at : goal.decreases-walk::plain_truth_at
-decreases-walk::plain_truth_at g l = measure_at l.scene.now.list.nodes l.place rank_plain
+decreases-walk::plain_truth_at g l = measure_at l.context.now.list.nodes l.place rank_plain
 
 abbrev pub decreases-walk::numbers_truth_at : goal.decreases-walk::numbers_truth_at
-decreases-walk::numbers_truth_at g l = measure_at l.scene.now.list.nodes l.place rank_numbers
+decreases-walk::numbers_truth_at g l = measure_at l.context.now.list.nodes l.place rank_numbers
 
 abbrev pub decreases-walk::compared_truth_at : goal.decreases-walk::compared_truth_at
-decreases-walk::compared_truth_at g l = measure_at l.scene.now.list.nodes l.place rank_test
+decreases-walk::compared_truth_at g l = measure_at l.context.now.list.nodes l.place rank_test
 
 abbrev pub decreases-walk::called_truth_at : goal.decreases-walk::called_truth_at
-decreases-walk::called_truth_at g l = measure_at l.scene.now.list.nodes l.place rank_test
+decreases-walk::called_truth_at g l = measure_at l.context.now.list.nodes l.place rank_test
 
 abbrev pub decreases-walk::numeric_truth_at : goal.decreases-walk::numeric_truth_at
-decreases-walk::numeric_truth_at g l = measure_at l.scene.now.list.nodes l.place rank_test
+decreases-walk::numeric_truth_at g l = measure_at l.context.now.list.nodes l.place rank_test
 
 abbrev pub decreases-walk::made_truth_at : goal.decreases-walk::made_truth_at
-decreases-walk::made_truth_at g l = measure_at l.scene.now.list.nodes l.place rank_made_truth
+decreases-walk::made_truth_at g l = measure_at l.context.now.list.nodes l.place rank_made_truth
 
 abbrev pub decreases-number_walk::number_at : goal.decreases-number_walk::number_at
-decreases-number_walk::number_at g l = measure_at l.scene.now.list.nodes l.place rank_numbers
+decreases-number_walk::number_at g l = measure_at l.context.now.list.nodes l.place rank_numbers
 
 abbrev pub decreases-walk::eager_at : goal.decreases-walk::eager_at
-decreases-walk::eager_at g l = measure_at l.scene.now.list.nodes l.place rank_eager
+decreases-walk::eager_at g l = measure_at l.context.now.list.nodes l.place rank_eager
 
 abbrev pub decreases-walk::logical_at : goal.decreases-walk::logical_at
-decreases-walk::logical_at g l = measure_at l.scene.now.list.nodes l.place rank_step
+decreases-walk::logical_at g l = measure_at l.context.now.list.nodes l.place rank_step
 
 abbrev pub decreases-walk::made_at : goal.decreases-walk::made_at
-decreases-walk::made_at g l = measure_at l.scene.now.list.nodes l.place rank_step
+decreases-walk::made_at g l = measure_at l.context.now.list.nodes l.place rank_step
 
 abbrev pub decreases-number_walk::numeric_at : goal.decreases-number_walk::numeric_at
-decreases-number_walk::numeric_at g l = measure_at l.scene.now.list.nodes l.place rank_step
+decreases-number_walk::numeric_at g l = measure_at l.context.now.list.nodes l.place rank_step
 
 abbrev pub decreases-number_walk::calculated_at : goal.decreases-number_walk::calculated_at
-decreases-number_walk::calculated_at g l = measure_at l.scene.now.list.nodes l.place rank_rest
+decreases-number_walk::calculated_at g l = measure_at l.context.now.list.nodes l.place rank_rest
 
 abbrev pub decreases-walk::compared_at : goal.decreases-walk::compared_at
-decreases-walk::compared_at g l = measure_at l.scene.now.list.nodes l.place rank_rest
+decreases-walk::compared_at g l = measure_at l.context.now.list.nodes l.place rank_rest
 
 abbrev pub decreases-walk::called_at : goal.decreases-walk::called_at
-decreases-walk::called_at g l = measure_at l.scene.now.list.nodes l.place rank_rest
+decreases-walk::called_at g l = measure_at l.context.now.list.nodes l.place rank_rest
 
 abbrev pub decreases-collection_walk::flags_at : goal.decreases-collection_walk::flags_at
-decreases-collection_walk::flags_at g l = measure_at l.scene.now.list.nodes l.place rank_rest
+decreases-collection_walk::flags_at g l = measure_at l.context.now.list.nodes l.place rank_rest
 
 abbrev pub decreases-collection_walk::among_at : goal.decreases-collection_walk::among_at
-decreases-collection_walk::among_at g l = measure_at l.scene.now.list.nodes l.place rank_rest
+decreases-collection_walk::among_at g l = measure_at l.context.now.list.nodes l.place rank_rest
 
 abbrev pub decreases-collection_walk::listed_at : goal.decreases-collection_walk::listed_at
-decreases-collection_walk::listed_at g l = measure_at l.scene.now.list.nodes l.place rank_rest
+decreases-collection_walk::listed_at g l = measure_at l.context.now.list.nodes l.place rank_rest
 
 abbrev pub decreases-walk::connected_at : goal.decreases-walk::connected_at
-decreases-walk::connected_at g l = measure_at l.scene.now.list.nodes l.place rank_rest
+decreases-walk::connected_at g l = measure_at l.context.now.list.nodes l.place rank_rest
 
 abbrev pub decreases-lambda_walk::lambda_at : goal.decreases-lambda_walk::lambda_at
-decreases-lambda_walk::lambda_at g l = measure_at l.scene.now.list.nodes l.place rank_rest
+decreases-lambda_walk::lambda_at g l = measure_at l.context.now.list.nodes l.place rank_rest
 
 abbrev pub decreases-lambda_walk::members_at : goal.decreases-lambda_walk::members_at
-decreases-lambda_walk::members_at g l = measure_at l.scene.now.list.nodes l.body.place rank_operand
+decreases-lambda_walk::members_at g l = measure_at l.context.now.list.nodes l.body.place rank_operand
 
 abbrev pub invariant-walk::truth_at-loop-at : goal.invariant-walk::truth_at-loop-at
 invariant-walk::truth_at-loop-at g l = record {
   above : l.place ≤ l.at;
   within : l.at ≤ l.bottom;
-  answers : CountedTruth l.scene l.at l.answer;
-  spent : SpendsAt l.scene l.at (g.B.Counting.left l.fn.budget) (g.B.Counting.left l.budget) (stopped_by l.answer);
+  answers : CountedTruth l.context l.at l.answer;
+  spent : SpendsAt l.context l.at (g.B.Counting.left l.fn.budget) (g.B.Counting.left l.budget) (stopped_by l.answer);
 }
 
 abbrev pub decreases-walk::truth_at-loop-at : goal.decreases-walk::truth_at-loop-at
@@ -104,7 +104,7 @@ abbrev pub invariant-number_walk::number_at-loop-at : goal.invariant-number_walk
 invariant-number_walk::number_at-loop-at g l = record {
   above : l.place ≤ l.at;
   within : l.at ≤ l.bottom;
-  answers : AnswersNumber l.scene l.at l.answer;
+  answers : AnswersNumber l.context l.at l.answer;
 }
 
 abbrev pub decreases-number_walk::number_at-loop-at : goal.decreases-number_walk::number_at-loop-at
@@ -114,8 +114,8 @@ abbrev pub invariant-walk::eager_at-loop-at : goal.invariant-walk::eager_at-loop
 invariant-walk::eager_at-loop-at g l = record {
   above : l.place ≤ l.at;
   within : l.at ≤ l.bottom;
-  answers : CountedDatum l.scene l.at l.answer;
-  spent : SpendsAt l.scene l.at (g.B.Counting.left l.fn.budget) (g.B.Counting.left l.budget) (datum_stop l.answer);
+  answers : CountedDatum l.context l.at l.answer;
+  spent : SpendsAt l.context l.at (g.B.Counting.left l.fn.budget) (g.B.Counting.left l.budget) (datum_stop l.answer);
 }
 
 abbrev pub decreases-walk::eager_at-loop-at : goal.decreases-walk::eager_at-loop-at
@@ -123,7 +123,7 @@ decreases-walk::eager_at-loop-at g l = l.at
 
 -- the items before the index are none that is equal
 abbrev pub invariant-collection_walk::listed_at-loop-at : goal.invariant-collection_walk::listed_at-loop-at
-invariant-collection_walk::listed_at-loop-at g l = ListLeft l.scene l.place l.own_stop l.at (Takes (g.B.Counting.left l.fn.budget) (g.B.Counting.left l.budget)) l.left
+invariant-collection_walk::listed_at-loop-at g l = ListLeft l.context l.place l.own_stop l.at (Takes (g.B.Counting.left l.fn.budget) (g.B.Counting.left l.budget)) l.left
 
 abbrev pub decreases-collection_walk::listed_at-loop-at : goal.decreases-collection_walk::listed_at-loop-at
 decreases-collection_walk::listed_at-loop-at g l = l.own_stop - l.at
@@ -131,7 +131,7 @@ decreases-collection_walk::listed_at-loop-at g l = l.own_stop - l.at
 -- the members before the index are all undecided
 abbrev pub invariant-lambda_walk::members_at-loop-at : goal.invariant-lambda_walk::members_at-loop-at
 invariant-lambda_walk::members_at-loop-at g l = record {
-  left : MembersLeft l.scene l.body.place l.body.quantifier l.variable l.members l.at;
-  paid : MembersPaid l.scene l.body.place l.body.quantifier l.variable l.members l.at (g.B.Counting.left l.fn.budget) (g.B.Counting.left l.budget);
-  beside : IsBeside l.bound l.scene;
+  left : MembersLeft l.context l.body.place l.body.quantifier l.variable l.members l.at;
+  paid : MembersPaid l.context l.body.place l.body.quantifier l.variable l.members l.at (g.B.Counting.left l.fn.budget) (g.B.Counting.left l.budget);
+  beside : IsBeside l.bound l.context;
 }

@@ -10,7 +10,7 @@ use Rattle.edm_entities.specs.HasType.{HasType}
 use Rattle.odata_functions.specs.Promotion.{negation_type, promotion, wider_type}
 use Rattle.odata_signatures.specs.ExprTypes.{IsNumberOrNull, number_or_null}
 use Rattle.odata_signatures.specs.OperatorTyped.{ArithmeticTyped, NegationTyped}
-use Rattle.odata_filter_operations.specs.Operands.{AreNumbers, IsOneNumber}
+use Rattle.odata_filter_operations.specs.Operators.{AreNumbers, IsOneNumber}
 use Rattle.odata_eval.proofs.meaning.Kinds.{number_kind}
 use Rattle.odata_eval.specs.private.LawsBelow.{Promotes}
 use Rattle.odata_eval.proofs.meaning.TypeValues.{IsOfKind, ValueKind, null_value, number_within, primitive_kind, wholes}

@@ -43,7 +43,7 @@ use Rattle.odata_eval.specs.OperatorGives.{InType, OperatorGives, SidesGive}
 use Rattle.odata_filter_operations.specs.Outcome.{Outcome, gives}
 use Rattle.odata_eval.specs.ReadGives.{GivesMember, UnlessRead}
 use Rattle.odata_filter_operations.specs.TruthGives.{LogicalGives, JoinGives, NotGives, joined, truth_val}
-use Rattle.odata_filter_operations.specs.Operands.{AreNumbers, IsOneNumber}
+use Rattle.odata_filter_operations.specs.Operators.{AreNumbers, IsOneNumber}
 use Rattle.odata_eval.specs.private.WalkClass.{IsDecided}
 use Rattle.odata_eval.proofs.meaning.AllTrees.{AllTrees, AllTyped}
 use Rattle.odata_eval.proofs.meaning.CallEnds.{HaveTypes}

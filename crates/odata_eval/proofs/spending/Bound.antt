@@ -14,26 +14,26 @@ use Rattle.odata_eval.specs.declared.verdict.Verdict.{Verdict}
 use Rattle.std.specs.Prelude.{IfSome}
 use Rattle.odata_checked_filter.specs.Calls.{TakesMemory}
 use Rattle.odata_eval.specs.MeansOn.{IsTheOutcome}
-use Rattle.odata_eval.specs.VerdictView.{outcome_told}
+use Rattle.odata_eval.specs.VerdictView.{outcome_reported}
 use Rattle.odata_eval.specs.private.Place.{OperandStands}
-use Rattle.odata_eval.specs.private.Scene.{EndsOnceHere}
-use Rattle.odata_eval.specs.private.SceneModel.{SceneModel}
+use Rattle.odata_eval.specs.private.EvalContext.{EndsOnceHere}
+use Rattle.odata_eval.specs.private.ContextModel.{ContextModel}
 use Rattle.odata_eval.specs.private.Spending.{CostsHere, CostsOnceHere, CountedTruth, SpendsAt, Spent, Takes, stopped_by}
 use Rattle.odata_eval.proofs.walking.Spines.{has_type}
 use Rattle.odata_eval.proofs.walking.TopNode.{no_variables, top_memory, top_outcome, whole_stands, whole_typed}
 
 -- so many were taken for what stands there
-some_spent : (scene : SceneModel) (place : ℕ) (old new : Budget) (stop : Option EvalStop) → OperandStands scene place → CostsOnceHere scene → SpendsAt scene place old new stop → (n : ℕ) × Spent stop old new n
-some_spent scene place old new stop operand once spends = elim operand.stands [
-  | inl stands ↦ (let typed = has_type scene place operand.stop operand.tree stands in
+some_spent : (context : ContextModel) (place : ℕ) (old new : Budget) (stop : Option EvalStop) → OperandStands context place → CostsOnceHere context → SpendsAt context place old new stop → (n : ℕ) × Spent stop old new n
+some_spent context place old new stop operand once spends = elim operand.stands [
+  | inl stands ↦ (let typed = has_type context place operand.stop operand.tree stands in
       let cost = once operand.tree typed.0 typed.1 in
       (cost.cost, spends.of_tree operand.stop operand.tree cost.cost stands cost.related))
   | inr number ↦ (0, spends.of_number number.0 operand.stop operand.tree number.1)
 ]
 
 -- without a bound nothing is too costly
-pub never_costly : (scene : SceneModel) (place : ℕ) → OperandStands scene place → CostsOnceHere scene → (new : Budget) → SpendsAt scene place Budget.Unbounded new (Some EvalStop.TooCostly) → ⊥
-never_costly scene place operand once new spends = (some_spent scene place Budget.Unbounded new (Some EvalStop.TooCostly) operand once spends).1
+pub never_costly : (context : ContextModel) (place : ℕ) → OperandStands context place → CostsOnceHere context → (new : Budget) → SpendsAt context place Budget.Unbounded new (Some EvalStop.TooCostly) → ⊥
+never_costly context place operand once new spends = (some_spent context place Budget.Unbounded new (Some EvalStop.TooCostly) operand once spends).1
 
 -- what was taken lies within the bound
 taken_within : (most n : ℕ) (new : Budget) → Takes (Budget.Left most) new n → n ≤ most
@@ -47,26 +47,26 @@ answer_within most n new (Err (EvalStop.Fault EvalFault.Overflow)) spent = taken
 answer_within most n new (Err (EvalStop.Fault EvalFault.DivideByZero)) spent = taken_within most n new spent
 answer_within most n new (Err (EvalStop.Fault EvalFault.Memory)) spent = tt
 
-module _ (filter : Filter) (row : Row) (moment : MomentParts) (scene : SceneModel) (right : IsFilter filter) (one_schema : filter.schema ≡ row.schema)
-    (one_type : filter.filtered ≡ row.type_id) (is_row : scene.row ≡ row) (is_moment : scene.moment ≡ moment) (is_list : scene.list ≡ filter.list) (is_empty : scene.frames ≡ []) where
+module _ (filter : Filter) (row : Row) (moment : MomentParts) (context : ContextModel) (right : IsFilter filter) (one_schema : filter.schema ≡ row.schema)
+    (one_type : filter.filtered ≡ row.type_id) (is_row : context.row ≡ row) (is_moment : context.moment ≡ moment) (is_list : context.list ≡ filter.list) (is_empty : context.frames ≡ []) where
   -- what it costs there is what it costs by itself
-  costs_alone : (n : ℕ) → CostsHere scene (tree_of_filter filter) n → CostsOn scene.row scene.moment (tree_of_filter filter) n
+  costs_alone : (n : ℕ) → CostsHere context (tree_of_filter filter) n → CostsOn context.row context.moment (tree_of_filter filter) n
   costs_alone n =
-      subst (λ (e : Environment). Costs (slots_of scene.row.schema) (type_name_at scene.row.schema scene.row.type_id) scene.moment (value_of scene.row) e (tree_of_filter filter) n)
-      (no_variables filter row moment scene right one_schema one_type is_row is_moment is_list is_empty)
+      subst (λ (e : Environment). Costs (slots_of context.row.schema) (type_name_at context.row.schema context.row.type_id) context.moment (value_of context.row) e (tree_of_filter filter) n)
+      (no_variables filter row moment context right one_schema one_type is_row is_moment is_list is_empty)
 
-  costs_here : (n : ℕ) → CostsOn scene.row scene.moment (tree_of_filter filter) n → CostsHere scene (tree_of_filter filter) n
+  costs_here : (n : ℕ) → CostsOn context.row context.moment (tree_of_filter filter) n → CostsHere context (tree_of_filter filter) n
   costs_here n =
-      subst (λ (e : Environment). Costs (slots_of scene.row.schema) (type_name_at scene.row.schema scene.row.type_id) scene.moment (value_of scene.row) e (tree_of_filter filter) n)
-      (sym (no_variables filter row moment scene right one_schema one_type is_row is_moment is_list is_empty))
+      subst (λ (e : Environment). Costs (slots_of context.row.schema) (type_name_at context.row.schema context.row.type_id) context.moment (value_of context.row) e (tree_of_filter filter) n)
+      (sym (no_variables filter row moment context right one_schema one_type is_row is_moment is_list is_empty))
 
-  pub top_bound : CostsOnceHere scene → (most : ℕ) (new : Budget) (answer : Result Verdict EvalStop) (stop : Option EvalStop) → stopped_by answer ≡ stop → SpendsAt scene 0 (Budget.Left most) new stop
+  pub top_bound : CostsOnceHere context → (most : ℕ) (new : Budget) (answer : Result Verdict EvalStop) (stop : Option EvalStop) → stopped_by answer ≡ stop → SpendsAt context 0 (Budget.Left most) new stop
       → KeepsBound row moment (tree_of_filter filter) most answer
   top_bound once most new answer stop same spends =
-      let cost = once (tree_of_filter filter) right.type_of (whole_typed filter row moment scene right one_schema one_type is_row is_moment is_list is_empty) in
-      let spent = spends.of_tree (length filter.list.nodes) (tree_of_filter filter) cost.cost (whole_stands filter row moment scene right one_schema one_type is_row is_moment is_list is_empty) cost.related in
+      let cost = once (tree_of_filter filter) right.type_of (whole_typed filter row moment context right one_schema one_type is_row is_moment is_list is_empty) in
+      let spent = spends.of_tree (length filter.list.nodes) (tree_of_filter filter) cost.cost (whole_stands filter row moment context right one_schema one_type is_row is_moment is_list is_empty) cost.related in
       subst (λ (r : Row). KeepsBound r moment (tree_of_filter filter) most answer) is_row
-      (subst (λ (m : MomentParts). KeepsBound scene.row m (tree_of_filter filter) most answer) is_moment
+      (subst (λ (m : MomentParts). KeepsBound context.row m (tree_of_filter filter) most answer) is_moment
       (record {
         cost = cost.cost;
         related = costs_alone cost.cost cost.related;
@@ -75,12 +75,12 @@ module _ (filter : Filter) (row : Row) (moment : MomentParts) (scene : SceneMode
       }))
 
   -- a stop, as an outcome, and where memory ran out
-  pub top_stop_outcome : EndsOnceHere scene → (stop : EvalStop) → CountedTruth scene 0 (Err stop) → IfSome (outcome_told (Err stop)) (IsTheOutcome row moment (tree_of_filter filter))
-  top_stop_outcome ends (EvalStop.Fault fault) answers = top_outcome filter row moment scene right one_schema one_type is_row is_moment is_list is_empty ends (Err fault) answers
+  pub top_stop_outcome : EndsOnceHere context → (stop : EvalStop) → CountedTruth context 0 (Err stop) → IfSome (outcome_reported (Err stop)) (IsTheOutcome row moment (tree_of_filter filter))
+  top_stop_outcome ends (EvalStop.Fault fault) answers = top_outcome filter row moment context right one_schema one_type is_row is_moment is_list is_empty ends (Err fault) answers
   top_stop_outcome ends EvalStop.TooCostly answers = tt
 
-  pub top_stop_memory : (stop : EvalStop) → CountedTruth scene 0 (Err stop) → stop ≡ EvalStop.Fault EvalFault.Memory → TakesMemory (tree_of_filter filter)
+  pub top_stop_memory : (stop : EvalStop) → CountedTruth context 0 (Err stop) → stop ≡ EvalStop.Fault EvalFault.Memory → TakesMemory (tree_of_filter filter)
   top_stop_memory (EvalStop.Fault fault) answers same =
       let memory : fault ≡ EvalFault.Memory = cc in
-      top_memory filter row moment scene right one_schema one_type is_row is_moment is_list is_empty fault answers memory
+      top_memory filter row moment context right one_schema one_type is_row is_moment is_list is_empty fault answers memory
   top_stop_memory EvalStop.TooCostly answers same = absurd (cc)

@@ -13,11 +13,11 @@ use Rattle.odata_signatures.specs.Sides.{side_of}
 use Rattle.odata_syntax.specs.Tree.{Tree, binary, node}
 use Rattle.odata_signatures.specs.declared.function.Function.{Function}
 use Rattle.odata_eval.specs.Costs.{RightCosts}
-use Rattle.odata_eval.specs.declared.part.WalkClass.{WalkClass}
+use Rattle.odata_eval.specs.declared.walk_operand.WalkClass.{WalkClass}
 use Rattle.odata_eval.specs.private.KeptOperands.{IsPathAt}
 use Rattle.odata_eval.specs.private.Place.{HasKind, IsClassAt}
-use Rattle.odata_eval.specs.private.Scene.{MeansHere, OperandHere, StandsHere, TypedHere}
-use Rattle.odata_eval.specs.private.SceneModel.{SceneModel, environment_of}
+use Rattle.odata_eval.specs.private.EvalContext.{MeansHere, OperandHere, StandsHere, TypedHere}
+use Rattle.odata_eval.specs.private.ContextModel.{ContextModel, environment_of}
 use Rattle.odata_eval.specs.private.Spending.{CostsHere}
 use Rattle.odata_eval.specs.private.WalkClass.{walk_of_kind, walk_of_operator}
 use Rattle.odata_eval.proofs.costs.PlainTypes.{IsPlainType, call_free, number_plain, plain_free}
@@ -51,79 +51,79 @@ pub path_plain_type : (left path : ExprType) → IsComparableWithMembers left pa
 path_plain_type left (collection member) is = tt
 path_plain_type left _ is = absurd is
 
-module _ (scene : SceneModel) where
+module _ (context : ContextModel) where
   abbrev pub FreeThere : ℕ → Type 0
-  FreeThere place = (stop : ℕ) (tree : Tree) → StandsHere scene place stop tree → IsFree (CostsHere scene tree)
+  FreeThere place = (stop : ℕ) (tree : Tree) → StandsHere context place stop tree → IsFree (CostsHere context tree)
 
   -- a tree of a plain type, where the walk is
-  pub plain_here : (tree : Tree) (type : ExprType) → TypedHere scene tree type → IsPlainType type → IsFree (CostsHere scene tree)
-  plain_here = plain_free (slots_of scene.row.schema) (type_name_at scene.row.schema scene.row.type_id) scene.moment (value_of scene.row) (environment_of scene)
+  pub plain_here : (tree : Tree) (type : ExprType) → TypedHere context tree type → IsPlainType type → IsFree (CostsHere context tree)
+  plain_here = plain_free (slots_of context.row.schema) (type_name_at context.row.schema context.row.type_id) context.moment (value_of context.row) (environment_of context)
 
   -- so is an operand
-  pub operand_free : (place : ℕ) → FreeThere place → (stop : ℕ) (tree : Tree) → OperandHere scene place stop tree → IsFree (CostsHere scene tree)
+  pub operand_free : (place : ℕ) → FreeThere place → (stop : ℕ) (tree : Tree) → OperandHere context place stop tree → IsFree (CostsHere context tree)
   operand_free place free stop tree (inl stands) = free stop tree stands
-  operand_free place free stop tree (inr number) = number_free scene number.0 place stop tree number.1
+  operand_free place free stop tree (inr number) = number_free context number.0 place stop tree number.1
 
   -- ---- nodes by their class
 
-  kind_at : (place : ℕ) (class : WalkClass) (P : NodeKind → Type 0) → IsClassAt scene.list class place
-      → ((kind : NodeKind) → walk_of_kind kind ≡ class → HasKind scene.list place kind → P kind) → (kind : NodeKind) × P kind
+  kind_at : (place : ℕ) (class : WalkClass) (P : NodeKind → Type 0) → IsClassAt context.list class place
+      → ((kind : NodeKind) → walk_of_kind kind ≡ class → HasKind context.list place kind → P kind) → (kind : NodeKind) × P kind
   kind_at place class P is goes =
-      let found = some_there (λ (f : CheckedNode). walk_of_kind f.kind ≡ class) (slice_get scene.list.nodes place) is in
+      let found = some_there (λ (f : CheckedNode). walk_of_kind f.kind ≡ class) (slice_get context.list.nodes place) is in
       let kind = found.0.kind in
-      (kind, goes kind found.1.1 (there_found (λ (f : CheckedNode). f.kind ≡ kind) (slice_get scene.list.nodes place) found.0 found.1.0 refl))
+      (kind, goes kind found.1.1 (there_found (λ (f : CheckedNode). f.kind ≡ kind) (slice_get context.list.nodes place) found.0 found.1.0 refl))
 
-  leaf_of_kind : (place : ℕ) (kind : NodeKind) → walk_of_kind kind ≡ WalkClass.Leaf → HasKind scene.list place kind → FreeThere place
-  leaf_of_kind place (NodeKind.Literal kind value) leaf here = by_kind scene place (NodeKind.Literal kind value) here (λ stop tree. IsFree (CostsHere scene tree))
+  leaf_of_kind : (place : ℕ) (kind : NodeKind) → walk_of_kind kind ≡ WalkClass.Leaf → HasKind context.list place kind → FreeThere place
+  leaf_of_kind place (NodeKind.Literal kind value) leaf here = by_kind context place (NodeKind.Literal kind value) here (λ stop tree. IsFree (CostsHere context tree))
       (λ k spelling stop from to stands n costs. costs)
-  leaf_of_kind place NodeKind.It leaf here = by_kind scene place NodeKind.It here (λ stop tree. IsFree (CostsHere scene tree)) (λ stop from to stands n costs. costs)
-  leaf_of_kind place (NodeKind.Property slot) leaf here = by_kind scene place (NodeKind.Property slot) here (λ stop tree. IsFree (CostsHere scene tree))
+  leaf_of_kind place NodeKind.It leaf here = by_kind context place NodeKind.It here (λ stop tree. IsFree (CostsHere context tree)) (λ stop from to stands n costs. costs)
+  leaf_of_kind place (NodeKind.Property slot) leaf here = by_kind context place (NodeKind.Property slot) here (λ stop tree. IsFree (CostsHere context tree))
       (λ asked stop from to stands n costs. costs)
-  leaf_of_kind place (NodeKind.Variable level) leaf here = by_kind scene place (NodeKind.Variable level) here (λ stop tree. IsFree (CostsHere scene tree))
+  leaf_of_kind place (NodeKind.Variable level) leaf here = by_kind context place (NodeKind.Variable level) here (λ stop tree. IsFree (CostsHere context tree))
       (λ asked stop from to stands n costs. costs)
-  leaf_of_kind place NodeKind.Now leaf here = by_kind scene place NodeKind.Now here (λ stop tree. IsFree (CostsHere scene tree))
+  leaf_of_kind place NodeKind.Now leaf here = by_kind context place NodeKind.Now here (λ stop tree. IsFree (CostsHere context tree))
       (λ asked arguments named stop from to stands.
-      call_free (slots_of scene.row.schema) (type_name_at scene.row.schema scene.row.type_id) scene.moment (value_of scene.row) (environment_of scene) from to asked arguments _ stands.top.typed)
+      call_free (slots_of context.row.schema) (type_name_at context.row.schema context.row.type_id) context.moment (value_of context.row) (environment_of context) from to asked arguments _ stands.top.typed)
   leaf_of_kind place (NodeKind.Binary operator) leaf here = absurd (operator_inner operator leaf)
   leaf_of_kind place _ leaf here = absurd (cc)
 
-  pub leaf_free : (place : ℕ) → IsClassAt scene.list WalkClass.Leaf place → FreeThere place
+  pub leaf_free : (place : ℕ) → IsClassAt context.list WalkClass.Leaf place → FreeThere place
   leaf_free place is = (kind_at place WalkClass.Leaf (λ kind. FreeThere place) is (leaf_of_kind place)).1
 
-  numeric_of_kind : (place : ℕ) (kind : NodeKind) → walk_of_kind kind ≡ WalkClass.Numeric → HasKind scene.list place kind → FreeThere place
-  numeric_of_kind place NodeKind.Neg numeric here = by_kind scene place NodeKind.Neg here (λ stop tree. IsFree (CostsHere scene tree))
+  numeric_of_kind : (place : ℕ) (kind : NodeKind) → walk_of_kind kind ≡ WalkClass.Numeric → HasKind context.list place kind → FreeThere place
+  numeric_of_kind place NodeKind.Neg numeric here = by_kind context place NodeKind.Neg here (λ stop tree. IsFree (CostsHere context tree))
       (λ operand stop from to stands.
       let typed = stands.top.typed in
       plain_here operand typed.operand typed.operand_typed (number_plain typed.operand typed.makes.number typed.makes.operand_is))
-  numeric_of_kind place (NodeKind.Binary operator) numeric here = by_kind scene place (NodeKind.Binary operator) here (λ stop tree. IsFree (CostsHere scene tree))
+  numeric_of_kind place (NodeKind.Binary operator) numeric here = by_kind context place (NodeKind.Binary operator) here (λ stop tree. IsFree (CostsHere context tree))
       (λ left right stop from to stands.
       let typed = stands.top.typed in
-      let plain = numbers_plain operator typed.left typed.right _ numeric (plain_types (slots_of scene.row.schema) operator (side_of left typed.left) (side_of right typed.right) _ (λ equality. let eager = equality_walks operator equality in cc) typed.makes) in
-      after_free (MeansHere scene left) (CostsHere scene left) (λ l. RightCosts operator l (CostsHere scene right)) (plain_here left typed.left typed.left_typed plain.0)
-      (λ l. right_free operator l (CostsHere scene right) (plain_here right typed.right typed.right_typed plain.1)))
+      let plain = numbers_plain operator typed.left typed.right _ numeric (plain_types (slots_of context.row.schema) operator (side_of left typed.left) (side_of right typed.right) _ (λ equality. let eager = equality_walks operator equality in cc) typed.makes) in
+      after_free (MeansHere context left) (CostsHere context left) (λ l. RightCosts operator l (CostsHere context right)) (plain_here left typed.left typed.left_typed plain.0)
+      (λ l. right_free operator l (CostsHere context right) (plain_here right typed.right typed.right_typed plain.1)))
   numeric_of_kind place _ numeric here = absurd (cc)
 
-  pub numeric_free : (place : ℕ) → IsClassAt scene.list WalkClass.Numeric place → FreeThere place
+  pub numeric_free : (place : ℕ) → IsClassAt context.list WalkClass.Numeric place → FreeThere place
   numeric_free place is = (kind_at place WalkClass.Numeric (λ kind. FreeThere place) is (numeric_of_kind place)).1
 
-  pub called_free : (place : ℕ) (function : Function) → HasKind scene.list place (NodeKind.Call function) → FreeThere place
-  called_free place function here = by_kind scene place (NodeKind.Call function) here (λ stop tree. IsFree (CostsHere scene tree))
+  pub called_free : (place : ℕ) (function : Function) → HasKind context.list place (NodeKind.Call function) → FreeThere place
+  called_free place function here = by_kind context place (NodeKind.Call function) here (λ stop tree. IsFree (CostsHere context tree))
       (λ asked arguments named later stop from to stands.
-      call_free (slots_of scene.row.schema) (type_name_at scene.row.schema scene.row.type_id) scene.moment (value_of scene.row) (environment_of scene) from to asked arguments _ stands.top.typed)
+      call_free (slots_of context.row.schema) (type_name_at context.row.schema context.row.type_id) context.moment (value_of context.row) (environment_of context) from to asked arguments _ stands.top.typed)
 
   -- an operator between two such sides
-  pub sides_free : (operator : BinaryOperator) (left right : Tree) → IsFree (CostsHere scene left) → IsFree (CostsHere scene right) → (from to : ℕ)
-      → IsFree (CostsHere scene (node from to (binary operator left right)))
+  pub sides_free : (operator : BinaryOperator) (left right : Tree) → IsFree (CostsHere context left) → IsFree (CostsHere context right) → (from to : ℕ)
+      → IsFree (CostsHere context (node from to (binary operator left right)))
   sides_free operator left right of_left of_right from to =
-      after_free (MeansHere scene left) (CostsHere scene left) (λ l. RightCosts operator l (CostsHere scene right)) of_left
-      (λ l. right_free operator l (CostsHere scene right) of_right)
+      after_free (MeansHere context left) (CostsHere context left) (λ l. RightCosts operator l (CostsHere context right)) of_left
+      (λ l. right_free operator l (CostsHere context right) of_right)
 
   -- a step from a leaf, and so a path of at most one
-  pub step_free : (place slot : ℕ) → HasKind scene.list place (NodeKind.Member slot) → IsClassAt scene.list WalkClass.Leaf (place + 1) → FreeThere place
-  step_free place slot here leaf = by_kind scene place (NodeKind.Member slot) here (λ stop tree. IsFree (CostsHere scene tree))
-      (λ base asked stop from to stands. leaf_free (place + 1) leaf stop base (only_child scene (place + 1) stop base stands.children))
+  pub step_free : (place slot : ℕ) → HasKind context.list place (NodeKind.Member slot) → IsClassAt context.list WalkClass.Leaf (place + 1) → FreeThere place
+  step_free place slot here leaf = by_kind context place (NodeKind.Member slot) here (λ stop tree. IsFree (CostsHere context tree))
+      (λ base asked stop from to stands. leaf_free (place + 1) leaf stop base (only_child context (place + 1) stop base stands.children))
 
-  pub path_free : (place : ℕ) → IsPathAt scene.list place → FreeThere place
+  pub path_free : (place : ℕ) → IsPathAt context.list place → FreeThere place
   path_free place is = elim is [
     | inl leaf ↦ leaf_free place leaf
     | inr step ↦ step_free place step.0 step.1 step.2

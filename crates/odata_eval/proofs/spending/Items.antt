@@ -17,26 +17,26 @@ use Rattle.odata_syntax.specs.declared.node.Quantifier.{Quantifier}
 use Rattle.odata_signatures.specs.Sides.{side_of}
 use Rattle.odata_eval.specs.Costs.{CostAfter, CostThen, ItemsCost, OthersCost, item_cost}
 use Rattle.odata_eval.specs.Means.{ItemMeans}
-use Rattle.odata_eval.specs.private.Scene.{EndsOnceHere, MeansHere, StandsHere, TypedHere}
-use Rattle.odata_eval.specs.private.SceneModel.{SceneModel, environment_of}
+use Rattle.odata_eval.specs.private.EvalContext.{EndsOnceHere, MeansHere, StandsHere, TypedHere}
+use Rattle.odata_eval.specs.private.ContextModel.{ContextModel, environment_of}
 use Rattle.odata_eval.specs.private.Spending.{CostsHere}
 use Rattle.odata_eval.proofs.spending.Splits.{follows}
 use Rattle.odata_eval.proofs.walking.Operands.{AloneHere}
 
-module _ (scene : SceneModel) where
+module _ (context : ContextModel) where
   -- what items cost from the first on, after a left value
   abbrev pub ItemsCostHere : (ExprType → Type 0) → Val → Trees → ℕ → Type 0
-  ItemsCostHere = ItemsCost (slots_of scene.row.schema) (type_name_at scene.row.schema scene.row.type_id) scene.moment (value_of scene.row) (environment_of scene)
+  ItemsCostHere = ItemsCost (slots_of context.row.schema) (type_name_at context.row.schema context.row.type_id) context.moment (value_of context.row) (environment_of context)
 
   -- what an item evaluates to, compared with it
   abbrev pub ComparedHere : (ExprType → Type 0) → Val → Tree → Outcome → Type 0
-  ComparedHere Beside l item = After (AloneHere scene Beside item) (CompareGives ComparisonOperator.Eq l)
+  ComparedHere Beside l item = After (AloneHere context Beside item) (CompareGives ComparisonOperator.Eq l)
 
   -- ---- an item compared evaluates to one outcome: that of a list of it alone
 
   abbrev ItemAt : (ExprType → Type 0) → Tree → ℕ → Outcome → Type 0
   ItemAt Beside item =
-      ItemMeans (slots_of scene.row.schema) (type_name_at scene.row.schema scene.row.type_id) scene.moment (value_of scene.row) (environment_of scene) Beside (more_trees item no_trees)
+      ItemMeans (slots_of context.row.schema) (type_name_at context.row.schema context.row.type_id) context.moment (value_of context.row) (environment_of context) Beside (more_trees item no_trees)
 
   abbrev AloneGives : (ExprType → Type 0) → Val → Tree → Outcome → Type 0
   AloneGives Beside l item = ItemsGive l 1 (ItemAt Beside item)
@@ -52,7 +52,7 @@ module _ (scene : SceneModel) where
   passes_alone : (Beside : ExprType → Type 0) (l : Val) (item : Tree) → ComparedHere Beside l item (gives (boolean false)) → AloneGives Beside l item (gives (boolean false))
   passes_alone Beside l item compared = inr (record { each = passes_at Beside l item compared; is = refl })
 
-  value_alone : (Beside : ExprType → Type 0) (l w : Val) (item : Tree) (o : Outcome) → AloneHere scene Beside item (gives w) → CompareGives ComparisonOperator.Eq l w o → AloneGives Beside l item o
+  value_alone : (Beside : ExprType → Type 0) (l w : Val) (item : Tree) (o : Outcome) → AloneHere context Beside item (gives w) → CompareGives ComparisonOperator.Eq l w o → AloneGives Beside l item o
   value_alone Beside l w item (gives (boolean true)) alone compares = decides_alone Beside l item (gives w, (alone, compares))
   value_alone Beside l w item (gives (boolean false)) alone compares = passes_alone Beside l item (gives w, (alone, compares))
   value_alone Beside l w item (gives _) alone compares = absurd compares.1
@@ -69,7 +69,7 @@ module _ (scene : SceneModel) where
       (inl (record { place = 0; here = (divides_by_zero, ((divides_by_zero, (alone, refl)), refl)); earlier = λ k before. absurd (omega (arith, before)) }))
 
   -- a value beside which an item may stand is none of a collection
-  beside_single : (left : ExprType) (item : Tree) (type : ExprType) → IsItemBeside (slots_of scene.row.schema) left (side_of item type) → ¬ (IsCollection left)
+  beside_single : (left : ExprType) (item : Tree) (type : ExprType) → IsItemBeside (slots_of context.row.schema) left (side_of item type) → ¬ (IsCollection left)
   beside_single (collection of) item type (inl comparable) is = comparable
   beside_single (collection of) item type (inr number) is = number.1
   beside_single _ item type beside is = is
@@ -77,14 +77,14 @@ module _ (scene : SceneModel) where
   -- a left side, its value, and an item of a type that may stand beside it
   pub record SideItem (left : Tree) (l : Val) (item : Tree) : Type 0 where
     pub left_type : ExprType
-    pub left_typed : TypedHere scene left left_type
-    pub left_means : MeansHere scene left (gives l)
+    pub left_typed : TypedHere context left left_type
+    pub left_means : MeansHere context left (gives l)
     pub item_type : ExprType
-    pub item_typed : TypedHere scene item item_type
-    pub beside : IsItemBeside (slots_of scene.row.schema) left_type (side_of item item_type)
+    pub item_typed : TypedHere context item item_type
+    pub beside : IsItemBeside (slots_of context.row.schema) left_type (side_of item item_type)
 
-  pub one_compared : EndsOnceHere scene → (left : Tree) (l : Val) (item : Tree) → SideItem left l item → (o p : Outcome)
-      → ComparedHere (TypedHere scene left) l item o → ComparedHere (TypedHere scene left) l item p → o ≡ p
+  pub one_compared : EndsOnceHere context → (left : Tree) (l : Val) (item : Tree) → SideItem left l item → (o p : Outcome)
+      → ComparedHere (TypedHere context left) l item o → ComparedHere (TypedHere context left) l item p → o ≡ p
   one_compared ends left l item side o p of_o of_p =
       let alone = node 0 0 (in_list left (more_trees item no_trees)) in
       let once = ends alone boolean_type (record {
@@ -94,8 +94,8 @@ module _ (scene : SceneModel) where
         items_typed = (side.item_typed, tt);
         makes = (beside_single side.left_type item side.item_type side.beside, (side.beside, tt), refl);
       }) in
-      let first : MeansHere scene alone o = (gives l, (side.left_means, alone_gives (TypedHere scene left) l item o of_o)) in
-      let second : MeansHere scene alone p = (gives l, (side.left_means, alone_gives (TypedHere scene left) l item p of_p)) in
+      let first : MeansHere context alone o = (gives l, (side.left_means, alone_gives (TypedHere context left) l item o of_o)) in
+      let second : MeansHere context alone p = (gives l, (side.left_means, alone_gives (TypedHere context left) l item p of_p)) in
       once.only o first ∙ sym (once.only p second)
 
   -- ---- what is due
@@ -103,18 +103,18 @@ module _ (scene : SceneModel) where
   -- the left side's cost, what items have cost so far, and what the others are asked for
   pub record ItemsDue (place n : ℕ) (IsPaid : ℕ → Type 0) (left : Tree) (l : Val) (items : Trees) : Type 0 where
     pub stop : ℕ
-    pub stands : StandsHere scene (place + 1) stop left
+    pub stands : StandsHere context (place + 1) stop left
     pub own : ℕ
-    pub costs : CostsHere scene left own
+    pub costs : CostsHere context left own
     pub paid : ℕ
     pub due : ℕ
     pub sum : n ≡ own + (paid + due)
     pub is_paid : IsPaid paid
-    pub asked : ItemsCostHere (TypedHere scene left) l items due
+    pub asked : ItemsCostHere (TypedHere context left) l items due
 
-  pub due_first : (place stop n : ℕ) (IsPaid : ℕ → Type 0) (left : Tree) (l : Val) (items : Trees) → StandsHere scene (place + 1) stop left → IsPaid 0
-      → ((o : Outcome) → MeansHere scene left o → o ≡ gives l)
-      → CostAfter (MeansHere scene left) (CostsHere scene left) (λ v. ItemsCostHere (TypedHere scene left) v items) n → ItemsDue place n IsPaid left l items
+  pub due_first : (place stop n : ℕ) (IsPaid : ℕ → Type 0) (left : Tree) (l : Val) (items : Trees) → StandsHere context (place + 1) stop left → IsPaid 0
+      → ((o : Outcome) → MeansHere context left o → o ≡ gives l)
+      → CostAfter (MeansHere context left) (CostsHere context left) (λ v. ItemsCostHere (TypedHere context left) v items) n → ItemsDue place n IsPaid left l items
   due_first place stop n IsPaid left l items stands none_paid only after = record {
     stop = stop;
     stands = stands;
@@ -124,28 +124,28 @@ module _ (scene : SceneModel) where
     due = after.rest;
     sum = let sum = after.sum in omega (arith, sum);
     is_paid = none_paid;
-    asked = follows after.outcome (gives l) (λ v. ItemsCostHere (TypedHere scene left) v items) after.rest (only after.outcome after.is) after.follows;
+    asked = follows after.outcome (gives l) (λ v. ItemsCostHere (TypedHere context left) v items) after.rest (only after.outcome after.is) after.follows;
   }
 
   -- what is due of one item, and of the others
   pub record ItemDue (place n : ℕ) (IsPaid : ℕ → Type 0) (left : Tree) (l : Val) (item : Tree) (more : Trees) (o : Outcome) : Type 0 where
     pub stop : ℕ
-    pub stands : StandsHere scene (place + 1) stop left
+    pub stands : StandsHere context (place + 1) stop left
     pub own : ℕ
-    pub costs : CostsHere scene left own
+    pub costs : CostsHere context left own
     pub paid : ℕ
     pub is_paid : IsPaid paid
     pub item_own : ℕ
-    pub item_costs : CostsHere scene item item_own
+    pub item_costs : CostsHere context item item_own
     pub later : ℕ
-    pub sum : n ≡ own + (paid + (item_cost (environment_of scene) + (item_own + later)))
-    pub follows_item : CostThen o (OthersCost Quantifier.Any (ItemsCostHere (TypedHere scene left) l more)) later
+    pub sum : n ≡ own + (paid + (item_cost (environment_of context) + (item_own + later)))
+    pub follows_item : CostThen o (OthersCost Quantifier.Any (ItemsCostHere (TypedHere context left) l more)) later
 
   due_sum : (n own paid due first more item_own later : ℕ) → n ≡ own + (paid + due) → due ≡ first + more → more ≡ item_own + later → n ≡ own + (paid + (first + (item_own + later)))
   due_sum n own paid due first more item_own later a b c = omega (arith, a, b, c)
 
   pub item_due : (place n : ℕ) (IsPaid : ℕ → Type 0) (left : Tree) (l : Val) (item : Tree) (more : Trees) (o : Outcome)
-      → ((p : Outcome) → ComparedHere (TypedHere scene left) l item p → p ≡ o) → ItemsDue place n IsPaid left l (more_trees item more) → ItemDue place n IsPaid left l item more o
+      → ((p : Outcome) → ComparedHere (TypedHere context left) l item p → p ≡ o) → ItemsDue place n IsPaid left l (more_trees item more) → ItemDue place n IsPaid left l item more o
   item_due place n IsPaid left l item more o only it =
       let after = it.asked.1 in
       record {
@@ -158,6 +158,6 @@ module _ (scene : SceneModel) where
         item_own = after.own;
         item_costs = after.costs;
         later = after.rest;
-        sum = due_sum n it.own it.paid it.due (item_cost (environment_of scene)) it.asked.0 after.own after.rest it.sum it.asked.2 after.sum;
-        follows_item = follows after.outcome o (OthersCost Quantifier.Any (ItemsCostHere (TypedHere scene left) l more)) after.rest (only after.outcome after.is) after.follows;
+        sum = due_sum n it.own it.paid it.due (item_cost (environment_of context)) it.asked.0 after.own after.rest it.sum it.asked.2 after.sum;
+        follows_item = follows after.outcome o (OthersCost Quantifier.Any (ItemsCostHere (TypedHere context left) l more)) after.rest (only after.outcome after.is) after.follows;
       }

@@ -18,8 +18,8 @@ use Rattle.odata_eval.specs.declared.frames.RangeVariable.{RangeVariable}
 use Rattle.odata_eval.specs.declared.stop.EvalStop.{EvalStop}
 use Rattle.odata_eval.specs.private.Frames.{frame_of}
 use Rattle.odata_eval.specs.private.Lambda.{BodyMeans, BodyStands, type_of_variable, vals_of}
-use Rattle.odata_eval.specs.private.Scene.{EndsOnceHere}
-use Rattle.odata_eval.specs.private.SceneModel.{SceneModel, environment_of, with_frame}
+use Rattle.odata_eval.specs.private.EvalContext.{EndsOnceHere}
+use Rattle.odata_eval.specs.private.ContextModel.{ContextModel, environment_of, with_frame}
 use Rattle.odata_eval.specs.private.Spending.{HasFewer, SpendsAt, SpendsMembers, Takes}
 use Rattle.odata_eval.specs.private.WalkAnswer.{AnswersTruth}
 use Rattle.odata_eval.proofs.spending.Budgets.{fewer_first, fewer_then, spent_first, spent_same, spent_then, takes_both, takes_nothing}
@@ -43,20 +43,20 @@ undecided_others Quantifier.All Others (Some true) n undecided costs = costs
 undecided_others Quantifier.All Others (Some false) n undecided costs = absurd undecided
 undecided_others Quantifier.All Others None n undecided costs = absurd undecided
 
-module _ (scene : SceneModel) (place : ℕ) (quantifier : Quantifier) (variable : RangeVariable) (members : List Value) where
+module _ (context : ContextModel) (place : ℕ) (quantifier : Quantifier) (variable : RangeVariable) (members : List Value) where
   -- what members cost
   abbrev pub BodyCosts : Tree → Val → ℕ → Type 0
   BodyCosts body v =
-      Costs (slots_of scene.row.schema) (type_name_at scene.row.schema scene.row.type_id) scene.moment (value_of scene.row)
-      (bound_over (environment_of scene) variable.name.now (type_of_variable scene variable) v) body
+      Costs (slots_of context.row.schema) (type_name_at context.row.schema context.row.type_id) context.moment (value_of context.row)
+      (bound_over (environment_of context) variable.name.now (type_of_variable context variable) v) body
 
   abbrev pub CostOver : Tree → List Value → ℕ → Type 0
-  CostOver body some = MembersCost quantifier (BodyMeans scene variable body) (BodyCosts body) (vals_of (slots_of scene.row.schema) (type_of_variable scene variable) some)
+  CostOver body some = MembersCost quantifier (BodyMeans context variable body) (BodyCosts body) (vals_of (slots_of context.row.schema) (type_of_variable context variable) some)
 
   abbrev OneCosts : Tree → Value → List Value → ℕ → Type 0
   OneCosts body member more =
-      let v = val_of member (slots_of scene.row.schema).properties (type_of_variable scene variable) in
-      CostAfter (BodyMeans scene variable body v) (BodyCosts body v) (OthersCost quantifier (CostOver body more))
+      let v = val_of member (slots_of context.row.schema).properties (type_of_variable context variable) in
+      CostAfter (BodyMeans context variable body v) (BodyCosts body v) (OthersCost quantifier (CostOver body more))
 
   pub record MembersDue (body : Tree) (index n : ℕ) (old now : Budget) : Type 0 where
     pub paid : ℕ
@@ -67,13 +67,13 @@ module _ (scene : SceneModel) (place : ℕ) (quantifier : Quantifier) (variable 
 
   -- whatever body stands at the index
   pub record MembersPaid (index : ℕ) (old now : Budget) : Type 0 where
-    pub of_body : (last : ℕ) (body : Tree) (n : ℕ) → BodyStands scene variable place last body → CostOver body members n → MembersDue body index n old now
+    pub of_body : (last : ℕ) (body : Tree) (n : ℕ) → BodyStands context variable place last body → CostOver body members n → MembersDue body index n old now
 
   pub none_paid : (budget : Budget) → MembersPaid 0 budget budget
   none_paid budget = record { of_body = λ last body n stands costs. record { paid = 0; due = n; sum = omega arith; takes = takes_nothing budget; asked = costs } }
 
   -- no member is left
-  pub all_paid : (index : ℕ) (old now : Budget) → MembersPaid index old now → length members ≤ index → SpendsMembers scene place quantifier variable members old now None
+  pub all_paid : (index : ℕ) (old now : Budget) → MembersPaid index old now → length members ≤ index → SpendsMembers context place quantifier variable members old now None
   all_paid index old now paid past = record {
     of_body = λ last body n stands costs.
         let it = paid.of_body last body n stands costs in
@@ -87,7 +87,7 @@ module _ (scene : SceneModel) (place : ℕ) (quantifier : Quantifier) (variable 
     more_first paid due more same = omega (arith, same)
 
     -- the budget has none left
-    pub none_left : HasFewer now 1 → (new : Budget) → SpendsMembers scene place quantifier variable members old new (Some EvalStop.TooCostly)
+    pub none_left : HasFewer now 1 → (new : Budget) → SpendsMembers context place quantifier variable members old new (Some EvalStop.TooCostly)
     none_left fewer new = record {
       of_body = λ last body n stands costs.
           let it = paid.of_body last body n stands costs in
@@ -103,16 +103,16 @@ module _ (scene : SceneModel) (place : ℕ) (quantifier : Quantifier) (variable 
         let rest : drop index members ≡ get_or members index member ∷ drop (index + 1) members = at_drop_more (λ (xs : List Value). xs) members index member within in
         subst (λ (v : Value). CostOver body (v ∷ drop (index + 1) members) due) is (subst (λ (xs : List Value). CostOver body xs due) rest asked)
 
-    module _ (taken : Budget) (takes : Takes now taken 1) (new : Budget) (ends : EndsOnceHere (with_frame scene (frame_of variable member))) where
-      -- what the member's body is, in its scene
-      abbrev Bound : SceneModel
-      Bound = with_frame scene (frame_of variable member)
+    module _ (taken : Budget) (takes : Takes now taken 1) (new : Budget) (ends : EndsOnceHere (with_frame context (frame_of variable member))) where
+      -- what the member's body is, in its context
+      abbrev Bound : ContextModel
+      Bound = with_frame context (frame_of variable member)
 
       sums : (n paid due more own rest : ℕ) → n ≡ paid + due → due ≡ 1 + more → more ≡ own + rest → n ≡ paid + (1 + (own + rest))
       sums n paid due more own rest a b c = omega (arith, a, b, c)
 
       -- after a fault of the body nothing is due
-      body_stays : (stop : EvalStop) → Faults Bound place stop → (last : ℕ) (body : Tree) → BodyStands scene variable place last body → {more : ℕ} → (after : OneCosts body member (drop (index + 1) members) more)
+      body_stays : (stop : EvalStop) → Faults Bound place stop → (last : ℕ) (body : Tree) → BodyStands context variable place last body → {more : ℕ} → (after : OneCosts body member (drop (index + 1) members) more)
           → (fault : EvalFault) → stop ≡ EvalStop.Fault fault → ¬ (fault ≡ EvalFault.Memory) → after.rest ≡ 0
       body_stays (EvalStop.Fault EvalFault.Overflow) faults last body stands after fault same known =
           let typed = has_type Bound place last body stands in
@@ -128,7 +128,7 @@ module _ (scene : SceneModel) (place : ℕ) (quantifier : Quantifier) (variable 
       body_stays EvalStop.TooCostly faults last body stands after fault same known = absurd (cc)
 
       -- the body stopped
-      pub body_stops : (stop : EvalStop) → Faults Bound place stop → SpendsAt Bound place taken new (Some stop) → SpendsMembers scene place quantifier variable members old new (Some stop)
+      pub body_stops : (stop : EvalStop) → Faults Bound place stop → SpendsAt Bound place taken new (Some stop) → SpendsMembers context place quantifier variable members old new (Some stop)
       body_stops stop faults spends = record {
         of_body = λ last body n stands costs.
             let it = paid.of_body last body n stands costs in
@@ -141,7 +141,7 @@ module _ (scene : SceneModel) (place : ℕ) (quantifier : Quantifier) (variable 
       }
 
       module _ (truth : Option Bool) (answers : AnswersTruth Bound place (Ok truth)) (spends : SpendsAt Bound place taken new None) where
-        others : (last : ℕ) (body : Tree) (more : ℕ) → BodyStands scene variable place last body → (after : OneCosts body member (drop (index + 1) members) more)
+        others : (last : ℕ) (body : Tree) (more : ℕ) → BodyStands context variable place last body → (after : OneCosts body member (drop (index + 1) members) more)
             → OthersCost quantifier (CostOver body (drop (index + 1) members)) (truth_val truth) after.rest
         others last body more stands after =
             let typed = has_type Bound place last body stands in
@@ -151,7 +151,7 @@ module _ (scene : SceneModel) (place : ℕ) (quantifier : Quantifier) (variable 
             (once.only after.outcome after.is ∙ sym (once.only (gives (truth_val truth)) means)) after.follows
 
         -- the body decided
-        pub body_decides : ¬ (IsUndecided quantifier (truth_val truth)) → SpendsMembers scene place quantifier variable members old new None
+        pub body_decides : ¬ (IsUndecided quantifier (truth_val truth)) → SpendsMembers context place quantifier variable members old new None
         body_decides decided = record {
           of_body = λ last body n stands costs.
               let it = paid.of_body last body n stands costs in

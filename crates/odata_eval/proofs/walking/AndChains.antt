@@ -10,9 +10,9 @@ use Rattle.odata_syntax.specs.declared.binary_operator.LogicalOperator.{LogicalO
 use Rattle.odata_checked_filter.specs.FlatTree.{FlatTree}
 use Rattle.odata_filter_operations.specs.TruthGives.{joined, truth_val}
 use Rattle.odata_filter_operations.specs.declared.fault.EvalFault.{EvalFault}
-use Rattle.odata_eval.specs.declared.part.WalkClass.{WalkClass}
+use Rattle.odata_eval.specs.declared.walk_operand.WalkClass.{WalkClass}
 use Rattle.odata_eval.specs.private.Place.{HasOperator, IsClassAt, IsRightOf, OperandStands, PartStands, TruthStands}
-use Rattle.odata_eval.specs.private.SceneModel.{SceneModel}
+use Rattle.odata_eval.specs.private.ContextModel.{ContextModel}
 use Rattle.odata_eval.specs.private.WalkAnswer.{AnswersKept, AnswersTruth}
 use Rattle.odata_eval.specs.private.WalkClass.{IsDecided, walk_of_operator}
 use Rattle.odata_eval.proofs.walking.KeptValues.{kept_value}
@@ -40,8 +40,8 @@ up P (suc d) step last =
     up P d (λ i before. step i (omega arith)) (step d (omega arith) (subst P e last))
 
 -- what is answered not to hold does not
-pub told_not : (answer : Bool) (Fact : Type 0) → (IsTrue answer ↔ Fact) → answer ≡ false → ¬ Fact
-told_not answer Fact told so = λ fact. let e : answer ≡ true = told.1 fact in absurd (cc)
+pub reported_not : (answer : Bool) (Fact : Type 0) → (IsTrue answer ↔ Fact) → answer ≡ false → ¬ Fact
+reported_not answer Fact reported so = λ fact. let e : answer ≡ true = reported.1 fact in absurd (cc)
 
 -- a true term leaves what the others evaluate to, a false one makes them false
 true_term : (left : Option Bool) → joined LogicalOperator.And left (Some true) ≡ left
@@ -66,76 +66,76 @@ true_side (Some true) = refl
 true_side (Some false) = refl
 true_side None = refl
 
-module _ (scene : SceneModel) where
-  and_walks : (place : ℕ) → HasOperator scene.list place (BinaryOperator.Logical LogicalOperator.And) → IsClassAt scene.list WalkClass.Logical place
-  and_walks place here = walks_by scene.list place (BinaryOperator.Logical LogicalOperator.And) WalkClass.Logical here refl
+module _ (context : ContextModel) where
+  and_walks : (place : ℕ) → HasOperator context.list place (BinaryOperator.Logical LogicalOperator.And) → IsClassAt context.list WalkClass.Logical place
+  and_walks place here = walks_by context.list place (BinaryOperator.Logical LogicalOperator.And) WalkClass.Logical here refl
 
   -- the next place down
-  pub next_stands : (place : ℕ) → HasOperator scene.list place (BinaryOperator.Logical LogicalOperator.And) → TruthStands scene place → TruthStands scene (place + 1)
-  next_stands place here stands = first_step scene place WalkClass.Logical (λ leaf. cc) (and_walks place here) (typed_part scene place IsBooleanOrNull stands)
+  pub next_stands : (place : ℕ) → HasOperator context.list place (BinaryOperator.Logical LogicalOperator.And) → TruthStands context place → TruthStands context (place + 1)
+  next_stands place here stands = first_step context place WalkClass.Logical (λ leaf. cc) (and_walks place here) (typed_part context place IsBooleanOrNull stands)
 
-  module _ (count : ℕ) (ands : AndsBefore scene.list count) where
+  module _ (count : ℕ) (ands : AndsBefore context.list count) where
     -- what decides in a place of the chain, or has a fault, is what the whole evaluates to
-    pub decided_up : (left : Option Bool) → IsDecided LogicalOperator.And (truth_val left) → (place : ℕ) → place ≤ count → AnswersTruth scene place (Ok left) → AnswersTruth scene 0 (Ok left)
+    pub decided_up : (left : Option Bool) → IsDecided LogicalOperator.And (truth_val left) → (place : ℕ) → place ≤ count → AnswersTruth context place (Ok left) → AnswersTruth context 0 (Ok left)
     decided_up left decided place within =
-        up (λ k. AnswersTruth scene k (Ok left)) place
-        (λ i before first. decided_answers scene i LogicalOperator.And (ands i (omega arith)) left decided first)
+        up (λ k. AnswersTruth context k (Ok left)) place
+        (λ i before first. decided_answers context i LogicalOperator.And (ands i (omega arith)) left decided first)
 
-    pub fault_up : (place : ℕ) → place ≤ count → (fault : EvalFault) → AnswersTruth scene place (Err fault) → AnswersTruth scene 0 (Err fault)
+    pub fault_up : (place : ℕ) → place ≤ count → (fault : EvalFault) → AnswersTruth context place (Err fault) → AnswersTruth context 0 (Err fault)
     fault_up place within fault =
-        up (λ k. AnswersTruth scene k (Err fault)) place
-        (λ i before first. first_faults scene i WalkClass.Logical fault (λ leaf. cc) (and_walks i (ands i (omega arith))) first)
+        up (λ k. AnswersTruth context k (Err fault)) place
+        (λ i before first. first_faults context i WalkClass.Logical fault (λ leaf. cc) (and_walks i (ands i (omega arith))) first)
 
     -- a step up, to the `and` of which the terms so far are the left side
-    module _ (top : TruthStands scene 0) (at : ℕ) (above : 0 < at) (within : at ≤ count) where
-      and_there : HasOperator scene.list (at - 1) (BinaryOperator.Logical LogicalOperator.And)
+    module _ (top : TruthStands context 0) (at : ℕ) (above : 0 < at) (within : at ≤ count) where
+      and_there : HasOperator context.list (at - 1) (BinaryOperator.Logical LogicalOperator.And)
       and_there = ands (at - 1) (omega arith)
 
-      part_there : PartStands scene (at - 1)
+      part_there : PartStands context (at - 1)
       part_there =
-          tree_of_class scene (at - 1) WalkClass.Logical (λ leaf. cc) (and_walks (at - 1) and_there)
-          (part_down scene WalkClass.Logical (λ leaf. cc) 0 (at - 1) (omega arith) (typed_part scene 0 IsBooleanOrNull top)
+          tree_of_class context (at - 1) WalkClass.Logical (λ leaf. cc) (and_walks (at - 1) and_there)
+          (part_down context WalkClass.Logical (λ leaf. cc) 0 (at - 1) (omega arith) (typed_part context 0 IsBooleanOrNull top)
           (λ i before from. and_walks i (ands i (omega arith))))
 
       -- the next term stands on its right
-      pub term_there : (right : ℕ) × IsRightOf scene.list (at - 1) right
-      term_there = right_there scene (at - 1) (BinaryOperator.Logical LogicalOperator.And) and_there part_there
+      pub term_there : (right : ℕ) × IsRightOf context.list (at - 1) right
+      term_there = right_there context (at - 1) (BinaryOperator.Logical LogicalOperator.And) and_there part_there
 
-      module _ (right : ℕ) (is_right : IsRightOf scene.list (at - 1) right) where
-        pub term_stands : TruthStands scene right
-        term_stands = right_typed scene (at - 1) (BinaryOperator.Logical LogicalOperator.And) and_there part_there right is_right WalkClass.Logical refl (λ same. cc)
+      module _ (right : ℕ) (is_right : IsRightOf context.list (at - 1) right) where
+        pub term_stands : TruthStands context right
+        term_stands = right_typed context (at - 1) (BinaryOperator.Logical LogicalOperator.And) and_there part_there right is_right WalkClass.Logical refl (λ same. cc)
 
-        module _ (left : Option Bool) (undecided : ¬ (IsDecided LogicalOperator.And (truth_val left))) (first : AnswersTruth scene at (Ok left)) where
-          left_there : AnswersTruth scene (at - 1 + 1) (Ok left)
-          left_there = let e : at ≡ at - 1 + 1 = omega arith in subst (λ (k : ℕ). AnswersTruth scene k (Ok left)) e first
+        module _ (left : Option Bool) (undecided : ¬ (IsDecided LogicalOperator.And (truth_val left))) (first : AnswersTruth context at (Ok left)) where
+          left_there : AnswersTruth context (at - 1 + 1) (Ok left)
+          left_there = let e : at ≡ at - 1 + 1 = omega arith in subst (λ (k : ℕ). AnswersTruth context k (Ok left)) e first
 
           -- what comes of the terms so far and of the next one
-          pub next_answers : (term : Option Bool) → AnswersTruth scene right (Ok term) → AnswersTruth scene (at - 1) (Ok (joined LogicalOperator.And left term))
+          pub next_answers : (term : Option Bool) → AnswersTruth context right (Ok term) → AnswersTruth context (at - 1) (Ok (joined LogicalOperator.And left term))
           next_answers term second =
-              joined_answers scene (at - 1) LogicalOperator.And and_there left right is_right undecided left_there term second
+              joined_answers context (at - 1) LogicalOperator.And and_there left right is_right undecided left_there term second
 
-          pub true_answers : AnswersTruth scene right (Ok (Some true)) → AnswersTruth scene (at - 1) (Ok left)
-          true_answers second = subst (λ (r : Option Bool). AnswersTruth scene (at - 1) (Ok r)) (true_term left) (next_answers (Some true) second)
+          pub true_answers : AnswersTruth context right (Ok (Some true)) → AnswersTruth context (at - 1) (Ok left)
+          true_answers second = subst (λ (r : Option Bool). AnswersTruth context (at - 1) (Ok r)) (true_term left) (next_answers (Some true) second)
 
-          pub null_answers : AnswersTruth scene right (Ok None) → AnswersTruth scene (at - 1) (Ok None)
-          null_answers second = subst (λ (r : Option Bool). AnswersTruth scene (at - 1) (Ok r)) (null_term left undecided) (next_answers None second)
+          pub null_answers : AnswersTruth context right (Ok None) → AnswersTruth context (at - 1) (Ok None)
+          null_answers second = subst (λ (r : Option Bool). AnswersTruth context (at - 1) (Ok r)) (null_term left undecided) (next_answers None second)
 
-          pub false_answers : AnswersTruth scene right (Ok (Some false)) → AnswersTruth scene 0 (Ok (Some false))
+          pub false_answers : AnswersTruth context right (Ok (Some false)) → AnswersTruth context 0 (Ok (Some false))
           false_answers second =
-              decided_up (Some false) tt (at - 1) (omega arith) (subst (λ (r : Option Bool). AnswersTruth scene (at - 1) (Ok r)) (false_term left) (next_answers (Some false) second))
+              decided_up (Some false) tt (at - 1) (omega arith) (subst (λ (r : Option Bool). AnswersTruth context (at - 1) (Ok r)) (false_term left) (next_answers (Some false) second))
 
-          pub fault_answers : (fault : EvalFault) → AnswersTruth scene right (Err fault) → AnswersTruth scene 0 (Err fault)
+          pub fault_answers : (fault : EvalFault) → AnswersTruth context right (Err fault) → AnswersTruth context 0 (Err fault)
           fault_answers fault second =
               fault_up (at - 1) (omega arith) fault
-              (joined_faults scene (at - 1) LogicalOperator.And and_there left right is_right undecided left_there fault second)
+              (joined_faults context (at - 1) LogicalOperator.And and_there left right is_right undecided left_there fault second)
 
-        module _ (first : AnswersTruth scene at (Ok (Some true))) where
+        module _ (first : AnswersTruth context at (Ok (Some true))) where
           -- after true terms the next one's answer is that of its `and`
-          pub true_goes_up : (answer : Result (Option Bool) EvalFault) → AnswersTruth scene right answer → AnswersTruth scene (at - 1) answer
+          pub true_goes_up : (answer : Result (Option Bool) EvalFault) → AnswersTruth context right answer → AnswersTruth context (at - 1) answer
           true_goes_up (Ok term) second =
-              subst (λ (r : Option Bool). AnswersTruth scene (at - 1) (Ok r)) (true_side term) (next_answers (Some true) (λ none. none) first term second)
+              subst (λ (r : Option Bool). AnswersTruth context (at - 1) (Ok r)) (true_side term) (next_answers (Some true) (λ none. none) first term second)
           true_goes_up (Err fault) second =
-              joined_faults scene (at - 1) LogicalOperator.And and_there (Some true) right is_right (λ none. none) (left_there (Some true) (λ none. none) first) fault second
+              joined_faults context (at - 1) LogicalOperator.And and_there (Some true) right is_right (λ none. none) (left_there (Some true) (λ none. none) first) fault second
 
 -- no operator is taken as a leaf
 operator_inner : (operator : BinaryOperator) → ¬ (walk_of_operator operator ≡ WalkClass.Leaf)
@@ -144,13 +144,13 @@ operator_inner (BinaryOperator.Comparison comparison) leaf = cc
 operator_inner (BinaryOperator.Arithmetic arithmetic) leaf = cc
 
 -- its left side stands after it
-pub left_side : (scene : SceneModel) (place : ℕ) (operator : BinaryOperator) → HasOperator scene.list place operator → PartStands scene place → OperandStands scene (place + 1)
-left_side scene place operator here part =
-    first_part scene place (walk_of_operator operator) (operator_inner operator)
-    (walks_by scene.list place operator (walk_of_operator operator) here refl) part
+pub left_side : (context : ContextModel) (place : ℕ) (operator : BinaryOperator) → HasOperator context.list place operator → PartStands context place → OperandStands context (place + 1)
+left_side context place operator here part =
+    first_part context place (walk_of_operator operator) (operator_inner operator)
+    (walks_by context.list place operator (walk_of_operator operator) here refl) part
 
 -- a stored truth value is answered where it is no null
-pub kept_answers : (scene : SceneModel) (place : ℕ) (value : Value) → AnswersKept scene place value → (truth : Option Bool) → plain_val value ≡ Some (truth_val truth)
-    → IfSome truth (λ t. AnswersTruth scene place (Ok (Some t)))
-kept_answers scene place value kept None is = tt
-kept_answers scene place value kept (Some t) is = kept_value scene place value kept (truth_val (Some t)) is
+pub kept_answers : (context : ContextModel) (place : ℕ) (value : Value) → AnswersKept context place value → (truth : Option Bool) → plain_val value ≡ Some (truth_val truth)
+    → IfSome truth (λ t. AnswersTruth context place (Ok (Some t)))
+kept_answers context place value kept None is = tt
+kept_answers context place value kept (Some t) is = kept_value context place value kept (truth_val (Some t)) is

@@ -6,11 +6,11 @@ use Rattle.odata_signatures.specs.Typed.{Scope, Typed}
 use Rattle.odata_checked_filter.specs.FlatTree.{FlatTree}
 use Rattle.odata_checked_filter.specs.Stands.{InBody, InLine, SideBySide, Stands}
 use Rattle.odata_eval.specs.Environment.{scope_of}
-use Rattle.odata_eval.specs.private.Scene.{StandsHere}
-use Rattle.odata_eval.specs.private.SceneModel.{SceneModel, environment_of}
+use Rattle.odata_eval.specs.private.EvalContext.{StandsHere}
+use Rattle.odata_eval.specs.private.ContextModel.{ContextModel, environment_of}
 
-only_part : (Part : ℕ → ℕ → Type 0) (i j : ℕ) → InLine (Part ∷ []) i j → Part i j
-only_part Part i j stand = let same : stand.middle ≡ j = stand.right in subst (λ (k : ℕ). Part i k) same stand.left
+only_part : (WalkOperand : ℕ → ℕ → Type 0) (i j : ℕ) → InLine (WalkOperand ∷ []) i j → WalkOperand i j
+only_part WalkOperand i j stand = let same : stand.middle ≡ j = stand.right in subst (λ (k : ℕ). WalkOperand i k) same stand.left
 
 module _ (schema : SchemaModel) (n : ℕ) (scope : Scope) (list : FlatTree) (i j : ℕ) where
   pub one_there : (tree : Tree) → InLine ((λ a b. Stands schema n scope list a b tree) ∷ []) i j → Stands schema n scope list i j tree
@@ -22,14 +22,14 @@ module _ (schema : SchemaModel) (n : ℕ) (scope : Scope) (list : FlatTree) (i j
   body_stands base variable body =
       only_part (λ a b. InBody scope variable (Typed (slots_of schema) (type_name_at schema n) scope base) (λ at. Stands schema n at list a b body)) i j
 
-module _ (scene : SceneModel) (i j : ℕ) where
-  pub only_child : (tree : Tree) → InLine ((λ a b. StandsHere scene a b tree) ∷ []) i j → StandsHere scene i j tree
-  only_child = one_there scene.row.schema scene.row.type_id (scope_of (environment_of scene)) scene.list i j
+module _ (context : ContextModel) (i j : ℕ) where
+  pub only_child : (tree : Tree) → InLine ((λ a b. StandsHere context a b tree) ∷ []) i j → StandsHere context i j tree
+  only_child = one_there context.row.schema context.row.type_id (scope_of (environment_of context)) context.list i j
 
-  pub two_children : (left right : Tree) → InLine ((λ a b. StandsHere scene a b left) ∷ (λ a b. StandsHere scene a b right) ∷ []) i j
-      → SideBySide (λ middle. StandsHere scene i middle left) (λ middle. StandsHere scene middle j right)
+  pub two_children : (left right : Tree) → InLine ((λ a b. StandsHere context a b left) ∷ (λ a b. StandsHere context a b right) ∷ []) i j
+      → SideBySide (λ middle. StandsHere context i middle left) (λ middle. StandsHere context middle j right)
   two_children left right stand = record {
     middle = stand.middle;
     left = stand.left;
-    right = one_there scene.row.schema scene.row.type_id (scope_of (environment_of scene)) scene.list stand.middle j right stand.right;
+    right = one_there context.row.schema context.row.type_id (scope_of (environment_of context)) context.list stand.middle j right stand.right;
   }

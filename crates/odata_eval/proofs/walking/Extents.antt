@@ -8,13 +8,13 @@ use Rattle.odata_signatures.specs.OperatorTyped.{IsEquality}
 use Rattle.odata_checked_filter.specs.declared.checked_node.CheckedNode.{CheckedNode}
 use Rattle.odata_checked_filter.specs.declared.checked_node.NodeKind.{NodeKind}
 use Rattle.odata_checked_filter.specs.FlatTree.{FlatTree}
-use Rattle.odata_eval.specs.declared.part.WalkClass.{WalkClass}
+use Rattle.odata_eval.specs.declared.walk_operand.WalkClass.{WalkClass}
 use Rattle.odata_eval.specs.Environment.{scope_of}
 use Rattle.odata_signatures.specs.Reads.{OfEquality}
 use Rattle.odata_signatures.specs.Sides.{side_of}
 use Rattle.odata_eval.specs.private.Place.{HasKind, IsRightOf, OperandStands, PartStands, TypedStands}
-use Rattle.odata_eval.specs.private.Scene.{OperandHere, StandsHere, TypedHere}
-use Rattle.odata_eval.specs.private.SceneModel.{SceneModel, environment_of}
+use Rattle.odata_eval.specs.private.EvalContext.{OperandHere, StandsHere, TypedHere}
+use Rattle.odata_eval.specs.private.ContextModel.{ContextModel, environment_of}
 use Rattle.odata_eval.specs.private.WalkClass.{walk_of_operator}
 use Rattle.odata_checked_filter.specs.Stands.{AllStand, BesideStands, ItemsStand, NumberStands, SideBySide, Stands}
 use Rattle.odata_syntax.specs.declared.node.LiteralKind.{LiteralKind}
@@ -110,74 +110,74 @@ module _ (schema : SchemaModel) (n : ℕ) (list : FlatTree) where
       let b : stand.middle ≤ j = items_further_in scope stand.middle j Beside more stand.right in
       omega arith
 
-module _ (scene : SceneModel) where
-  pub further : (i j : ℕ) (tree : Tree) → StandsHere scene i j tree → i < j
-  further = further_in scene.row.schema scene.row.type_id scene.list (scope_of (environment_of scene))
+module _ (context : ContextModel) where
+  pub further : (i j : ℕ) (tree : Tree) → StandsHere context i j tree → i < j
+  further = further_in context.row.schema context.row.type_id context.list (scope_of (environment_of context))
 
-  pub all_further : (i j : ℕ) (trees : Trees) → StandsAll scene i j trees → i ≤ j
-  all_further = all_further_in scene.row.schema scene.row.type_id scene.list (scope_of (environment_of scene))
+  pub all_further : (i j : ℕ) (trees : Trees) → StandsAll context i j trees → i ≤ j
+  all_further = all_further_in context.row.schema context.row.type_id context.list (scope_of (environment_of context))
 
   -- where a node says that it stops
-  pub stops_there : (i j right : ℕ) (tree : Tree) → StandsHere scene i j tree
-      → IsSomeAnd (slice_get scene.list.nodes i) (λ found. found.stop ≡ right) → j ≡ right
+  pub stops_there : (i j right : ℕ) (tree : Tree) → StandsHere context i j tree
+      → IsSomeAnd (slice_get context.list.nodes i) (λ found. found.stop ≡ right) → j ≡ right
   stops_there i j right (node from to shape) stands is =
-      let e : stands.top.found.stop ≡ right = found_there (λ found. found.stop ≡ right) (slice_get scene.list.nodes i) stands.top.found stands.top.stands_at is in
+      let e : stands.top.found.stop ≡ right = found_there (λ found. found.stop ≡ right) (slice_get context.list.nodes i) stands.top.found stands.top.stands_at is in
       sym stands.top.last ∙ e
 
-  pub stops_here : (i j : ℕ) (tree : Tree) → StandsHere scene i j tree → IsSomeAnd (slice_get scene.list.nodes i) (λ found. found.stop ≡ j)
-  stops_here i j (node from to shape) stands = there_found (λ found. found.stop ≡ j) (slice_get scene.list.nodes i) stands.top.found stands.top.stands_at stands.top.last
+  pub stops_here : (i j : ℕ) (tree : Tree) → StandsHere context i j tree → IsSomeAnd (slice_get context.list.nodes i) (λ found. found.stop ≡ j)
+  stops_here i j (node from to shape) stands = there_found (λ found. found.stop ≡ j) (slice_get context.list.nodes i) stands.top.found stands.top.stands_at stands.top.last
 
   -- the same of operands
-  pub operand_further : (i j : ℕ) (tree : Tree) → OperandHere scene i j tree → i < j
+  pub operand_further : (i j : ℕ) (tree : Tree) → OperandHere context i j tree → i < j
   operand_further i j tree (inl stands) = further i j tree stands
-  operand_further i j tree (inr number) = let next = (number_there scene number.0 i j tree number.1).next in omega arith
+  operand_further i j tree (inr number) = let next = (number_there context number.0 i j tree number.1).next in omega arith
 
-  pub operand_stops_here : (i j : ℕ) (tree : Tree) → OperandHere scene i j tree → IsSomeAnd (slice_get scene.list.nodes i) (λ found. found.stop ≡ j)
+  pub operand_stops_here : (i j : ℕ) (tree : Tree) → OperandHere context i j tree → IsSomeAnd (slice_get context.list.nodes i) (λ found. found.stop ≡ j)
   operand_stops_here i j tree (inl stands) = stops_here i j tree stands
-  operand_stops_here i j tree (inr number) = (number_there scene number.0 i j tree number.1).stops
+  operand_stops_here i j tree (inr number) = (number_there context number.0 i j tree number.1).stops
 
-  pub operand_stops_there : (i j right : ℕ) (tree : Tree) → OperandHere scene i j tree
-      → IsSomeAnd (slice_get scene.list.nodes i) (λ found. found.stop ≡ right) → j ≡ right
-  operand_stops_there i j right tree operand is = one_stop (slice_get scene.list.nodes i) j right (operand_stops_here i j tree operand) is
+  pub operand_stops_there : (i j right : ℕ) (tree : Tree) → OperandHere context i j tree
+      → IsSomeAnd (slice_get context.list.nodes i) (λ found. found.stop ≡ right) → j ≡ right
+  operand_stops_there i j right tree operand is = one_stop (slice_get context.list.nodes i) j right (operand_stops_here i j tree operand) is
 
   -- what stands in line where one part stops
   pub right_beside : (Beside : ExprType → Type 0) (right middle stop : ℕ) (tree : Tree) → middle ≡ right
-      → SideBySide (λ k. BesideHere scene Beside tree middle k) (λ k. k ≡ stop) → BesideHere scene Beside tree right stop
+      → SideBySide (λ k. BesideHere context Beside tree middle k) (λ k. k ≡ stop) → BesideHere context Beside tree right stop
   right_beside Beside right middle stop tree same side =
-      subst (λ (m : ℕ). BesideHere scene Beside tree m stop) same (subst (λ (k : ℕ). BesideHere scene Beside tree middle k) side.right side.left)
+      subst (λ (m : ℕ). BesideHere context Beside tree m stop) same (subst (λ (k : ℕ). BesideHere context Beside tree middle k) side.right side.left)
 
   module _ (place : ℕ) where
-    pub left_here : (stop from to : ℕ) (operator : BinaryOperator) (l r : Tree) → (stands : StandsHere scene place stop (node from to (binary operator l r)))
-        → OperandHere scene (place + 1) stands.children.middle l
+    pub left_here : (stop from to : ℕ) (operator : BinaryOperator) (l r : Tree) → (stands : StandsHere context place stop (node from to (binary operator l r)))
+        → OperandHere context (place + 1) stands.children.middle l
     left_here stop from to operator l r stands =
-        beside_here scene (OfEquality operator (TypedHere scene r)) l (place + 1) stands.children.middle stands.children.left
+        beside_here context (OfEquality operator (TypedHere context r)) l (place + 1) stands.children.middle stands.children.left
 
     -- the right operand stands where the left one says that it stops
-    pub right_stands : (right stop from to : ℕ) (operator : BinaryOperator) (l r : Tree) → IsRightOf scene.list place right
-        → StandsHere scene place stop (node from to (binary operator l r))
-        → BesideHere scene (OfEquality operator (TypedHere scene l)) r right stop
+    pub right_stands : (right stop from to : ℕ) (operator : BinaryOperator) (l r : Tree) → IsRightOf context.list place right
+        → StandsHere context place stop (node from to (binary operator l r))
+        → BesideHere context (OfEquality operator (TypedHere context l)) r right stop
     right_stands right stop from to operator l r is stands =
-        right_beside (OfEquality operator (TypedHere scene l)) right stands.children.middle stop r
+        right_beside (OfEquality operator (TypedHere context l)) right stands.children.middle stop r
         (operand_stops_there (place + 1) stands.children.middle right l (left_here stop from to operator l r stands) is) stands.children.right
 
-    module _ (operator : BinaryOperator) (here : HasKind scene.list place (NodeKind.Binary operator)) (part : PartStands scene place) where
-      pub right_there : (right : ℕ) × IsRightOf scene.list place right
-      right_there = by_kind scene place (NodeKind.Binary operator) here (λ stop tree. (right : ℕ) × IsRightOf scene.list place right)
+    module _ (operator : BinaryOperator) (here : HasKind context.list place (NodeKind.Binary operator)) (part : PartStands context place) where
+      pub right_there : (right : ℕ) × IsRightOf context.list place right
+      right_there = by_kind context place (NodeKind.Binary operator) here (λ stop tree. (right : ℕ) × IsRightOf context.list place right)
           (λ left right stop from to stands.
           (stands.children.middle, operand_stops_here (place + 1) stands.children.middle left (left_here stop from to operator left right stands)))
           part.stop part.tree part.stands
 
-      module _ (right_place : ℕ) (is_right : IsRightOf scene.list place right_place) where
-        pub right_part : OperandStands scene right_place
-        right_part = by_kind scene place (NodeKind.Binary operator) here (λ stop tree. OperandStands scene right_place)
+      module _ (right_place : ℕ) (is_right : IsRightOf context.list place right_place) where
+        pub right_part : OperandStands context right_place
+        right_part = by_kind context place (NodeKind.Binary operator) here (λ stop tree. OperandStands context right_place)
             (λ left right stop from to stands.
-            beside_operand scene (OfEquality operator (TypedHere scene left)) right right_place stop (right_stands right_place stop from to operator left right is_right stands))
+            beside_operand context (OfEquality operator (TypedHere context left)) right right_place stop (right_stands right_place stop from to operator left right is_right stands))
             part.stop part.tree part.stands
 
         -- one that is not read has a type that is allowed there
         right_allowed : (class : WalkClass) → walk_of_operator operator ≡ class → ¬ IsEquality operator → (stop from to : ℕ) (left right : Tree)
-            → StandsHere scene place stop (node from to (binary operator left right)) → BesideHere scene (OfEquality operator (TypedHere scene left)) right right_place stop
-            → TypedStands scene right_place (AllowedBy class)
+            → StandsHere context place stop (node from to (binary operator left right)) → BesideHere context (OfEquality operator (TypedHere context left)) right right_place stop
+            → TypedStands context right_place (AllowedBy class)
         right_allowed class class_is other stop from to left right stands (inl read) = absurd (other read.1.beside.0)
         right_allowed class class_is other stop from to left right stands (inr alone) =
             let typed = stands.top.typed in
@@ -188,18 +188,18 @@ module _ (scene : SceneModel) where
               type_of = typed.right;
               typed = typed.right_typed;
               allowed = subst (λ (c : WalkClass). AllowedBy c typed.right) class_is
-                  (operands_allowed operator typed.left typed.right _ (plain_types (slots_of scene.row.schema) operator (side_of left typed.left) (side_of right typed.right) _ other typed.makes)).1;
+                  (operands_allowed operator typed.left typed.right _ (plain_types (slots_of context.row.schema) operator (side_of left typed.left) (side_of right typed.right) _ other typed.makes)).1;
             }
 
-        pub right_typed : (class : WalkClass) → walk_of_operator operator ≡ class → ¬ (class ≡ WalkClass.Eager) → TypedStands scene right_place (AllowedBy class)
-        right_typed class class_is other = by_kind scene place (NodeKind.Binary operator) here (λ stop tree. TypedStands scene right_place (AllowedBy class))
+        pub right_typed : (class : WalkClass) → walk_of_operator operator ≡ class → ¬ (class ≡ WalkClass.Eager) → TypedStands context right_place (AllowedBy class)
+        right_typed class class_is other = by_kind context place (NodeKind.Binary operator) here (λ stop tree. TypedStands context right_place (AllowedBy class))
             (λ left right stop from to stands.
             right_allowed class class_is (λ equality. other (sym class_is ∙ equality_walks operator equality)) stop from to left right stands
             (right_stands right_place stop from to operator left right is_right stands))
             part.stop part.tree part.stands
 
         pub right_further : place < right_place
-        right_further = by_kind scene place (NodeKind.Binary operator) here (λ stop tree. place < right_place)
+        right_further = by_kind context place (NodeKind.Binary operator) here (λ stop tree. place < right_place)
             (λ left right stop from to stands.
             let first = left_here stop from to operator left right stands in
             let e : stands.children.middle ≡ right_place = operand_stops_there (place + 1) stands.children.middle right_place left first is_right in

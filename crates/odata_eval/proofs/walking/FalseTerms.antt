@@ -40,10 +40,10 @@ use Rattle.odata_eval.specs.LiteralGives.{LiteralGives}
 use Rattle.odata_eval.specs.Means.{BinaryGives, Means}
 use Rattle.odata_eval.specs.NameGives.{FieldGives}
 use Rattle.odata_eval.specs.OperatorGives.{SidesGive}
-use Rattle.odata_eval.specs.private.ChainTerms.{AndsAbove, GoesUp, IsFalseAt, IsNoNumber, IsTermSieve, IsValue, LeavesNoFault, Refutes, StandsFor}
+use Rattle.odata_eval.specs.private.ValueTests.{AndsAbove, GoesUp, IsFalseAt, IsNoNumber, IsTermSieve, IsValue, LeavesNoFault, Refutes, StandsFor}
 use Rattle.odata_eval.specs.private.Place.{HasKind, HasOperator, IsRightOf}
-use Rattle.odata_eval.specs.private.Scene.{NumberHere}
-use Rattle.odata_eval.specs.private.SceneModel.{SceneModel, scene_in}
+use Rattle.odata_eval.specs.private.EvalContext.{NumberHere}
+use Rattle.odata_eval.specs.private.ContextModel.{ContextModel, context_in}
 use Rattle.odata_eval.proofs.walking.Leaves.{literal_own, number_held}
 use Rattle.odata_eval.proofs.walking.Operands.{BesideHere, no_number}
 use Rattle.odata_eval.proofs.walking.Parts.{by_kind, found_there, kind_there}
@@ -159,8 +159,8 @@ one_name properties asked word slot named too = name_matches properties asked sl
 
 module _ (filter : Filter) where
   -- the filter's list as a walk sees it, whatever the entity is
-  abbrev seen : MomentParts → SceneModel
-  seen now = scene_in (record { schema = filter.schema; type_id = filter.filtered; expansion = filter.expansion; value = Value.Null }) now filter.list []
+  abbrev seen : MomentParts → ContextModel
+  seen now = context_in (record { schema = filter.schema; type_id = filter.filtered; expansion = filter.expansion; value = Value.Null }) now filter.list []
 
   abbrev Comes : MomentParts → (List ℕ → FieldVal) → Tree → Outcome → Type 0
   Comes now held = Means (slots_of filter.schema) (type_name_at filter.schema filter.filtered) now (fields held) []

@@ -34,9 +34,9 @@ use Rattle.odata_filter_operations.specs.QuantifierGives.{Passes, QuantifierGive
 use Rattle.odata_filter_operations.specs.FaultView.{fault_outcome}
 use Rattle.odata_filter_operations.specs.DatumView.{reading_at}
 use Rattle.odata_eval.specs.private.Place.{HasKind, IsRightOf, IsStopOf, OperandStands, PartStands}
-use Rattle.odata_eval.specs.private.Scene.{EndsOnceHere, MeansHere, OperandHere, StandsHere, TypedHere}
-use Rattle.odata_eval.specs.private.SceneModel.{SceneModel, environment_of}
-use Rattle.odata_filter_operations.specs.Tells.{Tells}
+use Rattle.odata_eval.specs.private.EvalContext.{EndsOnceHere, MeansHere, OperandHere, StandsHere, TypedHere}
+use Rattle.odata_eval.specs.private.ContextModel.{ContextModel, environment_of}
+use Rattle.odata_filter_operations.specs.Reports.{Reports}
 use Rattle.odata_eval.specs.private.WalkAnswer.{AnswersAtPlace, AnswersDatum}
 use Rattle.odata_eval.proofs.meaning.Kinds.{comparable_values}
 use Rattle.odata_eval.proofs.meaning.Reads.{number_comparable, read_has}
@@ -46,7 +46,7 @@ use Rattle.odata_eval.specs.Costs.{CostAfter, CostThen, OthersCost, item_cost}
 use Rattle.odata_eval.specs.private.Spending.{CostsHere}
 use Rattle.odata_eval.proofs.spending.Items.{ComparedHere, ItemDue, ItemsCostHere, ItemsDue, SideItem, due_first, item_due, one_compared}
 use Rattle.odata_eval.proofs.walking.Parts.{by_kind}
-use Rattle.odata_eval.proofs.walking.Operands.{AloneHere, HasNone, beside_here, beside_operand, beside_tells, no_number}
+use Rattle.odata_eval.proofs.walking.Operands.{AloneHere, HasNone, beside_here, beside_operand, beside_reports, no_number}
 use Rattle.odata_eval.proofs.walking.Extents.{further, items_further_in, operand_further, operand_stops_there, stops_here, stops_there}
 use Rattle.odata_eval.proofs.walking.Spines.{TypedAll, child_takes, first_child, has_type}
 use Rattle.odata_eval.proofs.walking.WalkValues.{value_has}
@@ -70,58 +70,58 @@ later_places count At o first (inr passes) = inr (record { each = earlier_passes
 paid_sum : (n own paid first item_own later : ℕ) → n ≡ own + (paid + (first + (item_own + later))) → n ≡ own + (paid + (first + item_own) + later)
 paid_sum n own paid first item_own later sum = omega (arith, sum)
 
-module _ (scene : SceneModel) where
+module _ (context : ContextModel) where
   -- the outcomes of the items beside an operand, by their indexes
   abbrev pub ItemHere : (ExprType → Type 0) → Trees → ℕ → Outcome → Type 0
-  ItemHere Beside items = ItemMeans (slots_of scene.row.schema) (type_name_at scene.row.schema scene.row.type_id) scene.moment (value_of scene.row) (environment_of scene) Beside items
+  ItemHere Beside items = ItemMeans (slots_of context.row.schema) (type_name_at context.row.schema context.row.type_id) context.moment (value_of context.row) (environment_of context) Beside items
 
   abbrev pub ItemsHere : (ExprType → Type 0) → Val → Trees → Outcome → Type 0
   ItemsHere Beside l items = ItemsGive l (length (list_of_trees items)) (ItemHere Beside items)
 
   -- the value on the left, at the type of that
   abbrev pub left_at : Datum → ExprType → Val
-  left_at left type = datum_val (reading_at (slots_of scene.row.schema) type) left
+  left_at left type = datum_val (reading_at (slots_of context.row.schema) type) left
 
   abbrev AllBeside : ExprType → Trees → List ExprType → Type 0
-  AllBeside left items types = AllByRecursion (IsItemBeside (slots_of scene.row.schema) left) (sides_of items types)
+  AllBeside left items types = AllByRecursion (IsItemBeside (slots_of context.row.schema) left) (sides_of items types)
 
   -- what stands for items beside operands of some types
   abbrev pub ListedHere : (ExprType → Type 0) → ℕ → ℕ → Trees → Type 0
-  ListedHere = ItemsStand scene.row.schema scene.row.type_id (scope_of (environment_of scene)) scene.list
+  ListedHere = ItemsStand context.row.schema context.row.type_id (scope_of (environment_of context)) context.list
 
   pub listed_further : (Beside : ExprType → Type 0) (i j : ℕ) (items : Trees) → ListedHere Beside i j items → i ≤ j
-  listed_further Beside i j items = items_further_in scene.row.schema scene.row.type_id scene.list (scope_of (environment_of scene)) i j Beside items
+  listed_further Beside i j items = items_further_in context.row.schema context.row.type_id context.list (scope_of (environment_of context)) i j Beside items
 
   pub no_more_listed : (Beside : ExprType → Type 0) (i j : ℕ) (tree : Tree) (more : Trees) → ListedHere Beside i j (more_trees tree more) → ¬ (i ≡ j)
   no_more_listed Beside i j tree more stand same =
-      let a : i < stand.middle = operand_further scene i stand.middle tree (beside_here scene Beside tree i stand.middle stand.left) in
+      let a : i < stand.middle = operand_further context i stand.middle tree (beside_here context Beside tree i stand.middle stand.left) in
       let b : stand.middle ≤ j = listed_further Beside stand.middle j more stand.right in
       omega arith
 
   -- the rest stands from where the first item stops
-  pub rest_listed : (Beside : ExprType → Type 0) (i j stop : ℕ) (tree : Tree) (more : Trees) → IsStopOf scene.list i stop → ListedHere Beside i j (more_trees tree more) → ListedHere Beside stop j more
+  pub rest_listed : (Beside : ExprType → Type 0) (i j stop : ℕ) (tree : Tree) (more : Trees) → IsStopOf context.list i stop → ListedHere Beside i j (more_trees tree more) → ListedHere Beside stop j more
   rest_listed Beside i j stop tree more stops stand =
-      let same : stand.middle ≡ stop = operand_stops_there scene i stand.middle stop tree (beside_here scene Beside tree i stand.middle stand.left) stops in
+      let same : stand.middle ≡ stop = operand_stops_there context i stand.middle stop tree (beside_here context Beside tree i stand.middle stand.left) stops in
       subst (λ (m : ℕ). ListedHere Beside m j more) same stand.right
 
   -- a tree of `in` before a list
   pub record ListThere (place stop : ℕ) (tree : Tree) : Type 0 where
     pub left : Tree
     pub items : Trees
-    pub sides : SideBySide (λ middle. StandsHere scene (place + 1) middle left) (λ middle. ListedHere (TypedHere scene left) middle stop items)
-    pub typed : (type : ExprType) → TypedHere scene tree type → (s : ExprType) × (types : List ExprType) × (TypedHere scene left s × TypedAll scene items types × AllBeside s items types)
+    pub sides : SideBySide (λ middle. StandsHere context (place + 1) middle left) (λ middle. ListedHere (TypedHere context left) middle stop items)
+    pub typed : (type : ExprType) → TypedHere context tree type → (s : ExprType) × (types : List ExprType) × (TypedHere context left s × TypedAll context items types × AllBeside s items types)
     pub takes : (child : Tree) → Contains (list_of_trees items) child → TakesMemory child → TakesMemory tree
-    pub means : (o : Outcome) → After (MeansHere scene left) (λ l. ItemsHere (TypedHere scene left) l items) o → MeansHere scene tree o
-    pub costs : (n : ℕ) → CostsHere scene tree n → CostAfter (MeansHere scene left) (CostsHere scene left) (λ l. ItemsCostHere scene (TypedHere scene left) l items) n
+    pub means : (o : Outcome) → After (MeansHere context left) (λ l. ItemsHere (TypedHere context left) l items) o → MeansHere context tree o
+    pub costs : (n : ℕ) → CostsHere context tree n → CostAfter (MeansHere context left) (CostsHere context left) (λ l. ItemsCostHere context (TypedHere context left) l items) n
 
   -- each tree that stands there is one
   abbrev pub AreLists : ℕ → Type 0
-  AreLists place = HasNone scene place × ((stop : ℕ) (tree : Tree) → StandsHere scene place stop tree → ListThere place stop tree)
+  AreLists place = HasNone context place × ((stop : ℕ) (tree : Tree) → StandsHere context place stop tree → ListThere place stop tree)
 
-  pub lists_there : (place : ℕ) → HasKind scene.list place NodeKind.InList → AreLists place
+  pub lists_there : (place : ℕ) → HasKind context.list place NodeKind.InList → AreLists place
   lists_there place here = (
-    no_number scene place NodeKind.InList tt here,
-    by_kind scene place NodeKind.InList here (λ stop tree. ListThere place stop tree)
+    no_number context place NodeKind.InList tt here,
+    by_kind context place NodeKind.InList here (λ stop tree. ListThere place stop tree)
         (λ a items stop from to stands. record {
           left = a;
           items = items;
@@ -138,127 +138,127 @@ module _ (scene : SceneModel) where
   pub record ItemsLeft (place own at : ℕ) (IsPaid : ℕ → Type 0) (left : Datum) (tree : Tree) : Type 0 where
     pub left_tree : Tree
     pub left_type : ExprType
-    pub left_typed : TypedHere scene left_tree left_type
-    pub left_has : HasType (slots_of scene.row.schema) left_type (left_at left left_type)
+    pub left_typed : TypedHere context left_tree left_type
+    pub left_has : HasType (slots_of context.row.schema) left_type (left_at left left_type)
     pub items : Trees
     pub types : List ExprType
-    pub stand : ListedHere (TypedHere scene left_tree) at own items
-    pub typed : TypedAll scene items types
+    pub stand : ListedHere (TypedHere context left_tree) at own items
+    pub typed : TypedAll context items types
     pub beside : AllBeside left_type items types
     pub takes : (child : Tree) → Contains (list_of_trees items) child → TakesMemory child → TakesMemory tree
-    pub goes : (o : Outcome) → ItemsHere (TypedHere scene left_tree) (left_at left left_type) items o → MeansHere scene tree o
-    pub left_means : MeansHere scene left_tree (gives (left_at left left_type))
-    pub due : (n : ℕ) → CostsHere scene tree n → ItemsDue scene place n IsPaid left_tree (left_at left left_type) items
+    pub goes : (o : Outcome) → ItemsHere (TypedHere context left_tree) (left_at left left_type) items o → MeansHere context tree o
+    pub left_means : MeansHere context left_tree (gives (left_at left left_type))
+    pub due : (n : ℕ) → CostsHere context tree n → ItemsDue context place n IsPaid left_tree (left_at left left_type) items
 
   -- whatever tree stands there
   pub record ListLeft (place own at : ℕ) (IsPaid : ℕ → Type 0) (left : Datum) : Type 0 where
     pub behind : place < at
     pub within : at ≤ own
-    pub none : HasNone scene place
-    pub of_tree : (stop : ℕ) (tree : Tree) (type : ExprType) → StandsHere scene place stop tree → TypedHere scene tree type → ItemsLeft place own at IsPaid left tree
+    pub none : HasNone context place
+    pub of_tree : (stop : ℕ) (tree : Tree) (type : ExprType) → StandsHere context place stop tree → TypedHere context tree type → ItemsLeft place own at IsPaid left tree
 
   -- what stands at an index stops after it
-  pub stop_further : (at stop : ℕ) → OperandStands scene at → IsStopOf scene.list at stop → at < stop
+  pub stop_further : (at stop : ℕ) → OperandStands context at → IsStopOf context.list at stop → at < stop
   stop_further at stop operand is_stop =
-      let same : operand.stop ≡ stop = operand_stops_there scene at operand.stop stop operand.tree operand.stands is_stop in
-      let later : at < operand.stop = operand_further scene at operand.stop operand.tree operand.stands in
+      let same : operand.stop ≡ stop = operand_stops_there context at operand.stop stop operand.tree operand.stands is_stop in
+      let later : at < operand.stop = operand_further context at operand.stop operand.tree operand.stands in
       omega arith
 
   module _ (place : ℕ) (are : AreLists place) where
-    pub items_there : PartStands scene place → (first : ℕ) × IsRightOf scene.list place first
+    pub items_there : PartStands context place → (first : ℕ) × IsRightOf context.list place first
     items_there part =
         let it = are.1 part.stop part.tree part.stands in
-        (it.sides.middle, stops_here scene (place + 1) it.sides.middle it.left it.sides.left)
+        (it.sides.middle, stops_here context (place + 1) it.sides.middle it.left it.sides.left)
 
-    module _ (own : ℕ) (is_own : IsStopOf scene.list place own) (at : ℕ) (is_at : IsRightOf scene.list place at) (left : Datum)
-        (first : AnswersDatum scene (place + 1) (Ok left)) (ends : EndsOnceHere scene) (part : PartStands scene place) (IsPaid : ℕ → Type 0) (none_paid : IsPaid 0) where
+    module _ (own : ℕ) (is_own : IsStopOf context.list place own) (at : ℕ) (is_at : IsRightOf context.list place at) (left : Datum)
+        (first : AnswersDatum context (place + 1) (Ok left)) (ends : EndsOnceHere context) (part : PartStands context place) (IsPaid : ℕ → Type 0) (none_paid : IsPaid 0) where
       -- at the beginning these are all items
-      all_items : (stop : ℕ) (tree : Tree) (type : ExprType) → StandsHere scene place stop tree → TypedHere scene tree type → ItemsLeft place own at IsPaid left tree
+      all_items : (stop : ℕ) (tree : Tree) (type : ExprType) → StandsHere context place stop tree → TypedHere context tree type → ItemsLeft place own at IsPaid left tree
       all_items stop tree type stands typed =
           let it = are.1 stop tree stands in
           let sides = it.typed type typed in
-          let e : stop ≡ own = stops_there scene place stop own tree stands is_own in
-          let f : it.sides.middle ≡ at = stops_there scene (place + 1) it.sides.middle at it.left it.sides.left is_at in
+          let e : stop ≡ own = stops_there context place stop own tree stands is_own in
+          let f : it.sides.middle ≡ at = stops_there context (place + 1) it.sides.middle at it.left it.sides.left is_at in
           let l = left_at left sides.0 in
-          let first_is : MeansHere scene it.left (gives l) = first.of_tree it.sides.middle it.left sides.0 it.sides.left sides.2.0 in
+          let first_is : MeansHere context it.left (gives l) = first.of_tree it.sides.middle it.left sides.0 it.sides.left sides.2.0 in
           record {
             left_tree = it.left;
             left_type = sides.0;
             left_typed = sides.2.0;
-            left_has = value_has scene ends it.left sides.0 l sides.2.0 first_is;
+            left_has = value_has context ends it.left sides.0 l sides.2.0 first_is;
             items = it.items;
             types = sides.1;
-            stand = subst (λ (j : ℕ). ListedHere (TypedHere scene it.left) at j it.items) e (subst (λ (i : ℕ). ListedHere (TypedHere scene it.left) i stop it.items) f it.sides.right);
+            stand = subst (λ (j : ℕ). ListedHere (TypedHere context it.left) at j it.items) e (subst (λ (i : ℕ). ListedHere (TypedHere context it.left) i stop it.items) f it.sides.right);
             typed = sides.2.1;
             beside = sides.2.2;
             takes = it.takes;
             goes = λ o given. it.means o (gives l, (first_is, given));
             left_means = first_is;
             due = λ n costs.
-                due_first scene place it.sides.middle n IsPaid it.left l it.items it.sides.left none_paid
+                due_first context place it.sides.middle n IsPaid it.left l it.items it.sides.left none_paid
                 (λ o of_o. let once = ends it.left sides.0 sides.2.0 in once.only o of_o ∙ sym (once.only (gives l) first_is)) (it.costs n costs);
           }
 
       pub list_begins : ListLeft place own at IsPaid left
       list_begins =
-          let typed = has_type scene place part.stop part.tree part.stands in
+          let typed = has_type context place part.stop part.tree part.stands in
           let all = all_items part.stop part.tree typed.0 part.stands typed.1 in
           let it = are.1 part.stop part.tree part.stands in
-          let f : it.sides.middle ≡ at = stops_there scene (place + 1) it.sides.middle at it.left it.sides.left is_at in
-          let g : place + 1 < it.sides.middle = further scene (place + 1) it.sides.middle it.left it.sides.left in
+          let f : it.sides.middle ≡ at = stops_there context (place + 1) it.sides.middle at it.left it.sides.left is_at in
+          let g : place + 1 < it.sides.middle = further context (place + 1) it.sides.middle it.left it.sides.left in
           record {
             behind = omega arith;
-            within = listed_further (TypedHere scene all.left_tree) at own all.items all.stand;
+            within = listed_further (TypedHere context all.left_tree) at own all.items all.stand;
             none = are.0;
             of_tree = all_items;
           }
 
   module _ (place own at : ℕ) (IsPaid : ℕ → Type 0) (left : Datum) (rest : ListLeft place own at IsPaid left) where
-    item_stands : (Beside : ExprType → Type 0) (items : Trees) → ListedHere Beside at own items → ¬ (at ≡ own) → OperandStands scene at
+    item_stands : (Beside : ExprType → Type 0) (items : Trees) → ListedHere Beside at own items → ¬ (at ≡ own) → OperandStands context at
     item_stands Beside no_trees stand further = absurd (further stand)
-    item_stands Beside (more_trees item more) stand further = beside_operand scene Beside item at stand.middle stand.left
+    item_stands Beside (more_trees item more) stand further = beside_operand context Beside item at stand.middle stand.left
 
     -- the next item
-    pub next_item : PartStands scene place → ¬ (at ≡ own) → OperandStands scene at
+    pub next_item : PartStands context place → ¬ (at ≡ own) → OperandStands context at
     next_item part further =
-        let typed = has_type scene place part.stop part.tree part.stands in
+        let typed = has_type context place part.stop part.tree part.stands in
         let it = rest.of_tree part.stop part.tree typed.0 part.stands typed.1 in
-        item_stands (TypedHere scene it.left_tree) it.items it.stand further
+        item_stands (TypedHere context it.left_tree) it.items it.stand further
 
     -- no item is left
     none_left : (Beside : ExprType → Type 0) (l : Val) (items : Trees) → ListedHere Beside at own items → at ≡ own → ItemsHere Beside l items (gives (boolean false))
     none_left Beside l no_trees stand end = inr (record { each = λ k within. absurd (omega (arith, within)); is = refl })
     none_left Beside l (more_trees item more) stand end = absurd (no_more_listed Beside at own item more stand end)
 
-    pub no_item : at ≡ own → AnswersDatum scene place (Ok (datum.Bool false))
+    pub no_item : at ≡ own → AnswersDatum context place (Ok (datum.Bool false))
     no_item end = record {
       of_tree = λ stop tree type stands typed.
           let it = rest.of_tree stop tree type stands typed in
-          it.goes (gives (boolean false)) (none_left (TypedHere scene it.left_tree) (left_at left it.left_type) it.items it.stand end);
+          it.goes (gives (boolean false)) (none_left (TypedHere context it.left_tree) (left_at left it.left_type) it.items it.stand end);
       of_number = λ number stop tree type there. absurd (rest.none number stop tree there);
     }
 
     -- a fault of the next item is the outcome
     item_fault : (fault : EvalFault) (Beside : ExprType → Type 0) (left_type : ExprType) (whole item : Tree) (more : Trees) → (TakesMemory item → TakesMemory whole)
-        → ((o : Outcome) → ItemsHere Beside (left_at left left_type) (more_trees item more) o → MeansHere scene whole o)
-        → Tells (TakesMemory item) (AloneHere scene Beside item) (fault_outcome fault) → Tells (TakesMemory whole) (MeansHere scene whole) (fault_outcome fault)
+        → ((o : Outcome) → ItemsHere Beside (left_at left left_type) (more_trees item more) o → MeansHere context whole o)
+        → Reports (TakesMemory item) (AloneHere context Beside item) (fault_outcome fault) → Reports (TakesMemory whole) (MeansHere context whole) (fault_outcome fault)
     item_fault EvalFault.Overflow Beside left_type whole item more takes goes is =
         goes overflow (inl (record { place = 0; here = (overflow, ((overflow, (is, refl)), refl)); earlier = λ k before. absurd (omega (arith, before)) }))
     item_fault EvalFault.DivideByZero Beside left_type whole item more takes goes is =
         goes divides_by_zero (inl (record { place = 0; here = (divides_by_zero, ((divides_by_zero, (is, refl)), refl)); earlier = λ k before. absurd (omega (arith, before)) }))
     item_fault EvalFault.Memory Beside left_type whole item more takes goes is = takes is
 
-    faults_of : (fault : EvalFault) (left_tree : Tree) (left_type : ExprType) (whole : Tree) (items : Trees) (types : List ExprType) → ListedHere (TypedHere scene left_tree) at own items
-        → TypedAll scene items types → ¬ (at ≡ own) → ((child : Tree) → Contains (list_of_trees items) child → TakesMemory child → TakesMemory whole)
-        → ((o : Outcome) → ItemsHere (TypedHere scene left_tree) (left_at left left_type) items o → MeansHere scene whole o)
-        → AnswersAtPlace scene at (λ type. fault_outcome fault) → Tells (TakesMemory whole) (MeansHere scene whole) (fault_outcome fault)
+    faults_of : (fault : EvalFault) (left_tree : Tree) (left_type : ExprType) (whole : Tree) (items : Trees) (types : List ExprType) → ListedHere (TypedHere context left_tree) at own items
+        → TypedAll context items types → ¬ (at ≡ own) → ((child : Tree) → Contains (list_of_trees items) child → TakesMemory child → TakesMemory whole)
+        → ((o : Outcome) → ItemsHere (TypedHere context left_tree) (left_at left left_type) items o → MeansHere context whole o)
+        → AnswersAtPlace context at (λ type. fault_outcome fault) → Reports (TakesMemory whole) (MeansHere context whole) (fault_outcome fault)
     faults_of fault left_tree left_type whole no_trees types stand typed further takes goes faults = absurd (further stand)
     faults_of fault left_tree left_type whole (more_trees item more) [] stand typed further takes goes faults = absurd typed
     faults_of fault left_tree left_type whole (more_trees item more) (t ∷ types) stand typed further takes goes faults =
-        item_fault fault (TypedHere scene left_tree) left_type whole item more (takes item (first_child item (list_of_trees more))) goes
-        (beside_tells scene (TypedHere scene left_tree) item at stand.middle t (λ type. fault_outcome fault) stand.left typed.0 faults)
+        item_fault fault (TypedHere context left_tree) left_type whole item more (takes item (first_child item (list_of_trees more))) goes
+        (beside_reports context (TypedHere context left_tree) item at stand.middle t (λ type. fault_outcome fault) stand.left typed.0 faults)
 
-    pub item_faults : ¬ (at ≡ own) → (fault : EvalFault) → AnswersAtPlace scene at (λ type. fault_outcome fault) → AnswersAtPlace scene place (λ type. fault_outcome fault)
+    pub item_faults : ¬ (at ≡ own) → (fault : EvalFault) → AnswersAtPlace context at (λ type. fault_outcome fault) → AnswersAtPlace context place (λ type. fault_outcome fault)
     item_faults further fault faults = record {
       of_tree = λ stop tree type stands typed.
           let it = rest.of_tree stop tree type stands typed in
@@ -273,56 +273,56 @@ module _ (scene : SceneModel) where
       pub tree : Tree
       pub more : Trees
       pub last : ℕ
-      pub stands : OperandHere scene at last tree
-      pub due : ItemDue scene place n IsPaid left_tree left_val tree more (gives (boolean true))
+      pub stands : OperandHere context at last tree
+      pub due : ItemDue context place n IsPaid left_tree left_val tree more (gives (boolean true))
 
-    module _ (types_one : OneType) (item : Datum) (answers : AnswersAtPlace scene at (λ type. Some (gives (left_at item type)))) (remains : ¬ (at ≡ own)) where
+    module _ (types_one : OneType) (item : Datum) (answers : AnswersAtPlace context at (λ type. Some (gives (left_at item type)))) (remains : ¬ (at ≡ own)) where
       -- the next item, with its type and its value
       record NextItem (left_tree : Tree) (left_type : ExprType) (whole : Tree) : Type 0 where
         tree : Tree
         more : Trees
         type_of : ExprType
         types : List ExprType
-        stand : ListedHere (TypedHere scene left_tree) at own (more_trees tree more)
-        means : AloneHere scene (TypedHere scene left_tree) tree (gives (left_at item type_of))
+        stand : ListedHere (TypedHere context left_tree) at own (more_trees tree more)
+        means : AloneHere context (TypedHere context left_tree) tree (gives (left_at item type_of))
         equality : HaveEquality (left_at left left_type) (left_at item type_of)
-        typed : TypedAll scene more types
+        typed : TypedAll context more types
         beside : AllBeside left_type more types
         takes : (child : Tree) → Contains (list_of_trees more) child → TakesMemory child → TakesMemory whole
-        goes : (o : Outcome) → ItemsHere (TypedHere scene left_tree) (left_at left left_type) (more_trees tree more) o → MeansHere scene whole o
-        side : SideItem scene left_tree (left_at left left_type) tree
-        due : (n : ℕ) → CostsHere scene whole n → ItemsDue scene place n IsPaid left_tree (left_at left left_type) (more_trees tree more)
+        goes : (o : Outcome) → ItemsHere (TypedHere context left_tree) (left_at left left_type) (more_trees tree more) o → MeansHere context whole o
+        side : SideItem context left_tree (left_at left left_type) tree
+        due : (n : ℕ) → CostsHere context whole n → ItemsDue context place n IsPaid left_tree (left_at left left_type) (more_trees tree more)
 
       -- by its number, or by its type, it is compared with the left value
-      item_equality : EndsOnceHere scene → (left_tree : Tree) (s : ExprType) (l : Val) (tree : Tree) (t : ExprType) (v : Val) → TypedHere scene left_tree s
-          → HasType (slots_of scene.row.schema) s l → TypedHere scene tree t → IsItemBeside (slots_of scene.row.schema) s (side_of tree t)
-          → AloneHere scene (TypedHere scene left_tree) tree (gives v) → HaveEquality l v
+      item_equality : EndsOnceHere context → (left_tree : Tree) (s : ExprType) (l : Val) (tree : Tree) (t : ExprType) (v : Val) → TypedHere context left_tree s
+          → HasType (slots_of context.row.schema) s l → TypedHere context tree t → IsItemBeside (slots_of context.row.schema) s (side_of tree t)
+          → AloneHere context (TypedHere context left_tree) tree (gives v) → HaveEquality l v
       item_equality ends left_tree s l tree t v left_typed has typed beside (inl read) =
-          let slots = slots_of scene.row.schema in
-          let root = type_name_at scene.row.schema scene.row.type_id in
+          let slots = slots_of context.row.schema in
+          let root = type_name_at context.row.schema context.row.type_id in
           let reads = read.1 in
           let number = subst (λ (u : ExprType). NumberBeside slots u (quoted_text tree) read.0)
-          (types_one slots root (scope_of (environment_of scene)) left_tree reads.type_of s reads.beside left_typed) reads.number in
+          (types_one slots root (scope_of (environment_of context)) left_tree reads.type_of s reads.beside left_typed) reads.number in
           let given : gives v ≡ gives (member read.0) = read.2 in
           let is : v ≡ member read.0 = cc in
           subst (λ (w : Val). HaveEquality l w) (sym is)
           (comparable_values slots ComparisonOperator.Eq s s l (member read.0) (number_comparable slots s (quoted_text tree) read.0 number) has (read_has slots s (quoted_text tree) read.0 number))
       item_equality ends left_tree s l tree t v left_typed has typed (inl comparable) (inr alone) =
-          comparable_values (slots_of scene.row.schema) ComparisonOperator.Eq s t l v comparable has (value_has scene ends tree t v typed alone.1)
+          comparable_values (slots_of context.row.schema) ComparisonOperator.Eq s t l v comparable has (value_has context ends tree t v typed alone.1)
       item_equality ends left_tree s l tree t v left_typed has typed (inr number) (inr alone) =
           absurd (alone.0 number.0 (record { type_of = s; beside = left_typed; number = number.1 }))
 
-      next_of : EndsOnceHere scene → (left_tree : Tree) (left_type : ExprType) (whole : Tree) (items : Trees) (types : List ExprType) → TypedHere scene left_tree left_type
-          → HasType (slots_of scene.row.schema) left_type (left_at left left_type)
-          → ListedHere (TypedHere scene left_tree) at own items → TypedAll scene items types → AllBeside left_type items types
+      next_of : EndsOnceHere context → (left_tree : Tree) (left_type : ExprType) (whole : Tree) (items : Trees) (types : List ExprType) → TypedHere context left_tree left_type
+          → HasType (slots_of context.row.schema) left_type (left_at left left_type)
+          → ListedHere (TypedHere context left_tree) at own items → TypedAll context items types → AllBeside left_type items types
           → ((child : Tree) → Contains (list_of_trees items) child → TakesMemory child → TakesMemory whole)
-          → ((o : Outcome) → ItemsHere (TypedHere scene left_tree) (left_at left left_type) items o → MeansHere scene whole o)
-          → MeansHere scene left_tree (gives (left_at left left_type)) → ((n : ℕ) → CostsHere scene whole n → ItemsDue scene place n IsPaid left_tree (left_at left left_type) items) → NextItem left_tree left_type whole
+          → ((o : Outcome) → ItemsHere (TypedHere context left_tree) (left_at left left_type) items o → MeansHere context whole o)
+          → MeansHere context left_tree (gives (left_at left left_type)) → ((n : ℕ) → CostsHere context whole n → ItemsDue context place n IsPaid left_tree (left_at left left_type) items) → NextItem left_tree left_type whole
       next_of ends left_tree left_type whole no_trees types left_typed has stand typed beside takes goes left_means due = absurd (remains stand)
       next_of ends left_tree left_type whole (more_trees tree more) [] left_typed has stand typed beside takes goes left_means due = absurd typed
       next_of ends left_tree left_type whole (more_trees tree more) (t ∷ types) left_typed has stand typed beside takes goes left_means due =
-          let is : AloneHere scene (TypedHere scene left_tree) tree (gives (left_at item t)) =
-          beside_tells scene (TypedHere scene left_tree) tree at stand.middle t (λ type. Some (gives (left_at item type))) stand.left typed.0 answers in
+          let is : AloneHere context (TypedHere context left_tree) tree (gives (left_at item t)) =
+          beside_reports context (TypedHere context left_tree) tree at stand.middle t (λ type. Some (gives (left_at item type))) stand.left typed.0 answers in
           record {
             tree = tree;
             more = more;
@@ -339,24 +339,24 @@ module _ (scene : SceneModel) where
             due = due;
           }
 
-      next_in : EndsOnceHere scene → (whole : Tree) (it : ItemsLeft place own at IsPaid left whole) → NextItem it.left_tree it.left_type whole
+      next_in : EndsOnceHere context → (whole : Tree) (it : ItemsLeft place own at IsPaid left whole) → NextItem it.left_tree it.left_type whole
       next_in ends whole it = next_of ends it.left_tree it.left_type whole it.items it.types it.left_typed it.left_has it.stand it.typed it.beside it.takes it.goes it.left_means it.due
 
       -- it may be compared with the left value
-      pub may_compare_item : EndsOnceHere scene → ComparedAnyhow → PartStands scene place → (l r : Reading) → HaveEquality (datum_val l left) (datum_val r item)
+      pub may_compare_item : EndsOnceHere context → ComparedAnyhow → PartStands context place → (l r : Reading) → HaveEquality (datum_val l left) (datum_val r item)
       may_compare_item ends anyhow part l r =
-          let slots = slots_of scene.row.schema in
-          let typed = has_type scene place part.stop part.tree part.stands in
+          let slots = slots_of context.row.schema in
+          let typed = has_type context place part.stop part.tree part.stands in
           let it = rest.of_tree part.stop part.tree typed.0 part.stands typed.1 in
           let next = next_in ends part.tree it in
           anyhow ComparisonOperator.Eq left item (reading_at slots it.left_type) (reading_at slots next.type_of) l r next.equality
 
-      module _ (ends : EndsOnceHere scene) (answer : Bool) (compared : (l r : Reading) → IsTrue answer ↔ AreEqual (datum_val l left) (datum_val r item)) where
+      module _ (ends : EndsOnceHere context) (answer : Bool) (compared : (l r : Reading) → IsTrue answer ↔ AreEqual (datum_val l left) (datum_val r item)) where
         abbrev compared_at : (s t : ExprType) → IsTrue answer ↔ AreEqual (left_at left s) (left_at item t)
-        compared_at s t = compared (reading_at (slots_of scene.row.schema) s) (reading_at (slots_of scene.row.schema) t)
+        compared_at s t = compared (reading_at (slots_of context.row.schema) s) (reading_at (slots_of context.row.schema) t)
 
         -- an equal item decides
-        pub item_equals : answer ≡ true → AnswersDatum scene place (Ok (datum.Bool true))
+        pub item_equals : answer ≡ true → AnswersDatum context place (Ok (datum.Bool true))
         item_equals so = record {
           of_tree = λ stop tree type stands typed.
               let it = rest.of_tree stop tree type stands typed in
@@ -373,31 +373,31 @@ module _ (scene : SceneModel) where
         }
 
         -- one that differs does not, and the others are left
-        differs_here : (Beside : ExprType → Type 0) (l v : Val) (tree : Tree) (more : Trees) → AloneHere scene Beside tree (gives v) → HaveEquality l v → ¬ (AreEqual l v)
+        differs_here : (Beside : ExprType → Type 0) (l v : Val) (tree : Tree) (more : Trees) → AloneHere context Beside tree (gives v) → HaveEquality l v → ¬ (AreEqual l v)
             → After (ItemHere Beside (more_trees tree more) 0) (CompareGives ComparisonOperator.Eq l) (gives (boolean false))
         differs_here Beside l v tree more means equality differs = (gives v, (means, (equality, ((λ no. absurd (cc)), (λ same. absurd (differs same))))))
 
-        passes_item : (Beside : ExprType → Type 0) (l v : Val) (tree : Tree) (more : Trees) → AloneHere scene Beside tree (gives v) → HaveEquality l v → ¬ (AreEqual l v)
+        passes_item : (Beside : ExprType → Type 0) (l v : Val) (tree : Tree) (more : Trees) → AloneHere context Beside tree (gives v) → HaveEquality l v → ¬ (AreEqual l v)
             → Passes Quantifier.Any (After (ItemHere Beside (more_trees tree more) 0) (CompareGives ComparisonOperator.Eq l))
         passes_item Beside l v tree more means equality differs = (boolean false, differs_here Beside l v tree more means equality differs, tt)
 
         -- what is due of the next item, whose outcome as compared is known
         next_due : (whole left_tree : Tree) (left_type : ExprType) (next : NextItem left_tree left_type whole) (o : Outcome)
-            → ComparedHere scene (TypedHere scene left_tree) (left_at left left_type) next.tree o → (n : ℕ) → CostsHere scene whole n
-            → ItemDue scene place n IsPaid left_tree (left_at left left_type) next.tree next.more o
+            → ComparedHere context (TypedHere context left_tree) (left_at left left_type) next.tree o → (n : ℕ) → CostsHere context whole n
+            → ItemDue context place n IsPaid left_tree (left_at left left_type) next.tree next.more o
         next_due whole left_tree left_type next o is n costs =
-            item_due scene place n IsPaid left_tree (left_at left left_type) next.tree next.more o
-            (λ p of_p. one_compared scene ends left_tree (left_at left left_type) next.tree next.side p o of_p is) (next.due n costs)
+            item_due context place n IsPaid left_tree (left_at left left_type) next.tree next.more o
+            (λ p of_p. one_compared context ends left_tree (left_at left left_type) next.tree next.side p o of_p is) (next.due n costs)
 
         module _ (IsPaidNow : ℕ → Type 0)
-            (pays : (last : ℕ) (tree : Tree) (paid cost : ℕ) → OperandHere scene at last tree
-            → CostsHere scene tree cost → IsPaid paid → IsPaidNow (paid + (item_cost (environment_of scene) + cost))) where
+            (pays : (last : ℕ) (tree : Tree) (paid cost : ℕ) → OperandHere context at last tree
+            → CostsHere context tree cost → IsPaid paid → IsPaidNow (paid + (item_cost (environment_of context) + cost))) where
           -- so it has been paid for
           whole_due : (o : Outcome) → (whole : Tree) (left_tree : Tree) (left_type : ExprType) (next : NextItem left_tree left_type whole)
-              → ComparedHere scene (TypedHere scene left_tree) (left_at left left_type) next.tree o
-              → ((later : ℕ) → CostThen o (OthersCost Quantifier.Any (ItemsCostHere scene (TypedHere scene left_tree) (left_at left left_type) next.more)) later
-              → ItemsCostHere scene (TypedHere scene left_tree) (left_at left left_type) next.more later)
-              → (n : ℕ) → CostsHere scene whole n → ItemsDue scene place n IsPaidNow left_tree (left_at left left_type) next.more
+              → ComparedHere context (TypedHere context left_tree) (left_at left left_type) next.tree o
+              → ((later : ℕ) → CostThen o (OthersCost Quantifier.Any (ItemsCostHere context (TypedHere context left_tree) (left_at left left_type) next.more)) later
+              → ItemsCostHere context (TypedHere context left_tree) (left_at left left_type) next.more later)
+              → (n : ℕ) → CostsHere context whole n → ItemsDue context place n IsPaidNow left_tree (left_at left left_type) next.more
           whole_due o whole left_tree left_type next is goes n costs =
               let it = next_due whole left_tree left_type next o is n costs in
               record {
@@ -405,25 +405,25 @@ module _ (scene : SceneModel) where
                 stands = it.stands;
                 own = it.own;
                 costs = it.costs;
-                paid = it.paid + (item_cost (environment_of scene) + it.item_own);
+                paid = it.paid + (item_cost (environment_of context) + it.item_own);
                 due = it.later;
-                sum = paid_sum n it.own it.paid (item_cost (environment_of scene)) it.item_own it.later it.sum;
-                is_paid = pays next.stand.middle next.tree it.paid it.item_own (beside_here scene (TypedHere scene left_tree) next.tree at next.stand.middle next.stand.left) it.item_costs it.is_paid;
+                sum = paid_sum n it.own it.paid (item_cost (environment_of context)) it.item_own it.later it.sum;
+                is_paid = pays next.stand.middle next.tree it.paid it.item_own (beside_here context (TypedHere context left_tree) next.tree at next.stand.middle next.stand.left) it.item_costs it.is_paid;
                 asked = goes it.later it.follows_item;
               }
 
-        pub item_differs : answer ≡ false → PartStands scene place → (stop : ℕ) → IsStopOf scene.list at stop → (IsPaidNow : ℕ → Type 0)
-            → ((last : ℕ) (tree : Tree) (paid cost : ℕ) → OperandHere scene at last tree
-            → CostsHere scene tree cost → IsPaid paid → IsPaidNow (paid + (item_cost (environment_of scene) + cost)))
+        pub item_differs : answer ≡ false → PartStands context place → (stop : ℕ) → IsStopOf context.list at stop → (IsPaidNow : ℕ → Type 0)
+            → ((last : ℕ) (tree : Tree) (paid cost : ℕ) → OperandHere context at last tree
+            → CostsHere context tree cost → IsPaid paid → IsPaidNow (paid + (item_cost (environment_of context) + cost)))
             → ListLeft place own stop IsPaidNow left
         item_differs so part stop is_stop IsPaidNow pays =
-            let has = has_type scene place part.stop part.tree part.stands in
+            let has = has_type context place part.stop part.tree part.stands in
             let there = rest.of_tree part.stop part.tree has.0 part.stands has.1 in
             let found = next_in ends part.tree there in
-            let Beside : ExprType → Type 0 = TypedHere scene there.left_tree in
-            let first = beside_here scene Beside found.tree at found.stand.middle found.stand.left in
-            let middle_is : found.stand.middle ≡ stop = operand_stops_there scene at found.stand.middle stop found.tree first is_stop in
-            let later : at < found.stand.middle = operand_further scene at found.stand.middle found.tree first in
+            let Beside : ExprType → Type 0 = TypedHere context there.left_tree in
+            let first = beside_here context Beside found.tree at found.stand.middle found.stand.left in
+            let middle_is : found.stand.middle ≡ stop = operand_stops_there context at found.stand.middle stop found.tree first is_stop in
+            let later : at < found.stand.middle = operand_further context at found.stand.middle found.tree first in
             let over : stop ≤ own = listed_further Beside stop own found.more (rest_listed Beside at own stop found.tree found.more is_stop found.stand) in
             record {
               behind = let before : place < at = rest.behind in omega arith;
@@ -442,21 +442,21 @@ module _ (scene : SceneModel) where
                     left_has = it.left_has;
                     items = next.more;
                     types = next.types;
-                    stand = rest_listed (TypedHere scene it.left_tree) at own stop next.tree next.more is_stop next.stand;
+                    stand = rest_listed (TypedHere context it.left_tree) at own stop next.tree next.more is_stop next.stand;
                     typed = next.typed;
                     beside = next.beside;
                     takes = next.takes;
                     left_means = it.left_means;
-                    due = whole_due IsPaidNow pays (gives (boolean false)) tree it.left_tree it.left_type next (differs_here (TypedHere scene it.left_tree) l v next.tree next.more next.means next.equality differs) (λ later costs. costs);
-                    goes = λ o given. next.goes o (later_places (length (list_of_trees next.more)) (λ k. After (ItemHere (TypedHere scene it.left_tree) (more_trees next.tree next.more) k) (CompareGives ComparisonOperator.Eq l)) o
-                        (passes_item (TypedHere scene it.left_tree) l v next.tree next.more next.means next.equality differs) given);
+                    due = whole_due IsPaidNow pays (gives (boolean false)) tree it.left_tree it.left_type next (differs_here (TypedHere context it.left_tree) l v next.tree next.more next.means next.equality differs) (λ later costs. costs);
+                    goes = λ o given. next.goes o (later_places (length (list_of_trees next.more)) (λ k. After (ItemHere (TypedHere context it.left_tree) (more_trees next.tree next.more) k) (CompareGives ComparisonOperator.Eq l)) o
+                        (passes_item (TypedHere context it.left_tree) l v next.tree next.more next.means next.equality differs) given);
                   };
             }
 
         -- what is due where the next item is equal
-        pub equal_due : answer ≡ true → (last : ℕ) (whole : Tree) (n : ℕ) → StandsHere scene place last whole → CostsHere scene whole n → EqualDue n
+        pub equal_due : answer ≡ true → (last : ℕ) (whole : Tree) (n : ℕ) → StandsHere context place last whole → CostsHere context whole n → EqualDue n
         equal_due so last whole n stands costs =
-            let has = has_type scene place last whole stands in
+            let has = has_type context place last whole stands in
             let it = rest.of_tree last whole has.0 stands has.1 in
             let next = next_in ends whole it in
             let l = left_at left it.left_type in
@@ -468,6 +468,6 @@ module _ (scene : SceneModel) where
               tree = next.tree;
               more = next.more;
               last = next.stand.middle;
-              stands = beside_here scene (TypedHere scene it.left_tree) next.tree at next.stand.middle next.stand.left;
+              stands = beside_here context (TypedHere context it.left_tree) next.tree at next.stand.middle next.stand.left;
               due = next_due whole it.left_tree it.left_type next (gives (boolean true)) (gives v, (next.means, (next.equality, ((λ yes. equal), (λ same. refl))))) n costs;
             }

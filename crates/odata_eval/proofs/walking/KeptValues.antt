@@ -11,8 +11,8 @@ use Rattle.edm_entities.specs.Row.{ValAtType, val_of, val_step}
 use Rattle.odata_functions.specs.KeptVal.{Contents, kept_val}
 use Rattle.odata_filter_operations.specs.Outcome.{gives}
 use Rattle.odata_eval.specs.private.Place.{TypedStands}
-use Rattle.odata_eval.specs.private.Scene.{EndsOnceHere}
-use Rattle.odata_eval.specs.private.SceneModel.{SceneModel}
+use Rattle.odata_eval.specs.private.EvalContext.{EndsOnceHere}
+use Rattle.odata_eval.specs.private.ContextModel.{ContextModel}
 use Rattle.odata_eval.specs.private.WalkAnswer.{AnswersAtPlace, AnswersKept}
 use Rattle.odata_eval.proofs.walking.Leaves.{plain_is}
 use Rattle.odata_eval.proofs.walking.Readings.{IsPlain, PlainValues}
@@ -74,16 +74,16 @@ plain_contents contents (Record' shape all) v plain is = absurd (subst IsPlain (
 plain_contents contents (List' shape all) v plain is = absurd (subst IsPlain (sym is) plain)
 plain_contents contents _ v plain is = ap Some is
 
-module _ (scene : SceneModel) (place : ℕ) (value : Value) (kept : AnswersKept scene place value) where
+module _ (context : ContextModel) (place : ℕ) (value : Value) (kept : AnswersKept context place value) where
   -- as what a truth value or a number is kept, where the node's type allows these
-  pub value_kept : {Held : Type 0} (values : PlainValues Held) → EndsOnceHere scene → TypedStands scene place values.Allowed
+  pub value_kept : {Held : Type 0} (values : PlainValues Held) → EndsOnceHere context → TypedStands context place values.Allowed
       → (held : Held) × (plain_val value ≡ Some (values.val held))
   value_kept values ends stands =
-      let slots = slots_of scene.row.schema in
+      let slots = slots_of context.row.schema in
       let contents = kept_contents slots stands.type_of value in
-      let held = typed_value scene place (val_of value slots.properties) kept values ends stands in
+      let held = typed_value context place (val_of value slots.properties) kept values ends stands in
       (held.0, plain_contents contents.0 value (values.val held.0) (values.plain held.0) (sym contents.1 ∙ held.1))
 
   -- a value without parts is the outcome itself
-  pub kept_value : (v : Val) → plain_val value ≡ Some v → AnswersAtPlace scene place (λ type. Some (gives v))
-  kept_value v is = same_values scene place (val_of value (slots_of scene.row.schema).properties) (λ type. v) (λ type. plain_is (slots_of scene.row.schema) type value v is) kept
+  pub kept_value : (v : Val) → plain_val value ≡ Some v → AnswersAtPlace context place (λ type. Some (gives v))
+  kept_value v is = same_values context place (val_of value (slots_of context.row.schema).properties) (λ type. v) (λ type. plain_is (slots_of context.row.schema) type value v is) kept

@@ -32,14 +32,14 @@ use Rattle.odata_eval.specs.declared.frames.RangeVariable.{RangeVariable}
 use Rattle.odata_filter_operations.specs.DatumView.{answer_outcome, reading_at}
 use Rattle.odata_eval.specs.private.Lambda.{AnswersMembers, BodyIsThere, BodyMeans, IsOverMembers, IsVariableOf, Suits, body_scope, type_of_variable, vals_of}
 use Rattle.odata_eval.specs.private.Place.{HasKind, IsRightOf, PartStands}
-use Rattle.odata_eval.specs.private.Scene.{EndsOnceHere, MeansHere, StandsHere, TypedHere}
-use Rattle.odata_eval.specs.private.SceneModel.{SceneModel, environment_of}
-use Rattle.odata_filter_operations.specs.Tells.{Tells}
+use Rattle.odata_eval.specs.private.EvalContext.{EndsOnceHere, MeansHere, StandsHere, TypedHere}
+use Rattle.odata_eval.specs.private.ContextModel.{ContextModel, environment_of}
+use Rattle.odata_filter_operations.specs.Reports.{Reports}
 use Rattle.odata_eval.specs.private.WalkAnswer.{AnswersDatum, AnswersTruth}
 use Rattle.odata_eval.proofs.meaning.OneByOne.{members_one_by_one}
 use Rattle.odata_eval.proofs.walking.Children.{body_stands}
 use Rattle.odata_eval.proofs.walking.Operands.{no_number}
-use Rattle.odata_eval.proofs.walking.Parts.{by_kind, found_there, some_there, tells_there, there_found}
+use Rattle.odata_eval.proofs.walking.Parts.{by_kind, found_there, some_there, reports_there, there_found}
 use Rattle.odata_eval.proofs.walking.Extents.{further, stops_here, stops_there}
 use Rattle.odata_eval.proofs.walking.Spines.{child_takes, second_child}
 use Rattle.odata_eval.proofs.walking.WalkValues.{value_has}
@@ -75,136 +75,136 @@ null_otherwise slots type (datum.List held) has other = absurd (other held refl)
 null_otherwise slots type _ has other = absurd has
 
 -- the type of a node there
-found_typed : (scene : SceneModel) (place stop : ℕ) (tree : Tree) → StandsHere scene place stop tree
-    → (found : CheckedNode) × ((slice_get scene.list.nodes place ≡ Some found) × TypedHere scene tree (expr_type scene.row.schema found.edm_type))
-found_typed scene place stop (node from to shape) stands = (stands.top.found, (stands.top.stands_at, stands.top.typed))
+found_typed : (context : ContextModel) (place stop : ℕ) (tree : Tree) → StandsHere context place stop tree
+    → (found : CheckedNode) × ((slice_get context.list.nodes place ≡ Some found) × TypedHere context tree (expr_type context.row.schema found.edm_type))
+found_typed context place stop (node from to shape) stands = (stands.top.found, (stands.top.stands_at, stands.top.typed))
 
-module _ (types : OneType) (scene : SceneModel) (place : ℕ) (quantifier : Quantifier) (here : HasKind scene.list place (NodeKind.Lambda quantifier)) where
+module _ (types : OneType) (context : ContextModel) (place : ℕ) (quantifier : Quantifier) (here : HasKind context.list place (NodeKind.Lambda quantifier)) where
   -- the base's node says the type of the collection
-  base_is : (stop : ℕ) (base : Tree) (type : SingleType) → StandsHere scene (place + 1) stop base → TypedHere scene base (collection type)
-      → IsSomeAnd (slice_get scene.list.nodes (place + 1)) (λ (found : CheckedNode). CollectionIs scene.row.schema found.edm_type type)
+  base_is : (stop : ℕ) (base : Tree) (type : SingleType) → StandsHere context (place + 1) stop base → TypedHere context base (collection type)
+      → IsSomeAnd (slice_get context.list.nodes (place + 1)) (λ (found : CheckedNode). CollectionIs context.row.schema found.edm_type type)
   base_is stop base type stands typed =
-      let found = found_typed scene (place + 1) stop base stands in
-      there_found (λ (f : CheckedNode). CollectionIs scene.row.schema f.edm_type type) (slice_get scene.list.nodes (place + 1)) found.0 found.1.0
-      (collection_is scene.row.schema found.0.edm_type type
-      (types (slots_of scene.row.schema) (type_name_at scene.row.schema scene.row.type_id) (scope_of (environment_of scene)) base (expr_type scene.row.schema found.0.edm_type) (collection type) found.1.1 typed))
+      let found = found_typed context (place + 1) stop base stands in
+      there_found (λ (f : CheckedNode). CollectionIs context.row.schema f.edm_type type) (slice_get context.list.nodes (place + 1)) found.0 found.1.0
+      (collection_is context.row.schema found.0.edm_type type
+      (types (slots_of context.row.schema) (type_name_at context.row.schema context.row.type_id) (scope_of (environment_of context)) base (expr_type context.row.schema found.0.edm_type) (collection type) found.1.1 typed))
 
-  pub over_members : PartStands scene place → IsOverMembers scene.list place
+  pub over_members : PartStands context place → IsOverMembers context.list place
   over_members part =
-      by_kind scene place (NodeKind.Lambda quantifier) here (λ stop tree. IsOverMembers scene.list place)
+      by_kind context place (NodeKind.Lambda quantifier) here (λ stop tree. IsOverMembers context.list place)
       (λ base variable body stop from to stands.
-      let is = some_there (λ (f : CheckedNode). CollectionIs scene.row.schema f.edm_type stands.top.typed.member_type) (slice_get scene.list.nodes (place + 1))
+      let is = some_there (λ (f : CheckedNode). CollectionIs context.row.schema f.edm_type stands.top.typed.member_type) (slice_get context.list.nodes (place + 1))
       (base_is stands.children.middle base stands.top.typed.member_type stands.children.left stands.top.typed.binds.over) in
-      there_found (λ (f : CheckedNode). (member : ValueType) × (f.edm_type ≡ EdmType.Collection member)) (slice_get scene.list.nodes (place + 1)) is.0 is.1.0 (is.1.1.member, is.1.1.is))
+      there_found (λ (f : CheckedNode). (member : ValueType) × (f.edm_type ≡ EdmType.Collection member)) (slice_get context.list.nodes (place + 1)) is.0 is.1.0 (is.1.1.member, is.1.1.is))
       part.stop part.tree part.stands
 
-  pub body_place : PartStands scene place → (right : ℕ) × IsRightOf scene.list place right
+  pub body_place : PartStands context place → (right : ℕ) × IsRightOf context.list place right
   body_place part =
-      by_kind scene place (NodeKind.Lambda quantifier) here (λ stop tree. (right : ℕ) × IsRightOf scene.list place right)
-      (λ base variable body stop from to stands. (stands.children.middle, stops_here scene (place + 1) stands.children.middle base stands.children.left))
+      by_kind context place (NodeKind.Lambda quantifier) here (λ stop tree. (right : ℕ) × IsRightOf context.list place right)
+      (λ base variable body stop from to stands. (stands.children.middle, stops_here context (place + 1) stands.children.middle base stands.children.left))
       part.stop part.tree part.stands
 
-  pub body_behind : (right : ℕ) → IsRightOf scene.list place right → PartStands scene place → place < right
+  pub body_behind : (right : ℕ) → IsRightOf context.list place right → PartStands context place → place < right
   body_behind right is_right part =
-      by_kind scene place (NodeKind.Lambda quantifier) here (λ stop tree. place < right)
+      by_kind context place (NodeKind.Lambda quantifier) here (λ stop tree. place < right)
       (λ base asked body stop from to stands.
-      let e : stands.children.middle ≡ right = stops_there scene (place + 1) stands.children.middle right base stands.children.left is_right in
-      let f : place + 1 < stands.children.middle = further scene (place + 1) stands.children.middle base stands.children.left in
+      let e : stands.children.middle ≡ right = stops_there context (place + 1) stands.children.middle right base stands.children.left is_right in
+      let f : place + 1 < stands.children.middle = further context (place + 1) stands.children.middle base stands.children.left in
       omega arith)
       part.stop part.tree part.stands
 
-  module _ (variable : RangeVariable) (is_variable : IsVariableOf scene.list place variable) where
+  module _ (variable : RangeVariable) (is_variable : IsVariableOf context.list place variable) where
     -- the variable has that name and that type
     pub record IsNamed (asked : List ℕ) (type : SingleType) : Type 0 where
       pub name_same : variable.name.now ≡ asked
-      pub type_same : type_of_variable scene variable ≡ single type
+      pub type_same : type_of_variable context variable ≡ single type
 
-    pub is_named : (stop from to : ℕ) (base : Tree) (asked : List ℕ) (body : Tree) → StandsHere scene place stop (node from to (lambda quantifier base asked body))
-        → (type : SingleType) → TypedHere scene base (collection type) → IsNamed asked type
+    pub is_named : (stop from to : ℕ) (base : Tree) (asked : List ℕ) (body : Tree) → StandsHere context place stop (node from to (lambda quantifier base asked body))
+        → (type : SingleType) → TypedHere context base (collection type) → IsNamed asked type
     is_named stop from to base asked body stands type typed =
         let named : Some asked ≡ Some variable.name.now = sym stands.top.text_at ∙ is_variable.name_is in
-        let there = some_there (λ (f : CheckedNode). CollectionIs scene.row.schema f.edm_type type) (slice_get scene.list.nodes (place + 1))
+        let there = some_there (λ (f : CheckedNode). CollectionIs context.row.schema f.edm_type type) (slice_get context.list.nodes (place + 1))
         (base_is stands.children.middle base type stands.children.left typed) in
         let same : there.0.edm_type ≡ EdmType.Collection is_variable.member =
-        found_there (λ (f : CheckedNode). f.edm_type ≡ EdmType.Collection is_variable.member) (slice_get scene.list.nodes (place + 1)) there.0 there.1.0 is_variable.base_is in
+        found_there (λ (f : CheckedNode). f.edm_type ≡ EdmType.Collection is_variable.member) (slice_get context.list.nodes (place + 1)) there.0 there.1.0 is_variable.base_is in
         let kinds : EdmType.Collection there.1.1.member ≡ EdmType.Collection is_variable.member = sym there.1.1.is ∙ same in
         let member : there.1.1.member ≡ is_variable.member = cc in
         record {
           name_same = cc;
-          type_same = ap (expr_type scene.row.schema) is_variable.type_is ∙ ap (λ (m : ValueType). single (single_type scene.row.schema m)) (sym member) ∙ ap single there.1.1.stands_for;
+          type_same = ap (expr_type context.row.schema) is_variable.type_is ∙ ap (λ (m : ValueType). single (single_type context.row.schema m)) (sym member) ∙ ap single there.1.1.stands_for;
         }
 
     -- the body over members, with a variable of that name and that type
     abbrev Over : List ℕ → ExprType → Tree → List Value → Outcome → Type 0
     Over name t body members =
-        MembersGo quantifier (λ v. Means (slots_of scene.row.schema) (type_name_at scene.row.schema scene.row.type_id) scene.moment (value_of scene.row) (bound_over (environment_of scene) name t v) body)
-        (vals_of (slots_of scene.row.schema) t members)
+        MembersGo quantifier (λ v. Means (slots_of context.row.schema) (type_name_at context.row.schema context.row.type_id) context.moment (value_of context.row) (bound_over (environment_of context) name t v) body)
+        (vals_of (slots_of context.row.schema) t members)
 
     as_named : (asked : List ℕ) (type : SingleType) (body : Tree) → IsNamed asked type → (members : List Value) (o : Outcome)
-        → MembersGo quantifier (BodyMeans scene variable body) (vals_of (slots_of scene.row.schema) (type_of_variable scene variable) members) o
-        → MembersGo quantifier (λ v. Means (slots_of scene.row.schema) (type_name_at scene.row.schema scene.row.type_id) scene.moment (value_of scene.row) (bound_over (environment_of scene) asked (single type) v) body)
-        (items_of (slots_of scene.row.schema).properties type (map val_of members)) o
+        → MembersGo quantifier (BodyMeans context variable body) (vals_of (slots_of context.row.schema) (type_of_variable context variable) members) o
+        → MembersGo quantifier (λ v. Means (slots_of context.row.schema) (type_name_at context.row.schema context.row.type_id) context.moment (value_of context.row) (bound_over (environment_of context) asked (single type) v) body)
+        (items_of (slots_of context.row.schema).properties type (map val_of members)) o
     as_named asked type body named members o goes =
-        subst (λ (vals : Vals). MembersGo quantifier (λ v. Means (slots_of scene.row.schema) (type_name_at scene.row.schema scene.row.type_id) scene.moment (value_of scene.row) (bound_over (environment_of scene) asked (single type) v) body) vals o)
-        (vals_same (slots_of scene.row.schema) type members)
-        (subst (λ (t : ExprType). Over asked t body members o) named.type_same (subst (λ (n : List ℕ). Over n (type_of_variable scene variable) body members o) named.name_same goes))
+        subst (λ (vals : Vals). MembersGo quantifier (λ v. Means (slots_of context.row.schema) (type_name_at context.row.schema context.row.type_id) context.moment (value_of context.row) (bound_over (environment_of context) asked (single type) v) body) vals o)
+        (vals_same (slots_of context.row.schema) type members)
+        (subst (λ (t : ExprType). Over asked t body members o) named.type_same (subst (λ (n : List ℕ). Over n (type_of_variable context variable) body members o) named.name_same goes))
 
-    module _ (right : ℕ) (is_right : IsRightOf scene.list place right) where
+    module _ (right : ℕ) (is_right : IsRightOf context.list place right) where
       -- the body stands after the base, in the scope with the variable
       pub in_scope : (P : Scope → Type 0) (asked : List ℕ) (type : SingleType) → IsNamed asked type
-          → P (with_variable (scope_of (environment_of scene)) asked (single type)) → P (body_scope scene variable)
+          → P (with_variable (scope_of (environment_of context)) asked (single type)) → P (body_scope context variable)
       in_scope P asked type named holds =
-          subst (λ (n : List ℕ). P (with_variable (scope_of (environment_of scene)) n (type_of_variable scene variable))) (sym named.name_same)
-          (subst (λ (t : ExprType). P (with_variable (scope_of (environment_of scene)) asked t)) (sym named.type_same) holds)
+          subst (λ (n : List ℕ). P (with_variable (scope_of (environment_of context)) n (type_of_variable context variable))) (sym named.name_same)
+          (subst (λ (t : ExprType). P (with_variable (scope_of (environment_of context)) asked t)) (sym named.type_same) holds)
 
-      pub body_there : PartStands scene place → BodyIsThere scene variable right
+      pub body_there : PartStands context place → BodyIsThere context variable right
       body_there part =
-          by_kind scene place (NodeKind.Lambda quantifier) here (λ stop tree. BodyIsThere scene variable right)
+          by_kind context place (NodeKind.Lambda quantifier) here (λ stop tree. BodyIsThere context variable right)
           (λ base asked body stop from to stands.
           let typed = stands.top.typed in
-          let behind = body_stands scene.row.schema scene.row.type_id (scope_of (environment_of scene)) scene.list stands.children.middle stop base asked body stands.children.right in
+          let behind = body_stands context.row.schema context.row.type_id (scope_of (environment_of context)) context.list stands.children.middle stop base asked body stands.children.right in
           record {
             stop = stop;
             body = body;
-            stands = in_scope (λ (s : Scope). Stands scene.row.schema scene.row.type_id s scene.list right stop body) asked behind.member_type
+            stands = in_scope (λ (s : Scope). Stands context.row.schema context.row.type_id s context.list right stop body) asked behind.member_type
                 (is_named stop from to base asked body stands behind.member_type behind.binds.over)
-                (subst (λ (m : ℕ). Stands scene.row.schema scene.row.type_id (with_variable (scope_of (environment_of scene)) asked (single behind.member_type)) scene.list m stop body)
-                (stops_there scene (place + 1) stands.children.middle right base stands.children.left is_right) behind.body);
+                (subst (λ (m : ℕ). Stands context.row.schema context.row.type_id (with_variable (scope_of (environment_of context)) asked (single behind.member_type)) context.list m stop body)
+                (stops_there context (place + 1) stands.children.middle right base stands.children.left is_right) behind.body);
             type_of = typed.body;
-            typed = in_scope (λ (s : Scope). Typed (slots_of scene.row.schema) (type_name_at scene.row.schema scene.row.type_id) s body typed.body) asked typed.member_type
+            typed = in_scope (λ (s : Scope). Typed (slots_of context.row.schema) (type_name_at context.row.schema context.row.type_id) s body typed.body) asked typed.member_type
                 (is_named stop from to base asked body stands typed.member_type typed.binds.over) typed.body_typed;
             truth = typed.truth;
           })
           part.stop part.tree part.stands
 
       -- the members are of the variable's type
-      pub members_suit : EndsOnceHere scene → (held : Bor (List Value)) → AnswersDatum scene (place + 1) (Ok (datum.List held)) → PartStands scene place
-          → AllByRecursion (Suits scene variable) held.now
+      pub members_suit : EndsOnceHere context → (held : Bor (List Value)) → AnswersDatum context (place + 1) (Ok (datum.List held)) → PartStands context place
+          → AllByRecursion (Suits context variable) held.now
       members_suit ends held first part =
-          by_kind scene place (NodeKind.Lambda quantifier) here (λ stop tree. AllByRecursion (Suits scene variable) held.now)
+          by_kind context place (NodeKind.Lambda quantifier) here (λ stop tree. AllByRecursion (Suits context variable) held.now)
           (λ base asked body stop from to stands.
           let typed = stands.top.typed in
-          let slots = slots_of scene.row.schema in
+          let slots = slots_of context.row.schema in
           let named = is_named stop from to base asked body stands typed.member_type typed.binds.over in
           subst (λ (t : ExprType). AllByRecursion (λ (v : Value). HasType slots t (val_of v slots.properties t)) held.now) (sym named.type_same)
           (all_suit slots typed.member_type held.now
-          (value_has scene ends base (collection typed.member_type) (datum_val (reading_at slots (collection typed.member_type)) (datum.List held)) typed.binds.over
+          (value_has context ends base (collection typed.member_type) (datum_val (reading_at slots (collection typed.member_type)) (datum.List held)) typed.binds.over
           (first.of_tree stands.children.middle base (collection typed.member_type) stands.children.left typed.binds.over))))
           part.stop part.tree part.stands
 
       -- what comes of the members is what the operator evaluates to
-      module _ (held : Bor (List Value)) (first : AnswersDatum scene (place + 1) (Ok (datum.List held))) where
-        members_tell : (answer : Result (Option Bool) EvalFault) → AnswersMembers scene right quantifier variable held.now answer → (stop from to : ℕ) (base : Tree) (asked : List ℕ) (body : Tree)
-            → StandsHere scene place stop (node from to (lambda quantifier base asked body)) → (type : ExprType) → TypedHere scene (node from to (lambda quantifier base asked body)) type
-            → Tells (TakesMemory (node from to (lambda quantifier base asked body))) (MeansHere scene (node from to (lambda quantifier base asked body))) (answer_outcome truth_val answer)
-        members_tell answer answers stop from to base asked body stands type typed =
-            let slots = slots_of scene.row.schema in
-            let root = type_name_at scene.row.schema scene.row.type_id in
-            let behind = body_stands scene.row.schema scene.row.type_id (scope_of (environment_of scene)) scene.list stands.children.middle stop base asked body stands.children.right in
+      module _ (held : Bor (List Value)) (first : AnswersDatum context (place + 1) (Ok (datum.List held))) where
+        members_report : (answer : Result (Option Bool) EvalFault) → AnswersMembers context right quantifier variable held.now answer → (stop from to : ℕ) (base : Tree) (asked : List ℕ) (body : Tree)
+            → StandsHere context place stop (node from to (lambda quantifier base asked body)) → (type : ExprType) → TypedHere context (node from to (lambda quantifier base asked body)) type
+            → Reports (TakesMemory (node from to (lambda quantifier base asked body))) (MeansHere context (node from to (lambda quantifier base asked body))) (answer_outcome truth_val answer)
+        members_report answer answers stop from to base asked body stands type typed =
+            let slots = slots_of context.row.schema in
+            let root = type_name_at context.row.schema context.row.type_id in
+            let behind = body_stands context.row.schema context.row.type_id (scope_of (environment_of context)) context.list stands.children.middle stop base asked body stands.children.right in
             let whole = node from to (lambda quantifier base asked body) in
             let named = is_named stop from to base asked body stands typed.member_type typed.binds.over in
-            tells_there (answer_outcome truth_val answer) (TakesMemory body) (TakesMemory whole)
-            (MembersGo quantifier (BodyMeans scene variable body) (vals_of slots (type_of_variable scene variable) held.now)) (MeansHere scene whole)
+            reports_there (answer_outcome truth_val answer) (TakesMemory body) (TakesMemory whole)
+            (MembersGo quantifier (BodyMeans context variable body) (vals_of slots (type_of_variable context variable) held.now)) (MeansHere context whole)
             (child_takes whole body (second_child base body []))
             (λ o goes. (
               gives (datum_val (reading_at slots (collection typed.member_type)) (datum.List held)),
@@ -213,48 +213,48 @@ module _ (types : OneType) (scene : SceneModel) (place : ℕ) (quantifier : Quan
                 (
                   typed.member_type,
                   typed.binds.over,
-                  (members_one_by_one slots root scene.moment (value_of scene.row) (environment_of scene) quantifier asked (single typed.member_type) body (items_of slots.properties typed.member_type (map val_of held.now)) o).1
+                  (members_one_by_one slots root context.moment (value_of context.row) (environment_of context) quantifier asked (single typed.member_type) body (items_of slots.properties typed.member_type (map val_of held.now)) o).1
                       (as_named asked typed.member_type body named held.now o goes),
                 ),
               ),
             ))
             (answers.of_body stop body typed.body
-            (in_scope (λ (s : Scope). Stands scene.row.schema scene.row.type_id s scene.list right stop body) asked behind.member_type
+            (in_scope (λ (s : Scope). Stands context.row.schema context.row.type_id s context.list right stop body) asked behind.member_type
             (is_named stop from to base asked body stands behind.member_type behind.binds.over)
-            (subst (λ (m : ℕ). Stands scene.row.schema scene.row.type_id (with_variable (scope_of (environment_of scene)) asked (single behind.member_type)) scene.list m stop body)
-            (stops_there scene (place + 1) stands.children.middle right base stands.children.left is_right) behind.body))
+            (subst (λ (m : ℕ). Stands context.row.schema context.row.type_id (with_variable (scope_of (environment_of context)) asked (single behind.member_type)) context.list m stop body)
+            (stops_there context (place + 1) stands.children.middle right base stands.children.left is_right) behind.body))
             (in_scope (λ (s : Scope). Typed slots root s body typed.body) asked typed.member_type named typed.body_typed))
 
-        pub truth_answers : (truth : Option Bool) → AnswersMembers scene right quantifier variable held.now (Ok truth) → AnswersTruth scene place (Ok truth)
+        pub truth_answers : (truth : Option Bool) → AnswersMembers context right quantifier variable held.now (Ok truth) → AnswersTruth context place (Ok truth)
         truth_answers truth answers = record {
           of_tree = λ stop tree type stands typed.
-              by_kind scene place (NodeKind.Lambda quantifier) here (λ stop tree. TypedHere scene tree type → MeansHere scene tree (gives (truth_val truth)))
-              (λ base asked body stop from to stands typed. members_tell (Ok truth) answers stop from to base asked body stands type typed)
+              by_kind context place (NodeKind.Lambda quantifier) here (λ stop tree. TypedHere context tree type → MeansHere context tree (gives (truth_val truth)))
+              (λ base asked body stop from to stands typed. members_report (Ok truth) answers stop from to base asked body stands type typed)
               stop tree stands typed;
-          of_number = λ number stop tree type there. absurd (no_number scene place (NodeKind.Lambda quantifier) tt here number stop tree there);
+          of_number = λ number stop tree type there. absurd (no_number context place (NodeKind.Lambda quantifier) tt here number stop tree there);
         }
 
-        pub fault_answers : (fault : EvalFault) → AnswersMembers scene right quantifier variable held.now (Err fault) → AnswersDatum scene place (Err fault)
+        pub fault_answers : (fault : EvalFault) → AnswersMembers context right quantifier variable held.now (Err fault) → AnswersDatum context place (Err fault)
         fault_answers fault answers = record {
           of_tree = λ stop tree type stands typed.
-              by_kind scene place (NodeKind.Lambda quantifier) here (λ stop tree. TypedHere scene tree type → Tells (TakesMemory tree) (MeansHere scene tree) (answer_outcome truth_val (Err fault)))
-              (λ base asked body stop from to stands typed. members_tell (Err fault) answers stop from to base asked body stands type typed)
+              by_kind context place (NodeKind.Lambda quantifier) here (λ stop tree. TypedHere context tree type → Reports (TakesMemory tree) (MeansHere context tree) (answer_outcome truth_val (Err fault)))
+              (λ base asked body stop from to stands typed. members_report (Err fault) answers stop from to base asked body stands type typed)
               stop tree stands typed;
-          of_number = λ number stop tree type there. absurd (no_number scene place (NodeKind.Lambda quantifier) tt here number stop tree there);
+          of_number = λ number stop tree type there. absurd (no_number context place (NodeKind.Lambda quantifier) tt here number stop tree there);
         }
 
   -- over null it is null
-  pub null_answers : EndsOnceHere scene → (base : Datum) → AnswersDatum scene (place + 1) (Ok base) → ((held : Bor (List Value)) → base ≡ datum.List held → ⊥) → AnswersDatum scene place (Ok datum.Null)
+  pub null_answers : EndsOnceHere context → (base : Datum) → AnswersDatum context (place + 1) (Ok base) → ((held : Bor (List Value)) → base ≡ datum.List held → ⊥) → AnswersDatum context place (Ok datum.Null)
   null_answers ends value first other = record {
     of_tree = λ stop tree type stands typed.
-        by_kind scene place (NodeKind.Lambda quantifier) here (λ stop tree. TypedHere scene tree type → MeansHere scene tree (gives null))
+        by_kind context place (NodeKind.Lambda quantifier) here (λ stop tree. TypedHere context tree type → MeansHere context tree (gives null))
         (λ base asked body stop from to stands typed.
-        let slots = slots_of scene.row.schema in
+        let slots = slots_of context.row.schema in
         let means = first.of_tree stands.children.middle base (collection typed.member_type) stands.children.left typed.binds.over in
         let is : value ≡ datum.Null =
         null_otherwise slots typed.member_type value
-        (value_has scene ends base (collection typed.member_type) (datum_val (reading_at slots (collection typed.member_type)) value) typed.binds.over means) other in
-        (gives null, (subst (λ (d : Datum). MeansHere scene base (gives (datum_val (reading_at slots (collection typed.member_type)) d))) is means, refl)))
+        (value_has context ends base (collection typed.member_type) (datum_val (reading_at slots (collection typed.member_type)) value) typed.binds.over means) other in
+        (gives null, (subst (λ (d : Datum). MeansHere context base (gives (datum_val (reading_at slots (collection typed.member_type)) d))) is means, refl)))
         stop tree stands typed;
-    of_number = λ number stop tree type there. absurd (no_number scene place (NodeKind.Lambda quantifier) tt here number stop tree there);
+    of_number = λ number stop tree type there. absurd (no_number context place (NodeKind.Lambda quantifier) tt here number stop tree there);
   }

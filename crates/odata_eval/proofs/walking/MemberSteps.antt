@@ -20,8 +20,8 @@ use Rattle.odata_eval.specs.Environment.{scope_of}
 use Rattle.odata_filter_operations.specs.Outcome.{gives}
 use Rattle.odata_filter_operations.specs.DatumView.{HasSlot, IsDatumOf, IsStepOf, reading_at}
 use Rattle.odata_eval.specs.private.Place.{HasKind, PartStands}
-use Rattle.odata_eval.specs.private.Scene.{EndsOnceHere, MeansHere, TypedHere}
-use Rattle.odata_eval.specs.private.SceneModel.{SceneModel, environment_of}
+use Rattle.odata_eval.specs.private.EvalContext.{EndsOnceHere, MeansHere, TypedHere}
+use Rattle.odata_eval.specs.private.ContextModel.{ContextModel, environment_of}
 use Rattle.odata_eval.specs.private.WalkAnswer.{AnswersDatum, AnswersKept}
 use Rattle.odata_eval.proofs.meaning.Progress.{field_gives}
 use Rattle.odata_eval.proofs.meaning.TypeValues.{held_present}
@@ -60,56 +60,56 @@ step_held slots name asked slot type held v named typed at =
     field_gives (field_by_name slots.properties (slots.properties name) (map val_of held.now)) asked (val_of v slots.properties type)
     (field_at slots (slots.properties name) asked slot type held.now v named typed at)
 
-pub kept_step : OneType → (scene : SceneModel) (place slot : ℕ) → HasKind scene.list place (NodeKind.Member slot) → (held : Bor (List Value)) (v : Value)
-    → AnswersDatum scene (place + 1) (Ok (datum.Record held)) → slice_get held.now slot ≡ Some v → AnswersKept scene place v
-kept_step types scene place slot here held v first at = record {
+pub kept_step : OneType → (context : ContextModel) (place slot : ℕ) → HasKind context.list place (NodeKind.Member slot) → (held : Bor (List Value)) (v : Value)
+    → AnswersDatum context (place + 1) (Ok (datum.Record held)) → slice_get held.now slot ≡ Some v → AnswersKept context place v
+kept_step types context place slot here held v first at = record {
   of_tree = λ stop tree type stands typed.
-      by_kind scene place (NodeKind.Member slot) here (λ stop tree. (t : ExprType) → TypedHere scene tree t → MeansHere scene tree (gives (val_of v (slots_of scene.row.schema).properties t)))
+      by_kind context place (NodeKind.Member slot) here (λ stop tree. (t : ExprType) → TypedHere context tree t → MeansHere context tree (gives (val_of v (slots_of context.row.schema).properties t)))
       (λ base asked stop from to stands t typed.
-      let slots = slots_of scene.row.schema in
-      let root = type_name_at scene.row.schema scene.row.type_id in
-      let there = kind_there scene place (NodeKind.Member slot) here stop from to (member base asked) stands in
-      let same : typed.operand ≡ single (structured there.0) = types slots root (scope_of (environment_of scene)) base typed.operand (single (structured there.0)) typed.operand_typed there.1 in (
+      let slots = slots_of context.row.schema in
+      let root = type_name_at context.row.schema context.row.type_id in
+      let there = kind_there context place (NodeKind.Member slot) here stop from to (member base asked) stands in
+      let same : typed.operand ≡ single (structured there.0) = types slots root (scope_of (environment_of context)) base typed.operand (single (structured there.0)) typed.operand_typed there.1 in (
         gives (datum_val (reading_at slots (single (structured there.0))) (datum.Record held)),
         (
-          first.of_tree stop base (single (structured there.0)) (only_child scene (place + 1) stop base stands.children) there.1,
+          first.of_tree stop base (single (structured there.0)) (only_child context (place + 1) stop base stands.children) there.1,
           step_held slots there.0 asked slot t held v there.2 (subst (λ (s : ExprType). StepTyped slots asked s t) same typed.makes) at,
         ),
       ))
       stop tree stands type typed;
-  of_number = λ number stop tree type there. absurd (no_number scene place (NodeKind.Member slot) tt here number stop tree there);
+  of_number = λ number stop tree type there. absurd (no_number context place (NodeKind.Member slot) tt here number stop tree there);
 }
 
-module _ (types : OneType) (scene : SceneModel) (ends : EndsOnceHere scene) (place slot : ℕ) (here : HasKind scene.list place (NodeKind.Member slot)) where
-  pub step_slot : (made : Datum) → PartStands scene place → AnswersDatum scene (place + 1) (Ok made) → HasSlot made slot
+module _ (types : OneType) (context : ContextModel) (ends : EndsOnceHere context) (place slot : ℕ) (here : HasKind context.list place (NodeKind.Member slot)) where
+  pub step_slot : (made : Datum) → PartStands context place → AnswersDatum context (place + 1) (Ok made) → HasSlot made slot
   step_slot made part first =
-      by_kind scene place (NodeKind.Member slot) here (λ stop tree. HasSlot made slot)
+      by_kind context place (NodeKind.Member slot) here (λ stop tree. HasSlot made slot)
       (λ base asked stop from to stands.
-      let slots = slots_of scene.row.schema in
-      let root = type_name_at scene.row.schema scene.row.type_id in
-      let there = kind_there scene place (NodeKind.Member slot) here stop from to (member base asked) stands in
+      let slots = slots_of context.row.schema in
+      let root = type_name_at context.row.schema context.row.type_id in
+      let there = kind_there context place (NodeKind.Member slot) here stop from to (member base asked) stands in
       let typed = stands.top.typed in
-      let same : typed.operand ≡ single (structured there.0) = types slots root (scope_of (environment_of scene)) base typed.operand (single (structured there.0)) typed.operand_typed there.1 in
-      slot_in slots there.0 asked slot (expr_type scene.row.schema stands.top.found.edm_type) made there.2
-      (subst (λ (t : ExprType). StepTyped slots asked t (expr_type scene.row.schema stands.top.found.edm_type)) same typed.makes)
-      (value_has scene ends base (single (structured there.0)) (datum_val (reading_at slots (single (structured there.0))) made) there.1 (first.of_tree stop base (single (structured there.0)) (only_child scene (place + 1) stop base stands.children) there.1)))
+      let same : typed.operand ≡ single (structured there.0) = types slots root (scope_of (environment_of context)) base typed.operand (single (structured there.0)) typed.operand_typed there.1 in
+      slot_in slots there.0 asked slot (expr_type context.row.schema stands.top.found.edm_type) made there.2
+      (subst (λ (t : ExprType). StepTyped slots asked t (expr_type context.row.schema stands.top.found.edm_type)) same typed.makes)
+      (value_has context ends base (single (structured there.0)) (datum_val (reading_at slots (single (structured there.0))) made) there.1 (first.of_tree stop base (single (structured there.0)) (only_child context (place + 1) stop base stands.children) there.1)))
       part.stop part.tree part.stands
 
-  pub step_answers : (made stepped : Datum) → AnswersDatum scene (place + 1) (Ok made) → IsStepOf made slot stepped → AnswersDatum scene place (Ok stepped)
+  pub step_answers : (made stepped : Datum) → AnswersDatum context (place + 1) (Ok made) → IsStepOf made slot stepped → AnswersDatum context place (Ok stepped)
   step_answers made stepped first is = record {
     of_tree = λ stop tree type stands typed.
-        by_kind scene place (NodeKind.Member slot) here (λ stop tree. (t : ExprType) → TypedHere scene tree t → MeansHere scene tree (gives (datum_val (reading_at (slots_of scene.row.schema) t) stepped)))
+        by_kind context place (NodeKind.Member slot) here (λ stop tree. (t : ExprType) → TypedHere context tree t → MeansHere context tree (gives (datum_val (reading_at (slots_of context.row.schema) t) stepped)))
         (λ base asked stop from to stands t typed.
-        let slots = slots_of scene.row.schema in
-        let root = type_name_at scene.row.schema scene.row.type_id in
-        let there = kind_there scene place (NodeKind.Member slot) here stop from to (member base asked) stands in
-        let same : typed.operand ≡ single (structured there.0) = types slots root (scope_of (environment_of scene)) base typed.operand (single (structured there.0)) typed.operand_typed there.1 in (
+        let slots = slots_of context.row.schema in
+        let root = type_name_at context.row.schema context.row.type_id in
+        let there = kind_there context place (NodeKind.Member slot) here stop from to (member base asked) stands in
+        let same : typed.operand ≡ single (structured there.0) = types slots root (scope_of (environment_of context)) base typed.operand (single (structured there.0)) typed.operand_typed there.1 in (
           gives (datum_val (reading_at slots (single (structured there.0))) made),
           (
-            first.of_tree stop base (single (structured there.0)) (only_child scene (place + 1) stop base stands.children) there.1,
+            first.of_tree stop base (single (structured there.0)) (only_child context (place + 1) stop base stands.children) there.1,
             step_gives slots there.0 asked slot t made stepped there.2 (subst (λ (s : ExprType). StepTyped slots asked s t) same typed.makes) is,
           ),
         ))
         stop tree stands type typed;
-    of_number = λ number stop tree type there. absurd (no_number scene place (NodeKind.Member slot) tt here number stop tree there);
+    of_number = λ number stop tree type there. absurd (no_number context place (NodeKind.Member slot) tt here number stop tree there);
   }

@@ -21,10 +21,10 @@ use Rattle.odata_eval.specs.declared.frames.RangeVariable.{RangeVariable}
 use Rattle.odata_eval.specs.private.Frames.{frame_of}
 use Rattle.odata_eval.specs.private.Lambda.{AnswersMembers, BodyIsThere, BodyMeans, BodyStands, BodyTyped, type_of_variable, vals_of}
 use Rattle.odata_eval.specs.private.Place.{TruthStands}
-use Rattle.odata_eval.specs.private.SceneModel.{SceneModel, with_frame}
+use Rattle.odata_eval.specs.private.ContextModel.{ContextModel, with_frame}
 use Rattle.odata_eval.specs.private.WalkAnswer.{AnswersAtPlace, AnswersTruth}
 use Rattle.odata_eval.proofs.meaning.OneByOne.{passes_on}
-use Rattle.odata_eval.proofs.walking.Parts.{tells_there}
+use Rattle.odata_eval.proofs.walking.Parts.{reports_there}
 use Rattle.odata_eval.proofs.walking.Spines.{fault_stays}
 
 -- ---- one value of the body
@@ -51,19 +51,19 @@ each_is P (first ∷ more) (suc k) member all at = each_is P more k member all.1
 
 -- ---- the body with the variable at a value
 
-pub body_truth : (scene : SceneModel) (variable : RangeVariable) (place : ℕ) (value : Value) → BodyIsThere scene variable place → TruthStands (with_frame scene (frame_of variable value)) place
-body_truth scene variable place value body = record { stop = body.stop; tree = body.body; stands = body.stands; type_of = body.type_of; typed = body.typed; allowed = body.truth }
+pub body_truth : (context : ContextModel) (variable : RangeVariable) (place : ℕ) (value : Value) → BodyIsThere context variable place → TruthStands (with_frame context (frame_of variable value)) place
+body_truth context variable place value body = record { stop = body.stop; tree = body.body; stands = body.stands; type_of = body.type_of; typed = body.typed; allowed = body.truth }
 
 -- ---- members one after another
 
-module _ (scene : SceneModel) (place : ℕ) (quantifier : Quantifier) (variable : RangeVariable) (members : List Value) where
+module _ (context : ContextModel) (place : ℕ) (quantifier : Quantifier) (variable : RangeVariable) (members : List Value) where
   -- what members evaluate to
   abbrev pub GoOver : Tree → List Value → Outcome → Type 0
-  GoOver body some = MembersGo quantifier (BodyMeans scene variable body) (vals_of (slots_of scene.row.schema) (type_of_variable scene variable) some)
+  GoOver body some = MembersGo quantifier (BodyMeans context variable body) (vals_of (slots_of context.row.schema) (type_of_variable context variable) some)
 
   -- what is left evaluates to is what all evaluate to
   pub record MembersLeft (index : ℕ) : Type 0 where
-    pub of_body : (stop : ℕ) (body : Tree) (type : ExprType) → BodyStands scene variable place stop body → BodyTyped scene variable body type
+    pub of_body : (stop : ℕ) (body : Tree) (type : ExprType) → BodyStands context variable place stop body → BodyTyped context variable body type
         → (o : Outcome) → GoOver body (drop index members) o → GoOver body members o
 
   pub none_yet : MembersLeft 0
@@ -77,7 +77,7 @@ module _ (scene : SceneModel) (place : ℕ) (quantifier : Quantifier) (variable 
         subst (λ (xs : List Value). GoOver body xs o) (sym rest) (subst (λ (v : Value). GoOver body (v ∷ drop (index + 1) members) o) (sym is) goes)
 
     module _ (is : get_or members index member ≡ member) where
-      pub undecided_at : (truth : Option Bool) → AnswersTruth (with_frame scene (frame_of variable member)) place (Ok truth) → IsUndecided quantifier (truth_val truth)
+      pub undecided_at : (truth : Option Bool) → AnswersTruth (with_frame context (frame_of variable member)) place (Ok truth) → IsUndecided quantifier (truth_val truth)
           → MembersLeft (index + 1)
       undecided_at truth answers undecided = record {
         of_body = λ stop body type stands typed o goes.
@@ -85,8 +85,8 @@ module _ (scene : SceneModel) (place : ℕ) (quantifier : Quantifier) (variable 
             (member_first is body o (gives (truth_val truth), (answers.of_tree stop body type stands typed, passes_on quantifier (GoOver body (drop (index + 1) members)) (truth_val truth) undecided o goes)));
       }
 
-      pub decided_at : (truth : Option Bool) (other : Bool) → AnswersTruth (with_frame scene (frame_of variable member)) place (Ok truth)
-          → boolean other ≡ undecided_val quantifier → (IsUndecided quantifier (truth_val truth) → ⊥) → AnswersMembers scene place quantifier variable members (Ok (Some (not other)))
+      pub decided_at : (truth : Option Bool) (other : Bool) → AnswersTruth (with_frame context (frame_of variable member)) place (Ok truth)
+          → boolean other ≡ undecided_val quantifier → (IsUndecided quantifier (truth_val truth) → ⊥) → AnswersMembers context place quantifier variable members (Ok (Some (not other)))
       decided_at truth other answers is_other decided = record {
         of_body = λ stop body type stands typed.
             let o = gives (boolean (not other)) in
@@ -94,20 +94,20 @@ module _ (scene : SceneModel) (place : ℕ) (quantifier : Quantifier) (variable 
             (member_first is body o (gives (truth_val truth), (answers.of_tree stop body type stands typed, decides quantifier (GoOver body (drop (index + 1) members)) truth other is_other decided)));
       }
 
-      pub fault_at : (fault : EvalFault) → AnswersAtPlace (with_frame scene (frame_of variable member)) place (λ type. fault_outcome fault)
-          → AnswersMembers scene place quantifier variable members (Err fault)
+      pub fault_at : (fault : EvalFault) → AnswersAtPlace (with_frame context (frame_of variable member)) place (λ type. fault_outcome fault)
+          → AnswersMembers context place quantifier variable members (Err fault)
       fault_at fault answers = record {
         of_body = λ stop body type stands typed.
             let More = GoOver body (drop (index + 1) members) in
-            let v = val_of member (slots_of scene.row.schema).properties (type_of_variable scene variable) in
-            tells_there (fault_outcome fault) (TakesMemory body) (TakesMemory body) (After (BodyMeans scene variable body v) (GoesOn quantifier More)) (GoOver body members) (λ takes. takes)
+            let v = val_of member (slots_of context.row.schema).properties (type_of_variable context variable) in
+            reports_there (fault_outcome fault) (TakesMemory body) (TakesMemory body) (After (BodyMeans context variable body v) (GoesOn quantifier More)) (GoOver body members) (λ takes. takes)
             (λ o goes. left.of_body stop body type stands typed o (member_first is body o goes))
-            (fault_stays fault (TakesMemory body) (TakesMemory body) (BodyMeans scene variable body v) (GoesOn quantifier More) (λ takes. takes) (answers.of_tree stop body type stands typed));
+            (fault_stays fault (TakesMemory body) (TakesMemory body) (BodyMeans context variable body v) (GoesOn quantifier More) (λ takes. takes) (answers.of_tree stop body type stands typed));
       }
 
   -- no member decided
   pub all_undecided : (index : ℕ) → MembersLeft index → length members ≤ index → (other : Bool) → boolean other ≡ undecided_val quantifier
-      → AnswersMembers scene place quantifier variable members (Ok (Some other))
+      → AnswersMembers context place quantifier variable members (Ok (Some other))
   all_undecided index left past other is = record {
     of_body = λ stop body type stands typed.
         let rest : drop index members ≡ [] = at_drop_all (λ (xs : List Value). xs) members index past in

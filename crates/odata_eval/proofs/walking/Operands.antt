@@ -21,18 +21,18 @@ use Rattle.odata_checked_filter.specs.declared.checked_node.CheckedNode.{Checked
 use Rattle.odata_checked_filter.specs.declared.checked_node.NodeKind.{NodeKind}
 use Rattle.odata_filter_operations.specs.Outcome.{Outcome, gives}
 use Rattle.odata_filter_operations.specs.FaultView.{fault_outcome}
-use Rattle.odata_filter_operations.specs.Tells.{Tells}
+use Rattle.odata_filter_operations.specs.Reports.{Reports}
 use Rattle.odata_filter_operations.specs.declared.fault.EvalFault.{EvalFault}
 use Rattle.edm_entities.specs.Row.{value_of}
 use Rattle.odata_eval.specs.Environment.{scope_of}
 use Rattle.odata_eval.specs.OneByOne.{ItemAlone}
-use Rattle.odata_eval.specs.declared.part.WalkClass.{WalkClass}
+use Rattle.odata_eval.specs.declared.walk_operand.WalkClass.{WalkClass}
 use Rattle.odata_eval.specs.private.Place.{HasKind, IsClassAt, OperandStands, PartStands}
-use Rattle.odata_eval.specs.private.Scene.{MeansHere, NumberHere, OperandHere, StandsHere, TypedHere}
-use Rattle.odata_eval.specs.private.SceneModel.{SceneModel, environment_of}
+use Rattle.odata_eval.specs.private.EvalContext.{MeansHere, NumberHere, OperandHere, StandsHere, TypedHere}
+use Rattle.odata_eval.specs.private.ContextModel.{ContextModel, environment_of}
 use Rattle.odata_eval.specs.private.WalkAnswer.{AnswersAtPlace}
 use Rattle.odata_eval.specs.private.WalkClass.{walk_of_kind}
-use Rattle.odata_eval.proofs.walking.Parts.{some_there, stands_inside, tells_there, there_found}
+use Rattle.odata_eval.proofs.walking.Parts.{some_there, stands_inside, reports_there, there_found}
 
 -- the kind of a node that is no literal's
 abbrev pub IsOther : NodeKind → Type 0
@@ -74,75 +74,75 @@ fault_no_value EvalFault.Overflow v same = cc
 fault_no_value EvalFault.DivideByZero v same = cc
 fault_no_value EvalFault.Memory v same = cc
 
-module _ (scene : SceneModel) where
+module _ (context : ContextModel) where
   -- ---- a literal that has a number
 
   pub record NumberThere (number : ℤ) (place stop : ℕ) : Type 0 where
     pub value : ℕ
-    pub here : HasKind scene.list place (NodeKind.Literal LiteralKind.Str value)
-    pub at : slice_get scene.list.values value ≡ Some (Value.Enum number)
-    pub inside : place < length scene.list.nodes
+    pub here : HasKind context.list place (NodeKind.Literal LiteralKind.Str value)
+    pub at : slice_get context.list.values value ≡ Some (Value.Enum number)
+    pub inside : place < length context.list.nodes
     pub next : place + 1 ≡ stop
-    pub stops : IsSomeAnd (slice_get scene.list.nodes place) (λ found. found.stop ≡ stop)
+    pub stops : IsSomeAnd (slice_get context.list.nodes place) (λ found. found.stop ≡ stop)
 
-  pub number_there : (number : ℤ) (place stop : ℕ) (tree : Tree) → NumberHere scene number place stop tree → NumberThere number place stop
+  pub number_there : (number : ℤ) (place stop : ℕ) (tree : Tree) → NumberHere context number place stop tree → NumberThere number place stop
   number_there number place stop (node from to (literal LiteralKind.Str spelling)) there =
       let top = there.top in
-      let has = has_number scene.list.values number top.found.kind top.kind top.valued in
+      let has = has_number context.list.values number top.found.kind top.kind top.valued in
       record {
         value = has.value;
-        here = there_found (λ (f : CheckedNode). f.kind ≡ NodeKind.Literal LiteralKind.Str has.value) (slice_get scene.list.nodes place) top.found top.stands_at has.kind_is;
+        here = there_found (λ (f : CheckedNode). f.kind ≡ NodeKind.Literal LiteralKind.Str has.value) (slice_get context.list.nodes place) top.found top.stands_at has.kind_is;
         at = has.at;
-        inside = slice_get_within scene.list.nodes place top.found top.stands_at;
+        inside = slice_get_within context.list.nodes place top.found top.stands_at;
         next = there.children;
-        stops = there_found (λ (f : CheckedNode). f.stop ≡ stop) (slice_get scene.list.nodes place) top.found top.stands_at top.last;
+        stops = there_found (λ (f : CheckedNode). f.stop ≡ stop) (slice_get context.list.nodes place) top.found top.stands_at top.last;
       }
   number_there number place stop _ there = absurd there
 
   -- its type is that of a text
-  pub number_text : (number : ℤ) (place stop : ℕ) (tree : Tree) (type : ExprType) → NumberHere scene number place stop tree → TypedHere scene tree type → type ≡ string_type
+  pub number_text : (number : ℤ) (place stop : ℕ) (tree : Tree) (type : ExprType) → NumberHere context number place stop tree → TypedHere context tree type → type ≡ string_type
   number_text number place stop (node from to (literal LiteralKind.Str spelling)) type there typed = typed.2
   number_text number place stop _ type there typed = absurd there
 
-  pub no_number : (place : ℕ) (kind : NodeKind) → IsOther kind → HasKind scene.list place kind → (number : ℤ) (stop : ℕ) (tree : Tree) → NumberHere scene number place stop tree → ⊥
+  pub no_number : (place : ℕ) (kind : NodeKind) → IsOther kind → HasKind context.list place kind → (number : ℤ) (stop : ℕ) (tree : Tree) → NumberHere context number place stop tree → ⊥
   no_number place kind other here number stop tree there =
       let it = number_there number place stop tree there in
-      subst IsOther (one_kind (slice_get scene.list.nodes place) kind (NodeKind.Literal LiteralKind.Str it.value) here it.here) other
+      subst IsOther (one_kind (slice_get context.list.nodes place) kind (NodeKind.Literal LiteralKind.Str it.value) here it.here) other
 
   -- no literal that has a number stands there
   abbrev pub HasNone : ℕ → Type 0
-  HasNone place = (number : ℤ) (stop : ℕ) (tree : Tree) → NumberHere scene number place stop tree → ⊥
+  HasNone place = (number : ℤ) (stop : ℕ) (tree : Tree) → NumberHere context number place stop tree → ⊥
 
-  pub inner_number : (place : ℕ) (class : WalkClass) → ¬ (class ≡ WalkClass.Leaf) → IsClassAt scene.list class place → (number : ℤ) (stop : ℕ) (tree : Tree)
-      → NumberHere scene number place stop tree → ⊥
+  pub inner_number : (place : ℕ) (class : WalkClass) → ¬ (class ≡ WalkClass.Leaf) → IsClassAt context.list class place → (number : ℤ) (stop : ℕ) (tree : Tree)
+      → NumberHere context number place stop tree → ⊥
   inner_number place class inner is number stop tree there =
       let it = number_there number place stop tree there in
-      let found = some_there (λ (f : CheckedNode). walk_of_kind f.kind ≡ class) (slice_get scene.list.nodes place) is in
+      let found = some_there (λ (f : CheckedNode). walk_of_kind f.kind ≡ class) (slice_get context.list.nodes place) is in
       let literal_is : found.0.kind ≡ NodeKind.Literal LiteralKind.Str it.value =
-      one_kind (slice_get scene.list.nodes place) found.0.kind (NodeKind.Literal LiteralKind.Str it.value)
-      (there_found (λ (f : CheckedNode). f.kind ≡ found.0.kind) (slice_get scene.list.nodes place) found.0 found.1.0 refl) it.here in
+      one_kind (slice_get context.list.nodes place) found.0.kind (NodeKind.Literal LiteralKind.Str it.value)
+      (there_found (λ (f : CheckedNode). f.kind ≡ found.0.kind) (slice_get context.list.nodes place) found.0 found.1.0 refl) it.here in
       inner (sym found.1.1 ∙ ap walk_of_kind literal_is)
 
   -- ---- operands
 
-  pub tree_operand : (place : ℕ) → PartStands scene place → OperandStands scene place
+  pub tree_operand : (place : ℕ) → PartStands context place → OperandStands context place
   tree_operand place part = record { stop = part.stop; tree = part.tree; stands = inl part.stands }
 
-  here_inside : (place stop : ℕ) (tree : Tree) → OperandHere scene place stop tree → place < length scene.list.nodes
-  here_inside place stop tree (inl stands) = stands_inside scene place stop tree stands
+  here_inside : (place stop : ℕ) (tree : Tree) → OperandHere context place stop tree → place < length context.list.nodes
+  here_inside place stop tree (inl stands) = stands_inside context place stop tree stands
   here_inside place stop tree (inr number) = (number_there number.0 place stop tree number.1).inside
 
-  pub operand_inside : (place : ℕ) → OperandStands scene place → place < length scene.list.nodes
+  pub operand_inside : (place : ℕ) → OperandStands context place → place < length context.list.nodes
   operand_inside place operand = here_inside place operand.stop operand.tree operand.stands
 
   -- a tree, where its node is none of a literal
-  pub tree_of_kind : (place : ℕ) (kind : NodeKind) → IsOther kind → HasKind scene.list place kind → OperandStands scene place → PartStands scene place
+  pub tree_of_kind : (place : ℕ) (kind : NodeKind) → IsOther kind → HasKind context.list place kind → OperandStands context place → PartStands context place
   tree_of_kind place kind other here operand = elim operand.stands [
     | inl stands ↦ record { stop = operand.stop; tree = operand.tree; stands = stands }
     | inr number ↦ absurd (no_number place kind other here number.0 operand.stop operand.tree number.1)
   ]
 
-  pub tree_of_class : (place : ℕ) (class : WalkClass) → ¬ (class ≡ WalkClass.Leaf) → IsClassAt scene.list class place → OperandStands scene place → PartStands scene place
+  pub tree_of_class : (place : ℕ) (class : WalkClass) → ¬ (class ≡ WalkClass.Leaf) → IsClassAt context.list class place → OperandStands context place → PartStands context place
   tree_of_class place class inner is operand = elim operand.stands [
     | inl stands ↦ record { stop = operand.stop; tree = operand.tree; stands = stands }
     | inr number ↦ absurd (inner_number place class inner is number.0 operand.stop operand.tree number.1)
@@ -153,43 +153,43 @@ module _ (scene : SceneModel) where
   -- what stands for a tree beside operands of some types
   abbrev pub BesideHere : (ExprType → Type 0) → Tree → ℕ → ℕ → Type 0
   BesideHere Beside tree =
-      BesideStands scene.row.schema scene.row.type_id (scope_of (environment_of scene)) scene.list Beside tree (λ i j. StandsHere scene i j tree)
+      BesideStands context.row.schema context.row.type_id (scope_of (environment_of context)) context.list Beside tree (λ i j. StandsHere context i j tree)
 
-  pub beside_here : (Beside : ExprType → Type 0) (tree : Tree) (i j : ℕ) → BesideHere Beside tree i j → OperandHere scene i j tree
+  pub beside_here : (Beside : ExprType → Type 0) (tree : Tree) (i j : ℕ) → BesideHere Beside tree i j → OperandHere context i j tree
   beside_here Beside tree i j (inl read) = inr (read.0, read.2)
   beside_here Beside tree i j (inr alone) = inl alone.1
 
-  pub beside_operand : (Beside : ExprType → Type 0) (tree : Tree) (i j : ℕ) → BesideHere Beside tree i j → OperandStands scene i
+  pub beside_operand : (Beside : ExprType → Type 0) (tree : Tree) (i j : ℕ) → BesideHere Beside tree i j → OperandStands context i
   beside_operand Beside tree i j there = record { stop = j; tree = tree; stands = beside_here Beside tree i j there }
 
   -- its outcomes there
   abbrev pub AloneHere : (ExprType → Type 0) → Tree → Outcome → Type 0
   AloneHere =
-      ItemAlone (slots_of scene.row.schema) (type_name_at scene.row.schema scene.row.type_id) scene.moment (value_of scene.row) (environment_of scene)
+      ItemAlone (slots_of context.row.schema) (type_name_at context.row.schema context.row.type_id) context.moment (value_of context.row) (environment_of context)
 
   -- what is answered there is one of them
-  pub beside_tells : (Beside : ExprType → Type 0) (tree : Tree) (i j : ℕ) (type : ExprType) (told : ExprType → Option Outcome) → BesideHere Beside tree i j → TypedHere scene tree type
-      → AnswersAtPlace scene i told → Tells (TakesMemory tree) (AloneHere Beside tree) (told type)
-  beside_tells Beside tree i j type told (inl read) typed answers =
-      let P : Option Outcome → Type 0 = Tells (TakesMemory tree) (AloneHere Beside tree) in
+  pub beside_reports : (Beside : ExprType → Type 0) (tree : Tree) (i j : ℕ) (type : ExprType) (reported : ExprType → Option Outcome) → BesideHere Beside tree i j → TypedHere context tree type
+      → AnswersAtPlace context i reported → Reports (TakesMemory tree) (AloneHere Beside tree) (reported type)
+  beside_reports Beside tree i j type reported (inl read) typed answers =
+      let P : Option Outcome → Type 0 = Reports (TakesMemory tree) (AloneHere Beside tree) in
       subst P (sym (answers.of_number read.0 j tree type read.2)) (inl (read.0, read.1, refl))
-  beside_tells Beside tree i j type told (inr alone) typed answers =
-      tells_there (told type) (TakesMemory tree) (TakesMemory tree) (MeansHere scene tree) (AloneHere Beside tree)
+  beside_reports Beside tree i j type reported (inr alone) typed answers =
+      reports_there (reported type) (TakesMemory tree) (TakesMemory tree) (MeansHere context tree) (AloneHere Beside tree)
       (λ takes. takes) (λ o means. inr (alone.0, means)) (answers.of_tree j tree type alone.1 typed)
 
   -- the value that is answered where a number is
-  pub number_is : (i j : ℕ) (tree : Tree) (number : ℤ) (value : ExprType → Val) → NumberHere scene number i j tree → AnswersAtPlace scene i (λ type. Some (gives (value type)))
+  pub number_is : (i j : ℕ) (tree : Tree) (number : ℤ) (value : ExprType → Val) → NumberHere context number i j tree → AnswersAtPlace context i (λ type. Some (gives (value type)))
       → (type : ExprType) → value type ≡ member number
   number_is i j tree number value there answers type =
       let same : Some (gives (value type)) ≡ Some (gives (member number)) = answers.of_number number j tree type there in
       cc
 
   -- of two operands one is read at most
-  pub not_both : (operator : BinaryOperator) (left right : Tree) (m n : ℤ) → ReadsNumber (slots_of scene.row.schema) (OfEquality operator (TypedHere scene right)) left m
-      → ReadsNumber (slots_of scene.row.schema) (OfEquality operator (TypedHere scene left)) right n → ⊥
+  pub not_both : (operator : BinaryOperator) (left right : Tree) (m n : ℤ) → ReadsNumber (slots_of context.row.schema) (OfEquality operator (TypedHere context right)) left m
+      → ReadsNumber (slots_of context.row.schema) (OfEquality operator (TypedHere context left)) right n → ⊥
   not_both operator (node from to (literal LiteralKind.Str spelling)) right m n of_left of_right =
-      no_text (slots_of scene.row.schema) of_right.type_of (quoted_text right) n of_right.beside.1.2 of_right.number
-  not_both operator _ right m n of_left of_right = unquoted (slots_of scene.row.schema) of_left.type_of m of_left.number
+      no_text (slots_of context.row.schema) of_right.type_of (quoted_text right) n of_right.beside.1.2 of_right.number
+  not_both operator _ right m n of_left of_right = unquoted (slots_of context.row.schema) of_left.type_of m of_left.number
 
 -- an operator that reads is of a truth value
 pub equality_boolean : (slots : Slots) (operator : BinaryOperator) (left right : Side) (type : ExprType) → IsEquality operator → OperatorTyped slots operator left right type → type ≡ boolean_type

@@ -15,9 +15,9 @@ use Rattle.odata_signatures.specs.Typed.{Scope}
 use Rattle.odata_eval.specs.Environment.{scope_of}
 use Rattle.odata_filter_operations.specs.Outcome.{Outcome}
 use Rattle.odata_eval.specs.private.Place.{HasKind, PartStands}
-use Rattle.odata_eval.specs.private.Scene.{StandsHere, TypedHere}
-use Rattle.odata_eval.specs.private.SceneModel.{SceneModel, environment_of}
-use Rattle.odata_filter_operations.specs.Tells.{Tells}
+use Rattle.odata_eval.specs.private.EvalContext.{StandsHere, TypedHere}
+use Rattle.odata_eval.specs.private.ContextModel.{ContextModel, environment_of}
+use Rattle.odata_filter_operations.specs.Reports.{Reports}
 
 -- a fact of what is held, and back
 pub found_there : {X : Type 0} (P : X → Type 0) (held : Option X) (x : X) → held ≡ Some x → IsSomeAnd held P → P x
@@ -46,14 +46,14 @@ some_always (Some x) holds = holds
 some_always None holds = tt
 
 -- what is reported of a part is reported of the whole
-pub tells_there : (told : Option Outcome) (Part Whole : Type 0) (P Q : Outcome → Type 0) → (Part → Whole) → ((o : Outcome) → P o → Q o)
-    → Tells Part P told → Tells Whole Q told
-tells_there (Some o) Part Whole P Q takes goes is = goes o is
-tells_there None Part Whole P Q takes goes is = takes is
+pub reports_there : (reported : Option Outcome) (WalkOperand Whole : Type 0) (P Q : Outcome → Type 0) → (WalkOperand → Whole) → ((o : Outcome) → P o → Q o)
+    → Reports WalkOperand P reported → Reports Whole Q reported
+reports_there (Some o) WalkOperand Whole P Q takes goes is = goes o is
+reports_there None WalkOperand Whole P Q takes goes is = takes is
 
-pub some_tells : (told : Option Outcome) (Takes : Type 0) (P : Outcome → Type 0) → IsSomeAnd told P → Tells Takes P told
-some_tells (Some o) Takes P is = is
-some_tells None Takes P is = absurd is
+pub some_reports : (reported : Option Outcome) (Takes : Type 0) (P : Outcome → Type 0) → IsSomeAnd reported P → Reports Takes P reported
+some_reports (Some o) Takes P is = is
+some_reports None Takes P is = absurd is
 
 pub inside : {X : Type 0} (P : X → Type 0) (xs : List X) (k : ℕ) → IsSomeAnd (slice_get xs k) P → k < length xs
 inside P xs k holds = let there = some_there P (slice_get xs k) holds in slice_get_within xs k there.0 there.1.0
@@ -97,34 +97,34 @@ by_case slots root scope P (call asked arguments) (NodeKind.Call function) is ca
 by_case slots root scope P (call asked arguments) NodeKind.Now is cases = cases asked arguments is
 by_case slots root scope P _ _ is cases = absurd is
 
-module _ (scene : SceneModel) (place : ℕ) where
+module _ (context : ContextModel) (place : ℕ) where
   -- the kind is that of the node there
-  pub kind_there : (kind : NodeKind) → HasKind scene.list place kind → (stop from to : ℕ) (shape : Shape) → StandsHere scene place stop (node from to shape)
-      → IsKindOf (slots_of scene.row.schema) (type_name_at scene.row.schema scene.row.type_id) (scope_of (environment_of scene)) shape kind
+  pub kind_there : (kind : NodeKind) → HasKind context.list place kind → (stop from to : ℕ) (shape : Shape) → StandsHere context place stop (node from to shape)
+      → IsKindOf (slots_of context.row.schema) (type_name_at context.row.schema context.row.type_id) (scope_of (environment_of context)) shape kind
   kind_there kind here stop from to shape stands =
-      subst (λ (k : NodeKind). IsKindOf (slots_of scene.row.schema) (type_name_at scene.row.schema scene.row.type_id) (scope_of (environment_of scene)) shape k)
-      (found_there (λ found. found.kind ≡ kind) (slice_get scene.list.nodes place) stands.top.found stands.top.stands_at here)
+      subst (λ (k : NodeKind). IsKindOf (slots_of context.row.schema) (type_name_at context.row.schema context.row.type_id) (scope_of (environment_of context)) shape k)
+      (found_there (λ found. found.kind ≡ kind) (slice_get context.list.nodes place) stands.top.found stands.top.stands_at here)
       stands.top.kind
 
   -- so the tree there is of one form
-  pub by_kind : (kind : NodeKind) → HasKind scene.list place kind → (P : ℕ → Tree → Type 0)
-      → CasesOf kind (λ s. (stop from to : ℕ) → StandsHere scene place stop (node from to s) → P stop (node from to s))
-      → (stop : ℕ) (tree : Tree) → StandsHere scene place stop tree → P stop tree
+  pub by_kind : (kind : NodeKind) → HasKind context.list place kind → (P : ℕ → Tree → Type 0)
+      → CasesOf kind (λ s. (stop from to : ℕ) → StandsHere context place stop (node from to s) → P stop (node from to s))
+      → (stop : ℕ) (tree : Tree) → StandsHere context place stop tree → P stop tree
   by_kind kind here P cases stop (node from to shape) stands =
-      by_case (slots_of scene.row.schema) (type_name_at scene.row.schema scene.row.type_id) (scope_of (environment_of scene))
-      (λ (s : Shape). (stop from to : ℕ) → StandsHere scene place stop (node from to s) → P stop (node from to s)) shape kind
+      by_case (slots_of context.row.schema) (type_name_at context.row.schema context.row.type_id) (scope_of (environment_of context))
+      (λ (s : Shape). (stop from to : ℕ) → StandsHere context place stop (node from to s) → P stop (node from to s)) shape kind
       (kind_there kind here stop from to shape stands) cases stop from to stands
 
   -- and it has the type that the node there says
-  pub type_there : (found : CheckedNode) → slice_get scene.list.nodes place ≡ Some found → (stop : ℕ) (tree : Tree) → StandsHere scene place stop tree
-      → TypedHere scene tree (expr_type scene.row.schema found.edm_type)
+  pub type_there : (found : CheckedNode) → slice_get context.list.nodes place ≡ Some found → (stop : ℕ) (tree : Tree) → StandsHere context place stop tree
+      → TypedHere context tree (expr_type context.row.schema found.edm_type)
   type_there found at stop (node from to shape) stands =
       let same : Some stands.top.found ≡ Some found = cc (stands.top.stands_at, at) in
       let is : stands.top.found ≡ found = cc in
-      subst (λ (f : CheckedNode). TypedHere scene (node from to shape) (expr_type scene.row.schema f.edm_type)) is stands.top.typed
+      subst (λ (f : CheckedNode). TypedHere context (node from to shape) (expr_type context.row.schema f.edm_type)) is stands.top.typed
 
-  pub stands_inside : (stop : ℕ) (tree : Tree) → StandsHere scene place stop tree → place < length scene.list.nodes
-  stands_inside stop (node from to shape) stands = slice_get_within scene.list.nodes place stands.top.found stands.top.stands_at
+  pub stands_inside : (stop : ℕ) (tree : Tree) → StandsHere context place stop tree → place < length context.list.nodes
+  stands_inside stop (node from to shape) stands = slice_get_within context.list.nodes place stands.top.found stands.top.stands_at
 
-  pub part_inside : PartStands scene place → place < length scene.list.nodes
+  pub part_inside : PartStands context place → place < length context.list.nodes
   part_inside part = stands_inside part.stop part.tree part.stands

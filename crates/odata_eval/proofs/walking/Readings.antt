@@ -14,7 +14,7 @@ use Rattle.odata_signatures.specs.declared.edm_type.EdmType.{EdmType}
 use Rattle.odata_signatures.specs.declared.edm_type.ValueType.{ValueType}
 use Rattle.odata_filter_operations.specs.CalculationGives.{number_val}
 use Rattle.odata_filter_operations.specs.TruthGives.{truth_val}
-use Rattle.odata_filter_operations.specs.Operands.{AreNumbers, IsOneNumber}
+use Rattle.odata_filter_operations.specs.Operators.{AreNumbers, IsOneNumber}
 use Rattle.odata_eval.specs.private.Place.{IsNumberOperand}
 use Rattle.odata_eval.proofs.meaning.Kinds.{truth_of}
 use Rattle.odata_eval.proofs.meaning.Numbers.{IsNumberIn, number_in}

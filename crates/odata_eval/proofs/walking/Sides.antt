@@ -22,17 +22,17 @@ use Rattle.odata_filter_operations.specs.Outcome.{Outcome, gives}
 use Rattle.odata_filter_operations.specs.FaultView.{fault_outcome}
 use Rattle.odata_filter_operations.specs.DatumView.{reading_at}
 use Rattle.odata_eval.specs.private.Place.{HasKind, IsRightOf, OperandStands, PartStands}
-use Rattle.odata_eval.specs.private.Scene.{EndsOnceHere, MeansHere, StandsHere, TypedHere}
-use Rattle.odata_eval.specs.private.SceneModel.{SceneModel}
+use Rattle.odata_eval.specs.private.EvalContext.{EndsOnceHere, MeansHere, StandsHere, TypedHere}
+use Rattle.odata_eval.specs.private.ContextModel.{ContextModel}
 use Rattle.odata_eval.specs.private.WalkAnswer.{AnswersAtPlace, AnswersDatum}
 use Rattle.odata_eval.proofs.walking.Children.{two_children}
 use Rattle.odata_eval.proofs.meaning.Reads.{number_flags, read_has}
 use Rattle.odata_eval.proofs.walking.Operands.{BesideHere, HasNone, beside_operand, fault_no_value, no_number, number_is}
-use Rattle.odata_eval.proofs.walking.Parts.{by_kind, tells_there}
+use Rattle.odata_eval.proofs.walking.Parts.{by_kind, reports_there}
 use Rattle.odata_eval.proofs.walking.Extents.{further, right_beside, stops_here, stops_there}
 use Rattle.odata_eval.proofs.walking.Spines.{child_takes, fault_stays, has_type, second_child}
 use Rattle.odata_eval.proofs.walking.WalkValues.{value_has}
-use Rattle.odata_filter_operations.specs.Tells.{Tells}
+use Rattle.odata_filter_operations.specs.Reports.{Reports}
 
 -- beside no operand
 abbrev pub NoOperand : Tree → ExprType → Type 0
@@ -40,44 +40,44 @@ NoOperand left type = ⊥
 
 -- a tree of two sides, both of which are evaluated, the right one perhaps as a number beside the left one: of which types
 -- they are, and what is made of their values
-pub record OfSides (scene : SceneModel) (place stop : ℕ) (Beside : Tree → ExprType → Type 0) (Makes : ExprType → ExprType → Type 0) (Gives : Val → Val → Outcome → Type 0)
+pub record OfSides (context : ContextModel) (place stop : ℕ) (Beside : Tree → ExprType → Type 0) (Makes : ExprType → ExprType → Type 0) (Gives : Val → Val → Outcome → Type 0)
     (tree : Tree) : Type 0 where
   pub left : Tree
   pub right : Tree
   pub middle : ℕ
-  pub first : StandsHere scene (place + 1) middle left
-  pub second : BesideHere scene (Beside left) right middle stop
-  pub typed : ReadsNone (slots_of scene.row.schema) (Beside left) right → (type : ExprType) → TypedHere scene tree type
-      → (s t : ExprType) × (TypedHere scene left s × TypedHere scene right t × Makes s t)
-  pub read : (n : ℤ) → (reads : ReadsNumber (slots_of scene.row.schema) (Beside left) right n)
-      → TypedHere scene left reads.type_of × Makes reads.type_of reads.type_of × HasType (slots_of scene.row.schema) reads.type_of (member n)
+  pub first : StandsHere context (place + 1) middle left
+  pub second : BesideHere context (Beside left) right middle stop
+  pub typed : ReadsNone (slots_of context.row.schema) (Beside left) right → (type : ExprType) → TypedHere context tree type
+      → (s t : ExprType) × (TypedHere context left s × TypedHere context right t × Makes s t)
+  pub read : (n : ℤ) → (reads : ReadsNumber (slots_of context.row.schema) (Beside left) right n)
+      → TypedHere context left reads.type_of × Makes reads.type_of reads.type_of × HasType (slots_of context.row.schema) reads.type_of (member n)
   pub takes : TakesMemory right → TakesMemory tree
-  pub means : ReadsNone (slots_of scene.row.schema) (Beside left) right → (o : Outcome) → After (MeansHere scene left) (λ l. After (MeansHere scene right) (Gives l)) o → MeansHere scene tree o
-  pub means_read : (n : ℤ) → ReadsNumber (slots_of scene.row.schema) (Beside left) right n → (o : Outcome) → After (MeansHere scene left) (λ l. Gives l (member n)) o → MeansHere scene tree o
+  pub means : ReadsNone (slots_of context.row.schema) (Beside left) right → (o : Outcome) → After (MeansHere context left) (λ l. After (MeansHere context right) (Gives l)) o → MeansHere context tree o
+  pub means_read : (n : ℤ) → ReadsNumber (slots_of context.row.schema) (Beside left) right n → (o : Outcome) → After (MeansHere context left) (λ l. Gives l (member n)) o → MeansHere context tree o
 
 -- each tree that stands there is one
-abbrev pub AreOfSides : SceneModel → ℕ → (Tree → ExprType → Type 0) → (ExprType → ExprType → Type 0) → (Val → Val → Outcome → Type 0) → Type 0
-AreOfSides scene place Beside Makes Gives =
-    HasNone scene place × ((stop : ℕ) (tree : Tree) → StandsHere scene place stop tree → OfSides scene place stop Beside Makes Gives tree)
+abbrev pub AreOfSides : ContextModel → ℕ → (Tree → ExprType → Type 0) → (ExprType → ExprType → Type 0) → (Val → Val → Outcome → Type 0) → Type 0
+AreOfSides context place Beside Makes Gives =
+    HasNone context place × ((stop : ℕ) (tree : Tree) → StandsHere context place stop tree → OfSides context place stop Beside Makes Gives tree)
 
-pub flags_alone : (scene : SceneModel) (left right : Tree) → ReadsNone (slots_of scene.row.schema) (TypedHere scene left) right → (s t : ExprType) → TypedHere scene left s
-    → AreFlags s t ⊎ HasNumber (slots_of scene.row.schema) s (quoted_text right) → AreFlags s t
-flags_alone scene left right none s t typed (inl flags) = flags
-flags_alone scene left right none s t typed (inr number) = absurd (none number.0 (record { type_of = s; beside = typed; number = number.1 }))
+pub flags_alone : (context : ContextModel) (left right : Tree) → ReadsNone (slots_of context.row.schema) (TypedHere context left) right → (s t : ExprType) → TypedHere context left s
+    → AreFlags s t ⊎ HasNumber (slots_of context.row.schema) s (quoted_text right) → AreFlags s t
+flags_alone context left right none s t typed (inl flags) = flags
+flags_alone context left right none s t typed (inr number) = absurd (none number.0 (record { type_of = s; beside = typed; number = number.1 }))
 
-pub flags_sides : (scene : SceneModel) (place : ℕ) → HasKind scene.list place NodeKind.Has → AreOfSides scene place (TypedHere scene) AreFlags HasGives
-flags_sides scene place here = (
-  no_number scene place NodeKind.Has tt here,
-  by_kind scene place NodeKind.Has here (λ stop tree. OfSides scene place stop (TypedHere scene) AreFlags HasGives tree)
+pub flags_sides : (context : ContextModel) (place : ℕ) → HasKind context.list place NodeKind.Has → AreOfSides context place (TypedHere context) AreFlags HasGives
+flags_sides context place here = (
+  no_number context place NodeKind.Has tt here,
+  by_kind context place NodeKind.Has here (λ stop tree. OfSides context place stop (TypedHere context) AreFlags HasGives tree)
       (λ left right stop from to stands.
-      let slots = slots_of scene.row.schema in
+      let slots = slots_of context.row.schema in
       record {
         left = left;
         right = right;
         middle = stands.children.middle;
         first = stands.children.left;
-        second = right_beside scene (TypedHere scene left) stands.children.middle stands.children.middle stop right refl stands.children.right;
-        typed = λ none type typed. (typed.left, typed.right, (typed.left_typed, typed.right_typed, flags_alone scene left right none typed.left typed.right typed.left_typed typed.makes.0));
+        second = right_beside context (TypedHere context left) stands.children.middle stands.children.middle stop right refl stands.children.right;
+        typed = λ none type typed. (typed.left, typed.right, (typed.left_typed, typed.right_typed, flags_alone context left right none typed.left typed.right typed.left_typed typed.makes.0));
         read = λ n reads.
             (reads.beside, number_flags slots reads.type_of (quoted_text right) n reads.number, read_has slots reads.type_of (quoted_text right) n reads.number);
         takes = child_takes (node from to (has left right)) right (second_child left right []);
@@ -86,12 +86,12 @@ flags_sides scene place here = (
       }),
 )
 
-pub path_sides : (scene : SceneModel) (place : ℕ) → HasKind scene.list place NodeKind.InPath → AreOfSides scene place NoOperand IsComparableWithMembers InGives
-path_sides scene place here = (
-  no_number scene place NodeKind.InPath tt here,
-  by_kind scene place NodeKind.InPath here (λ stop tree. OfSides scene place stop NoOperand IsComparableWithMembers InGives tree)
+pub path_sides : (context : ContextModel) (place : ℕ) → HasKind context.list place NodeKind.InPath → AreOfSides context place NoOperand IsComparableWithMembers InGives
+path_sides context place here = (
+  no_number context place NodeKind.InPath tt here,
+  by_kind context place NodeKind.InPath here (λ stop tree. OfSides context place stop NoOperand IsComparableWithMembers InGives tree)
       (λ left path stop from to stands.
-      let sides = two_children scene (place + 1) stop left path stands.children in
+      let sides = two_children context (place + 1) stop left path stands.children in
       record {
         left = left;
         right = path;
@@ -106,62 +106,62 @@ path_sides scene place here = (
       }),
 )
 
-module _ (scene : SceneModel) (place : ℕ) (Beside : Tree → ExprType → Type 0) (Makes : ExprType → ExprType → Type 0) (Gives : Val → Val → Outcome → Type 0)
-    (are : AreOfSides scene place Beside Makes Gives) where
-  pub next_there : PartStands scene place → (right : ℕ) × IsRightOf scene.list place right
+module _ (context : ContextModel) (place : ℕ) (Beside : Tree → ExprType → Type 0) (Makes : ExprType → ExprType → Type 0) (Gives : Val → Val → Outcome → Type 0)
+    (are : AreOfSides context place Beside Makes Gives) where
+  pub next_there : PartStands context place → (right : ℕ) × IsRightOf context.list place right
   next_there part =
       let it = are.1 part.stop part.tree part.stands in
-      (it.middle, stops_here scene (place + 1) it.middle it.left it.first)
+      (it.middle, stops_here context (place + 1) it.middle it.left it.first)
 
-  module _ (right_place : ℕ) (is_right : IsRightOf scene.list place right_place) where
-    next_beside : (stop : ℕ) (tree : Tree) (stands : StandsHere scene place stop tree)
-        → BesideHere scene (Beside (are.1 stop tree stands).left) (are.1 stop tree stands).right right_place stop
+  module _ (right_place : ℕ) (is_right : IsRightOf context.list place right_place) where
+    next_beside : (stop : ℕ) (tree : Tree) (stands : StandsHere context place stop tree)
+        → BesideHere context (Beside (are.1 stop tree stands).left) (are.1 stop tree stands).right right_place stop
     next_beside stop tree stands =
         let it = are.1 stop tree stands in
-        subst (λ (m : ℕ). BesideHere scene (Beside it.left) it.right m stop) (stops_there scene (place + 1) it.middle right_place it.left it.first is_right) it.second
+        subst (λ (m : ℕ). BesideHere context (Beside it.left) it.right m stop) (stops_there context (place + 1) it.middle right_place it.left it.first is_right) it.second
 
-    pub next_part : PartStands scene place → OperandStands scene right_place
+    pub next_part : PartStands context place → OperandStands context right_place
     next_part part =
         let it = are.1 part.stop part.tree part.stands in
-        beside_operand scene (Beside it.left) it.right right_place part.stop (next_beside part.stop part.tree part.stands)
+        beside_operand context (Beside it.left) it.right right_place part.stop (next_beside part.stop part.tree part.stands)
 
-    pub next_further : PartStands scene place → place < right_place
+    pub next_further : PartStands context place → place < right_place
     next_further part =
         let it = are.1 part.stop part.tree part.stands in
-        let e : it.middle ≡ right_place = stops_there scene (place + 1) it.middle right_place it.left it.first is_right in
-        let f : place + 1 < it.middle = further scene (place + 1) it.middle it.left it.first in
+        let e : it.middle ≡ right_place = stops_there context (place + 1) it.middle right_place it.left it.first is_right in
+        let f : place + 1 < it.middle = further context (place + 1) it.middle it.left it.first in
         omega arith
 
-    module _ (left : Datum) (first : AnswersDatum scene (place + 1) (Ok left)) where
+    module _ (left : Datum) (first : AnswersDatum context (place + 1) (Ok left)) where
       abbrev made : Datum → ExprType → Val
-      made value type = datum_val (reading_at (slots_of scene.row.schema) type) value
+      made value type = datum_val (reading_at (slots_of context.row.schema) type) value
 
       -- a fault of the second side is the outcome
-      fault_told : (fault : EvalFault) → AnswersAtPlace scene right_place (λ type. fault_outcome fault) → (stop : ℕ) (tree : Tree) (type : ExprType) → TypedHere scene tree type
-          → (it : OfSides scene place stop Beside Makes Gives tree) → BesideHere scene (Beside it.left) it.right right_place stop
-          → Tells (TakesMemory tree) (MeansHere scene tree) (fault_outcome fault)
-      fault_told fault second stop tree type typed it (inl read) = absurd (fault_no_value fault (member read.0) (second.of_number read.0 stop it.right type read.2))
-      fault_told fault second stop tree type typed it (inr alone) =
+      fault_reported : (fault : EvalFault) → AnswersAtPlace context right_place (λ type. fault_outcome fault) → (stop : ℕ) (tree : Tree) (type : ExprType) → TypedHere context tree type
+          → (it : OfSides context place stop Beside Makes Gives tree) → BesideHere context (Beside it.left) it.right right_place stop
+          → Reports (TakesMemory tree) (MeansHere context tree) (fault_outcome fault)
+      fault_reported fault second stop tree type typed it (inl read) = absurd (fault_no_value fault (member read.0) (second.of_number read.0 stop it.right type read.2))
+      fault_reported fault second stop tree type typed it (inr alone) =
           let sides = it.typed alone.0 type typed in
           let l = made left sides.0 in
-          tells_there (fault_outcome fault) (TakesMemory tree) (TakesMemory tree) (After (MeansHere scene it.right) (Gives l)) (MeansHere scene tree) (λ takes. takes)
+          reports_there (fault_outcome fault) (TakesMemory tree) (TakesMemory tree) (After (MeansHere context it.right) (Gives l)) (MeansHere context tree) (λ takes. takes)
           (λ o given. it.means alone.0 o (gives l, (first.of_tree it.middle it.left sides.0 it.first sides.2.0, given)))
-          (fault_stays fault (TakesMemory it.right) (TakesMemory tree) (MeansHere scene it.right) (Gives l) it.takes
+          (fault_stays fault (TakesMemory it.right) (TakesMemory tree) (MeansHere context it.right) (Gives l) it.takes
           (second.of_tree stop it.right sides.1 alone.1 sides.2.1))
 
-      pub next_faults : (fault : EvalFault) → AnswersAtPlace scene right_place (λ type. fault_outcome fault) → AnswersAtPlace scene place (λ type. fault_outcome fault)
+      pub next_faults : (fault : EvalFault) → AnswersAtPlace context right_place (λ type. fault_outcome fault) → AnswersAtPlace context place (λ type. fault_outcome fault)
       next_faults fault second = record {
-        of_tree = λ stop tree type stands typed. fault_told fault second stop tree type typed (are.1 stop tree stands) (next_beside stop tree stands);
+        of_tree = λ stop tree type stands typed. fault_reported fault second stop tree type typed (are.1 stop tree stands) (next_beside stop tree stands);
         of_number = λ number stop tree type there. absurd (are.0 number stop tree there);
       }
 
-      module _ (right : Datum) (second : AnswersDatum scene right_place (Ok right)) (ends : EndsOnceHere scene) where
+      module _ (right : Datum) (second : AnswersDatum context right_place (Ok right)) (ends : EndsOnceHere context) where
         abbrev Have : Type 0
-        Have = (s t : ExprType) × (Makes s t × HasType (slots_of scene.row.schema) s (made left s) × HasType (slots_of scene.row.schema) t (made right t))
+        Have = (s t : ExprType) × (Makes s t × HasType (slots_of context.row.schema) s (made left s) × HasType (slots_of context.row.schema) t (made right t))
 
         -- both values are of the types of their sides, a number of the type beside it
-        sides_have : (stop : ℕ) (tree : Tree) (type : ExprType) → TypedHere scene tree type → (it : OfSides scene place stop Beside Makes Gives tree)
-            → BesideHere scene (Beside it.left) it.right right_place stop → Have
+        sides_have : (stop : ℕ) (tree : Tree) (type : ExprType) → TypedHere context tree type → (it : OfSides context place stop Beside Makes Gives tree)
+            → BesideHere context (Beside it.left) it.right right_place stop → Have
         sides_have stop tree type typed it (inl read) =
             let s = read.1.type_of in
             let known = it.read read.0 read.1 in (
@@ -169,8 +169,8 @@ module _ (scene : SceneModel) (place : ℕ) (Beside : Tree → ExprType → Type
               s,
               (
                 known.1,
-                value_has scene ends it.left s (made left s) known.0 (first.of_tree it.middle it.left s it.first known.0),
-                subst (λ (v : Val). HasType (slots_of scene.row.schema) s v) (sym (number_is scene right_place stop it.right read.0 (made right) read.2 second s)) known.2,
+                value_has context ends it.left s (made left s) known.0 (first.of_tree it.middle it.left s it.first known.0),
+                subst (λ (v : Val). HasType (slots_of context.row.schema) s v) (sym (number_is context right_place stop it.right read.0 (made right) read.2 second s)) known.2,
               ),
             )
         sides_have stop tree type typed it (inr alone) =
@@ -179,37 +179,37 @@ module _ (scene : SceneModel) (place : ℕ) (Beside : Tree → ExprType → Type
               sides.1,
               (
                 sides.2.2,
-                value_has scene ends it.left sides.0 (made left sides.0) sides.2.0 (first.of_tree it.middle it.left sides.0 it.first sides.2.0),
-                value_has scene ends it.right sides.1 (made right sides.1) sides.2.1 (second.of_tree stop it.right sides.1 alone.1 sides.2.1),
+                value_has context ends it.left sides.0 (made left sides.0) sides.2.0 (first.of_tree it.middle it.left sides.0 it.first sides.2.0),
+                value_has context ends it.right sides.1 (made right sides.1) sides.2.1 (second.of_tree stop it.right sides.1 alone.1 sides.2.1),
               ),
             )
 
-        pub some_sides : PartStands scene place → Have
+        pub some_sides : PartStands context place → Have
         some_sides part =
-            let typed = has_type scene place part.stop part.tree part.stands in
+            let typed = has_type context place part.stop part.tree part.stands in
             sides_have part.stop part.tree typed.0 typed.1 (are.1 part.stop part.tree part.stands) (next_beside part.stop part.tree part.stands)
 
         module _ (answer : Datum)
-            (given : (s t type : ExprType) → Makes s t → HasType (slots_of scene.row.schema) s (made left s) → HasType (slots_of scene.row.schema) t (made right t)
+            (given : (s t type : ExprType) → Makes s t → HasType (slots_of context.row.schema) s (made left s) → HasType (slots_of context.row.schema) t (made right t)
             → Gives (made left s) (made right t) (gives (made answer type))) where
           -- what is made of them is the outcome
-          sides_tell : (stop : ℕ) (tree : Tree) (type : ExprType) → TypedHere scene tree type → (it : OfSides scene place stop Beside Makes Gives tree)
-              → BesideHere scene (Beside it.left) it.right right_place stop → MeansHere scene tree (gives (made answer type))
-          sides_tell stop tree type typed it (inl read) =
+          sides_report : (stop : ℕ) (tree : Tree) (type : ExprType) → TypedHere context tree type → (it : OfSides context place stop Beside Makes Gives tree)
+              → BesideHere context (Beside it.left) it.right right_place stop → MeansHere context tree (gives (made answer type))
+          sides_report stop tree type typed it (inl read) =
               let s = read.1.type_of in
               let known = it.read read.0 read.1 in
               let first_is = first.of_tree it.middle it.left s it.first known.0 in
-              let is : made right s ≡ member read.0 = number_is scene right_place stop it.right read.0 (made right) read.2 second s in
-              let has = value_has scene ends it.left s (made left s) known.0 first_is in
+              let is : made right s ≡ member read.0 = number_is context right_place stop it.right read.0 (made right) read.2 second s in
+              let has = value_has context ends it.left s (made left s) known.0 first_is in
               it.means_read read.0 read.1 (gives (made answer type)) (
                 gives (made left s),
                 (
                   first_is,
                   subst (λ (v : Val). Gives (made left s) v (gives (made answer type))) is
-                      (given s s type known.1 has (subst (λ (v : Val). HasType (slots_of scene.row.schema) s v) (sym is) known.2)),
+                      (given s s type known.1 has (subst (λ (v : Val). HasType (slots_of context.row.schema) s v) (sym is) known.2)),
                 ),
               )
-          sides_tell stop tree type typed it (inr alone) =
+          sides_report stop tree type typed it (inr alone) =
               let sides = it.typed alone.0 type typed in
               let s = sides.0 in
               let t = sides.1 in
@@ -223,14 +223,14 @@ module _ (scene : SceneModel) (place : ℕ) (Beside : Tree → ExprType → Type
                     gives (made right t),
                     (
                       second_is,
-                      given s t type sides.2.2 (value_has scene ends it.left s (made left s) sides.2.0 first_is) (value_has scene ends it.right t (made right t) sides.2.1 second_is),
+                      given s t type sides.2.2 (value_has context ends it.left s (made left s) sides.2.0 first_is) (value_has context ends it.right t (made right t) sides.2.1 second_is),
                     ),
                   ),
                 ),
               )
 
-          pub sides_answer : AnswersDatum scene place (Ok answer)
+          pub sides_answer : AnswersDatum context place (Ok answer)
           sides_answer = record {
-            of_tree = λ stop tree type stands typed. sides_tell stop tree type typed (are.1 stop tree stands) (next_beside stop tree stands);
+            of_tree = λ stop tree type stands typed. sides_report stop tree type typed (are.1 stop tree stands) (next_beside stop tree stands);
             of_number = λ number stop tree type there. absurd (are.0 number stop tree there);
           }

@@ -18,7 +18,7 @@ use Rattle.odata_checked_filter.specs.declared.checked_node.CheckedNode.{Checked
 use Rattle.odata_checked_filter.specs.declared.checked_node.NodeKind.{NodeKind}
 use Rattle.odata_checked_filter.specs.FlatTree.{FlatTree}
 use Rattle.odata_filter_operations.specs.declared.fault.EvalFault.{EvalFault}
-use Rattle.odata_eval.specs.declared.part.WalkClass.{WalkClass}
+use Rattle.odata_eval.specs.declared.walk_operand.WalkClass.{WalkClass}
 use Rattle.odata_eval.specs.Environment.{scope_of}
 use Rattle.odata_filter_operations.specs.LeftFirst.{After}
 use Rattle.odata_filter_operations.specs.HasGives.{HasGives}
@@ -30,9 +30,9 @@ use Rattle.edm_values.specs.Val as val
 use Rattle.odata_filter_operations.specs.Outcome.{Outcome, overflow, divides_by_zero}
 use Rattle.odata_filter_operations.specs.FaultView.{fault_outcome}
 use Rattle.odata_eval.specs.private.Place.{HasKind, IsClassAt, IsNumberOperand, OperandStands, PartStands, TypedStands}
-use Rattle.odata_eval.specs.private.Scene.{MeansHere, StandsHere, TypedHere}
-use Rattle.odata_eval.specs.private.SceneModel.{SceneModel, environment_of}
-use Rattle.odata_filter_operations.specs.Tells.{Tells}
+use Rattle.odata_eval.specs.private.EvalContext.{MeansHere, StandsHere, TypedHere}
+use Rattle.odata_eval.specs.private.ContextModel.{ContextModel, environment_of}
+use Rattle.odata_filter_operations.specs.Reports.{Reports}
 use Rattle.odata_eval.specs.private.WalkAnswer.{AnswersAtPlace}
 use Rattle.odata_eval.specs.private.WalkClass.{walk_of_kind, walk_of_operator}
 use Rattle.odata_signatures.specs.Functions.{IsNamed, row_of}
@@ -46,7 +46,7 @@ use Rattle.csdl_schema.specs.SchemaModel.{Slots, slots_of, type_name_at}
 use Rattle.edm_entities.specs.Row.{value_of}
 use Rattle.odata_eval.proofs.walking.Children.{only_child}
 use Rattle.odata_eval.proofs.walking.Operands.{BesideHere, fault_no_value, inner_number, tree_of_class, tree_operand}
-use Rattle.odata_eval.proofs.walking.Parts.{by_kind, goes_there, some_there, tells_there, there_found}
+use Rattle.odata_eval.proofs.walking.Parts.{by_kind, goes_there, some_there, reports_there, there_found}
 
 -- the walk takes the operator's node by its class
 pub walks_by : (list : FlatTree) (place : ℕ) (operator : BinaryOperator) (class : WalkClass) → HasKind list place (NodeKind.Binary operator)
@@ -85,11 +85,11 @@ only_neg (NodeKind.Binary (BinaryOperator.Arithmetic operator)) numeric other = 
 only_neg _ numeric other = absurd (cc)
 
 -- a fault of an operand stays
-pub fault_stays : (fault : EvalFault) (Part Whole : Type 0) (Operand : Outcome → Type 0) (Goes : Val → Outcome → Type 0) → (Part → Whole)
-    → Tells Part Operand (fault_outcome fault) → Tells Whole (After Operand Goes) (fault_outcome fault)
-fault_stays EvalFault.Overflow Part Whole Operand Goes takes is = (overflow, (is, refl))
-fault_stays EvalFault.DivideByZero Part Whole Operand Goes takes is = (divides_by_zero, (is, refl))
-fault_stays EvalFault.Memory Part Whole Operand Goes takes is = takes is
+pub fault_stays : (fault : EvalFault) (WalkOperand Whole : Type 0) (Operand : Outcome → Type 0) (Goes : Val → Outcome → Type 0) → (WalkOperand → Whole)
+    → Reports WalkOperand Operand (fault_outcome fault) → Reports Whole (After Operand Goes) (fault_outcome fault)
+fault_stays EvalFault.Overflow WalkOperand Whole Operand Goes takes is = (overflow, (is, refl))
+fault_stays EvalFault.DivideByZero WalkOperand Whole Operand Goes takes is = (divides_by_zero, (is, refl))
+fault_stays EvalFault.Memory WalkOperand Whole Operand Goes takes is = takes is
 
 -- the first two children
 pub first_child : (tree : Tree) (more : List Tree) → Contains (tree ∷ more) tree
@@ -127,44 +127,44 @@ logical_type (BinaryOperator.Logical operator) left right type logical typed = i
 logical_type _ left right type logical typed = absurd (cc)
 
 -- what may stand as the first operand of a node of the class
-abbrev pub StandsBy : SceneModel → ℕ → WalkClass → Type 0
-StandsBy scene place WalkClass.Logical = TypedStands scene place IsBooleanOrNull
-StandsBy scene place WalkClass.Numeric = TypedStands scene place IsNumberOperand
-StandsBy scene place _ = OperandStands scene place
+abbrev pub StandsBy : ContextModel → ℕ → WalkClass → Type 0
+StandsBy context place WalkClass.Logical = TypedStands context place IsBooleanOrNull
+StandsBy context place WalkClass.Numeric = TypedStands context place IsNumberOperand
+StandsBy context place _ = OperandStands context place
 
 -- the first operand of a node: its faults are those of the node
-pub record FirstOperand (scene : SceneModel) (place : ℕ) (class : WalkClass) (tree : Tree) : Type 0 where
-  pub operand : StandsBy scene (place + 1) class
-  pub faults : (fault : EvalFault) → AnswersAtPlace scene (place + 1) (λ type. fault_outcome fault) → (type : ExprType) → TypedHere scene tree type
-      → Tells (TakesMemory tree) (MeansHere scene tree) (fault_outcome fault)
+pub record FirstOperand (context : ContextModel) (place : ℕ) (class : WalkClass) (tree : Tree) : Type 0 where
+  pub operand : StandsBy context (place + 1) class
+  pub faults : (fault : EvalFault) → AnswersAtPlace context (place + 1) (λ type. fault_outcome fault) → (type : ExprType) → TypedHere context tree type
+      → Reports (TakesMemory tree) (MeansHere context tree) (fault_outcome fault)
 
 -- that is a tree
-record FirstTree (scene : SceneModel) (place : ℕ) (class : WalkClass) (tree : Tree) : Type 0 where
+record FirstTree (context : ContextModel) (place : ℕ) (class : WalkClass) (tree : Tree) : Type 0 where
   stop : ℕ
   operand : Tree
-  stands : StandsHere scene (place + 1) stop operand
-  typed : (type : ExprType) → TypedHere scene tree type → (first : ExprType) × (TypedHere scene operand first × AllowedBy class first)
-  faults : (fault : EvalFault) → Tells (TakesMemory operand) (MeansHere scene operand) (fault_outcome fault)
-      → Tells (TakesMemory tree) (MeansHere scene tree) (fault_outcome fault)
+  stands : StandsHere context (place + 1) stop operand
+  typed : (type : ExprType) → TypedHere context tree type → (first : ExprType) × (TypedHere context operand first × AllowedBy class first)
+  faults : (fault : EvalFault) → Reports (TakesMemory operand) (MeansHere context operand) (fault_outcome fault)
+      → Reports (TakesMemory tree) (MeansHere context tree) (fault_outcome fault)
 
-tree_by : (scene : SceneModel) (place : ℕ) (class : WalkClass) (tree : Tree) (type : ExprType) → FirstTree scene place class tree → TypedHere scene tree type → StandsBy scene (place + 1) class
-tree_by scene place WalkClass.Logical tree type first typed =
+tree_by : (context : ContextModel) (place : ℕ) (class : WalkClass) (tree : Tree) (type : ExprType) → FirstTree context place class tree → TypedHere context tree type → StandsBy context (place + 1) class
+tree_by context place WalkClass.Logical tree type first typed =
     let of_it = first.typed type typed in
     record { stop = first.stop; tree = first.operand; stands = first.stands; type_of = of_it.0; typed = of_it.1.0; allowed = of_it.1.1 }
-tree_by scene place WalkClass.Numeric tree type first typed =
+tree_by context place WalkClass.Numeric tree type first typed =
     let of_it = first.typed type typed in
     record { stop = first.stop; tree = first.operand; stands = first.stands; type_of = of_it.0; typed = of_it.1.0; allowed = of_it.1.1 }
-tree_by scene place _ tree type first typed = record { stop = first.stop; tree = first.operand; stands = inl first.stands }
+tree_by context place _ tree type first typed = record { stop = first.stop; tree = first.operand; stands = inl first.stands }
 
-pub has_type : (scene : SceneModel) (place stop : ℕ) (tree : Tree) → StandsHere scene place stop tree → (type : ExprType) × TypedHere scene tree type
-has_type scene place stop (node from to shape) stands = (_, stands.top.typed)
+pub has_type : (context : ContextModel) (place stop : ℕ) (tree : Tree) → StandsHere context place stop tree → (type : ExprType) × TypedHere context tree type
+has_type context place stop (node from to shape) stands = (_, stands.top.typed)
 
-of_first : (scene : SceneModel) (place : ℕ) (class : WalkClass) (stop : ℕ) (tree : Tree) → StandsHere scene place stop tree → FirstTree scene place class tree
-    → FirstOperand scene place class tree
-of_first scene place class stop tree stands first =
-    let has = has_type scene place stop tree stands in
+of_first : (context : ContextModel) (place : ℕ) (class : WalkClass) (stop : ℕ) (tree : Tree) → StandsHere context place stop tree → FirstTree context place class tree
+    → FirstOperand context place class tree
+of_first context place class stop tree stands first =
+    let has = has_type context place stop tree stands in
     record {
-      operand = tree_by scene place class tree has.0 first has.1;
+      operand = tree_by context place class tree has.0 first has.1;
       faults = λ fault answers type typed.
           let of_it = first.typed type typed in
           first.faults fault (answers.of_tree first.stop first.operand of_it.0 first.stands of_it.1.0);
@@ -176,10 +176,10 @@ pub plain_types : (slots : Slots) (operator : BinaryOperator) (left right : Side
 plain_types slots operator left right type other (inl plain) = plain
 plain_types slots operator left right type other (inr read) = absurd (other read.0.0)
 
-pub types_alone : (scene : SceneModel) (from to : ℕ) (operator : BinaryOperator) (left right : Tree) → ReadsNone (slots_of scene.row.schema) (OfEquality operator (TypedHere scene left)) right
-    → ReadsNone (slots_of scene.row.schema) (OfEquality operator (TypedHere scene right)) left → (type : ExprType)
-    → (typed : TypedHere scene (node from to (binary operator left right)) type) → OperatorByTypes operator typed.left typed.right type
-types_alone scene from to operator left right no_right no_left type typed = elim typed.makes [
+pub types_alone : (context : ContextModel) (from to : ℕ) (operator : BinaryOperator) (left right : Tree) → ReadsNone (slots_of context.row.schema) (OfEquality operator (TypedHere context left)) right
+    → ReadsNone (slots_of context.row.schema) (OfEquality operator (TypedHere context right)) left → (type : ExprType)
+    → (typed : TypedHere context (node from to (binary operator left right)) type) → OperatorByTypes operator typed.left typed.right type
+types_alone context from to operator left right no_right no_left type typed = elim typed.makes [
   | inl plain ↦ plain
   | inr read ↦ elim read.0.1 [
     | inl number ↦ absurd (no_right number.0 (record { type_of = typed.left; beside = (read.0.0, typed.left_typed); number = number.1 }))
@@ -192,8 +192,8 @@ pub equality_walks : (operator : BinaryOperator) → IsEquality operator → wal
 equality_walks (BinaryOperator.Comparison comparison) equality = refl
 equality_walks _ equality = absurd equality
 
-pub typed_part : (scene : SceneModel) (place : ℕ) (Allowed : ExprType → Type 0) → TypedStands scene place Allowed → PartStands scene place
-typed_part scene place Allowed typed = record { stop = typed.stop; tree = typed.tree; stands = typed.stands }
+pub typed_part : (context : ContextModel) (place : ℕ) (Allowed : ExprType → Type 0) → TypedStands context place Allowed → PartStands context place
+typed_part context place Allowed typed = record { stop = typed.stop; tree = typed.tree; stands = typed.stands }
 
 -- only `now` is called so, and only it takes nothing
 pub only_now : (function : Function) → (row_of function).name ≡ (row_of Function.Now).name → function ≡ Function.Now
@@ -238,32 +238,32 @@ some_taken Function.TotalOffsetMinutes later = omega arith
 some_taken Function.Date later = omega arith
 some_taken Function.Day later = omega arith
 
--- the arguments of a scene's list
-abbrev pub StandsAll : SceneModel → ℕ → ℕ → Trees → Type 0
-StandsAll scene = AllStand scene.row.schema scene.row.type_id (scope_of (environment_of scene)) scene.list
+-- the arguments of a context's list
+abbrev pub StandsAll : ContextModel → ℕ → ℕ → Trees → Type 0
+StandsAll context = AllStand context.row.schema context.row.type_id (scope_of (environment_of context)) context.list
 
-abbrev pub TypedAll : SceneModel → Trees → List ExprType → Type 0
-TypedAll scene = AreTyped (slots_of scene.row.schema) (type_name_at scene.row.schema scene.row.type_id) (scope_of (environment_of scene))
+abbrev pub TypedAll : ContextModel → Trees → List ExprType → Type 0
+TypedAll context = AreTyped (slots_of context.row.schema) (type_name_at context.row.schema context.row.type_id) (scope_of (environment_of context))
 
-abbrev pub MeanAll : SceneModel → Trees → (List Val → Outcome → Type 0) → Outcome → Type 0
-MeanAll scene = ArgumentsMean (slots_of scene.row.schema) (type_name_at scene.row.schema scene.row.type_id) scene.moment (value_of scene.row) (environment_of scene)
+abbrev pub MeanAll : ContextModel → Trees → (List Val → Outcome → Type 0) → Outcome → Type 0
+MeanAll context = ArgumentsMean (slots_of context.row.schema) (type_name_at context.row.schema context.row.type_id) context.moment (value_of context.row) (environment_of context)
 
-module _ (scene : SceneModel) where
-  pub no_empty_call : (asked : List ℕ) (types : List ExprType) (type : ExprType) → ¬ (IsNamed Function.Now asked) → TypedAll scene no_trees types → CallTyped asked types type → ⊥
+module _ (context : ContextModel) where
+  pub no_empty_call : (asked : List ℕ) (types : List ExprType) (type : ExprType) → ¬ (IsNamed Function.Now asked) → TypedAll context no_trees types → CallTyped asked types type → ⊥
   no_empty_call asked [] type later typed called =
       let some : 1 ≤ (row_of called.function).least = some_taken called.function (λ is. later (subst (λ (f : Function). IsNamed f asked) is called.named)) in
       let least : (row_of called.function).least ≤ 0 = called.typed.count.least in
       omega arith
   no_empty_call asked (type ∷ types) t later typed called = typed
 
-  first_typed : (argument : Tree) (more : Trees) (types : List ExprType) → TypedAll scene (more_trees argument more) types
-      → (first : ExprType) × (TypedHere scene argument first × AllowedBy WalkClass.Eager first)
+  first_typed : (argument : Tree) (more : Trees) (types : List ExprType) → TypedAll context (more_trees argument more) types
+      → (first : ExprType) × (TypedHere context argument first × AllowedBy WalkClass.Eager first)
   first_typed argument more [] typed = absurd typed
   first_typed argument more (type ∷ types) typed = (type, (typed.0, tt))
 
   -- a call of another function than `now` has a first argument
   call_first : (place : ℕ) (asked : List ℕ) (arguments : Trees) (stop from to : ℕ) → ¬ (IsNamed Function.Now asked)
-      → StandsHere scene place stop (node from to (call asked arguments)) → FirstTree scene place WalkClass.Eager (node from to (call asked arguments))
+      → StandsHere context place stop (node from to (call asked arguments)) → FirstTree context place WalkClass.Eager (node from to (call asked arguments))
   call_first place asked no_trees stop from to later stands = absurd (no_empty_call asked stands.top.typed.types _ later stands.top.typed.arguments_typed stands.top.typed.call_typed)
   call_first place asked (more_trees argument more) stop from to later stands =
       let whole = node from to (call asked (more_trees argument more)) in
@@ -274,13 +274,13 @@ module _ (scene : SceneModel) where
         typed = λ type typed. first_typed argument more typed.types typed.arguments_typed;
         faults = λ fault is.
             let called = stands.top.typed.call_typed in
-            tells_there (fault_outcome fault) (TakesMemory whole) (TakesMemory whole) (After (MeansHere scene argument) (λ v. MeanAll scene more (λ values. CallGives scene.moment called.function (v ∷ values)))) (MeansHere scene whole) (λ takes. takes)
+            reports_there (fault_outcome fault) (TakesMemory whole) (TakesMemory whole) (After (MeansHere context argument) (λ v. MeanAll context more (λ values. CallGives context.moment called.function (v ∷ values)))) (MeansHere context whole) (λ takes. takes)
             (λ o given. record { function = called.function; named = called.named; given = given })
-            (fault_stays fault (TakesMemory argument) (TakesMemory whole) (MeansHere scene argument) _ (child_takes whole argument (first_child argument (list_of_trees more))) is);
+            (fault_stays fault (TakesMemory argument) (TakesMemory whole) (MeansHere context argument) _ (child_takes whole argument (first_child argument (list_of_trees more))) is);
       }
 
   -- an operator's is a tree or a literal that is read
-  equality_operand : (operator : BinaryOperator) (place : ℕ) → IsEquality operator → OperandStands scene place → StandsBy scene place (walk_of_operator operator)
+  equality_operand : (operator : BinaryOperator) (place : ℕ) → IsEquality operator → OperandStands context place → StandsBy context place (walk_of_operator operator)
   equality_operand (BinaryOperator.Comparison comparison) place equality operand = operand
   equality_operand _ place equality operand = absurd equality
 
@@ -288,10 +288,10 @@ module _ (scene : SceneModel) where
   equality_allows (BinaryOperator.Comparison comparison) type equality = tt
   equality_allows _ type equality = absurd equality
 
-  binary_first : (place : ℕ) (operator : BinaryOperator) (stop from to : ℕ) (left right : Tree) → (stands : StandsHere scene place stop (node from to (binary operator left right)))
-      → BesideHere scene (OfEquality operator (TypedHere scene right)) left (place + 1) stands.children.middle
-      → BesideHere scene (OfEquality operator (TypedHere scene left)) right stands.children.middle stands.children.right.middle
-      → FirstOperand scene place (walk_of_operator operator) (node from to (binary operator left right))
+  binary_first : (place : ℕ) (operator : BinaryOperator) (stop from to : ℕ) (left right : Tree) → (stands : StandsHere context place stop (node from to (binary operator left right)))
+      → BesideHere context (OfEquality operator (TypedHere context right)) left (place + 1) stands.children.middle
+      → BesideHere context (OfEquality operator (TypedHere context left)) right stands.children.middle stands.children.right.middle
+      → FirstOperand context place (walk_of_operator operator) (node from to (binary operator left right))
   binary_first place operator stop from to left right stands (inl read) second = record {
     operand = equality_operand operator (place + 1) read.1.beside.0 (record { stop = stands.children.middle; tree = left; stands = inr (read.0, read.2) });
     faults = λ fault answers type typed.
@@ -299,72 +299,72 @@ module _ (scene : SceneModel) where
   }
   binary_first place operator stop from to left right stands (inr alone) (inl read) =
       let whole = node from to (binary operator left right) in
-      of_first scene place (walk_of_operator operator) stop whole stands (record {
+      of_first context place (walk_of_operator operator) stop whole stands (record {
         stop = stands.children.middle;
         operand = left;
         stands = alone.1;
         typed = λ type typed. (typed.left, (typed.left_typed, equality_allows operator typed.left read.1.beside.0));
         faults = λ fault is.
-            tells_there (fault_outcome fault) (TakesMemory whole) (TakesMemory whole) (SidesGive operator (TypedHere scene whole) (MeansHere scene left) (GivesMember read.0)) (MeansHere scene whole) (λ takes. takes)
+            reports_there (fault_outcome fault) (TakesMemory whole) (TakesMemory whole) (SidesGive operator (TypedHere context whole) (MeansHere context left) (GivesMember read.0)) (MeansHere context whole) (λ takes. takes)
             (λ o given. inl (read.0, read.1, given))
-            (fault_stays fault (TakesMemory left) (TakesMemory whole) (MeansHere scene left) (λ l. OperatorGives operator (TypedHere scene whole) l (GivesMember read.0)) (child_takes whole left (first_child left (right ∷ []))) is);
+            (fault_stays fault (TakesMemory left) (TakesMemory whole) (MeansHere context left) (λ l. OperatorGives operator (TypedHere context whole) l (GivesMember read.0)) (child_takes whole left (first_child left (right ∷ []))) is);
       })
   binary_first place operator stop from to left right stands (inr alone) (inr other) =
       let whole = node from to (binary operator left right) in
-      of_first scene place (walk_of_operator operator) stop whole stands (record {
+      of_first context place (walk_of_operator operator) stop whole stands (record {
         stop = stands.children.middle;
         operand = left;
         stands = alone.1;
         typed = λ type typed.
-            (typed.left, (typed.left_typed, (operands_allowed operator typed.left typed.right type (types_alone scene from to operator left right other.0 alone.0 type typed)).0));
+            (typed.left, (typed.left_typed, (operands_allowed operator typed.left typed.right type (types_alone context from to operator left right other.0 alone.0 type typed)).0));
         faults = λ fault is.
-            tells_there (fault_outcome fault) (TakesMemory whole) (TakesMemory whole) (SidesGive operator (TypedHere scene whole) (MeansHere scene left) (MeansHere scene right)) (MeansHere scene whole) (λ takes. takes)
+            reports_there (fault_outcome fault) (TakesMemory whole) (TakesMemory whole) (SidesGive operator (TypedHere context whole) (MeansHere context left) (MeansHere context right)) (MeansHere context whole) (λ takes. takes)
             (λ o given. inr (other.0, inr (alone.0, given)))
-            (fault_stays fault (TakesMemory left) (TakesMemory whole) (MeansHere scene left) (λ l. OperatorGives operator (TypedHere scene whole) l (MeansHere scene right)) (child_takes whole left (first_child left (right ∷ []))) is);
+            (fault_stays fault (TakesMemory left) (TakesMemory whole) (MeansHere context left) (λ l. OperatorGives operator (TypedHere context whole) l (MeansHere context right)) (child_takes whole left (first_child left (right ∷ []))) is);
       })
 
   -- so does `has`, of which the right operand may be read
-  flags_faults : (from to : ℕ) (left right : Tree) (i j : ℕ) (fault : EvalFault) → BesideHere scene (TypedHere scene left) right i j
-      → Tells (TakesMemory left) (MeansHere scene left) (fault_outcome fault)
-      → Tells (TakesMemory (node from to (has left right))) (MeansHere scene (node from to (has left right))) (fault_outcome fault)
+  flags_faults : (from to : ℕ) (left right : Tree) (i j : ℕ) (fault : EvalFault) → BesideHere context (TypedHere context left) right i j
+      → Reports (TakesMemory left) (MeansHere context left) (fault_outcome fault)
+      → Reports (TakesMemory (node from to (has left right))) (MeansHere context (node from to (has left right))) (fault_outcome fault)
   flags_faults from to left right i j fault (inl read) is =
       let whole = node from to (has left right) in
-      tells_there (fault_outcome fault) (TakesMemory whole) (TakesMemory whole) (After (MeansHere scene left) (λ l. HasGives l (val.member read.0))) (MeansHere scene whole) (λ takes. takes)
+      reports_there (fault_outcome fault) (TakesMemory whole) (TakesMemory whole) (After (MeansHere context left) (λ l. HasGives l (val.member read.0))) (MeansHere context whole) (λ takes. takes)
       (λ o given. inl (read.0, read.1, given))
-      (fault_stays fault (TakesMemory left) (TakesMemory whole) (MeansHere scene left) (λ l. HasGives l (val.member read.0)) (child_takes whole left (first_child left (right ∷ []))) is)
+      (fault_stays fault (TakesMemory left) (TakesMemory whole) (MeansHere context left) (λ l. HasGives l (val.member read.0)) (child_takes whole left (first_child left (right ∷ []))) is)
   flags_faults from to left right i j fault (inr alone) is =
       let whole = node from to (has left right) in
-      tells_there (fault_outcome fault) (TakesMemory whole) (TakesMemory whole) (After (MeansHere scene left) (λ l. After (MeansHere scene right) (HasGives l))) (MeansHere scene whole) (λ takes. takes)
+      reports_there (fault_outcome fault) (TakesMemory whole) (TakesMemory whole) (After (MeansHere context left) (λ l. After (MeansHere context right) (HasGives l))) (MeansHere context whole) (λ takes. takes)
       (λ o given. inr (alone.0, given))
-      (fault_stays fault (TakesMemory left) (TakesMemory whole) (MeansHere scene left) (λ l. After (MeansHere scene right) (HasGives l)) (child_takes whole left (first_child left (right ∷ []))) is)
+      (fault_stays fault (TakesMemory left) (TakesMemory whole) (MeansHere context left) (λ l. After (MeansHere context right) (HasGives l)) (child_takes whole left (first_child left (right ∷ []))) is)
 
-  first_of_kind : (place : ℕ) (kind : NodeKind) → ¬ (walk_of_kind kind ≡ WalkClass.Leaf) → HasKind scene.list place kind
-      → (stop : ℕ) (tree : Tree) → StandsHere scene place stop tree → FirstOperand scene place (walk_of_kind kind) tree
-  first_of_kind place (NodeKind.Member slot) inner here stop tree stands = of_first scene place (walk_of_kind (NodeKind.Member slot)) stop tree stands (by_kind scene place (NodeKind.Member slot) here (λ stop tree. FirstTree scene place WalkClass.Eager tree)
+  first_of_kind : (place : ℕ) (kind : NodeKind) → ¬ (walk_of_kind kind ≡ WalkClass.Leaf) → HasKind context.list place kind
+      → (stop : ℕ) (tree : Tree) → StandsHere context place stop tree → FirstOperand context place (walk_of_kind kind) tree
+  first_of_kind place (NodeKind.Member slot) inner here stop tree stands = of_first context place (walk_of_kind (NodeKind.Member slot)) stop tree stands (by_kind context place (NodeKind.Member slot) here (λ stop tree. FirstTree context place WalkClass.Eager tree)
       (λ base asked stop from to stands. record {
         stop = stop;
         operand = base;
-        stands = only_child scene (place + 1) stop base stands.children;
+        stands = only_child context (place + 1) stop base stands.children;
         typed = λ type typed. (typed.operand, (typed.operand_typed, tt));
-        faults = λ fault. fault_stays fault (TakesMemory base) (TakesMemory (node from to (member base asked))) (MeansHere scene base) _ (child_takes (node from to (member base asked)) base (first_child base []));
+        faults = λ fault. fault_stays fault (TakesMemory base) (TakesMemory (node from to (member base asked))) (MeansHere context base) _ (child_takes (node from to (member base asked)) base (first_child base []));
       }) stop tree stands)
-  first_of_kind place NodeKind.Count inner here stop tree stands = of_first scene place (walk_of_kind NodeKind.Count) stop tree stands (by_kind scene place NodeKind.Count here (λ stop tree. FirstTree scene place WalkClass.Eager tree)
+  first_of_kind place NodeKind.Count inner here stop tree stands = of_first context place (walk_of_kind NodeKind.Count) stop tree stands (by_kind context place NodeKind.Count here (λ stop tree. FirstTree context place WalkClass.Eager tree)
       (λ base stop from to stands. record {
         stop = stop;
         operand = base;
-        stands = only_child scene (place + 1) stop base stands.children;
+        stands = only_child context (place + 1) stop base stands.children;
         typed = λ type typed. (typed.operand, (typed.operand_typed, tt));
-        faults = λ fault. fault_stays fault (TakesMemory base) (TakesMemory (node from to (count base))) (MeansHere scene base) _ (child_takes (node from to (count base)) base (first_child base []));
+        faults = λ fault. fault_stays fault (TakesMemory base) (TakesMemory (node from to (count base))) (MeansHere context base) _ (child_takes (node from to (count base)) base (first_child base []));
       }) stop tree stands)
-  first_of_kind place NodeKind.AnyItem inner here stop tree stands = of_first scene place (walk_of_kind NodeKind.AnyItem) stop tree stands (by_kind scene place NodeKind.AnyItem here (λ stop tree. FirstTree scene place WalkClass.Eager tree)
+  first_of_kind place NodeKind.AnyItem inner here stop tree stands = of_first context place (walk_of_kind NodeKind.AnyItem) stop tree stands (by_kind context place NodeKind.AnyItem here (λ stop tree. FirstTree context place WalkClass.Eager tree)
       (λ base stop from to stands. record {
         stop = stop;
         operand = base;
-        stands = only_child scene (place + 1) stop base stands.children;
+        stands = only_child context (place + 1) stop base stands.children;
         typed = λ type typed. (typed.operand, (typed.operand_typed, tt));
-        faults = λ fault. fault_stays fault (TakesMemory base) (TakesMemory (node from to (any_item base))) (MeansHere scene base) _ (child_takes (node from to (any_item base)) base (first_child base []));
+        faults = λ fault. fault_stays fault (TakesMemory base) (TakesMemory (node from to (any_item base))) (MeansHere context base) _ (child_takes (node from to (any_item base)) base (first_child base []));
       }) stop tree stands)
-  first_of_kind place NodeKind.Has inner here stop tree stands = of_first scene place (walk_of_kind NodeKind.Has) stop tree stands (by_kind scene place NodeKind.Has here (λ stop tree. FirstTree scene place WalkClass.Eager tree)
+  first_of_kind place NodeKind.Has inner here stop tree stands = of_first context place (walk_of_kind NodeKind.Has) stop tree stands (by_kind context place NodeKind.Has here (λ stop tree. FirstTree context place WalkClass.Eager tree)
       (λ left right stop from to stands. record {
         stop = stands.children.middle;
         operand = left;
@@ -372,23 +372,23 @@ module _ (scene : SceneModel) where
         typed = λ type typed. (typed.left, (typed.left_typed, tt));
         faults = λ fault. flags_faults from to left right stands.children.middle stands.children.right.middle fault stands.children.right.left;
       }) stop tree stands)
-  first_of_kind place NodeKind.InPath inner here stop tree stands = of_first scene place (walk_of_kind NodeKind.InPath) stop tree stands (by_kind scene place NodeKind.InPath here (λ stop tree. FirstTree scene place WalkClass.Eager tree)
+  first_of_kind place NodeKind.InPath inner here stop tree stands = of_first context place (walk_of_kind NodeKind.InPath) stop tree stands (by_kind context place NodeKind.InPath here (λ stop tree. FirstTree context place WalkClass.Eager tree)
       (λ left path stop from to stands. record {
         stop = stands.children.middle;
         operand = left;
         stands = stands.children.left;
         typed = λ type typed. (typed.left, (typed.left_typed, tt));
-        faults = λ fault. fault_stays fault (TakesMemory left) (TakesMemory (node from to (in_path left path))) (MeansHere scene left) _ (child_takes (node from to (in_path left path)) left (first_child left (path ∷ [])));
+        faults = λ fault. fault_stays fault (TakesMemory left) (TakesMemory (node from to (in_path left path))) (MeansHere context left) _ (child_takes (node from to (in_path left path)) left (first_child left (path ∷ [])));
       }) stop tree stands)
-  first_of_kind place NodeKind.InList inner here stop tree stands = of_first scene place (walk_of_kind NodeKind.InList) stop tree stands (by_kind scene place NodeKind.InList here (λ stop tree. FirstTree scene place WalkClass.Eager tree)
+  first_of_kind place NodeKind.InList inner here stop tree stands = of_first context place (walk_of_kind NodeKind.InList) stop tree stands (by_kind context place NodeKind.InList here (λ stop tree. FirstTree context place WalkClass.Eager tree)
       (λ left items stop from to stands. record {
         stop = stands.children.middle;
         operand = left;
         stands = stands.children.left;
         typed = λ type typed. (typed.left, (typed.left_typed, tt));
-        faults = λ fault. fault_stays fault (TakesMemory left) (TakesMemory (node from to (in_list left items))) (MeansHere scene left) _ (child_takes (node from to (in_list left items)) left (first_child left (list_of_trees items)));
+        faults = λ fault. fault_stays fault (TakesMemory left) (TakesMemory (node from to (in_list left items))) (MeansHere context left) _ (child_takes (node from to (in_list left items)) left (first_child left (list_of_trees items)));
       }) stop tree stands)
-  first_of_kind place (NodeKind.Lambda quantifier) inner here stop tree stands = of_first scene place (walk_of_kind (NodeKind.Lambda quantifier)) stop tree stands (by_kind scene place (NodeKind.Lambda quantifier) here (λ stop tree. FirstTree scene place WalkClass.Eager tree)
+  first_of_kind place (NodeKind.Lambda quantifier) inner here stop tree stands = of_first context place (walk_of_kind (NodeKind.Lambda quantifier)) stop tree stands (by_kind context place (NodeKind.Lambda quantifier) here (λ stop tree. FirstTree context place WalkClass.Eager tree)
       (λ base asked body stop from to stands.
       let whole = node from to (lambda quantifier base asked body) in
       record {
@@ -396,70 +396,70 @@ module _ (scene : SceneModel) where
         operand = base;
         stands = stands.children.left;
         typed = λ type typed. (collection typed.member_type, (typed.binds.over, tt));
-        faults = λ fault. fault_stays fault (TakesMemory base) (TakesMemory whole) (MeansHere scene base) _ (child_takes whole base (first_child base (body ∷ [])));
+        faults = λ fault. fault_stays fault (TakesMemory base) (TakesMemory whole) (MeansHere context base) _ (child_takes whole base (first_child base (body ∷ [])));
       }) stop tree stands)
-  first_of_kind place NodeKind.Neg inner here stop tree stands = of_first scene place (walk_of_kind NodeKind.Neg) stop tree stands (by_kind scene place NodeKind.Neg here (λ stop tree. FirstTree scene place WalkClass.Numeric tree)
+  first_of_kind place NodeKind.Neg inner here stop tree stands = of_first context place (walk_of_kind NodeKind.Neg) stop tree stands (by_kind context place NodeKind.Neg here (λ stop tree. FirstTree context place WalkClass.Numeric tree)
       (λ operand stop from to stands. record {
         stop = stop;
         operand = operand;
-        stands = only_child scene (place + 1) stop operand stands.children;
+        stands = only_child context (place + 1) stop operand stands.children;
         typed = λ type typed. (typed.operand, (typed.operand_typed, (typed.makes.number, typed.makes.operand_is)));
-        faults = λ fault. fault_stays fault (TakesMemory operand) (TakesMemory (node from to (negation operand))) (MeansHere scene operand) _ (child_takes (node from to (negation operand)) operand (first_child operand []));
+        faults = λ fault. fault_stays fault (TakesMemory operand) (TakesMemory (node from to (negation operand))) (MeansHere context operand) _ (child_takes (node from to (negation operand)) operand (first_child operand []));
       }) stop tree stands)
-  first_of_kind place NodeKind.Not inner here stop tree stands = of_first scene place (walk_of_kind NodeKind.Not) stop tree stands (by_kind scene place NodeKind.Not here (λ stop tree. FirstTree scene place WalkClass.Logical tree)
+  first_of_kind place NodeKind.Not inner here stop tree stands = of_first context place (walk_of_kind NodeKind.Not) stop tree stands (by_kind context place NodeKind.Not here (λ stop tree. FirstTree context place WalkClass.Logical tree)
       (λ operand stop from to stands. record {
         stop = stop;
         operand = operand;
-        stands = only_child scene (place + 1) stop operand stands.children;
+        stands = only_child context (place + 1) stop operand stands.children;
         typed = λ type typed. (typed.operand, (typed.operand_typed, typed.makes.0));
-        faults = λ fault. fault_stays fault (TakesMemory operand) (TakesMemory (node from to (logical_not operand))) (MeansHere scene operand) _ (child_takes (node from to (logical_not operand)) operand (first_child operand []));
+        faults = λ fault. fault_stays fault (TakesMemory operand) (TakesMemory (node from to (logical_not operand))) (MeansHere context operand) _ (child_takes (node from to (logical_not operand)) operand (first_child operand []));
       }) stop tree stands)
-  first_of_kind place (NodeKind.Call function) inner here stop tree stands = of_first scene place (walk_of_kind (NodeKind.Call function)) stop tree stands (by_kind scene place (NodeKind.Call function) here (λ stop tree. FirstTree scene place WalkClass.Eager tree)
+  first_of_kind place (NodeKind.Call function) inner here stop tree stands = of_first context place (walk_of_kind (NodeKind.Call function)) stop tree stands (by_kind context place (NodeKind.Call function) here (λ stop tree. FirstTree context place WalkClass.Eager tree)
       (λ asked arguments named later stop from to stands. call_first place asked arguments stop from to (λ of_now. later (only_now function (named ∙ sym of_now))) stands) stop tree stands)
   first_of_kind place (NodeKind.Binary operator) inner here stop tree stands =
-      by_kind scene place (NodeKind.Binary operator) here (λ stop tree. FirstOperand scene place (walk_of_operator operator) tree)
+      by_kind context place (NodeKind.Binary operator) here (λ stop tree. FirstOperand context place (walk_of_operator operator) tree)
       (λ left right stop from to stands. binary_first place operator stop from to left right stands stands.children.left stands.children.right.left)
       stop tree stands
   first_of_kind place _ inner here stop tree stands = absurd (inner refl)
 
-  first_operand : (place : ℕ) (class : WalkClass) → ¬ (class ≡ WalkClass.Leaf) → IsClassAt scene.list class place
-      → (stop : ℕ) (tree : Tree) → StandsHere scene place stop tree → FirstOperand scene place class tree
+  first_operand : (place : ℕ) (class : WalkClass) → ¬ (class ≡ WalkClass.Leaf) → IsClassAt context.list class place
+      → (stop : ℕ) (tree : Tree) → StandsHere context place stop tree → FirstOperand context place class tree
   first_operand place class inner is stop tree stands =
-      let found = some_there (λ (f : CheckedNode). walk_of_kind f.kind ≡ class) (slice_get scene.list.nodes place) is in
+      let found = some_there (λ (f : CheckedNode). walk_of_kind f.kind ≡ class) (slice_get context.list.nodes place) is in
       let kind = found.0.kind in
-      subst (λ (c : WalkClass). FirstOperand scene place c tree) found.1.1
+      subst (λ (c : WalkClass). FirstOperand context place c tree) found.1.1
       (first_of_kind place kind (λ leaf. inner (sym found.1.1 ∙ leaf))
-      (there_found (λ (f : CheckedNode). f.kind ≡ kind) (slice_get scene.list.nodes place) found.0 found.1.0 refl) stop tree stands)
+      (there_found (λ (f : CheckedNode). f.kind ≡ kind) (slice_get context.list.nodes place) found.0 found.1.0 refl) stop tree stands)
 
   -- a fault of the first operand is the outcome
-  pub first_faults : (place : ℕ) (class : WalkClass) (fault : EvalFault) → ¬ (class ≡ WalkClass.Leaf) → IsClassAt scene.list class place
-      → AnswersAtPlace scene (place + 1) (λ type. fault_outcome fault) → AnswersAtPlace scene place (λ type. fault_outcome fault)
+  pub first_faults : (place : ℕ) (class : WalkClass) (fault : EvalFault) → ¬ (class ≡ WalkClass.Leaf) → IsClassAt context.list class place
+      → AnswersAtPlace context (place + 1) (λ type. fault_outcome fault) → AnswersAtPlace context place (λ type. fault_outcome fault)
   first_faults place class fault inner is first = record {
     of_tree = λ stop tree type stands typed. (first_operand place class inner is stop tree stands).faults fault first type typed;
-    of_number = λ number stop tree type there. absurd (inner_number scene place class inner is number stop tree there);
+    of_number = λ number stop tree type there. absurd (inner_number context place class inner is number stop tree there);
   }
 
   -- the next node is the first operand
-  pub first_step : (place : ℕ) (class : WalkClass) → ¬ (class ≡ WalkClass.Leaf) → IsClassAt scene.list class place → PartStands scene place
-      → StandsBy scene (place + 1) class
+  pub first_step : (place : ℕ) (class : WalkClass) → ¬ (class ≡ WalkClass.Leaf) → IsClassAt context.list class place → PartStands context place
+      → StandsBy context (place + 1) class
   first_step place class inner is part = (first_operand place class inner is part.stop part.tree part.stands).operand
 
   -- a node of truth values is of type Boolean
-  truth_of_kind : (place : ℕ) (kind : NodeKind) → walk_of_kind kind ≡ WalkClass.Logical → HasKind scene.list place kind
-      → (stop : ℕ) (tree : Tree) → StandsHere scene place stop tree → (type : ExprType) → TypedHere scene tree type → IsBooleanOrNull type
+  truth_of_kind : (place : ℕ) (kind : NodeKind) → walk_of_kind kind ≡ WalkClass.Logical → HasKind context.list place kind
+      → (stop : ℕ) (tree : Tree) → StandsHere context place stop tree → (type : ExprType) → TypedHere context tree type → IsBooleanOrNull type
   truth_of_kind place NodeKind.Not logical here =
-      by_kind scene place NodeKind.Not here (λ stop tree. (type : ExprType) → TypedHere scene tree type → IsBooleanOrNull type)
+      by_kind context place NodeKind.Not here (λ stop tree. (type : ExprType) → TypedHere context tree type → IsBooleanOrNull type)
       (λ operand stop from to stands type typed. inl typed.makes.1)
   truth_of_kind place (NodeKind.Binary operator) logical here =
-      by_kind scene place (NodeKind.Binary operator) here (λ stop tree. (type : ExprType) → TypedHere scene tree type → IsBooleanOrNull type)
+      by_kind context place (NodeKind.Binary operator) here (λ stop tree. (type : ExprType) → TypedHere context tree type → IsBooleanOrNull type)
       (λ left right stop from to stands type typed. logical_type operator typed.left typed.right type logical
-      (plain_types (slots_of scene.row.schema) operator (side_of left typed.left) (side_of right typed.right) type (λ equality. let eager = equality_walks operator equality in cc) typed.makes))
+      (plain_types (slots_of context.row.schema) operator (side_of left typed.left) (side_of right typed.right) type (λ equality. let eager = equality_walks operator equality in cc) typed.makes))
   truth_of_kind place _ logical here = absurd (cc)
 
-  pub logical_stands : (place : ℕ) → IsClassAt scene.list WalkClass.Logical place → PartStands scene place → TypedStands scene place IsBooleanOrNull
+  pub logical_stands : (place : ℕ) → IsClassAt context.list WalkClass.Logical place → PartStands context place → TypedStands context place IsBooleanOrNull
   logical_stands place is part =
-      let found = some_there (λ (f : CheckedNode). walk_of_kind f.kind ≡ WalkClass.Logical) (slice_get scene.list.nodes place) is in
-      let typed = has_type scene place part.stop part.tree part.stands in
+      let found = some_there (λ (f : CheckedNode). walk_of_kind f.kind ≡ WalkClass.Logical) (slice_get context.list.nodes place) is in
+      let typed = has_type context place part.stop part.tree part.stands in
       record {
         stop = part.stop;
         tree = part.tree;
@@ -467,19 +467,19 @@ module _ (scene : SceneModel) where
         type_of = typed.0;
         typed = typed.1;
         allowed = truth_of_kind place found.0.kind found.1.1
-            (there_found (λ (f : CheckedNode). f.kind ≡ found.0.kind) (slice_get scene.list.nodes place) found.0 found.1.0 refl)
+            (there_found (λ (f : CheckedNode). f.kind ≡ found.0.kind) (slice_get context.list.nodes place) found.0 found.1.0 refl)
             part.stop part.tree part.stands typed.0 typed.1;
       }
 
-  pub operand_by : (place : ℕ) (class : WalkClass) → StandsBy scene place class → OperandStands scene place
-  operand_by place WalkClass.Logical typed = tree_operand scene place (typed_part scene place IsBooleanOrNull typed)
-  operand_by place WalkClass.Numeric typed = tree_operand scene place (typed_part scene place IsNumberOperand typed)
+  pub operand_by : (place : ℕ) (class : WalkClass) → StandsBy context place class → OperandStands context place
+  operand_by place WalkClass.Logical typed = tree_operand context place (typed_part context place IsBooleanOrNull typed)
+  operand_by place WalkClass.Numeric typed = tree_operand context place (typed_part context place IsNumberOperand typed)
   operand_by place _ operand = operand
 
-  part_by : (place : ℕ) (class : WalkClass) → ¬ (class ≡ WalkClass.Leaf) → IsClassAt scene.list class place → StandsBy scene place class → PartStands scene place
-  part_by place class inner is by = tree_of_class scene place class inner is (operand_by place class by)
+  part_by : (place : ℕ) (class : WalkClass) → ¬ (class ≡ WalkClass.Leaf) → IsClassAt context.list class place → StandsBy context place class → PartStands context place
+  part_by place class inner is by = tree_of_class context place class inner is (operand_by place class by)
 
-  pub first_part : (place : ℕ) (class : WalkClass) → ¬ (class ≡ WalkClass.Leaf) → IsClassAt scene.list class place → PartStands scene place → OperandStands scene (place + 1)
+  pub first_part : (place : ℕ) (class : WalkClass) → ¬ (class ≡ WalkClass.Leaf) → IsClassAt context.list class place → PartStands context place → OperandStands context (place + 1)
   first_part place class inner is part = operand_by (place + 1) class (first_step place class inner is part)
 
   -- what goes on from each place to the next goes down a chain
@@ -490,34 +490,34 @@ module _ (scene : SceneModel) where
       subst P e (step (top + d) (down P Q step top d (top + d) refl first (λ i before from. all i (omega arith) from)) (all (top + d) (omega arith) (omega arith)))
 
   module _ (class : WalkClass) (inner : ¬ (class ≡ WalkClass.Leaf)) (top k : ℕ) where
-    pub typed_down : top ≤ k → StandsBy scene top class → ((i : ℕ) → i < k → top ≤ i → IsClassAt scene.list class i) → StandsBy scene k class
+    pub typed_down : top ≤ k → StandsBy context top class → ((i : ℕ) → i < k → top ≤ i → IsClassAt context.list class i) → StandsBy context k class
     typed_down below first all =
-        down (λ i. StandsBy scene i class) (IsClassAt scene.list class)
+        down (λ i. StandsBy context i class) (IsClassAt context.list class)
         (λ i by is. first_step i class inner is (part_by i class inner is by)) top (k - top) k (omega arith) first all
 
-    pub part_down : top ≤ k → PartStands scene top → ((i : ℕ) → i < k → top ≤ i → IsClassAt scene.list class i) → OperandStands scene k
+    pub part_down : top ≤ k → PartStands context top → ((i : ℕ) → i < k → top ≤ i → IsClassAt context.list class i) → OperandStands context k
     part_down below first all =
-        down (OperandStands scene) (IsClassAt scene.list class) (λ i operand is. first_part i class inner is (tree_of_class scene i class inner is operand)) top (k - top) k (omega arith)
-        (tree_operand scene top first) all
+        down (OperandStands context) (IsClassAt context.list class) (λ i operand is. first_part i class inner is (tree_of_class context i class inner is operand)) top (k - top) k (omega arith)
+        (tree_operand context top first) all
 
   -- the bottom of a chain, after its top
-  pub bottom_down : (class : WalkClass) → ¬ (class ≡ WalkClass.Leaf) → (top k : ℕ) → top < k → PartStands scene top
-      → ((i : ℕ) → i < k → top ≤ i → IsClassAt scene.list class i) → StandsBy scene k class
+  pub bottom_down : (class : WalkClass) → ¬ (class ≡ WalkClass.Leaf) → (top k : ℕ) → top < k → PartStands context top
+      → ((i : ℕ) → i < k → top ≤ i → IsClassAt context.list class i) → StandsBy context k class
   bottom_down class inner top k below first all =
       typed_down class inner (top + 1) k (omega arith) (first_step top class inner (all top below (omega arith)) first) (λ i before from. all i before (omega arith))
 
   -- a step up a chain to the node before, with what was answered after that
   pub record StepUp (class : WalkClass) (Answers : ℕ → Type 0) (at : ℕ) : Type 0 where
-    pub stands : PartStands scene (at - 1)
-    pub here : IsClassAt scene.list class (at - 1)
+    pub stands : PartStands context (at - 1)
+    pub here : IsClassAt context.list class (at - 1)
     pub first : Answers (at - 1 + 1)
 
   pub step_up : (class : WalkClass) → ¬ (class ≡ WalkClass.Leaf) → (Answers : ℕ → Type 0) (top at bottom : ℕ) → top < at → at ≤ bottom
-      → PartStands scene top → ((i : ℕ) → i < bottom → top ≤ i → IsClassAt scene.list class i) → Answers at → StepUp class Answers at
+      → PartStands context top → ((i : ℕ) → i < bottom → top ≤ i → IsClassAt context.list class i) → Answers at → StepUp class Answers at
   step_up class inner Answers top at bottom above within part all answers =
       let e : at ≡ at - 1 + 1 = omega arith in
       record {
-        stands = tree_of_class scene (at - 1) class inner (all (at - 1) (omega arith) (omega arith)) (part_down class inner top (at - 1) (omega arith) part (λ i before from. all i (omega arith) from));
+        stands = tree_of_class context (at - 1) class inner (all (at - 1) (omega arith) (omega arith)) (part_down class inner top (at - 1) (omega arith) part (λ i before from. all i (omega arith) from));
         here = all (at - 1) (omega arith) (omega arith);
         first = subst Answers e answers;
       }

@@ -19,33 +19,33 @@ use Rattle.odata_filter_operations.specs.TruthGives.{truth_val}
 use Rattle.odata_filter_operations.specs.FaultView.{fault_outcome}
 use Rattle.odata_filter_operations.specs.DatumView.{answer_outcome}
 use Rattle.odata_eval.specs.private.Place.{TruthStands}
-use Rattle.odata_eval.specs.private.Scene.{EndsOnceHere, MeansHere, StandsHere, TypedHere}
-use Rattle.odata_eval.specs.private.SceneModel.{SceneModel, environment_of, scene_in}
-use Rattle.odata_filter_operations.specs.Tells.{Tells}
+use Rattle.odata_eval.specs.private.EvalContext.{EndsOnceHere, MeansHere, StandsHere, TypedHere}
+use Rattle.odata_eval.specs.private.ContextModel.{ContextModel, environment_of, context_in}
+use Rattle.odata_filter_operations.specs.Reports.{Reports}
 use Rattle.odata_eval.specs.private.WalkAnswer.{AnswersTruth}
 
-module _ (filter : Filter) (row : Row) (moment : MomentParts) (scene : SceneModel) (right : IsFilter filter) (one_schema : filter.schema ≡ row.schema)
-    (one_type : filter.filtered ≡ row.type_id) (is_row : scene.row ≡ row) (is_moment : scene.moment ≡ moment) (is_list : scene.list ≡ filter.list) (is_empty : scene.frames ≡ []) where
-  pub no_variables : environment_of scene ≡ []
-  no_variables = ap (environment_in scene.row.schema) is_empty
+module _ (filter : Filter) (row : Row) (moment : MomentParts) (context : ContextModel) (right : IsFilter filter) (one_schema : filter.schema ≡ row.schema)
+    (one_type : filter.filtered ≡ row.type_id) (is_row : context.row ≡ row) (is_moment : context.moment ≡ moment) (is_list : context.list ≡ filter.list) (is_empty : context.frames ≡ []) where
+  pub no_variables : environment_of context ≡ []
+  no_variables = ap (environment_in context.row.schema) is_empty
 
-  pub whole_stands : StandsHere scene 0 (length filter.list.nodes) (tree_of_filter filter)
+  pub whole_stands : StandsHere context 0 (length filter.list.nodes) (tree_of_filter filter)
   whole_stands =
-      subst (λ (e : Environment). Stands scene.row.schema scene.row.type_id (scope_of e) scene.list 0 (length filter.list.nodes) (tree_of_filter filter)) (sym no_variables)
-      (subst (λ (r : Row). Stands r.schema r.type_id [] scene.list 0 (length filter.list.nodes) (tree_of_filter filter)) (sym is_row)
+      subst (λ (e : Environment). Stands context.row.schema context.row.type_id (scope_of e) context.list 0 (length filter.list.nodes) (tree_of_filter filter)) (sym no_variables)
+      (subst (λ (r : Row). Stands r.schema r.type_id [] context.list 0 (length filter.list.nodes) (tree_of_filter filter)) (sym is_row)
       (subst (λ (l : FlatTree). Stands row.schema row.type_id [] l 0 (length filter.list.nodes) (tree_of_filter filter)) (sym is_list)
       (subst (λ (s : SchemaModel). Stands s row.type_id [] filter.list 0 (length filter.list.nodes) (tree_of_filter filter)) one_schema
       (subst (λ (n : ℕ). Stands filter.schema n [] filter.list 0 (length filter.list.nodes) (tree_of_filter filter)) one_type right.stands))))
 
-  pub whole_typed : TypedHere scene (tree_of_filter filter) right.type_of
+  pub whole_typed : TypedHere context (tree_of_filter filter) right.type_of
   whole_typed =
-      subst (λ (e : Environment). Typed (slots_of scene.row.schema) (type_name_at scene.row.schema scene.row.type_id) (scope_of e) (tree_of_filter filter) right.type_of) (sym no_variables)
+      subst (λ (e : Environment). Typed (slots_of context.row.schema) (type_name_at context.row.schema context.row.type_id) (scope_of e) (tree_of_filter filter) right.type_of) (sym no_variables)
       (subst (λ (r : Row). Typed (slots_of r.schema) (type_name_at r.schema r.type_id) [] (tree_of_filter filter) right.type_of) (sym is_row)
       (subst (λ (s : SchemaModel). Typed (slots_of s) (type_name_at s row.type_id) [] (tree_of_filter filter) right.type_of) one_schema
       (subst (λ (n : ℕ). Typed (slots_of filter.schema) (type_name_at filter.schema n) [] (tree_of_filter filter) right.type_of) one_type right.typed)))
 
   -- the whole is of type Boolean or Null
-  pub top_stands : TruthStands scene 0
+  pub top_stands : TruthStands context 0
   top_stands = record {
     stop = length filter.list.nodes;
     tree = tree_of_filter filter;
@@ -56,47 +56,47 @@ module _ (filter : Filter) (row : Row) (moment : MomentParts) (scene : SceneMode
   }
 
   -- what it means there is what it means by itself
-  means_alone : (o : Outcome) → MeansHere scene (tree_of_filter filter) o → MeansOn scene.row scene.moment (tree_of_filter filter) o
+  means_alone : (o : Outcome) → MeansHere context (tree_of_filter filter) o → MeansOn context.row context.moment (tree_of_filter filter) o
   means_alone o =
-      subst (λ (e : Environment). Means (slots_of scene.row.schema) (type_name_at scene.row.schema scene.row.type_id) scene.moment (value_of scene.row) e (tree_of_filter filter) o) no_variables
+      subst (λ (e : Environment). Means (slots_of context.row.schema) (type_name_at context.row.schema context.row.type_id) context.moment (value_of context.row) e (tree_of_filter filter) o) no_variables
 
-  means_here : (o : Outcome) → MeansOn scene.row scene.moment (tree_of_filter filter) o → MeansHere scene (tree_of_filter filter) o
+  means_here : (o : Outcome) → MeansOn context.row context.moment (tree_of_filter filter) o → MeansHere context (tree_of_filter filter) o
   means_here o =
-      subst (λ (e : Environment). Means (slots_of scene.row.schema) (type_name_at scene.row.schema scene.row.type_id) scene.moment (value_of scene.row) e (tree_of_filter filter) o) (sym no_variables)
+      subst (λ (e : Environment). Means (slots_of context.row.schema) (type_name_at context.row.schema context.row.type_id) context.moment (value_of context.row) e (tree_of_filter filter) o) (sym no_variables)
 
-  only_told : EndsOnceHere scene → (told : Option Outcome)
-      → Tells (TakesMemory (tree_of_filter filter)) (MeansHere scene (tree_of_filter filter)) told → IfSome told (IsTheOutcome scene.row scene.moment (tree_of_filter filter))
-  only_told ends (Some o) related =
+  only_reported : EndsOnceHere context → (reported : Option Outcome)
+      → Reports (TakesMemory (tree_of_filter filter)) (MeansHere context (tree_of_filter filter)) reported → IfSome reported (IsTheOutcome context.row context.moment (tree_of_filter filter))
+  only_reported ends (Some o) related =
       let e = ends (tree_of_filter filter) right.type_of whole_typed in
       record {
         related = means_alone o related;
         only = λ other of_other. e.only other (means_here other of_other) ∙ sym (e.only o related);
       }
-  only_told ends None related = tt
+  only_reported ends None related = tt
 
-  memory_told : (fault : EvalFault) (Takes : Type 0) (Means : Outcome → Type 0) → Tells Takes Means (fault_outcome fault) → fault ≡ EvalFault.Memory → Takes
-  memory_told fault Takes Means is same = subst (λ (f : EvalFault). Tells Takes Means (fault_outcome f)) same is
+  memory_reported : (fault : EvalFault) (Takes : Type 0) (Means : Outcome → Type 0) → Reports Takes Means (fault_outcome fault) → fault ≡ EvalFault.Memory → Takes
+  memory_reported fault Takes Means is same = subst (λ (f : EvalFault). Reports Takes Means (fault_outcome f)) same is
 
   -- the walk reports running out of memory only where the filter takes memory
-  pub top_memory : (fault : EvalFault) → AnswersTruth scene 0 (Err fault) → fault ≡ EvalFault.Memory → TakesMemory (tree_of_filter filter)
+  pub top_memory : (fault : EvalFault) → AnswersTruth context 0 (Err fault) → fault ≡ EvalFault.Memory → TakesMemory (tree_of_filter filter)
   top_memory fault answers =
-      memory_told fault (TakesMemory (tree_of_filter filter)) (MeansHere scene (tree_of_filter filter))
+      memory_reported fault (TakesMemory (tree_of_filter filter)) (MeansHere context (tree_of_filter filter))
       (answers.of_tree (length filter.list.nodes) (tree_of_filter filter) right.type_of whole_stands whole_typed)
 
   -- what the walk answers of it is the filter's one outcome
-  pub top_outcome : EndsOnceHere scene → (answer : Result (Option Bool) EvalFault)
-      → AnswersTruth scene 0 answer → IfSome (answer_outcome truth_val answer) (IsTheOutcome row moment (tree_of_filter filter))
+  pub top_outcome : EndsOnceHere context → (answer : Result (Option Bool) EvalFault)
+      → AnswersTruth context 0 answer → IfSome (answer_outcome truth_val answer) (IsTheOutcome row moment (tree_of_filter filter))
   top_outcome ends answer answers =
       subst (λ (r : Row). IfSome (answer_outcome truth_val answer) (IsTheOutcome r moment (tree_of_filter filter))) is_row
-      (subst (λ (m : MomentParts). IfSome (answer_outcome truth_val answer) (IsTheOutcome scene.row m (tree_of_filter filter))) is_moment
-      (only_told ends (answer_outcome truth_val answer)
+      (subst (λ (m : MomentParts). IfSome (answer_outcome truth_val answer) (IsTheOutcome context.row m (tree_of_filter filter))) is_moment
+      (only_reported ends (answer_outcome truth_val answer)
       (answers.of_tree (length filter.list.nodes) (tree_of_filter filter) right.type_of whole_stands whole_typed)))
 
--- a scene without variables is its row, its moment and its list
-pub scene_is : (row : Row) (moment : MomentParts) (list : FlatTree) (scene : SceneModel)
-    → scene.row ≡ row → scene.moment ≡ moment → scene.list ≡ list → scene.frames ≡ [] → scene_in row moment list [] ≡ scene
-scene_is row moment list scene is_row is_moment is_list is_empty =
-    subst (λ (r : Row). scene_in r moment list [] ≡ scene) is_row
-    (subst (λ (m : MomentParts). scene_in scene.row m list [] ≡ scene) is_moment
-    (subst (λ (l : FlatTree). scene_in scene.row scene.moment l [] ≡ scene) is_list
-    (subst (λ (f : List Frame). scene_in scene.row scene.moment scene.list f ≡ scene) is_empty refl)))
+-- a context without variables is its row, its moment and its list
+pub context_is : (row : Row) (moment : MomentParts) (list : FlatTree) (context : ContextModel)
+    → context.row ≡ row → context.moment ≡ moment → context.list ≡ list → context.frames ≡ [] → context_in row moment list [] ≡ context
+context_is row moment list context is_row is_moment is_list is_empty =
+    subst (λ (r : Row). context_in r moment list [] ≡ context) is_row
+    (subst (λ (m : MomentParts). context_in context.row m list [] ≡ context) is_moment
+    (subst (λ (l : FlatTree). context_in context.row context.moment l [] ≡ context) is_list
+    (subst (λ (f : List Frame). context_in context.row context.moment context.list f ≡ context) is_empty refl)))

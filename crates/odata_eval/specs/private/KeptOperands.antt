@@ -7,9 +7,9 @@ use Rattle.odata_checked_filter.specs.FlatTree.{FlatTree}
 use Rattle.odata_checked_filter.specs.declared.checked_node.NodeKind.{NodeKind}
 use Rattle.odata_filter_operations.specs.FunctionGives.{FunctionGives}
 use Rattle.odata_filter_operations.specs.Outcome.{Outcome, gives}
-use Rattle.odata_eval.specs.declared.part.WalkClass.{WalkClass}
+use Rattle.odata_eval.specs.declared.walk_operand.WalkClass.{WalkClass}
 use Rattle.odata_eval.specs.private.Place.{HasKind, IsClassAt}
-use Rattle.odata_eval.specs.private.SceneModel.{SceneModel}
+use Rattle.odata_eval.specs.private.ContextModel.{ContextModel}
 use Rattle.odata_eval.specs.private.WalkAnswer.{AnswersAtPlace}
 
 -- a leaf stands there, or a step from one
@@ -19,20 +19,22 @@ IsPathAt list place =
     ⊎ ((slot : ℕ) × HasKind list place (NodeKind.Member slot) × IsClassAt list WalkClass.Leaf (place + 1))
 
 -- the text is what stands there evaluates to
-abbrev pub AnswersText : SceneModel → ℕ → List ℕ → Type 0
-AnswersText scene place given = AnswersAtPlace scene place (λ type. Some (gives (text given)))
+abbrev pub AnswersText : ContextModel → ℕ → List ℕ → Type 0
+AnswersText context place given = AnswersAtPlace context place (λ type. Some (gives (text given)))
 
 -- what the function gives of that text is what its call there evaluates to
-abbrev pub AnswersCall : SceneModel → ℕ → Function → List ℕ → Type 0
-AnswersCall scene place function given =
-    (o : Outcome) → FunctionGives scene.moment function (text given ∷ []) o → AnswersAtPlace scene place (λ type. Some o)
+abbrev pub AnswersCall : ContextModel → ℕ → Function → List ℕ → Type 0
+AnswersCall context place function given =
+    (o : Outcome) → FunctionGives context.moment function (text given ∷ []) o
+    → AnswersAtPlace context place (λ type. Some o)
 
 -- so is what it gives of another text and that one, where the first argument evaluates to the other
-abbrev pub AnswersLast : SceneModel → ℕ → Function → List ℕ → Type 0
-AnswersLast scene place function part =
-    (given : List ℕ) (o : Outcome) → AnswersText scene (place + 1) given
-    → FunctionGives scene.moment function (text given ∷ text part ∷ []) o → AnswersAtPlace scene place (λ type. Some o)
+abbrev pub AnswersLast : ContextModel → ℕ → Function → List ℕ → Type 0
+AnswersLast context place function part =
+    (given : List ℕ) (o : Outcome) → AnswersText context (place + 1) given
+    → FunctionGives context.moment function (text given ∷ text part ∷ []) o
+    → AnswersAtPlace context place (λ type. Some o)
 
 -- that text in lower case is what stands there evaluates to
-abbrev pub AnswersLowered : SceneModel → ℕ → List ℕ → Type 0
-AnswersLowered scene place given = AnswersText scene place (in_lower_case given)
+abbrev pub AnswersLowered : ContextModel → ℕ → List ℕ → Type 0
+AnswersLowered context place given = AnswersText context place (in_lower_case given)

@@ -24,13 +24,14 @@ use Rattle.odata_filter_operations.specs.TruthGives.{truth_val}
 use Rattle.odata_filter_operations.specs.declared.fault.EvalFault.{EvalFault}
 use Rattle.odata_eval.specs.declared.frames.RangeVariable.{RangeVariable}
 use Rattle.odata_filter_operations.specs.DatumView.{answer_outcome}
-use Rattle.odata_eval.specs.private.SceneModel.{SceneModel, environment_of}
-use Rattle.odata_filter_operations.specs.Tells.{Tells}
+use Rattle.odata_eval.specs.private.ContextModel.{ContextModel, environment_of}
+use Rattle.odata_filter_operations.specs.Reports.{Reports}
 
 -- the base there has members of some type
 abbrev pub IsOverMembers : FlatTree → ℕ → Type 0
 IsOverMembers list place =
-    IsSomeAnd (slice_get list.nodes (place + 1)) (λ base. (member : ValueType) × (base.edm_type ≡ EdmType.Collection member))
+    IsSomeAnd (slice_get list.nodes (place + 1))
+    (λ base. (member : ValueType) × (base.edm_type ≡ EdmType.Collection member))
 
 -- it is the variable of the operator there: it has the name beside the node, and the type of the base's members
 pub record IsVariableOf (list : FlatTree) (place : ℕ) (variable : RangeVariable) : Type 0 where
@@ -40,43 +41,45 @@ pub record IsVariableOf (list : FlatTree) (place : ℕ) (variable : RangeVariabl
   pub base_is : IsSomeAnd (slice_get list.nodes (place + 1)) (λ base. base.edm_type ≡ EdmType.Collection member)
 
 -- the type of a variable
-abbrev pub type_of_variable : SceneModel → RangeVariable → ExprType
-type_of_variable scene variable = expr_type scene.row.schema variable.edm_type
+abbrev pub type_of_variable : ContextModel → RangeVariable → ExprType
+type_of_variable context variable = expr_type context.row.schema variable.edm_type
 
 -- the scope of a body, in which the variable is the innermost
-abbrev pub body_scope : SceneModel → RangeVariable → Scope
-body_scope scene variable =
-    with_variable (scope_of (environment_of scene)) variable.name.now (type_of_variable scene variable)
+abbrev pub body_scope : ContextModel → RangeVariable → Scope
+body_scope context variable =
+    with_variable (scope_of (environment_of context)) variable.name.now (type_of_variable context variable)
 
 -- the nodes from the index up to the stop stand for the body
-abbrev pub BodyStands : SceneModel → RangeVariable → ℕ → ℕ → Tree → Type 0
-BodyStands scene variable = Stands scene.row.schema scene.row.type_id (body_scope scene variable) scene.list
+abbrev pub BodyStands : ContextModel → RangeVariable → ℕ → ℕ → Tree → Type 0
+BodyStands context variable = Stands context.row.schema context.row.type_id (body_scope context variable) context.list
 
 -- the body has the type
-abbrev pub BodyTyped : SceneModel → RangeVariable → Tree → ExprType → Type 0
-BodyTyped scene variable =
-    Typed (slots_of scene.row.schema) (type_name_at scene.row.schema scene.row.type_id) (body_scope scene variable)
+abbrev pub BodyTyped : ContextModel → RangeVariable → Tree → ExprType → Type 0
+BodyTyped context variable =
+    Typed (slots_of context.row.schema) (type_name_at context.row.schema context.row.type_id)
+    (body_scope context variable)
 
 -- a body of type Boolean or Null stands there
-pub record BodyIsThere (scene : SceneModel) (variable : RangeVariable) (place : ℕ) : Type 0 where
+pub record BodyIsThere (context : ContextModel) (variable : RangeVariable) (place : ℕ) : Type 0 where
   pub stop : ℕ
   pub body : Tree
-  pub stands : BodyStands scene variable place stop body
+  pub stands : BodyStands context variable place stop body
   pub type_of : ExprType
-  pub typed : BodyTyped scene variable body type_of
+  pub typed : BodyTyped context variable body type_of
   pub truth : IsBooleanOrNull type_of
 
 -- what the body evaluates to where the variable has that value
-abbrev pub BodyMeans : SceneModel → RangeVariable → Tree → Val → Outcome → Type 0
-BodyMeans scene variable body v =
-    Means (slots_of scene.row.schema) (type_name_at scene.row.schema scene.row.type_id) scene.moment (value_of scene.row)
-    (bound_over (environment_of scene) variable.name.now (type_of_variable scene variable) v) body
+abbrev pub BodyMeans : ContextModel → RangeVariable → Tree → Val → Outcome → Type 0
+BodyMeans context variable body v =
+    Means (slots_of context.row.schema) (type_name_at context.row.schema context.row.type_id) context.moment
+    (value_of context.row)
+    (bound_over (environment_of context) variable.name.now (type_of_variable context variable) v) body
 
 -- the value is of the variable's type
-abbrev pub Suits : SceneModel → RangeVariable → Value → Type 0
-Suits scene variable value =
-    HasType (slots_of scene.row.schema) (type_of_variable scene variable)
-    (val_of value (slots_of scene.row.schema).properties (type_of_variable scene variable))
+abbrev pub Suits : ContextModel → RangeVariable → Value → Type 0
+Suits context variable value =
+    HasType (slots_of context.row.schema) (type_of_variable context variable)
+    (val_of value (slots_of context.row.schema).properties (type_of_variable context variable))
 
 -- what members are, each of that type
 abbrev pub vals_of : Slots → ExprType → List Value → Vals
@@ -85,12 +88,12 @@ vals_of slots type (value ∷ more) = item (val_of value slots.properties type) 
 
 -- the answer is an outcome of the operator over these members, whatever body stands at the index
 pub record AnswersMembers
-    (scene : SceneModel) (place : ℕ) (quantifier : Quantifier) (variable : RangeVariable) (members : List Value)
+    (context : ContextModel) (place : ℕ) (quantifier : Quantifier) (variable : RangeVariable) (members : List Value)
     (answer : Result (Option Bool) EvalFault) : Type 0 where
   pub of_body :
-      (stop : ℕ) (body : Tree) (type : ExprType) → BodyStands scene variable place stop body
-      → BodyTyped scene variable body type
-      → Tells (TakesMemory body)
-      (MembersGo quantifier (BodyMeans scene variable body)
-      (vals_of (slots_of scene.row.schema) (type_of_variable scene variable) members))
+      (stop : ℕ) (body : Tree) (type : ExprType) → BodyStands context variable place stop body
+      → BodyTyped context variable body type
+      → Reports (TakesMemory body)
+      (MembersGo quantifier (BodyMeans context variable body)
+      (vals_of (slots_of context.row.schema) (type_of_variable context variable) members))
       (answer_outcome truth_val answer)

@@ -27,15 +27,18 @@ use Rattle.odata_signatures.specs.Laws.{OneLiteralValue, OneType, QuotingIsText}
 pub record OneEach : Type 0 where
   pub values : OneLiteralValue
   pub types : OneType
-  pub answer : (operator : ArithmeticOperator) (kind : PrimitiveType) (left right : Option ℤ) (x y : Result (Option ℤ) ArithFault)
+  pub answer : (operator : ArithmeticOperator) (kind : PrimitiveType) (left right : Option ℤ)
+      (x y : Result (Option ℤ) ArithFault)
       → ArithmeticGives operator kind left right x → ArithmeticGives operator kind left right y → x ≡ y
   pub negation : (kind : PrimitiveType) (operand : Option ℤ) (x y : Result (Option ℤ) ArithFault)
       → NegationGives kind operand x → NegationGives kind operand y → x ≡ y
   pub place : (text part : List ℕ) (n m : ℤ) → IsPlaceOf text part n → IsPlaceOf text part m → n ≡ m
   pub trimmed : (text part other : List ℕ) → IsTrimmed text part → IsTrimmed text other → part ≡ other
-  pub dates : (number y y' : ℤ) (m m' d d' : ℕ) → IsDateOf number y m d → IsDateOf number y' m' d' → (y ≡ y') × (m ≡ m') × (d ≡ d')
+  pub dates : (number y y' : ℤ) (m m' d d' : ℕ) → IsDateOf number y m d → IsDateOf number y' m' d' → (y ≡ y') × (m ≡ m')
+      × (d ≡ d')
   pub names : (f g : Function) (text : List ℕ) → IsNamed f text → IsNamed g text → f ≡ g
-  pub numbers : (slots : Slots) (name spelling : List ℕ) (m n : ℤ) → IsQuotedNumber slots name spelling m → IsQuotedNumber slots name spelling n → m ≡ n
+  pub numbers : (slots : Slots) (name spelling : List ℕ) (m n : ℤ) → IsQuotedNumber slots name spelling m
+      → IsQuotedNumber slots name spelling n → m ≡ n
 
 -- what parts literals that are read from those that are not
 pub record ReadLaws : Type 0 where
@@ -45,7 +48,8 @@ pub record ReadLaws : Type 0 where
 
 -- what gives outcomes
 pub record SomeEach : Type 0 where
-  pub decided : (operator : ComparisonOperator) (v w : Val) → (answer : Bool) × (IsTrue answer ↔ ComparesTrue operator v w)
+  pub decided : (operator : ComparisonOperator) (v w : Val) → (answer : Bool)
+      × (IsTrue answer ↔ ComparesTrue operator v w)
   pub answer : (operator : ArithmeticOperator) (kind : PrimitiveType) (left right : Option ℤ) → IsPromoted kind
       → (x : Result (Option ℤ) ArithFault) × ArithmeticGives operator kind left right x
   pub negation : (kind : PrimitiveType) (operand : Option ℤ) → IsPromoted kind

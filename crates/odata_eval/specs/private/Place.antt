@@ -8,42 +8,42 @@ use Rattle.odata_checked_filter.specs.declared.checked_node.NodeKind.{NodeKind}
 use Rattle.odata_signatures.specs.declared.function.Function.{Function}
 use Rattle.odata_signatures.specs.ExprTypes.{IsBooleanOrNull, IsNumberOrNull}
 use Rattle.odata_checked_filter.specs.FlatTree.{FlatTree}
-use Rattle.odata_eval.specs.declared.part.WalkClass.{WalkClass}
-use Rattle.odata_eval.specs.private.Scene.{OperandHere, StandsHere, TypedHere}
-use Rattle.odata_eval.specs.private.SceneModel.{SceneModel}
+use Rattle.odata_eval.specs.declared.walk_operand.WalkClass.{WalkClass}
+use Rattle.odata_eval.specs.private.EvalContext.{OperandHere, StandsHere, TypedHere}
+use Rattle.odata_eval.specs.private.ContextModel.{ContextModel}
 use Rattle.odata_eval.specs.private.WalkClass.{walk_of_kind}
 
 -- something stands there
-pub record PartStands (scene : SceneModel) (place : ℕ) : Type 0 where
+pub record PartStands (context : ContextModel) (place : ℕ) : Type 0 where
   pub stop : ℕ
   pub tree : Tree
-  pub stands : StandsHere scene place stop tree
+  pub stands : StandsHere context place stop tree
 
 -- that, or a String literal that has a number there
-pub record OperandStands (scene : SceneModel) (place : ℕ) : Type 0 where
+pub record OperandStands (context : ContextModel) (place : ℕ) : Type 0 where
   pub stop : ℕ
   pub tree : Tree
-  pub stands : OperandHere scene place stop tree
+  pub stands : OperandHere context place stop tree
 
 -- a tree has a type that is allowed there
-pub record TypedStands (scene : SceneModel) (place : ℕ) (Allowed : ExprType → Type 0) : Type 0 where
+pub record TypedStands (context : ContextModel) (place : ℕ) (Allowed : ExprType → Type 0) : Type 0 where
   pub stop : ℕ
   pub tree : Tree
-  pub stands : StandsHere scene place stop tree
+  pub stands : StandsHere context place stop tree
   pub type_of : ExprType
-  pub typed : TypedHere scene tree type_of
+  pub typed : TypedHere context tree type_of
   pub allowed : Allowed type_of
 
 -- Boolean or Null
-abbrev pub TruthStands : SceneModel → ℕ → Type 0
-TruthStands scene place = TypedStands scene place IsBooleanOrNull
+abbrev pub TruthStands : ContextModel → ℕ → Type 0
+TruthStands context place = TypedStands context place IsBooleanOrNull
 
 -- a number type or Null
 abbrev pub IsNumberOperand : ExprType → Type 0
 IsNumberOperand type = (number : Option PrimitiveType) × IsNumberOrNull type number
 
-abbrev pub NumberStands : SceneModel → ℕ → Type 0
-NumberStands scene place = TypedStands scene place IsNumberOperand
+abbrev pub NumberStands : ContextModel → ℕ → Type 0
+NumberStands context place = TypedStands context place IsNumberOperand
 
 -- the walk takes the node there so
 abbrev pub IsClassAt : FlatTree → WalkClass → ℕ → Type 0

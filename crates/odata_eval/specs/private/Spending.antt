@@ -15,29 +15,29 @@ use Rattle.odata_eval.specs.declared.budget.Budget.{Budget}
 use Rattle.odata_eval.specs.declared.frames.RangeVariable.{RangeVariable}
 use Rattle.odata_eval.specs.declared.stop.EvalStop.{EvalStop}
 use Rattle.odata_eval.specs.private.Lambda.{AnswersMembers, BodyMeans, BodyStands, type_of_variable, vals_of}
-use Rattle.odata_eval.specs.private.Scene.{NumberHere, StandsHere, TypedHere}
-use Rattle.odata_eval.specs.private.SceneModel.{SceneModel, environment_of}
+use Rattle.odata_eval.specs.private.EvalContext.{NumberHere, StandsHere, TypedHere}
+use Rattle.odata_eval.specs.private.ContextModel.{ContextModel, environment_of}
 use Rattle.odata_eval.specs.private.WalkAnswer.{AnswersDatum, AnswersTruth}
 
 -- ---- answers that may stop for their cost, of which nothing is said then
 
-abbrev pub CountedTruth : SceneModel → ℕ → Result (Option Bool) EvalStop → Type 0
-CountedTruth scene place (Ok truth) = AnswersTruth scene place (Ok truth)
-CountedTruth scene place (Err (EvalStop.Fault fault)) = AnswersTruth scene place (Err fault)
-CountedTruth scene place (Err EvalStop.TooCostly) = Unit {0}
+abbrev pub CountedTruth : ContextModel → ℕ → Result (Option Bool) EvalStop → Type 0
+CountedTruth context place (Ok truth) = AnswersTruth context place (Ok truth)
+CountedTruth context place (Err (EvalStop.Fault fault)) = AnswersTruth context place (Err fault)
+CountedTruth context place (Err EvalStop.TooCostly) = Unit {0}
 
-abbrev pub CountedDatum : SceneModel → ℕ → Result Datum EvalStop → Type 0
-CountedDatum scene place (Ok datum) = AnswersDatum scene place (Ok datum)
-CountedDatum scene place (Err (EvalStop.Fault fault)) = AnswersDatum scene place (Err fault)
-CountedDatum scene place (Err EvalStop.TooCostly) = Unit {0}
+abbrev pub CountedDatum : ContextModel → ℕ → Result Datum EvalStop → Type 0
+CountedDatum context place (Ok datum) = AnswersDatum context place (Ok datum)
+CountedDatum context place (Err (EvalStop.Fault fault)) = AnswersDatum context place (Err fault)
+CountedDatum context place (Err EvalStop.TooCostly) = Unit {0}
 
 abbrev pub CountedMembers :
-    SceneModel → ℕ → Quantifier → RangeVariable → List Value → Result (Option Bool) EvalStop → Type 0
-CountedMembers scene place quantifier variable members (Ok truth) =
-    AnswersMembers scene place quantifier variable members (Ok truth)
-CountedMembers scene place quantifier variable members (Err (EvalStop.Fault fault)) =
-    AnswersMembers scene place quantifier variable members (Err fault)
-CountedMembers scene place quantifier variable members (Err EvalStop.TooCostly) = Unit {0}
+    ContextModel → ℕ → Quantifier → RangeVariable → List Value → Result (Option Bool) EvalStop → Type 0
+CountedMembers context place quantifier variable members (Ok truth) =
+    AnswersMembers context place quantifier variable members (Ok truth)
+CountedMembers context place quantifier variable members (Err (EvalStop.Fault fault)) =
+    AnswersMembers context place quantifier variable members (Err fault)
+CountedMembers context place quantifier variable members (Err EvalStop.TooCostly) = Unit {0}
 
 -- an answer, its fault as a stop
 abbrev pub as_stop : {Held : Type 0} → Result Held EvalFault → Result Held EvalStop
@@ -84,39 +84,41 @@ Spent (Some (EvalStop.Fault EvalFault.Memory)) old new n = Unit {0}
 -- ---- trees
 
 -- the tree has the cost
-abbrev pub CostsHere : SceneModel → Tree → ℕ → Type 0
-CostsHere scene =
-    Costs (slots_of scene.row.schema) (type_name_at scene.row.schema scene.row.type_id) scene.moment (value_of scene.row)
-    (environment_of scene)
+abbrev pub CostsHere : ContextModel → Tree → ℕ → Type 0
+CostsHere context =
+    Costs (slots_of context.row.schema) (type_name_at context.row.schema context.row.type_id) context.moment
+    (value_of context.row)
+    (environment_of context)
 
 -- a tree that has a type has one cost
-abbrev pub CostsOnceHere : SceneModel → Type 0
-CostsOnceHere scene =
-    (tree : Tree) (type : ExprType) → TypedHere scene tree type
-    → CostsOnce (slots_of scene.row.schema) (type_name_at scene.row.schema scene.row.type_id) scene.moment
-    (value_of scene.row) (environment_of scene) tree
+abbrev pub CostsOnceHere : ContextModel → Type 0
+CostsOnceHere context =
+    (tree : Tree) (type : ExprType) → TypedHere context tree type
+    → CostsOnce (slots_of context.row.schema) (type_name_at context.row.schema context.row.type_id) context.moment
+    (value_of context.row) (environment_of context) tree
 
 -- what stands at the index was asked for, with a budget before and after; a literal that has a number costs nothing
-pub record SpendsAt (scene : SceneModel) (place : ℕ) (old new : Budget) (stop : Option EvalStop) : Type 0 where
+pub record SpendsAt (context : ContextModel) (place : ℕ) (old new : Budget) (stop : Option EvalStop) : Type 0 where
   pub of_tree :
-      (last : ℕ) (tree : Tree) (n : ℕ) → StandsHere scene place last tree → CostsHere scene tree n
+      (last : ℕ) (tree : Tree) (n : ℕ) → StandsHere context place last tree → CostsHere context tree n
       → Spent stop old new n
-  pub of_number : (number : ℤ) (last : ℕ) (tree : Tree) → NumberHere scene number place last tree → Spent stop old new 0
+  pub of_number : (number : ℤ) (last : ℕ) (tree : Tree) → NumberHere context number place last tree
+      → Spent stop old new 0
 
 -- where its first operand was asked for since the walk had some budget, the rest of it is asked for now
-abbrev pub SpendsRest : SceneModel → ℕ → Budget → Option EvalStop → Budget → Option EvalStop → Type 0
-SpendsRest scene place old first new stop =
-    (start : Budget) → SpendsAt scene (place + 1) start old first → SpendsAt scene place start new stop
+abbrev pub SpendsRest : ContextModel → ℕ → Budget → Option EvalStop → Budget → Option EvalStop → Type 0
+SpendsRest context place old first new stop =
+    (start : Budget) → SpendsAt context (place + 1) start old first → SpendsAt context place start new stop
 
 -- so were the members of a lambda operator, whatever body stands at the index
 pub record SpendsMembers
-    (scene : SceneModel) (place : ℕ) (quantifier : Quantifier) (variable : RangeVariable) (members : List Value)
+    (context : ContextModel) (place : ℕ) (quantifier : Quantifier) (variable : RangeVariable) (members : List Value)
     (old new : Budget) (stop : Option EvalStop) : Type 0 where
   pub of_body :
-      (last : ℕ) (body : Tree) (n : ℕ) → BodyStands scene variable place last body
-      → MembersCost quantifier (BodyMeans scene variable body)
-      (λ v. Costs (slots_of scene.row.schema) (type_name_at scene.row.schema scene.row.type_id) scene.moment
-      (value_of scene.row)
-      (bound_over (environment_of scene) variable.name.now (type_of_variable scene variable) v) body)
-      (vals_of (slots_of scene.row.schema) (type_of_variable scene variable) members) n
+      (last : ℕ) (body : Tree) (n : ℕ) → BodyStands context variable place last body
+      → MembersCost quantifier (BodyMeans context variable body)
+      (λ v. Costs (slots_of context.row.schema) (type_name_at context.row.schema context.row.type_id) context.moment
+      (value_of context.row)
+      (bound_over (environment_of context) variable.name.now (type_of_variable context variable) v) body)
+      (vals_of (slots_of context.row.schema) (type_of_variable context variable) members) n
       → Spent stop old new n

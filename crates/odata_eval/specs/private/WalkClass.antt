@@ -4,7 +4,7 @@ use Rattle.edm_values.specs.Val.{Val, boolean}
 use Rattle.odata_checked_filter.specs.declared.checked_node.NodeKind.{NodeKind}
 use Rattle.odata_syntax.specs.declared.binary_operator.LogicalOperator.{LogicalOperator}
 use Rattle.odata_syntax.specs.declared.binary_operator.BinaryOperator.{BinaryOperator}
-use Rattle.odata_eval.specs.declared.part.WalkClass.{WalkClass}
+use Rattle.odata_eval.specs.declared.walk_operand.WalkClass.{WalkClass}
 
 -- a logical operator takes truth values, arithmetic numbers, a comparison the values of both sides
 abbrev pub walk_of_operator : BinaryOperator → WalkClass

@@ -14,7 +14,7 @@ use Rattle.odata_filter.specs.declared.command.command_line.Plan.{Plan}
 use Rattle.odata_filter.specs.declared.command.command_line.PlanFault.{PlanFault}
 use Rattle.odata_filter.specs.declared.command.command_line.PlanFault.TheVariants.{Clap, Memory, OneOf}
 use Rattle.odata_filter.specs.declared.command.command_line.Verb.{Verb}
-use Rattle.odata_filter.specs.private.PlanSteps.{IsApp, IsClapFault, IsNotOneFault}
+use Rattle.odata_filter.specs.private.Planner.{IsApp, IsClapFault, IsNotOneFault}
 
 -- the program's command is one of those of which `clap` reports its matches and its faults
 pub is_plain : is_simple odfilter_app ≡ true

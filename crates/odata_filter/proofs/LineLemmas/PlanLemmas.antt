@@ -13,7 +13,7 @@ use Rattle.clap.proofs.WalkLemmas.{first_value-rows}
 use Rattle.odata_filter.specs.CommandLine.{LacksOneOf, option_value, text_rule}
 use Rattle.odata_filter.specs.Planned.{IsOneOf}
 use Rattle.odata_filter.specs.declared.command.command_line.Verb.TheVariants.{Filter}
-use Rattle.odata_filter.specs.private.PlanSteps.{IsApp}
+use Rattle.odata_filter.specs.private.Planner.{IsApp}
 
 -- ---- a command grows
 

@@ -29,14 +29,14 @@ use Rattle.line_filter.specs.Kept.{Filters, IsFaultless, Items, Passes, Sieve, S
 use Rattle.line_filter.specs.LineItems.{IsFoundOf, LineJudge}
 use Rattle.line_filter.specs.Lines.{lines_of, text_of_line, text_of_lines}
 use Rattle.line_filter.specs.Places.{IsJudged, ItemJudge, Placed, place_sieve, placed_from, places}
-use Rattle.line_filter.specs.declared.finding.Finding.{Finding}
+use Rattle.line_filter.specs.declared.line_class.LineClass.{LineClass}
 use Rattle.line_filter.specs.declared.judge.Judgment.{Judgment}
-use Rattle.line_filter.specs.declared.run_stop.Stop.{Stop}
+use Rattle.line_filter.specs.declared.run_stop.RunStop.{RunStop}
 use Rattle.line_filter.specs.declared.tally.Tally.{Tally}
 use Rattle.odata_filter.specs.CanonicalRows.{HaveSameEntities, HaveSameOutcomes, IsCheckedAgain, KeepSameItems, KeepSameLines, OfBoth, SaySameOfRows, SaySameOfValues, StopAlike, StopCollectionsAlike, AnswerRowsAlike}
 use Rattle.odata_filter.specs.Collection.{OfCollection, StopsCollection, entities_of}
 use Rattle.odata_filter.specs.Headline.{IsCheckedOf, IsEntityFor}
-use Rattle.odata_filter.specs.RowAnswer.{TellsRow}
+use Rattle.odata_filter.specs.RowAnswer.{ReportsRow}
 use Rattle.odata_filter.specs.RowJudgment.{FilterMeans, HasOutcome, JudgesJson, JudgesRow, JudgesValue, rows_of}
 use Rattle.odata_filter.specs.RunStops.{StopsBy, run_stop}
 use Rattle.odata_filter.specs.declared.bad_row.BadRow.{BadRow}
@@ -45,26 +45,26 @@ use Rattle.odata_filter.specs.declared.run_fault.RunFault.{RunFault}
 
 -- ---- items of which the same is found
 
-module _ {X F : Type 0} (all : List X) (text_of : X → List ℕ) (CameWhole : List X → Type 0) (A B : X → Finding F → Type 0) (carry : (item : X) (finding : Finding F) → A item finding → B item finding) where
-  abbrev sieve : (X → Finding F → Type 0) → Sieve X F
+module _ {X F : Type 0} (all : List X) (text_of : X → List ℕ) (CameWhole : List X → Type 0) (A B : X → LineClass F → Type 0) (carry : (item : X) (line_class : LineClass F) → A item line_class → B item line_class) where
+  abbrev sieve : (X → LineClass F → Type 0) → Sieve X F
   sieve Finds = record { finds = Finds; text_of = text_of }
 
-  abbrev items : (X → Finding F → Type 0) → Items X F
+  abbrev items : (X → LineClass F → Type 0) → Items X F
   items Finds = record { all = all; sieve = sieve Finds; CameWhole = CameWhole }
 
   pub passes_carried : (some : List X) (text : List ℕ) (tally : Tally) → Passes (sieve A) some text tally → Passes (sieve B) some text tally
   passes_carried some text tally passes = record {
     all = passes.all;
     in_order = passes.in_order;
-    found = All-weaker (λ s. A s.item s.finding × IsFaultless s.finding) (λ s. B s.item s.finding × IsFaultless s.finding)
-        (λ s fine. (carry s.item s.finding fine.0, fine.1)) passes.all passes.found;
+    found = All-weaker (λ s. A s.item s.line_class × IsFaultless s.line_class) (λ s. B s.item s.line_class × IsFaultless s.line_class)
+        (λ s fine. (carry s.item s.line_class fine.0, fine.1)) passes.all passes.found;
     kept = passes.kept;
     rows_counted = passes.rows_counted;
     kept_counted = passes.kept_counted;
   }
 
-  at_carried : (text : List ℕ) (number : ℕ) (finding : Finding F) → StopsAt (items A) text number finding → StopsAt (items B) text number finding
-  at_carried text number finding stop = record {
+  at_carried : (text : List ℕ) (number : ℕ) (line_class : LineClass F) → StopsAt (items A) text number line_class → StopsAt (items B) text number line_class
+  at_carried text number line_class stop = record {
     before = stop.before;
     bad = stop.bad;
     after = stop.after;
@@ -72,7 +72,7 @@ module _ {X F : Type 0} (all : List X) (text_of : X → List ℕ) (CameWhole : L
     whole = stop.whole;
     counted = stop.counted;
     passes = passes_carried stop.before text stop.tally stop.passes;
-    found = carry stop.bad finding stop.found;
+    found = carry stop.bad line_class stop.found;
   }
 
   before_carried : (text : List ℕ) (number : ℕ) → StopsBefore (items A) text number → StopsBefore (items B) text number
@@ -108,14 +108,14 @@ module _ {X F : Type 0} (all : List X) (text_of : X → List ℕ) (CameWhole : L
     passes = passes_carried stop.before _ stop.tally stop.passes;
   }
 
-  pub stops_carried : (text : List ℕ) (stop : Stop F) → Stops (items A) text stop → Stops (items B) text stop
-  stops_carried text (Stop.Fault line fault) stops = at_carried text line (Finding.Judged (Judgment.Fault fault)) stops
-  stops_carried text (Stop.TooLong line) stops = at_carried text line Finding.TooLong stops
-  stops_carried text (Stop.Read line) stops = before_carried text line stops
-  stops_carried text Stop.Write stops = within_carried text stops
-  stops_carried text (Stop.Memory line) stops = before_carried text line stops
+  pub stops_carried : (text : List ℕ) (stop : RunStop F) → Stops (items A) text stop → Stops (items B) text stop
+  stops_carried text (RunStop.Fault line fault) stops = at_carried text line (LineClass.Judged (Judgment.Fault fault)) stops
+  stops_carried text (RunStop.TooLong line) stops = at_carried text line LineClass.TooLong stops
+  stops_carried text (RunStop.Read line) stops = before_carried text line stops
+  stops_carried text RunStop.Write stops = within_carried text stops
+  stops_carried text (RunStop.Memory line) stops = before_carried text line stops
 
-some_carried : {A : Type 0} (told : Option A) (P Q : A → Type 0) → ((a : A) → P a → Q a) → IsSomeAnd told P → IsSomeAnd told Q
+some_carried : {A : Type 0} (reported : Option A) (P Q : A → Type 0) → ((a : A) → P a → Q a) → IsSomeAnd reported P → IsSomeAnd reported Q
 some_carried None P Q carry is = is
 some_carried (Some a) P Q carry is = carry a is
 
@@ -160,15 +160,15 @@ module _ (filter again : Filter) (same : ComeToTheSame filter again) (now : Mome
   row_carried line (Judgment.Fault (BadRow.NoEntity fault)) is = json_carried line (Judgment.Fault (BadRow.NoEntity fault)) is
   row_carried line (Judgment.Fault (BadRow.NoValue fault)) is = json_carried line (Judgment.Fault (BadRow.NoValue fault)) is
 
-  answer_carried : (row : List ℕ) (answer : Result Verdict NoVerdict) → TellsRow filter now row answer → TellsRow again now row answer
+  answer_carried : (row : List ℕ) (answer : Result Verdict NoVerdict) → ReportsRow filter now row answer → ReportsRow again now row answer
   answer_carried row (Ok verdict) is = record { json = is.json; is_json = is.is_json; outcome = outcome_carried is.json _ is.outcome }
   answer_carried row (Err (NoVerdict.Bad bad)) is = row_carried row (Judgment.Fault bad) is
   answer_carried row (Err NoVerdict.Memory) is = tt
 
-  found_carried : (line : List ℕ) (finding : Finding BadRow) → IsFoundOf (JudgesRow filter now) line finding → IsFoundOf (JudgesRow again now) line finding
-  found_carried line Finding.TooLong is = is
-  found_carried line Finding.PassedOver is = is
-  found_carried line (Finding.Judged said) is = (is.0, is.1, row_carried line said is.2)
+  found_carried : (line : List ℕ) (line_class : LineClass BadRow) → IsFoundOf (JudgesRow filter now) line line_class → IsFoundOf (JudgesRow again now) line line_class
+  found_carried line LineClass.TooLong is = is
+  found_carried line LineClass.PassedOver is = is
+  found_carried line (LineClass.Judged said) is = (is.0, is.1, row_carried line said is.2)
 
   -- ---- of lines
 
@@ -185,10 +185,10 @@ module _ (filter again : Filter) (same : ComeToTheSame filter again) (now : Mome
 
   -- ---- of items
 
-  judged_carried : (item : Placed Data) (finding : Finding BadRow) → IsJudged (JudgesValue filter now) item.item finding → IsJudged (JudgesValue again now) item.item finding
-  judged_carried item Finding.TooLong is = absurd is
-  judged_carried item Finding.PassedOver is = absurd is
-  judged_carried item (Finding.Judged said) is = value_carried item.item said is
+  judged_carried : (item : Placed Data) (line_class : LineClass BadRow) → IsJudged (JudgesValue filter now) item.item line_class → IsJudged (JudgesValue again now) item.item line_class
+  judged_carried item LineClass.TooLong is = absurd is
+  judged_carried item LineClass.PassedOver is = absurd is
+  judged_carried item (LineClass.Judged said) is = value_carried item.item said is
 
   items_carried : (document text : List ℕ) (tally : Tally) → OfCollection filter now document (λ items. Filters items text tally)
       → OfCollection again now document (λ items. Filters items text tally)
@@ -310,7 +310,7 @@ same_of_values facts text printed filter again is now json said =
 
 pub same_answers : FilterFacts → OfBoth AnswerRowsAlike
 same_answers facts text printed filter again is now row answer =
-    each_way facts (λ f. TellsRow f now row answer) (λ f g same. answer_carried f g same now row answer) text printed filter again is
+    each_way facts (λ f. ReportsRow f now row answer) (λ f g same. answer_carried f g same now row answer) text printed filter again is
 
 pub same_lines : FilterFacts → OfBoth KeepSameLines
 same_lines facts text printed filter again is now bytes written tally =

@@ -12,14 +12,14 @@ use Rattle.csdl_schema.specs.JsonText.{IsJsonOf}
 use Rattle.line_filter.specs.Growth.{Writes}
 use Rattle.line_filter.specs.Kept.{Filters, StopsHeld}
 use Rattle.line_filter.specs.Places.{ItemJudge, places}
-use Rattle.line_filter.specs.declared.run_stop.Stop.{Stop}
+use Rattle.line_filter.specs.declared.run_stop.RunStop.{RunStop}
 use Rattle.line_filter.specs.declared.tally.Tally.{Tally}
 use Rattle.odata_checked_filter.specs.Filter.{Filter}
 use Rattle.odata_filter.specs.Collection.{IsCollectionOf, OfCollection, StopsCollection, array_of}
 use Rattle.odata_filter.specs.RowJudgment.{JudgesValue}
 use Rattle.odata_filter.specs.RunStops.{run_stop}
 use Rattle.odata_filter.specs.declared.bad_row.BadRow.{BadRow}
-use Rattle.odata_filter.specs.private.DocumentFaults.{IsUnjudgedBy}
+use Rattle.odata_filter.specs.private.Collection.{IsUnjudgedBy}
 use Rattle.odata_filter.specs.declared.run_fault.RunFault.{RunFault}
 use Rattle.odata_filter.proofs.RowLemmas.Renamed.{Filters-renamed, StopsAt-renamed, StopsOn-renamed, StopsWithin-renamed}
 
@@ -42,8 +42,8 @@ module _ (filter : Filter) (now : MomentParts) (document : List ℕ) (values : L
   stopped_by (RunFault.Memory line) (inl never) = absurd never
   stopped_by (RunFault.Memory line) (inr stops) = inr (map view values, is, StopsOn-renamed (JudgesValue filter now) view values text line stops)
 
-  pub collection_stopped : (fault : RunFault) (stop : Stop BadRow) → run_stop fault ≡ Some stop → StopsHeld (places judge values) text stop → StopsCollection filter now document text fault
-  collection_stopped fault stop told stops = stopped_by fault (subst (λ s. IsSomeAnd s (StopsHeld (places judge values) text)) (sym told) stops)
+  pub collection_stopped : (fault : RunFault) (stop : RunStop BadRow) → run_stop fault ≡ Some stop → StopsHeld (places judge values) text stop → StopsCollection filter now document text fault
+  collection_stopped fault stop reported stops = stopped_by fault (subst (λ s. IsSomeAnd s (StopsHeld (places judge values) text)) (sym reported) stops)
 
 -- none of the items was judged
 pub unjudged : (filter : Filter) (now : MomentParts) (document : List ℕ) (old : Option (List ℕ)) (fault : RunFault) → IsUnjudgedBy document fault

@@ -28,7 +28,7 @@ use Rattle.odata_filter.proofs.RowLemmas.RowsBut.{IsRowBut, fits_but, row_but, s
 
 -- an entity with what the filter needs of a line, on which it costs what it costs on the line's value
 pub record IsRowCosting (filter : Filter) (now : MomentParts) (json : Data) (row : Row) : Type 0 where
-  pub told : IsRowBut filter now json row
+  pub reported : IsRowBut filter now json row
   pub whole : Val
   pub fits : Fits (slots_for_filter filter) (type_name_at filter.schema filter.filtered) json whole
   pub costs : (n : ℕ) → CostsOn row now (tree_of_filter filter) n → FilterCosts filter now whole n
@@ -56,7 +56,7 @@ whole_costs filter now json row is =
     let MeansAt : Outcome → SchemaModel → ℕ → Type 0 = λ o s n. Means (slots_of s) (type_name_at s n) now (value_of row) [] tree o in
     let CostsAt : ℕ → SchemaModel → ℕ → Type 0 = λ k s n. Costs (slots_of s) (type_name_at s n) now (value_of row) [] tree k in
     record {
-      told = record {
+      reported = record {
         same_schema = is.same_schema;
         same_type = is.same_type;
         whole = value_of row;
@@ -90,7 +90,7 @@ kept_costs filter now line Passed row schema_is type_is paths passes read =
     let same : Costs (slots_of row.schema) (type_name_at row.schema row.type_id) now (value_of row) [] tree ≡ Costs (slots_of row.schema) (type_name_at row.schema row.type_id) now (fields read.whole) [] tree =
     ap (λ (v : Val). Costs (slots_of row.schema) (type_name_at row.schema row.type_id) now v [] tree) read.value_is ∙ costs_alike filter Passed row.schema row.type_id now read.kept read.whole passes read.agrees in
     record {
-      told = row_but filter now line Passed row schema_is type_is paths passes read;
+      reported = row_but filter now line Passed row schema_is type_is paths passes read;
       whole = fields read.whole;
       fits = fits_but filter line Passed row schema_is type_is paths read;
       costs = λ k holds. moved filter row schema_is type_is (At k) (subst (λ (C : ℕ → Type 0). C k) same holds);

@@ -21,9 +21,9 @@ use Rattle.odata_checked_filter.specs.Filter.{Filter, slots_for_filter}
 use Rattle.line_filter.specs.declared.judge.Judgment.{Judgment}
 use Rattle.odata_filter.specs.declared.bad_row.BadRow.{BadRow}
 use Rattle.odata_filter.specs.declared.no_verdict.NoVerdict.{NoVerdict}
-use Rattle.odata_filter.specs.RowAnswer.{AreSameAnswer, TellsRow}
+use Rattle.odata_filter.specs.RowAnswer.{AreSameAnswer, ReportsRow}
 use Rattle.odata_filter.specs.RowJudgment.{FilterMeans, HasOutcome, JudgesValue, JudgesJson, JudgesRow}
-use Rattle.odata_filter.specs.RowsOnce.{flaw_told, AreSameJudgment}
+use Rattle.odata_filter.specs.RowsOnce.{flaw_reported, AreSameJudgment}
 use Rattle.odata_filter.proofs.RowLemmas.RowJudges.{row_judged}
 
 -- the laws of what fits, as they are cited
@@ -41,7 +41,7 @@ OneFirstFault = (slots : Slots) (type_name : List ℕ) (json : Data) (path path'
 
 -- no object, or a first flaw at a path
 row_fault_view : (slots : Slots) (type_name : List ℕ) (json : Data) (fault : RowFault) → IsRowFault slots type_name json fault
-    → ((as_object json ≡ None) × (flaw_told fault ≡ None)) ⊎ ((path : Path) × (flaw : Flaw) × IsFirstFault slots type_name json path flaw × (flaw_told fault ≡ Some (join_with_byte 47 path, flaw)))
+    → ((as_object json ≡ None) × (flaw_reported fault ≡ None)) ⊎ ((path : Path) × (flaw : Flaw) × IsFirstFault slots type_name json path flaw × (flaw_reported fault ≡ Some (join_with_byte 47 path, flaw)))
 row_fault_view slots type_name json RowFault.NotObject is = inl (is, refl)
 row_fault_view slots type_name json (RowFault.Missing p) (path, first, text) = inr (path, missing, first, ap (λ (l : List ℕ). Some (l, missing)) text)
 row_fault_view slots type_name json (RowFault.WrongKind p) (path, first, text) = inr (path, wrong_kind, first, ap (λ (l : List ℕ). Some (l, wrong_kind)) text)
@@ -60,17 +60,17 @@ faulty_object : (slots : Slots) (type_name : List ℕ) (json : Data) (path : Pat
 faulty_object slots type_name json [] flaw first = absurd first
 faulty_object slots type_name json (step ∷ path) flaw first = first.is_object
 
-row_fault_once : OneFirstFault → (slots : Slots) (type_name : List ℕ) (json : Data) (f g : RowFault) → IsRowFault slots type_name json f → IsRowFault slots type_name json g → flaw_told f ≡ flaw_told g
+row_fault_once : OneFirstFault → (slots : Slots) (type_name : List ℕ) (json : Data) (f g : RowFault) → IsRowFault slots type_name json f → IsRowFault slots type_name json g → flaw_reported f ≡ flaw_reported g
 row_fault_once law slots type_name json f g p q = elim (row_fault_view slots type_name json f p) [
-  | inl (none, told) ↦ elim (row_fault_view slots type_name json g q) [
-    | inl (none', told') ↦ told ∙ sym told'
-    | inr (path, flaw, first, told') ↦ absurd (not_none (as_object json) none (faulty_object slots type_name json path flaw first))
+  | inl (none, reported) ↦ elim (row_fault_view slots type_name json g q) [
+    | inl (none', reported') ↦ reported ∙ sym reported'
+    | inr (path, flaw, first, reported') ↦ absurd (not_none (as_object json) none (faulty_object slots type_name json path flaw first))
   ]
-  | inr (path, flaw, first, told) ↦ elim (row_fault_view slots type_name json g q) [
-    | inl (none', told') ↦ absurd (not_none (as_object json) none' (faulty_object slots type_name json path flaw first))
-    | inr (path', flaw', first', told') ↦
+  | inr (path, flaw, first, reported) ↦ elim (row_fault_view slots type_name json g q) [
+    | inl (none', reported') ↦ absurd (not_none (as_object json) none' (faulty_object slots type_name json path flaw first))
+    | inr (path', flaw', first', reported') ↦
         let (same_path, same_flaw) = law slots type_name json path path' flaw flaw' first first' in
-        told ∙ ap (λ (p : Path). Some (join_with_byte 47 p, flaw)) same_path ∙ ap (λ (w : Flaw). Some (join_with_byte 47 path', w)) same_flaw ∙ sym told'
+        reported ∙ ap (λ (p : Path). Some (join_with_byte 47 p, flaw)) same_path ∙ ap (λ (w : Flaw). Some (join_with_byte 47 path', w)) same_flaw ∙ sym reported'
   ]
 ]
 
@@ -108,34 +108,34 @@ module _ (one_fits : OneFits) (fits_nothing : FaultFitsNothing) (one_fault : One
       sym (a.only p (subst (λ (v : Val). FilterMeans filter now v p) value b.related))
 
   -- what an outcome says of its row
-  abbrev Tells : Outcome → Judgment BadRow → Type 0
-  Tells o Judgment.Kept = o ≡ gives (boolean true)
-  Tells o Judgment.LeftOut = (value : Val) × (value ≢ boolean true) × (o ≡ gives value)
-  Tells o (Judgment.Fault BadRow.NotJson) = ⊥
-  Tells o (Judgment.Fault (BadRow.NoEntity f)) = ⊥
-  Tells o (Judgment.Fault (BadRow.NoValue f)) = fault_outcome f ≡ Some o
+  abbrev Reports : Outcome → Judgment BadRow → Type 0
+  Reports o Judgment.Kept = o ≡ gives (boolean true)
+  Reports o Judgment.LeftOut = (value : Val) × (value ≢ boolean true) × (o ≡ gives value)
+  Reports o (Judgment.Fault BadRow.NotJson) = ⊥
+  Reports o (Judgment.Fault (BadRow.NoEntity f)) = ⊥
+  Reports o (Judgment.Fault (BadRow.NoValue f)) = fault_outcome f ≡ Some o
 
   not_true : (o : Outcome) (value : Val) → o ≡ gives (boolean true) → value ≢ boolean true → o ≡ gives value → ⊥
   not_true o value is not_so gave = not_so cc
 
-  tells_once : (o : Outcome) (j k : Judgment BadRow) → Tells o j → Tells o k → AreSameJudgment j k
-  tells_once o Judgment.Kept Judgment.Kept p q = tt
-  tells_once o Judgment.Kept Judgment.LeftOut p (value, not_so, gave) = absurd (not_true o value p not_so gave)
-  tells_once o Judgment.Kept (Judgment.Fault BadRow.NotJson) p q = absurd q
-  tells_once o Judgment.Kept (Judgment.Fault (BadRow.NoEntity f)) p q = absurd q
-  tells_once o Judgment.Kept (Judgment.Fault (BadRow.NoValue f)) p q = absurd (fault_gives_none f (boolean true) (q ∙ ap (λ (r : Outcome). Some r) p))
-  tells_once o Judgment.LeftOut Judgment.Kept (value, not_so, gave) q = absurd (not_true o value q not_so gave)
-  tells_once o Judgment.LeftOut Judgment.LeftOut p q = tt
-  tells_once o Judgment.LeftOut (Judgment.Fault BadRow.NotJson) p q = absurd q
-  tells_once o Judgment.LeftOut (Judgment.Fault (BadRow.NoEntity f)) p q = absurd q
-  tells_once o Judgment.LeftOut (Judgment.Fault (BadRow.NoValue f)) (value, not_so, gave) q = absurd (fault_gives_none f value (q ∙ ap (λ (r : Outcome). Some r) gave))
-  tells_once o (Judgment.Fault BadRow.NotJson) k p q = absurd p
-  tells_once o (Judgment.Fault (BadRow.NoEntity f)) k p q = absurd p
-  tells_once o (Judgment.Fault (BadRow.NoValue f)) Judgment.Kept p q = absurd (fault_gives_none f (boolean true) (p ∙ ap (λ (r : Outcome). Some r) q))
-  tells_once o (Judgment.Fault (BadRow.NoValue f)) Judgment.LeftOut p (value, not_so, gave) = absurd (fault_gives_none f value (p ∙ ap (λ (r : Outcome). Some r) gave))
-  tells_once o (Judgment.Fault (BadRow.NoValue f)) (Judgment.Fault BadRow.NotJson) p q = absurd q
-  tells_once o (Judgment.Fault (BadRow.NoValue f)) (Judgment.Fault (BadRow.NoEntity g)) p q = absurd q
-  tells_once o (Judgment.Fault (BadRow.NoValue f)) (Judgment.Fault (BadRow.NoValue g)) p q = fault_outcome_once f g o p q
+  reports_once : (o : Outcome) (j k : Judgment BadRow) → Reports o j → Reports o k → AreSameJudgment j k
+  reports_once o Judgment.Kept Judgment.Kept p q = tt
+  reports_once o Judgment.Kept Judgment.LeftOut p (value, not_so, gave) = absurd (not_true o value p not_so gave)
+  reports_once o Judgment.Kept (Judgment.Fault BadRow.NotJson) p q = absurd q
+  reports_once o Judgment.Kept (Judgment.Fault (BadRow.NoEntity f)) p q = absurd q
+  reports_once o Judgment.Kept (Judgment.Fault (BadRow.NoValue f)) p q = absurd (fault_gives_none f (boolean true) (q ∙ ap (λ (r : Outcome). Some r) p))
+  reports_once o Judgment.LeftOut Judgment.Kept (value, not_so, gave) q = absurd (not_true o value q not_so gave)
+  reports_once o Judgment.LeftOut Judgment.LeftOut p q = tt
+  reports_once o Judgment.LeftOut (Judgment.Fault BadRow.NotJson) p q = absurd q
+  reports_once o Judgment.LeftOut (Judgment.Fault (BadRow.NoEntity f)) p q = absurd q
+  reports_once o Judgment.LeftOut (Judgment.Fault (BadRow.NoValue f)) (value, not_so, gave) q = absurd (fault_gives_none f value (q ∙ ap (λ (r : Outcome). Some r) gave))
+  reports_once o (Judgment.Fault BadRow.NotJson) k p q = absurd p
+  reports_once o (Judgment.Fault (BadRow.NoEntity f)) k p q = absurd p
+  reports_once o (Judgment.Fault (BadRow.NoValue f)) Judgment.Kept p q = absurd (fault_gives_none f (boolean true) (p ∙ ap (λ (r : Outcome). Some r) q))
+  reports_once o (Judgment.Fault (BadRow.NoValue f)) Judgment.LeftOut p (value, not_so, gave) = absurd (fault_gives_none f value (p ∙ ap (λ (r : Outcome). Some r) gave))
+  reports_once o (Judgment.Fault (BadRow.NoValue f)) (Judgment.Fault BadRow.NotJson) p q = absurd q
+  reports_once o (Judgment.Fault (BadRow.NoValue f)) (Judgment.Fault (BadRow.NoEntity g)) p q = absurd q
+  reports_once o (Judgment.Fault (BadRow.NoValue f)) (Judgment.Fault (BadRow.NoValue g)) p q = fault_outcome_once f g o p q
 
   -- ---- a JSON value
 
@@ -143,7 +143,7 @@ module _ (one_fits : OneFits) (fits_nothing : FaultFitsNothing) (one_fault : One
   IsBad json f = IsRowFault (slots_for_filter filter) (type_name_at filter.schema filter.filtered) json f
 
   value_view : (json : Data) (j : Judgment BadRow) → JudgesValue filter now json j
-      → ((o : Outcome) × HasOutcome filter now json o × Tells o j) ⊎ ((f : RowFault) × IsBad json f × (j ≡ Judgment.Fault (BadRow.NoEntity f)))
+      → ((o : Outcome) × HasOutcome filter now json o × Reports o j) ⊎ ((f : RowFault) × IsBad json f × (j ≡ Judgment.Fault (BadRow.NoEntity f)))
   value_view json Judgment.Kept has = inl (gives (boolean true), has, refl)
   value_view json Judgment.LeftOut (value, (not_so, has)) = inl (gives value, has, (value, not_so, refl))
   value_view json (Judgment.Fault BadRow.NotJson) is = absurd is
@@ -152,15 +152,15 @@ module _ (one_fits : OneFits) (fits_nothing : FaultFitsNothing) (one_fault : One
 
   pub value_once : (json : Data) (j k : Judgment BadRow) → JudgesValue filter now json j → JudgesValue filter now json k → AreSameJudgment j k
   value_once json j k p q = elim (value_view json j p) [
-    | inl (o, has, tells) ↦ elim (value_view json k q) [
-      | inl (o', has', tells') ↦ tells_once o' j k (subst (λ (r : Outcome). Tells r j) (outcome_once json o o' has has') tells) tells'
+    | inl (o, has, reports) ↦ elim (value_view json k q) [
+      | inl (o', has', reports') ↦ reports_once o' j k (subst (λ (r : Outcome). Reports r j) (outcome_once json o o' has has') reports) reports'
       | inr (g, bad', is') ↦ absurd (fits_nothing (slots_for_filter filter) (type_name_at filter.schema filter.filtered) json g bad' has.value has.fits)
     ]
     | inr (f, bad, is) ↦ elim (value_view json k q) [
-      | inl (o', has', tells') ↦ absurd (fits_nothing (slots_for_filter filter) (type_name_at filter.schema filter.filtered) json f bad has'.value has'.fits)
+      | inl (o', has', reports') ↦ absurd (fits_nothing (slots_for_filter filter) (type_name_at filter.schema filter.filtered) json f bad has'.value has'.fits)
       | inr (g, bad', is') ↦
-          let told = row_fault_once one_fault (slots_for_filter filter) (type_name_at filter.schema filter.filtered) json f g bad bad' in
-          subst (λ (r : Judgment BadRow). AreSameJudgment r k) (sym is) (subst (λ (r : Judgment BadRow). AreSameJudgment (Judgment.Fault (BadRow.NoEntity f)) r) (sym is') told)
+          let reported = row_fault_once one_fault (slots_for_filter filter) (type_name_at filter.schema filter.filtered) json f g bad bad' in
+          subst (λ (r : Judgment BadRow). AreSameJudgment r k) (sym is) (subst (λ (r : Judgment BadRow). AreSameJudgment (Judgment.Fault (BadRow.NoEntity f)) r) (sym is') reported)
     ]
   ]
 
@@ -198,19 +198,19 @@ module _ (one_fits : OneFits) (fits_nothing : FaultFitsNothing) (one_fault : One
   json_once line a b (utf8, is) (utf8', is') = cc
 
   -- a row with a verdict has no fault
-  never_bad : (row : List ℕ) (verdict : Verdict) (bad : BadRow) → TellsRow filter now row (Ok verdict) → TellsRow filter now row (Err (NoVerdict.Bad bad)) → ⊥
-  never_bad row Verdict.True bad told fault = judged_once row Judgment.Kept (Judgment.Fault bad) (row_judged filter now row (Ok Verdict.True) Judgment.Kept told refl) fault
-  never_bad row Verdict.False bad told fault = judged_once row Judgment.LeftOut (Judgment.Fault bad) (row_judged filter now row (Ok Verdict.False) Judgment.LeftOut told refl) fault
-  never_bad row Verdict.Null bad told fault = judged_once row Judgment.LeftOut (Judgment.Fault bad) (row_judged filter now row (Ok Verdict.Null) Judgment.LeftOut told refl) fault
+  never_bad : (row : List ℕ) (verdict : Verdict) (bad : BadRow) → ReportsRow filter now row (Ok verdict) → ReportsRow filter now row (Err (NoVerdict.Bad bad)) → ⊥
+  never_bad row Verdict.True bad reported fault = judged_once row Judgment.Kept (Judgment.Fault bad) (row_judged filter now row (Ok Verdict.True) Judgment.Kept reported refl) fault
+  never_bad row Verdict.False bad reported fault = judged_once row Judgment.LeftOut (Judgment.Fault bad) (row_judged filter now row (Ok Verdict.False) Judgment.LeftOut reported refl) fault
+  never_bad row Verdict.Null bad reported fault = judged_once row Judgment.LeftOut (Judgment.Fault bad) (row_judged filter now row (Ok Verdict.Null) Judgment.LeftOut reported refl) fault
 
-  pub told_once : (row : List ℕ) (a b : Result Verdict NoVerdict) → TellsRow filter now row a → TellsRow filter now row b → AreSameAnswer a b
-  told_once row (Ok v) (Ok w) p q =
+  pub reported_once : (row : List ℕ) (a b : Result Verdict NoVerdict) → ReportsRow filter now row a → ReportsRow filter now row b → AreSameAnswer a b
+  reported_once row (Ok v) (Ok w) p q =
       let same : q.json ≡ p.json = json_once row p.json q.json p.is_json q.is_json in
       let there : HasOutcome filter now p.json (gives (verdict_val w)) = subst (λ (d : Data). HasOutcome filter now d (gives (verdict_val w))) same q.outcome in
       verdict_once v w (outcome_once p.json (gives (verdict_val v)) (gives (verdict_val w)) p.outcome there)
-  told_once row (Ok v) (Err (NoVerdict.Bad g)) p q = never_bad row v g p q
-  told_once row (Ok v) (Err NoVerdict.Memory) p q = tt
-  told_once row (Err (NoVerdict.Bad f)) (Ok w) p q = never_bad row w f q p
-  told_once row (Err (NoVerdict.Bad f)) (Err (NoVerdict.Bad g)) p q = judged_once row (Judgment.Fault f) (Judgment.Fault g) p q
-  told_once row (Err (NoVerdict.Bad f)) (Err NoVerdict.Memory) p q = tt
-  told_once row (Err NoVerdict.Memory) b p q = tt
+  reported_once row (Ok v) (Err (NoVerdict.Bad g)) p q = never_bad row v g p q
+  reported_once row (Ok v) (Err NoVerdict.Memory) p q = tt
+  reported_once row (Err (NoVerdict.Bad f)) (Ok w) p q = never_bad row w f q p
+  reported_once row (Err (NoVerdict.Bad f)) (Err (NoVerdict.Bad g)) p q = judged_once row (Judgment.Fault f) (Judgment.Fault g) p q
+  reported_once row (Err (NoVerdict.Bad f)) (Err NoVerdict.Memory) p q = tt
+  reported_once row (Err NoVerdict.Memory) b p q = tt

@@ -19,12 +19,12 @@ use Rattle.odata_eval.specs.Means.{Means}
 use Rattle.odata_eval.specs.MeansOn.{IsTheOutcome}
 use Rattle.odata_filter_operations.specs.Outcome.{Outcome, gives, overflow, divides_by_zero}
 use Rattle.odata_filter_operations.specs.FaultView.{fault_outcome}
-use Rattle.odata_eval.specs.VerdictView.{told_outcome, verdict_val}
+use Rattle.odata_eval.specs.VerdictView.{reported_outcome, verdict_val}
 use Rattle.odata_checked_filter.specs.Filter.{Filter, slots_for_filter, tree_of_filter}
 use Rattle.odata_filter.specs.declared.no_verdict.NoVerdict.{NoVerdict}
-use Rattle.odata_filter.specs.RowAnswer.{TellsRow, judgment_told}
+use Rattle.odata_filter.specs.RowAnswer.{ReportsRow, judgment_reported}
 use Rattle.odata_filter.specs.RowJudgment.{HasOutcome, JudgesRow, JudgesValue}
-use Rattle.odata_filter.specs.private.ValueAnswer.{TellsValue, answer_told, fault_told}
+use Rattle.odata_filter.specs.private.ValueAnswer.{ReportsValue, answer_reported, fault_reported}
 
 -- an entity of the filter's schema and type, read from the JSON with what the filter needs
 pub record IsRowOf (filter : Filter) (json : Data) (row : Row) : Type 0 where
@@ -58,32 +58,32 @@ fits_of_row json row s n expansion of_schema of_type of_expansion fits =
 -- the outcome on the entity is that of the JSON
 pub outcome_of_row : (filter : Filter) (now : MomentParts) (json : Data) (row : Row) (outcome : Outcome)
     → IsRowOf filter json row → IsTheOutcome row now (tree_of_filter filter) outcome → HasOutcome filter now json outcome
-outcome_of_row filter now json row outcome is_row told =
+outcome_of_row filter now json row outcome is_row reported =
     let At : SchemaModel → ℕ → Outcome → Type 0 = λ s n o. Means (slots_of s) (type_name_at s n) now (value_of row) [] (tree_of_filter filter) o in
     let Schema : Outcome → SchemaModel → Type 0 = λ o s. At s row.type_id o in
     let Place : Outcome → ℕ → Type 0 = λ o n. At filter.schema n o in
     record {
       value = value_of row;
       fits = is_row.fits;
-      related = subst (Place outcome) is_row.same_type (subst (Schema outcome) is_row.same_schema told.related);
-      only = λ other means. told.only other (subst (Schema other) (sym is_row.same_schema) (subst (Place other) (sym is_row.same_type) means));
+      related = subst (Place outcome) is_row.same_type (subst (Schema outcome) is_row.same_schema reported.related);
+      only = λ other means. reported.only other (subst (Schema other) (sym is_row.same_schema) (subst (Place other) (sym is_row.same_type) means));
     }
 
 -- a fault on the entity is what is reported about the JSON
-pub told_by_fault : (filter : Filter) (now : MomentParts) (json : Data) (row : Row) (fault : EvalFault)
+pub reported_by_fault : (filter : Filter) (now : MomentParts) (json : Data) (row : Row) (fault : EvalFault)
     → IsRowOf filter json row → IfSome (fault_outcome fault) (IsTheOutcome row now (tree_of_filter filter))
-    → TellsValue filter now json (Err (fault_told fault))
-told_by_fault filter now json row EvalFault.Overflow is_row told = (overflow, (refl, outcome_of_row filter now json row overflow is_row told))
-told_by_fault filter now json row EvalFault.DivideByZero is_row told =
-    (divides_by_zero, (refl, outcome_of_row filter now json row divides_by_zero is_row told))
-told_by_fault filter now json row EvalFault.Memory is_row told = tt
+    → ReportsValue filter now json (Err (fault_reported fault))
+reported_by_fault filter now json row EvalFault.Overflow is_row reported = (overflow, (refl, outcome_of_row filter now json row overflow is_row reported))
+reported_by_fault filter now json row EvalFault.DivideByZero is_row reported =
+    (divides_by_zero, (refl, outcome_of_row filter now json row divides_by_zero is_row reported))
+reported_by_fault filter now json row EvalFault.Memory is_row reported = tt
 
 -- the filter's answer to the entity is what is reported about the JSON
 pub answer_of_row : (filter : Filter) (now : MomentParts) (json : Data) (row : Row) (answer : Result Verdict EvalFault)
-    → IsRowOf filter json row → IfSome (told_outcome answer) (IsTheOutcome row now (tree_of_filter filter))
-    → TellsValue filter now json (answer_told answer)
-answer_of_row filter now json row (Ok verdict) is_row told = outcome_of_row filter now json row (gives (verdict_val verdict)) is_row told
-answer_of_row filter now json row (Err fault) is_row told = told_by_fault filter now json row fault is_row told
+    → IsRowOf filter json row → IfSome (reported_outcome answer) (IsTheOutcome row now (tree_of_filter filter))
+    → ReportsValue filter now json (answer_reported answer)
+answer_of_row filter now json row (Ok verdict) is_row reported = outcome_of_row filter now json row (gives (verdict_val verdict)) is_row reported
+answer_of_row filter now json row (Err fault) is_row reported = reported_by_fault filter now json row fault is_row reported
 
 -- ---- what is reported, and what is said of a line
 
@@ -93,55 +93,55 @@ module _ (filter : Filter) (now : MomentParts) where
   left_out json value not_so has = (value, (not_so, has))
 
   pub value_judged : (json : Data) (answer : Result Verdict NoVerdict) (said : Judgment BadRow)
-      → TellsValue filter now json answer → judgment_told answer ≡ Some said → JudgesValue filter now json said
-  value_judged json (Ok Verdict.True) said told is =
-      let same : Judgment.Kept ≡ said = cc in subst (λ (j : Judgment BadRow). JudgesValue filter now json j) same told
-  value_judged json (Ok Verdict.False) said told is =
+      → ReportsValue filter now json answer → judgment_reported answer ≡ Some said → JudgesValue filter now json said
+  value_judged json (Ok Verdict.True) said reported is =
+      let same : Judgment.Kept ≡ said = cc in subst (λ (j : Judgment BadRow). JudgesValue filter now json j) same reported
+  value_judged json (Ok Verdict.False) said reported is =
       let same : Judgment.LeftOut ≡ said = cc in
-      subst (λ (j : Judgment BadRow). JudgesValue filter now json j) same (left_out json (boolean false) (λ e. cc) told)
-  value_judged json (Ok Verdict.Null) said told is =
+      subst (λ (j : Judgment BadRow). JudgesValue filter now json j) same (left_out json (boolean false) (λ e. cc) reported)
+  value_judged json (Ok Verdict.Null) said reported is =
       let same : Judgment.LeftOut ≡ said = cc in
-      subst (λ (j : Judgment BadRow). JudgesValue filter now json j) same (left_out json null (λ e. cc) told)
-  value_judged json (Err (NoVerdict.Bad bad)) said told is =
-      let same : Judgment.Fault bad ≡ said = cc in subst (λ (j : Judgment BadRow). JudgesValue filter now json j) same told
-  value_judged json (Err NoVerdict.Memory) said told is = absurd cc
+      subst (λ (j : Judgment BadRow). JudgesValue filter now json j) same (left_out json null (λ e. cc) reported)
+  value_judged json (Err (NoVerdict.Bad bad)) said reported is =
+      let same : Judgment.Fault bad ≡ said = cc in subst (λ (j : Judgment BadRow). JudgesValue filter now json j) same reported
+  value_judged json (Err NoVerdict.Memory) said reported is = absurd cc
 
   pub row_judged : (row : List ℕ) (answer : Result Verdict NoVerdict) (said : Judgment BadRow)
-      → TellsRow filter now row answer → judgment_told answer ≡ Some said → JudgesRow filter now row said
-  row_judged row (Ok Verdict.True) said told is =
+      → ReportsRow filter now row answer → judgment_reported answer ≡ Some said → JudgesRow filter now row said
+  row_judged row (Ok Verdict.True) said reported is =
       let same : Judgment.Kept ≡ said = cc in
-      subst (λ (j : Judgment BadRow). JudgesRow filter now row j) same (record { json = told.json; is_json = told.is_json; judged = told.outcome })
-  row_judged row (Ok Verdict.False) said told is =
+      subst (λ (j : Judgment BadRow). JudgesRow filter now row j) same (record { json = reported.json; is_json = reported.is_json; judged = reported.outcome })
+  row_judged row (Ok Verdict.False) said reported is =
       let same : Judgment.LeftOut ≡ said = cc in
       subst (λ (j : Judgment BadRow). JudgesRow filter now row j) same
-      (record { json = told.json; is_json = told.is_json; judged = left_out told.json (boolean false) (λ e. cc) told.outcome })
-  row_judged row (Ok Verdict.Null) said told is =
+      (record { json = reported.json; is_json = reported.is_json; judged = left_out reported.json (boolean false) (λ e. cc) reported.outcome })
+  row_judged row (Ok Verdict.Null) said reported is =
       let same : Judgment.LeftOut ≡ said = cc in
       subst (λ (j : Judgment BadRow). JudgesRow filter now row j) same
-      (record { json = told.json; is_json = told.is_json; judged = left_out told.json null (λ e. cc) told.outcome })
-  row_judged row (Err (NoVerdict.Bad bad)) said told is =
-      let same : Judgment.Fault bad ≡ said = cc in subst (λ (j : Judgment BadRow). JudgesRow filter now row j) same told
-  row_judged row (Err NoVerdict.Memory) said told is = absurd cc
+      (record { json = reported.json; is_json = reported.is_json; judged = left_out reported.json null (λ e. cc) reported.outcome })
+  row_judged row (Err (NoVerdict.Bad bad)) said reported is =
+      let same : Judgment.Fault bad ≡ said = cc in subst (λ (j : Judgment BadRow). JudgesRow filter now row j) same reported
+  row_judged row (Err NoVerdict.Memory) said reported is = absurd cc
 
   -- what is reported about the JSON that a row is, is reported about the row
-  pub row_told : (row : List ℕ) (json : Data) (answer : Result Verdict NoVerdict)
-      → IsJsonOf row json → TellsValue filter now json answer → TellsRow filter now row answer
-  row_told row json (Ok verdict) is told = record { json = json; is_json = is; outcome = told }
-  row_told row json (Err (NoVerdict.Bad BadRow.NotJson)) is told = absurd told
-  row_told row json (Err (NoVerdict.Bad (BadRow.NoEntity fault))) is told = record { json = json; is_json = is; judged = told }
-  row_told row json (Err (NoVerdict.Bad (BadRow.NoValue fault))) is told = record { json = json; is_json = is; judged = told }
-  row_told row json (Err NoVerdict.Memory) is told = tt
+  pub row_reported : (row : List ℕ) (json : Data) (answer : Result Verdict NoVerdict)
+      → IsJsonOf row json → ReportsValue filter now json answer → ReportsRow filter now row answer
+  row_reported row json (Ok verdict) is reported = record { json = json; is_json = is; outcome = reported }
+  row_reported row json (Err (NoVerdict.Bad BadRow.NotJson)) is reported = absurd reported
+  row_reported row json (Err (NoVerdict.Bad (BadRow.NoEntity fault))) is reported = record { json = json; is_json = is; judged = reported }
+  row_reported row json (Err (NoVerdict.Bad (BadRow.NoValue fault))) is reported = record { json = json; is_json = is; judged = reported }
+  row_reported row json (Err NoVerdict.Memory) is reported = tt
 
   -- what is kept by what is reported is right to keep
   abbrev Says : {E : Type 0} → Result Verdict NoVerdict → Result (Judgment BadRow) E → Type 0
-  Says answer result = MatchResult result (λ said. judgment_told answer ≡ Some said) (λ refused. judgment_told answer ≡ None)
+  Says answer result = MatchResult result (λ said. judgment_reported answer ≡ Some said) (λ refused. judgment_reported answer ≡ None)
 
   pub item_judged : {E : Type 0} (json : Data) (answer : Result Verdict NoVerdict) (result : Result (Judgment BadRow) E)
-      → TellsValue filter now json answer → Says answer result → IfOk result (JudgesValue filter now json)
-  item_judged json answer (Ok said) told is = value_judged json answer said told is
-  item_judged json answer (Err refused) told is = tt
+      → ReportsValue filter now json answer → Says answer result → IfOk result (JudgesValue filter now json)
+  item_judged json answer (Ok said) reported is = value_judged json answer said reported is
+  item_judged json answer (Err refused) reported is = tt
 
   pub line_judged : {E : Type 0} (line : List ℕ) (answer : Result Verdict NoVerdict) (result : Result (Judgment BadRow) E)
-      → TellsRow filter now line answer → Says answer result → IfOk result (JudgesRow filter now line)
-  line_judged line answer (Ok said) told is = row_judged line answer said told is
-  line_judged line answer (Err refused) told is = tt
+      → ReportsRow filter now line answer → Says answer result → IfOk result (JudgesRow filter now line)
+  line_judged line answer (Ok said) reported is = row_judged line answer said reported is
+  line_judged line answer (Err refused) reported is = tt

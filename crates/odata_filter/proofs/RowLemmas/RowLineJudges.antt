@@ -5,7 +5,7 @@ use Rattle.odata_checked_filter.specs.Filter.{Filter}
 use Rattle.line_filter.specs.Growth.{Writes}
 use Rattle.line_filter.specs.Kept.{Items, Filters, IsOfItem, Stops, StopsHeld, StopsOn, StopsWith}
 use Rattle.line_filter.specs.LineStreams.{LacksLine}
-use Rattle.line_filter.specs.declared.run_stop.Stop.{Stop}
+use Rattle.line_filter.specs.declared.run_stop.RunStop.{RunStop}
 use Rattle.line_filter.specs.declared.tally.Tally.{Tally}
 use Rattle.std.specs.Prelude.{IfErr, IfOk, IsSomeAnd}
 use Rattle.odata_filter.specs.declared.bad_row.BadRow.{BadRow}
@@ -23,14 +23,14 @@ module _ (f : Filter) (m : MomentParts) (waiting : List ℕ) (known : Option (Li
   abbrev lacks : List ℕ → List ℕ → ℕ → Type 0
   lacks bytes = LacksLine (JudgesRow f m) bytes waiting known
 
-  pub stops_lines : (left old new : Option (List ℕ)) (stop : Stop BadRow) (fault : RunFault) → run_stop fault ≡ Some stop
+  pub stops_lines : (left old new : Option (List ℕ)) (stop : RunStop BadRow) (fault : RunFault) → run_stop fault ≡ Some stop
       → IfSome left (λ bytes. Writes old new (λ text. StopsWith (rows_of f m bytes) (lacks bytes) text stop))
       → IfSome left (λ bytes. Writes old new (λ text. StopsLines f m bytes waiting known text fault))
   stops_lines None old new stop fault is stops = tt
   stops_lines (Some bytes) old new stop fault is (text, appends, stops) =
-      (text, appends, subst (λ told. IsSomeAnd told (StopsWith (rows_of f m bytes) (lacks bytes) text)) (sym is) stops)
+      (text, appends, subst (λ reported. IsSomeAnd reported (StopsWith (rows_of f m bytes) (lacks bytes) text)) (sym is) stops)
 
-  left_open : (bytes text : List ℕ) (told : Option (Stop BadRow)) → IsSomeAnd told (StopsWith (rows_of f m bytes) (lacks bytes) text) → IsSomeAnd told (Stops (rows_of f m bytes) text)
+  left_open : (bytes text : List ℕ) (reported : Option (RunStop BadRow)) → IsSomeAnd reported (StopsWith (rows_of f m bytes) (lacks bytes) text) → IsSomeAnd reported (Stops (rows_of f m bytes) text)
   left_open bytes text None stops = absurd stops
   left_open bytes text (Some stop) stops = lines_open (JudgesRow f m) bytes waiting known text stop stops
 
@@ -69,22 +69,22 @@ lines_pass f m left remaining old new (Ok tally) same filters =
 
 -- ---- rows that stand in memory
 
-module _ {X : Type 0} (items : Items X BadRow) (text : List ℕ) (fault : RunFault) (stop : Stop BadRow) (told : run_stop fault ≡ Some stop) (stops : StopsHeld items text stop) where
-  told_of : (other : RunFault) (last : Stop BadRow) → fault ≡ other → run_stop other ≡ Some last → stop ≡ last
-  told_of other last same is = let e : Some stop ≡ Some last = sym told ∙ ap run_stop same ∙ is in cc
+module _ {X : Type 0} (items : Items X BadRow) (text : List ℕ) (fault : RunFault) (stop : RunStop BadRow) (reported : run_stop fault ≡ Some stop) (stops : StopsHeld items text stop) where
+  reported_of : (other : RunFault) (last : RunStop BadRow) → fault ≡ other → run_stop other ≡ Some last → stop ≡ last
+  reported_of other last same is = let e : Some stop ≡ Some last = sym reported ∙ ap run_stop same ∙ is in cc
 
   pub held_unread : (line : ℕ) → fault ≢ RunFault.Read line
-  held_unread line same = subst (StopsHeld items text) (told_of (RunFault.Read line) (Stop.Read line) same refl) stops
+  held_unread line same = subst (StopsHeld items text) (reported_of (RunFault.Read line) (RunStop.Read line) same refl) stops
 
   pub held_unwritten : IsOfItem stop → fault ≢ RunFault.Write
-  held_unwritten of_item same = subst IsOfItem (told_of RunFault.Write Stop.Write same refl) of_item
+  held_unwritten of_item same = subst IsOfItem (reported_of RunFault.Write RunStop.Write same refl) of_item
 
   never_lacks : {A : Type 0} → ⊥ ⊎ A → A
   never_lacks (inl never) = absurd never
   never_lacks (inr is) = is
 
   pub held_memory : (line : ℕ) → fault ≡ RunFault.Memory line → StopsOn items text line
-  held_memory line same = never_lacks (subst (StopsHeld items text) (told_of (RunFault.Memory line) (Stop.Memory line) same refl) stops)
+  held_memory line same = never_lacks (subst (StopsHeld items text) (reported_of (RunFault.Memory line) (RunStop.Memory line) same refl) stops)
 
   pub held_stops : IsSomeAnd (run_stop fault) (Stops items text)
-  held_stops = subst (λ s. IsSomeAnd s (Stops items text)) (sym told) (held_open items text stop stops)
+  held_stops = subst (λ s. IsSomeAnd s (Stops items text)) (sym reported) (held_open items text stop stops)

@@ -20,13 +20,13 @@ use Rattle.odata_eval.specs.Means.{Means}
 use Rattle.odata_eval.specs.MeansOn.{IsTheOutcome}
 use Rattle.odata_eval.specs.NameGives.{FieldGives, StepGives}
 use Rattle.odata_filter_operations.specs.Outcome.{Outcome, gives, overflow, divides_by_zero}
-use Rattle.odata_eval.specs.VerdictView.{told_outcome, verdict_val}
+use Rattle.odata_eval.specs.VerdictView.{reported_outcome, verdict_val}
 use Rattle.odata_filter_operations.specs.FaultView.{fault_outcome}
 use Rattle.odata_filter_operations.specs.declared.fault.EvalFault.{EvalFault}
 use Rattle.odata_eval.specs.declared.verdict.Verdict.{Verdict}
 use Rattle.odata_filter.specs.RowAnswer.{PassesNone}
 use Rattle.odata_filter.specs.RowJudgment.{HasOutcome}
-use Rattle.odata_filter.specs.private.ValueAnswer.{TellsValue, answer_told, fault_told}
+use Rattle.odata_filter.specs.private.ValueAnswer.{ReportsValue, answer_reported, fault_reported}
 use Rattle.odata_filter.proofs.RowLemmas.NamesAlone.{NamesNone, NodesNameNone, list_none, means_same}
 
 -- ---- what a filter that names none of them evaluates to
@@ -104,19 +104,19 @@ row_but filter now line Passed row schema_is type_is paths passes read =
     }
 
 outcome_but : (filter : Filter) (now : MomentParts) (json : Data) (row : Row) (outcome : Outcome) → IsRowBut filter now json row → IsTheOutcome row now (tree_of_filter filter) outcome → HasOutcome filter now json outcome
-outcome_but filter now json row outcome is told =
-    record { value = is.whole; fits = is.fits; related = is.means outcome told.related; only = λ other means. told.only other (is.meant other means) }
+outcome_but filter now json row outcome is reported =
+    record { value = is.whole; fits = is.fits; related = is.means outcome reported.related; only = λ other means. reported.only other (is.meant other means) }
 
 fault_but : (filter : Filter) (now : MomentParts) (json : Data) (row : Row) (fault : EvalFault) → IsRowBut filter now json row → IfSome (fault_outcome fault) (IsTheOutcome row now (tree_of_filter filter))
-    → TellsValue filter now json (Err (fault_told fault))
-fault_but filter now json row EvalFault.Overflow is told = (overflow, (refl, outcome_but filter now json row overflow is told))
-fault_but filter now json row EvalFault.DivideByZero is told = (divides_by_zero, (refl, outcome_but filter now json row divides_by_zero is told))
-fault_but filter now json row EvalFault.Memory is told = tt
+    → ReportsValue filter now json (Err (fault_reported fault))
+fault_but filter now json row EvalFault.Overflow is reported = (overflow, (refl, outcome_but filter now json row overflow is reported))
+fault_but filter now json row EvalFault.DivideByZero is reported = (divides_by_zero, (refl, outcome_but filter now json row divides_by_zero is reported))
+fault_but filter now json row EvalFault.Memory is reported = tt
 
-pub answer_but : (filter : Filter) (now : MomentParts) (json : Data) (row : Row) (answer : Result Verdict EvalFault) → IsRowBut filter now json row → IfSome (told_outcome answer) (IsTheOutcome row now (tree_of_filter filter))
-    → TellsValue filter now json (answer_told answer)
-answer_but filter now json row (Ok verdict) is told = outcome_but filter now json row (gives (verdict_val verdict)) is told
-answer_but filter now json row (Err fault) is told = fault_but filter now json row fault is told
+pub answer_but : (filter : Filter) (now : MomentParts) (json : Data) (row : Row) (answer : Result Verdict EvalFault) → IsRowBut filter now json row → IfSome (reported_outcome answer) (IsTheOutcome row now (tree_of_filter filter))
+    → ReportsValue filter now json (answer_reported answer)
+answer_but filter now json row (Ok verdict) is reported = outcome_but filter now json row (gives (verdict_val verdict)) is reported
+answer_but filter now json row (Err fault) is reported = fault_but filter now json row fault is reported
 
 -- ---- numbers one after another
 

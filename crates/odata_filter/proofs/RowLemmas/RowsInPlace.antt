@@ -19,22 +19,22 @@ use Rattle.odata_checked_filter.specs.Filter.{Filter, IsFilter, slots_for_filter
 use Rattle.odata_eval.specs.EndsOnce.{TypedEndsOnce}
 use Rattle.odata_eval.specs.MeansOn.{IsTheOutcome}
 use Rattle.odata_eval.specs.CostsOn.{KeepsBound}
-use Rattle.odata_eval.specs.VerdictView.{outcome_told, told_outcome, verdict_val}
+use Rattle.odata_eval.specs.VerdictView.{outcome_reported, reported_outcome, verdict_val}
 use Rattle.odata_eval.specs.declared.stop.EvalStop.{EvalStop}
 use Rattle.odata_eval.specs.declared.verdict.Verdict.{Verdict}
 use Rattle.odata_filter_operations.specs.Outcome.{Outcome, gives}
 use Rattle.odata_filter_operations.specs.declared.fault.EvalFault.{EvalFault}
-use Rattle.odata_filter.specs.RowAnswer.{PassesNone, TellsRow, judgment_told}
+use Rattle.odata_filter.specs.RowAnswer.{PassesNone, ReportsRow, judgment_reported}
 use Rattle.odata_filter.specs.RowCosts.{ReportsRowWithin}
 use Rattle.odata_filter.specs.RowJudgment.{FilterMeans, JudgesRow}
 use Rattle.odata_filter.specs.FilterRows.{KeepsNames}
 use Rattle.odata_filter.specs.private.RowsInPlace.{AreRowsOf, IsSameButSieves, IsTestAt}
-use Rattle.odata_filter.specs.private.ValueAnswer.{answer_told}
-use Rattle.odata_filter.specs.private.ValueCosts.{stop_reported}
+use Rattle.odata_filter.specs.private.ValueAnswer.{answer_reported}
+use Rattle.odata_filter.specs.private.BoundedJudge.{stop_reported}
 use Rattle.odata_filter.proofs.RowLemmas.CostsBut.{kept_costs}
 use Rattle.odata_filter.proofs.RowLemmas.RowBounds.{answer_within_row, row_within}
 use Rattle.odata_filter.proofs.RowLemmas.BlankLines.{json_not_blank}
-use Rattle.odata_filter.proofs.RowLemmas.RowJudges.{row_judged, row_told}
+use Rattle.odata_filter.proofs.RowLemmas.RowJudges.{row_judged, row_reported}
 use Rattle.odata_filter.proofs.RowLemmas.RowsBut.{answer_but, row_but}
 use Rattle.odata_filter.proofs.RowLemmas.SlotTests.{each_sieve, slot_of_name}
 use Rattle.odata_filter.proofs.RowLemmas.TrueRows.{FitsHasType}
@@ -137,14 +137,14 @@ module _ (filter : Filter) where
       paths_same path = ap (λ (steps : List StepModel). paths_in steps path) (names.whole whole)
 
       -- what a filter's answer to the held row reports of its line
-      pub held_told : (line : List ℕ) (answer : Result Verdict EvalFault) → IsLineBut line (names_unkept rows) (row_held rows) → IfSome (told_outcome answer) (IsTheOutcome (row_held rows) now (tree_of_filter filter))
-          → TellsRow filter now line (answer_told answer)
-      held_told line answer read outcome =
+      pub held_reported : (line : List ℕ) (answer : Result Verdict EvalFault) → IsLineBut line (names_unkept rows) (row_held rows) → IfSome (reported_outcome answer) (IsTheOutcome (row_held rows) now (tree_of_filter filter))
+          → ReportsRow filter now line (answer_reported answer)
+      held_reported line answer read outcome =
           let but = row_but filter now line (names_unkept rows) (row_held rows) names.schema names.type_id paths_same names.keeps read in
-          row_told filter now line read.json (answer_told answer) read.is_json (answer_but filter now read.json (row_held rows) answer but outcome)
+          row_reported filter now line read.json (answer_reported answer) read.is_json (answer_but filter now read.json (row_held rows) answer but outcome)
 
       -- and within a bound
-      pub held_within : (line : List ℕ) (most : ℕ) (answer : Result Verdict EvalStop) → IsLineBut line (names_unkept rows) (row_held rows) → IfSome (outcome_told answer) (IsTheOutcome (row_held rows) now (tree_of_filter filter))
+      pub held_within : (line : List ℕ) (most : ℕ) (answer : Result Verdict EvalStop) → IsLineBut line (names_unkept rows) (row_held rows) → IfSome (outcome_reported answer) (IsTheOutcome (row_held rows) now (tree_of_filter filter))
           → KeepsBound (row_held rows) now (tree_of_filter filter) most answer → ReportsRowWithin filter now line most (stop_reported answer)
       held_within line most answer read outcome bound =
           let costs = kept_costs filter now line (names_unkept rows) (row_held rows) names.schema names.type_id paths_same names.keeps read in
@@ -152,8 +152,8 @@ module _ (filter : Filter) where
 
       -- by the verdict on the held row its line is kept or left out
       pub held_said : (line : List ℕ) (verdict : Verdict) (kept : Bool) → IsLineBut line (names_unkept rows) (row_held rows) → IsTheOutcome (row_held rows) now (tree_of_filter filter) (gives (verdict_val verdict))
-          → judgment_told (Ok verdict) ≡ Some (judgment_where kept) → Says line kept
-      held_said line verdict kept read outcome is = row_judged filter now line (Ok verdict) (judgment_where kept) (held_told line (Ok verdict) read outcome) is
+          → judgment_reported (Ok verdict) ≡ Some (judgment_where kept) → Says line kept
+      held_said line verdict kept read outcome is = row_judged filter now line (Ok verdict) (judgment_where kept) (held_reported line (Ok verdict) read outcome) is
 
     module _ (rows : RowsOfType) (of : AreRowsOf filter rows) (whole : rows.is_whole ≡ true) where
       -- ---- a row that is left out

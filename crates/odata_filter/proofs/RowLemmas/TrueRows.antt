@@ -18,13 +18,13 @@ use Rattle.odata_eval.specs.EndsOnce.{IsOutcomeOf, TypedEndsOnce}
 use Rattle.odata_eval.specs.Means.{Means}
 use Rattle.odata_eval.specs.MeansOn.{IsTheOutcome}
 use Rattle.odata_filter_operations.specs.Outcome.{Outcome, gives, overflow, divides_by_zero}
-use Rattle.odata_eval.specs.VerdictView.{told_outcome, verdict_val}
+use Rattle.odata_eval.specs.VerdictView.{reported_outcome, verdict_val}
 use Rattle.odata_filter_operations.specs.declared.fault.EvalFault.{EvalFault}
 use Rattle.odata_eval.specs.declared.verdict.Verdict.{Verdict}
 use Rattle.line_filter.specs.Kept.{Filters, IsFaultless, Passes, SiftedItem, kept_text}
 use Rattle.line_filter.specs.LineItems.{IsFoundOf, line_sieve}
 use Rattle.line_filter.specs.Lines.{lines_of, text_of_line, text_of_lines}
-use Rattle.line_filter.specs.declared.finding.Finding.{Finding}
+use Rattle.line_filter.specs.declared.line_class.LineClass.{LineClass}
 use Rattle.line_filter.specs.declared.judge.Judgment.{Judgment}
 use Rattle.line_filter.specs.declared.tally.Tally.{Tally}
 use Rattle.odata_filter.specs.Headline.{IsCheckedOf, ConformsTo, IsEntityFor, IsTruthOrFault, ComesToOne, HaveOneOutcome, AreAnswered}
@@ -84,14 +84,14 @@ one_outcome ends has_type text filter now value checked is_moment (json, fits) =
 
 comes_to : (filter : Filter) (now : MomentParts) (row : Row) (outcome : Outcome) → IsEntityFor filter row → IsTheOutcome row now (tree_of_filter filter) outcome → IsTruthOrFault outcome
     → ComesToOne filter now (value_of row) outcome
-comes_to filter now row outcome for told known =
+comes_to filter now row outcome for reported known =
     let At : SchemaModel → ℕ → Outcome → Type 0 = λ s n o. Means (slots_of s) (type_name_at s n) now (value_of row) [] (tree_of_filter filter) o in
     let Schema : Outcome → SchemaModel → Type 0 = λ o s. At s row.type_id o in
     let Place : Outcome → ℕ → Type 0 = λ o n. At filter.schema n o in
     record {
       known = known;
-      related = subst (Place outcome) (sym for.one_type) (subst (Schema outcome) (sym for.one_schema) told.related);
-      only = λ other means. told.only other (subst (Schema other) for.one_schema (subst (Place other) for.one_type means));
+      related = subst (Place outcome) (sym for.one_type) (subst (Schema outcome) (sym for.one_schema) reported.related);
+      only = λ other means. reported.only other (subst (Schema other) for.one_schema (subst (Place other) for.one_type means));
     }
 
 verdict_known : (verdict : Verdict) → IsTruthOrFault (gives (verdict_val verdict))
@@ -100,11 +100,11 @@ verdict_known Verdict.False = tt
 verdict_known Verdict.Null = tt
 
 pub answered : AreAnswered
-answered text filter now row (Ok verdict) checked for told given =
-    (gives (verdict_val verdict), refl, comes_to filter now row (gives (verdict_val verdict)) for told (verdict_known verdict))
-answered text filter now row (Err EvalFault.Overflow) checked for told given = (overflow, refl, comes_to filter now row overflow for told tt)
-answered text filter now row (Err EvalFault.DivideByZero) checked for told given = (divides_by_zero, refl, comes_to filter now row divides_by_zero for told tt)
-answered text filter now row (Err EvalFault.Memory) checked for told given = absurd (given refl)
+answered text filter now row (Ok verdict) checked for reported given =
+    (gives (verdict_val verdict), refl, comes_to filter now row (gives (verdict_val verdict)) for reported (verdict_known verdict))
+answered text filter now row (Err EvalFault.Overflow) checked for reported given = (overflow, refl, comes_to filter now row overflow for reported tt)
+answered text filter now row (Err EvalFault.DivideByZero) checked for reported given = (divides_by_zero, refl, comes_to filter now row divides_by_zero for reported tt)
+answered text filter now row (Err EvalFault.Memory) checked for reported given = absurd (given refl)
 
 -- ---- the rows that are kept
 
@@ -124,7 +124,7 @@ module _ (ends : TypedEndsOnce) (has_type : FitsHasType) where
         };
       }
 
-  kept_true : (filter : Filter) (now : MomentParts) (line : List ℕ) → IsFoundOf (JudgesRow filter now) line (Finding.Judged Judgment.Kept) → IsTrueRow filter now line
+  kept_true : (filter : Filter) (now : MomentParts) (line : List ℕ) → IsFoundOf (JudgesRow filter now) line (LineClass.Judged Judgment.Kept) → IsTrueRow filter now line
   kept_true filter now line (short, some, judged) = record {
     short = short;
     some = some;
@@ -141,27 +141,27 @@ module _ (ends : TypedEndsOnce) (has_type : FitsHasType) where
   module _ (one_fits : OneFits) (fits_nothing : FaultFitsNothing) (one_fault : OneFirstFault) where
     module _ (of : List ℕ) (filter : Filter) (now : MomentParts) (checked : IsCheckedOf of filter) (is_moment : IsMoment now.civil now.offset_minutes) where
       abbrev IsFine : SiftedItem (List ℕ) BadRow → Type 0
-      IsFine s = IsFoundOf (JudgesRow filter now) s.item s.finding × IsFaultless s.finding
+      IsFine s = IsFoundOf (JudgesRow filter now) s.item s.line_class × IsFaultless s.line_class
 
       left_out : (line : List ℕ) → JudgesRow filter now line Judgment.LeftOut → ¬ IsTrueRow filter now line
       left_out line out row =
           judged_once one_fits fits_nothing one_fault filter now line Judgment.Kept Judgment.LeftOut (true_judged of filter now line checked is_moment row) out
 
-      pick : (line : List ℕ) (finding : Finding BadRow) (more : List (SiftedItem (List ℕ) BadRow)) → IsFoundOf (JudgesRow filter now) line finding → IsFaultless finding
+      pick : (line : List ℕ) (line_class : LineClass BadRow) (more : List (SiftedItem (List ℕ) BadRow)) → IsFoundOf (JudgesRow filter now) line line_class → IsFaultless line_class
           → HasTrueRows filter now (map (λ s. s.item) more) (kept_text text_of_line more)
-          → HasTrueRows filter now (line ∷ map (λ s. s.item) more) (kept_text text_of_line (record { item = line; finding = finding } ∷ more))
-      pick line Finding.TooLong more found fine rest = absurd fine
-      pick line Finding.PassedOver more (short, blank) fine (picked, are, is) = (picked, inr ((λ row. row.some blank), are), is)
-      pick line (Finding.Judged Judgment.Kept) more found fine (picked, are, is) =
+          → HasTrueRows filter now (line ∷ map (λ s. s.item) more) (kept_text text_of_line (record { item = line; line_class = line_class } ∷ more))
+      pick line LineClass.TooLong more found fine rest = absurd fine
+      pick line LineClass.PassedOver more (short, blank) fine (picked, are, is) = (picked, inr ((λ row. row.some blank), are), is)
+      pick line (LineClass.Judged Judgment.Kept) more found fine (picked, are, is) =
           (line ∷ picked, inl (kept_true filter now line found, picked, refl, are), ap (λ l. text_of_line line ++ l) is)
-      pick line (Finding.Judged Judgment.LeftOut) more (short, some, out) fine (picked, are, is) = (picked, inr (left_out line out, are), is)
-      pick line (Finding.Judged (Judgment.Fault fault)) more found fine rest = absurd fine
+      pick line (LineClass.Judged Judgment.LeftOut) more (short, some, out) fine (picked, are, is) = (picked, inr (left_out line out, are), is)
+      pick line (LineClass.Judged (Judgment.Fault fault)) more found fine rest = absurd fine
 
       picked_of : (all : List (SiftedItem (List ℕ) BadRow)) → All IsFine all → HasTrueRows filter now (map (λ s. s.item) all) (kept_text text_of_line all)
       picked_of [] fine = ([], refl, refl)
       picked_of (s ∷ more) fine =
           let here = All-head IsFine s more fine in
-          pick s.item s.finding more here.0 here.1 (picked_of more (All-tail IsFine s more fine))
+          pick s.item s.line_class more here.0 here.1 (picked_of more (All-tail IsFine s more fine))
 
       passing : (lines : List (List ℕ)) (written : List ℕ) (tally : Tally) → Passes (line_sieve (JudgesRow filter now)) lines written tally → HasTrueRows filter now lines written
       passing lines written tally passes =
@@ -173,13 +173,13 @@ module _ (ends : TypedEndsOnce) (has_type : FitsHasType) where
 
     pub stopped : StopAtFaults
     stopped text filter now bytes out (RunFault.Json n) checked is_moment of_row stop =
-        (n, Finding.Judged (Judgment.Fault BadRow.NotJson), record { faulty = λ fine. fine; first = stop; written_before = passing text filter now checked is_moment stop.before out stop.tally stop.passes })
+        (n, LineClass.Judged (Judgment.Fault BadRow.NotJson), record { faulty = λ fine. fine; first = stop; written_before = passing text filter now checked is_moment stop.before out stop.tally stop.passes })
     stopped text filter now bytes out (RunFault.Row n fault) checked is_moment of_row stop =
-        (n, Finding.Judged (Judgment.Fault (BadRow.NoEntity fault)), record { faulty = λ fine. fine; first = stop; written_before = passing text filter now checked is_moment stop.before out stop.tally stop.passes })
+        (n, LineClass.Judged (Judgment.Fault (BadRow.NoEntity fault)), record { faulty = λ fine. fine; first = stop; written_before = passing text filter now checked is_moment stop.before out stop.tally stop.passes })
     stopped text filter now bytes out (RunFault.Arithmetic n fault) checked is_moment of_row stop =
-        (n, Finding.Judged (Judgment.Fault (BadRow.NoValue fault)), record { faulty = λ fine. fine; first = stop; written_before = passing text filter now checked is_moment stop.before out stop.tally stop.passes })
+        (n, LineClass.Judged (Judgment.Fault (BadRow.NoValue fault)), record { faulty = λ fine. fine; first = stop; written_before = passing text filter now checked is_moment stop.before out stop.tally stop.passes })
     stopped text filter now bytes out (RunFault.LineTooLong n) checked is_moment of_row stop =
-        (n, Finding.TooLong, record { faulty = λ fine. fine; first = stop; written_before = passing text filter now checked is_moment stop.before out stop.tally stop.passes })
+        (n, LineClass.TooLong, record { faulty = λ fine. fine; first = stop; written_before = passing text filter now checked is_moment stop.before out stop.tally stop.passes })
     stopped text filter now bytes out RunFault.NotACollection checked is_moment of_row stop = absurd of_row
     stopped text filter now bytes out (RunFault.Read n) checked is_moment of_row stop = absurd of_row
     stopped text filter now bytes out RunFault.Write checked is_moment of_row stop = absurd of_row

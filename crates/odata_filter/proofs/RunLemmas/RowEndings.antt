@@ -6,9 +6,9 @@ use Rattle.edm_values.specs.MomentParts.{MomentParts}
 use Rattle.line_filter.specs.Growth.{Writes}
 use Rattle.line_filter.specs.Kept.{Items, Filters, Passes, Stops, StopsWithin}
 use Rattle.line_filter.specs.Places.{Placed}
-use Rattle.line_filter.specs.declared.finding.Finding.{Finding}
+use Rattle.line_filter.specs.declared.line_class.LineClass.{LineClass}
 use Rattle.line_filter.specs.declared.judge.Judgment.{Judgment}
-use Rattle.line_filter.specs.declared.run_stop.Stop.{Stop}
+use Rattle.line_filter.specs.declared.run_stop.RunStop.{RunStop}
 use Rattle.line_filter.specs.declared.tally.Tally.{Tally}
 use Rattle.serde_json.specs.Data.{Data}
 use Rattle.odata_checked_filter.specs.Filter.{Filter}
@@ -41,14 +41,14 @@ module _ {X F : Type 0} (items : Items X F) (text : List ℕ) where
   within_all : (tally : Tally) → Filters items text tally → StopsWithin items text
   within_all tally filtered = front_passed items.all [] tally (sym (append-nil items.all)) filtered
 
-  within_stop : (stop : Stop F) → Stops items text stop → StopsWithin items text
-  within_stop (Stop.Fault line fault) stops = front_passed stops.before (stops.bad ∷ stops.after) stops.tally stops.whole stops.passes
-  within_stop (Stop.TooLong line) stops = front_passed stops.before (stops.bad ∷ stops.after) stops.tally stops.whole stops.passes
-  within_stop (Stop.Read line) stops = front_passed stops.before stops.after stops.tally stops.whole stops.passes
-  within_stop Stop.Write stops = stops
-  within_stop (Stop.Memory line) stops = front_passed stops.before stops.after stops.tally stops.whole stops.passes
+  within_stop : (stop : RunStop F) → Stops items text stop → StopsWithin items text
+  within_stop (RunStop.Fault line fault) stops = front_passed stops.before (stops.bad ∷ stops.after) stops.tally stops.whole stops.passes
+  within_stop (RunStop.TooLong line) stops = front_passed stops.before (stops.bad ∷ stops.after) stops.tally stops.whole stops.passes
+  within_stop (RunStop.Read line) stops = front_passed stops.before stops.after stops.tally stops.whole stops.passes
+  within_stop RunStop.Write stops = stops
+  within_stop (RunStop.Memory line) stops = front_passed stops.before stops.after stops.tally stops.whole stops.passes
 
-  within_stops : (told : Option (Stop F)) → IsSomeAnd told (Stops items text) → StopsWithin items text
+  within_stops : (reported : Option (RunStop F)) → IsSomeAnd reported (Stops items text) → StopsWithin items text
   within_stops None stops = absurd stops
   within_stops (Some stop) stops = within_stop stop stops
 
@@ -108,11 +108,11 @@ module _ (plan : Plan) (document : List ℕ) (filter : Filter) (now : MomentPart
     SaysOfLines bytes = StopsBy (rows_of filter now bytes)
 
     -- a row is the first at fault
-    line_at_fault : (s : Streams) (fault : RunFault) (line : ℕ) (bad : BadRow) → run_stop fault ≡ Some (Stop.Fault line bad) → OverRows s (λ bytes text. SaysOfLines bytes text fault)
+    line_at_fault : (s : Streams) (fault : RunFault) (line : ℕ) (bad : BadRow) → run_stop fault ≡ Some (RunStop.Fault line bad) → OverRows s (λ bytes text. SaysOfLines bytes text fault)
         → ByFilter StopsAtFault plan document s
-    line_at_fault s fault line bad told held =
+    line_at_fault s fault line bad reported held =
         by_filter (λ bytes text. SaysOfLines bytes text fault) StopsAtFault s
-        (λ bytes text stops. of_lines StopsAtFault bytes text (line, Finding.Judged (Judgment.Fault bad), (λ sound. sound), subst (λ t. IsSomeAnd t (Stops (rows_of filter now bytes) text)) told stops)) held
+        (λ bytes text stops. of_lines StopsAtFault bytes text (line, LineClass.Judged (Judgment.Fault bad), (λ sound. sound), subst (λ t. IsSomeAnd t (Stops (rows_of filter now bytes) text)) reported stops)) held
 
     line_failed : (s : Streams) (failure : Failure) → StopsOver SaysOfLines failure s → FailureSays (status_of failure) Verb.Filter plan document s
     line_failed s NotAMoment held = absurd held
@@ -129,7 +129,7 @@ module _ (plan : Plan) (document : List ℕ) (filter : Filter) (now : MomentPart
     line_failed s (Rows (Arithmetic line fault)) held = inl (line_at_fault s (Arithmetic line fault) line (BadRow.NoValue fault) refl held)
     line_failed s (Rows (LineTooLong line)) held =
         inl (by_filter (λ bytes text. SaysOfLines bytes text (LineTooLong line)) StopsAtFault s
-        (λ bytes text stops. of_lines StopsAtFault bytes text (line, Finding.TooLong, (λ sound. sound), stops)) held)
+        (λ bytes text stops. of_lines StopsAtFault bytes text (line, LineClass.TooLong, (λ sound. sound), stops)) held)
     line_failed s (Rows NotACollection) held = inl (by_filter (λ bytes text. SaysOfLines bytes text NotACollection) StopsAtFault s (λ bytes text stops. absurd stops) held)
     line_failed s (Rows (Read line)) held = (filter, now, is_ready)
     line_failed s (Rows Write) held = (filter, now, is_ready)
@@ -174,10 +174,10 @@ module _ (plan : Plan) (document : List ℕ) (filter : Filter) (now : MomentPart
         (over_whole rows old new bytes (λ all text. OfCollection filter now all (λ items. Q (Placed Data) items text)) whole wrote)
 
     -- an item is the first at fault
-    item_at_fault : (fault : RunFault) (line : ℕ) (bad : BadRow) → run_stop fault ≡ Some (Stop.Fault line bad) → Writes old new (λ text. OfCollection filter now bytes (λ items. StopsBy items text fault))
+    item_at_fault : (fault : RunFault) (line : ℕ) (bad : BadRow) → run_stop fault ≡ Some (RunStop.Fault line bad) → Writes old new (λ text. OfCollection filter now bytes (λ items. StopsBy items text fault))
         → ByFilter StopsAtFault plan document these
-    item_at_fault fault line bad told (text, wrote, (items, is, stops)) =
-        by_places StopsAtFault (text, wrote, (items, is, (line, Finding.Judged (Judgment.Fault bad), (λ sound. sound), subst (λ t. IsSomeAnd t (Stops (entities_of filter now items) text)) told stops)))
+    item_at_fault fault line bad reported (text, wrote, (items, is, stops)) =
+        by_places StopsAtFault (text, wrote, (items, is, (line, LineClass.Judged (Judgment.Fault bad), (λ sound. sound), subst (λ t. IsSomeAnd t (Stops (entities_of filter now items) text)) reported stops)))
 
     pub places_fail : (fault : RunFault) → Writes old new (λ text. StopsCollection filter now bytes text fault) → FailureSays (status_of_rows fault) Verb.Filter plan document these
     places_fail (Json line) (text, wrote, stops) = absurd stops
@@ -200,17 +200,17 @@ module _ (plan : Plan) (document : List ℕ) (filter : Filter) (now : MomentPart
     pub places_done-begin : (tally : Tally) → Writes old new (λ text. OfCollection filter now bytes (λ items. Filters items text tally)) → BeginsAs Verb.Filter plan document these
     places_done-begin tally (text, wrote, (items, is, filtered)) = inr (by_places BeginsKept (text, wrote, (items, is, within_all (entities_of filter now items) text tally filtered)))
 
-    begun : (stop : Stop BadRow) → Writes old new (λ text. OfCollection filter now bytes (λ items. Stops items text stop)) → BeginsAs Verb.Filter plan document these
+    begun : (stop : RunStop BadRow) → Writes old new (λ text. OfCollection filter now bytes (λ items. Stops items text stop)) → BeginsAs Verb.Filter plan document these
     begun stop (text, wrote, (items, is, stops)) = inr (by_places BeginsKept (text, wrote, (items, is, within_stop (entities_of filter now items) text stop stops)))
 
     pub places_fail-begin : (fault : RunFault) → Writes old new (λ text. StopsCollection filter now bytes text fault) → BeginsAs Verb.Filter plan document these
     places_fail-begin (Json line) (text, wrote, stops) = absurd stops
     places_fail-begin (LineTooLong line) (text, wrote, stops) = absurd stops
     places_fail-begin (Read line) (text, wrote, stops) = absurd stops
-    places_fail-begin (Row line fault) wrote = begun (Stop.Fault line (BadRow.NoEntity fault)) wrote
-    places_fail-begin (Arithmetic line fault) wrote = begun (Stop.Fault line (BadRow.NoValue fault)) wrote
+    places_fail-begin (Row line fault) wrote = begun (RunStop.Fault line (BadRow.NoEntity fault)) wrote
+    places_fail-begin (Arithmetic line fault) wrote = begun (RunStop.Fault line (BadRow.NoValue fault)) wrote
     places_fail-begin NotACollection (text, wrote, (none, empty)) = inl (wrote_none old new text wrote empty)
-    places_fail-begin Write wrote = begun Stop.Write wrote
+    places_fail-begin Write wrote = begun RunStop.Write wrote
     places_fail-begin (Memory line) (text, wrote, inl (zero, empty)) = inl (wrote_none old new text wrote empty)
     places_fail-begin (Memory line) (text, wrote, inr (items, is, stops)) =
         inr (by_places BeginsKept (text, wrote, (items, is, front_passed (entities_of filter now items) text stops.before (stops.here ∷ stops.after) stops.tally stops.whole stops.passes)))

@@ -13,8 +13,8 @@ use Rattle.odata_text.specs.declared.query_fault.QueryFault.TheVariants as query
 use Rattle.line_filter.specs.Growth.{Writes, WritesFront}
 use Rattle.odata_filter.specs.Planned.{IsMomentText, IsPlanned}
 use Rattle.odata_filter.specs.declared.command.command_line.Verb.{Verb}
-use Rattle.odata_filter.specs.private.RunFailures.{AnswerSays, BeginsText, FailureSays, GivesMoment, IsAnswerOf, IsAnswered, IsMomentUnlessAsked, IsTold, IsUnwritten, LacksFilter, ReadsNoRows, status_of, status_of_query, status_of_refusal}
-use Rattle.odata_filter.specs.Run.{Answers, BeginsAs, BeginsBy, BeginsKept, HoldsOfRows, Completes, IsAccepted, IsFirstMoment, IsRefusedLine, NamesType, AsksFor, IsPlanFilter, IsReady, LacksMoment, HasNoFilter, Streams, streams, TellsFilter, WroteNothing, OverRows, OfRows, ByFilter, FiltersAll, StopsAtFault, StopsAtRow, Status, complete, without_filter, without_plan, without_type, at_fault, without_device, without_memory, status_number, StatusSays, Begins}
+use Rattle.odata_filter.specs.private.RunFailures.{AnswerSays, BeginsText, FailureSays, GivesMoment, IsAnswerOf, IsAnswered, IsMomentUnlessAsked, IsReported, IsUnwritten, LacksFilter, ReadsNoRows, status_of, status_of_query, status_of_refusal}
+use Rattle.odata_filter.specs.Run.{Answers, BeginsAs, BeginsBy, BeginsKept, HoldsOfRows, Completes, IsAccepted, IsFirstMoment, IsRefusedLine, NamesType, AsksFor, IsPlanFilter, IsReady, LacksMoment, HasNoFilter, Streams, streams, ReportsFilter, WroteNothing, OverRows, OfRows, ByFilter, FiltersAll, StopsAtFault, StopsAtRow, Status, complete, without_filter, without_plan, without_type, at_fault, without_device, without_memory, status_number, StatusSays, Begins}
 use Rattle.csdl_schema.specs.SchemaModel.{SchemaModel, slots_of, type_name_at}
 use Rattle.odata_filter.specs.declared.command.command_line.Plan.{Plan}
 use Rattle.odata_filter.specs.declared.command.failure.Failure.{Failure}
@@ -101,14 +101,14 @@ unwritten_says _ verb plan document s filter reads_none is_filter unwritten = ab
 pub accepted_says : {X : Type 0} (plan : Plan) (document : List ℕ) (s : Streams) (filter : Filter) (answer : Result X Failure)
     → IsPlanFilter plan document filter → OnOk answer (Writes s.old s.new (IsAccepted filter)) → IfErr answer (λ failure. IsUnwritten (status_of failure))
     → AnswerSays answer Verb.Check plan document s
-accepted_says plan document s filter (Ok done) is_filter told unwritten = record { filter = filter; is_filter = is_filter; written = told }
-accepted_says plan document s filter (Err failure) is_filter told unwritten = unwritten_says (status_of failure) Verb.Check plan document s filter tt is_filter unwritten
+accepted_says plan document s filter (Ok done) is_filter reported unwritten = record { filter = filter; is_filter = is_filter; written = reported }
+accepted_says plan document s filter (Err failure) is_filter reported unwritten = unwritten_says (status_of failure) Verb.Check plan document s filter tt is_filter unwritten
 
 pub explained_says : {X : Type 0} (plan : Plan) (document : List ℕ) (s : Streams) (filter : Filter) (answer : Result X Failure)
     → IsPlanFilter plan document filter → OnOk answer (Writes s.old s.new (IsExplanation filter)) → IfErr answer (λ failure. IsUnwritten (status_of failure))
     → AnswerSays answer Verb.Explain plan document s
-explained_says plan document s filter (Ok done) is_filter told unwritten = record { filter = filter; is_filter = is_filter; written = told }
-explained_says plan document s filter (Err failure) is_filter told unwritten = unwritten_says (status_of failure) Verb.Explain plan document s filter tt is_filter unwritten
+explained_says plan document s filter (Ok done) is_filter reported unwritten = record { filter = filter; is_filter = is_filter; written = reported }
+explained_says plan document s filter (Err failure) is_filter reported unwritten = unwritten_says (status_of failure) Verb.Explain plan document s filter tt is_filter unwritten
 
 -- a beginning was written of what is reported about the filter
 pub accepted_begins : (plan : Plan) (document : List ℕ) (s : Streams) (filter : Filter) → IsPlanFilter plan document filter
@@ -161,17 +161,17 @@ by_filter_kept P plan document rows a b c by kept = record {
   written = over_kept rows a b c (HoldsOfRows plan.collection P by.filter by.now) by.written kept;
 }
 
-told_kept : (Says : Filter → List ℕ → Type 0) (plan : Plan) (document : List ℕ) (rows : Option (Option (List ℕ))) (a b c : Option (List ℕ))
-    → TellsFilter Says plan document (streams rows a b) → Keeps b c → TellsFilter Says plan document (streams rows a c)
-told_kept Says plan document rows a b c tells kept =
-    let (text, wrote, is) = tells.written in
-    record { filter = tells.filter; is_filter = tells.is_filter; written = (text, Appends-kept a b c text wrote kept, is) }
+reported_kept : (Says : Filter → List ℕ → Type 0) (plan : Plan) (document : List ℕ) (rows : Option (Option (List ℕ))) (a b c : Option (List ℕ))
+    → ReportsFilter Says plan document (streams rows a b) → Keeps b c → ReportsFilter Says plan document (streams rows a c)
+reported_kept Says plan document rows a b c reports kept =
+    let (text, wrote, is) = reports.written in
+    record { filter = reports.filter; is_filter = reports.is_filter; written = (text, Appends-kept a b c text wrote kept, is) }
 
 completes_kept : (verb : Verb) (plan : Plan) (document : List ℕ) (rows : Option (Option (List ℕ))) (a b c : Option (List ℕ))
     → Completes verb plan document (streams rows a b) → Keeps b c → Completes verb plan document (streams rows a c)
 completes_kept Verb.Filter plan document rows a b c ends kept = by_filter_kept FiltersAll plan document rows a b c ends kept
-completes_kept Verb.Check plan document rows a b c ends kept = told_kept IsAccepted plan document rows a b c ends kept
-completes_kept Verb.Explain plan document rows a b c ends kept = told_kept IsExplanation plan document rows a b c ends kept
+completes_kept Verb.Check plan document rows a b c ends kept = reported_kept IsAccepted plan document rows a b c ends kept
+completes_kept Verb.Explain plan document rows a b c ends kept = reported_kept IsExplanation plan document rows a b c ends kept
 
 stops_kept : (verb : Verb) (plan : Plan) (document : List ℕ) (rows : Option (Option (List ℕ))) (a b c : Option (List ℕ))
     → StopsAtRow verb plan document (streams rows a b) → Keeps b c → StopsAtRow verb plan document (streams rows a c)
@@ -297,13 +297,13 @@ module _ (plan : Plan) (document : List ℕ) (rows : Option (Option (List ℕ)))
   }
   Answers-refused number (inr (inr six, begun)) = record { status = without_memory; is_answer = six; says = tt; begins = answer_begins begun }
 
-pub Answers-told : (number : ℕ) (status : Status) (plan : Plan) (document : List ℕ) (rows : Option (Option (List ℕ))) (a b c : Option (List ℕ))
+pub Answers-reported : (number : ℕ) (status : Status) (plan : Plan) (document : List ℕ) (rows : Option (Option (List ℕ))) (a b c : Option (List ℕ))
     → FailureSays status plan.verb plan document (streams rows a b) → Begins plan document (streams rows a b)
-    → IsTold number status plan.verb b c → Answers number plan document (streams rows a c)
-Answers-told number status plan document rows a b c says begins (inl (is, told)) =
+    → IsReported number status plan.verb b c → Answers number plan document (streams rows a c)
+Answers-reported number status plan document rows a b c says begins (inl (is, reported)) =
     let refused = answer_says status plan.verb plan document (streams rows a b) says is in
-    Answers-refused plan document rows a b c is.reads_none refused.0 refused.1 number told
-Answers-told number status plan document rows a b c says begins (inr (not, exact, kept)) = record {
+    Answers-refused plan document rows a b c is.reads_none refused.0 refused.1 number reported
+Answers-reported number status plan document rows a b c says begins (inr (not, exact, kept)) = record {
   status = status;
   is_answer = exact;
   says = failure_kept status plan.verb plan document rows a b c says not kept;

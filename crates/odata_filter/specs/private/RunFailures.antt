@@ -120,7 +120,7 @@ IsAnswered number old new =
     ⊎ (((number ≡ 5) ⊎ (number ≡ 6)) × BeginsText IsRefusedLine old new)
 
 -- A failure was reported, and the program ends with this number: as an answer, or else standard output stays as it is.
-abbrev pub IsTold : ℕ → Status → Verb → Option (List ℕ) → Option (List ℕ) → Type 0
-IsTold number status verb old new =
+abbrev pub IsReported : ℕ → Status → Verb → Option (List ℕ) → Option (List ℕ) → Type 0
+IsReported number status verb old new =
     (IsAnswerOf verb status × IsAnswered number old new)
     ⊎ ((¬ IsAnswerOf verb status) × (number ≡ status_number status) × Keeps old new)

@@ -14,18 +14,18 @@ use Rattle.odata_filter.specs.declared.no_verdict.NoVerdict.{NoVerdict}
 
 -- its verdict, which is the filter's one outcome on what it fits, or what is wrong with it; running out of memory says
 -- nothing
-abbrev pub TellsValue : Filter → MomentParts → Data → Result Verdict NoVerdict → Type 0
-TellsValue filter now json (Ok verdict) = HasOutcome filter now json (gives (verdict_val verdict))
-TellsValue filter now json (Err (NoVerdict.Bad bad)) = JudgesValue filter now json (Judgment.Fault bad)
-TellsValue filter now json (Err NoVerdict.Memory) = Unit {0}
+abbrev pub ReportsValue : Filter → MomentParts → Data → Result Verdict NoVerdict → Type 0
+ReportsValue filter now json (Ok verdict) = HasOutcome filter now json (gives (verdict_val verdict))
+ReportsValue filter now json (Err (NoVerdict.Bad bad)) = JudgesValue filter now json (Judgment.Fault bad)
+ReportsValue filter now json (Err NoVerdict.Memory) = Unit {0}
 
 -- a fault of arithmetic is one of the row, running out of memory is none
-abbrev pub fault_told : EvalFault → NoVerdict
-fault_told EvalFault.Overflow = NoVerdict.Bad (BadRow.NoValue EvalFault.Overflow)
-fault_told EvalFault.DivideByZero = NoVerdict.Bad (BadRow.NoValue EvalFault.DivideByZero)
-fault_told EvalFault.Memory = NoVerdict.Memory
+abbrev pub fault_reported : EvalFault → NoVerdict
+fault_reported EvalFault.Overflow = NoVerdict.Bad (BadRow.NoValue EvalFault.Overflow)
+fault_reported EvalFault.DivideByZero = NoVerdict.Bad (BadRow.NoValue EvalFault.DivideByZero)
+fault_reported EvalFault.Memory = NoVerdict.Memory
 
 -- what a filter's answer to an entity reports
-abbrev pub answer_told : Result Verdict EvalFault → Result Verdict NoVerdict
-answer_told (Ok verdict) = Ok verdict
-answer_told (Err fault) = Err (fault_told fault)
+abbrev pub answer_reported : Result Verdict EvalFault → Result Verdict NoVerdict
+answer_reported (Ok verdict) = Ok verdict
+answer_reported (Err fault) = Err (fault_reported fault)

@@ -1,5 +1,5 @@
 //! A line for one of the program's streams.
-use line_filter::{Untold, write_out};
+use line_filter::{Unlogged, write_out};
 use std::fmt::{Display, Write};
 use std::{fmt, io};
 
@@ -11,7 +11,7 @@ struct Line<'w, W> {
 
 impl<W: io::Write> Write for Line<'_, W> {
     fn write_str(&mut self, text: &str) -> fmt::Result {
-        match write_out::<W, Untold>(self.out, text.as_bytes()) {
+        match write_out::<W, Unlogged>(self.out, text.as_bytes()) {
             Ok(()) => Ok(()),
             Err(_) => Err(fmt::Error),
         }

@@ -3,7 +3,7 @@ ghost use Rattle.clap.specs.Words.{found_of, rows_of, rule_of};
 ghost use Rattle.odata_filter.specs.CommandLine.{HasValues, IsPlanOf, IsRefusedBy};
 ghost use Rattle.odata_filter.specs.CommandLine.{check_app, explain_app, filter_app, flag_rule, is_flag_set};
 ghost use Rattle.odata_filter.specs.CommandLine.{odfilter_app, option_value, rowless_app, text_rule, verb_app};
-ghost use Rattle.odata_filter.specs.private.PlanSteps.{IsApp, IsClapFault, IsNotOneFault};
+ghost use Rattle.odata_filter.specs.private.Planner.{IsApp, IsClapFault, IsNotOneFault};
 
 use super::command_line::{Plan, PlanFault, Verb};
 use clap::error::ErrorKind;

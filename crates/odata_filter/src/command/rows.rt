@@ -11,7 +11,7 @@ ghost use Rattle.odata_filter.specs.private.RunFailures.{IsReadWhole, StopsOver,
 
 use super::command_line::{Plan, Verb};
 use super::failure::Failure;
-use super::whole_input::{NotWhole, read_whole};
+use super::whole_input::{ReadAllError, read_whole};
 use crate::collection::filter_collection;
 use crate::filter::filter_lines;
 use crate::run_fault::RunFault;
@@ -100,13 +100,13 @@ fn filter_by_line<'p, R: Read + Drop, W: Write>(
 }
 
 /// Why the rows were not read whole. A file is reported by its name, and standard input reports line 0.
-fn unread<'p>(plan: &Plan<'p>, fault: NotWhole) -> Failure<'p>
+fn unread<'p>(plan: &Plan<'p>, fault: ReadAllError) -> Failure<'p>
     ensures { IsUnwritten (status_of result) }
 {
     match (fault, plan.rows) {
-        (NotWhole::Memory, _) => Failure::Rows(RunFault::Memory { line: 0 }),
-        (NotWhole::Read, Some(name)) => Failure::RowsFile(name),
-        (NotWhole::Read, None) => Failure::Rows(RunFault::Read { line: 0 }),
+        (ReadAllError::Memory, _) => Failure::Rows(RunFault::Memory { line: 0 }),
+        (ReadAllError::Read, Some(name)) => Failure::RowsFile(name),
+        (ReadAllError::Read, None) => Failure::Rows(RunFault::Read { line: 0 }),
     }
 }
 

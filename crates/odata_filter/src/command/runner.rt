@@ -7,7 +7,7 @@ ghost use Rattle.odata_filter.specs.Planned.{IsMomentText, IsPlanned};
 ghost use Rattle.odata_filter.specs.Run.{Answers, AsksFor, Begins, IsAccepted, IsPlanFilter, IsRefusedLine, NamesType};
 ghost use Rattle.odata_filter.specs.Run.{status_number, streams, without_plan, without_type};
 ghost use Rattle.odata_filter.specs.private.RunFailures.{AnswerSays, BeginsText, GivesMoment, IsAnswerOf, IsAnswered};
-ghost use Rattle.odata_filter.specs.private.RunFailures.{IsTold, IsUnwritten, LacksFilter, status_of};
+ghost use Rattle.odata_filter.specs.private.RunFailures.{IsReported, IsUnwritten, LacksFilter, status_of};
 ghost use Rattle.csdl_schema.specs.SchemaModel.{HoldsType, IsEntityAt, index_named};
 
 use super::command_line::{Plan, Verb};
@@ -17,7 +17,7 @@ use super::rows::{Asked, filter_rows};
 use crate::run_fault::RunFault;
 use csdl_schema::{Schema, TypeId};
 use edm_values::{Moment, read_moment};
-use line_filter::{Untold, write_out};
+use line_filter::{Unlogged, write_out};
 use odata_text::filter_of_query;
 use odata_typing::{Checked, Refusal, check};
 use std::alloc::{AllocError, Global};
@@ -132,12 +132,12 @@ fn accepted_text(alloc: Global, checked: &Checked<'_>) -> Result<String, AllocEr
 }
 
 /// Writes what is reported about a filter.
-fn write_told<'p, W: Write>(text: &str, out: &mut W) -> Result<(), Failure<'p>>
-    ensures told { OnOk result (Appends (W.contents out.old) (W.contents out.new) text.now) }
+fn write_reported<'p, W: Write>(text: &str, out: &mut W) -> Result<(), Failure<'p>>
+    ensures reported { OnOk result (Appends (W.contents out.old) (W.contents out.new) text.now) }
     ensures begins { WritesFront (W.contents out.old) (W.contents out.new) text.now }
     ensures unwritten { IfErr result (λ failure. IsUnwritten (status_of failure)) }
 {
-    match write_out::<W, Untold>(out, text.as_bytes()) {
+    match write_out::<W, Unlogged>(out, text.as_bytes()) {
         Ok(()) => {}
         Err(_) => return Err(Failure::Rows(RunFault::Write)),
     }
@@ -148,33 +148,33 @@ fn write_told<'p, W: Write>(text: &str, out: &mut W) -> Result<(), Failure<'p>>
 }
 
 /// Writes the filter.
-fn tell_filter<'p, W: Write>(
+fn report_filter<'p, W: Write>(
     alloc: Global,
     checked: &Checked<'_>,
     out: &mut W,
 ) -> Result<(), Failure<'p>>
-    ensures told { OnOk result (Writes (W.contents out.old) (W.contents out.new) (IsAccepted checked.now)) }
+    ensures reported { OnOk result (Writes (W.contents out.old) (W.contents out.new) (IsAccepted checked.now)) }
     ensures begins { BeginsText (IsAccepted checked.now) (W.contents out.old) (W.contents out.new) }
     ensures unwritten { IfErr result (λ failure. IsUnwritten (status_of failure)) }
 {
     match accepted_text(alloc, checked) {
-        Ok(text) => write_told(&text, out),
+        Ok(text) => write_reported(&text, out),
         Err(_) => Err(Failure::Refused(Refusal::Memory)),
     }
 }
 
 /// Writes each node of the filter.
-fn tell_nodes<'p, W: Write>(
+fn report_nodes<'p, W: Write>(
     alloc: Global,
     checked: &Checked<'_>,
     out: &mut W,
 ) -> Result<(), Failure<'p>>
-    ensures told { OnOk result (Writes (W.contents out.old) (W.contents out.new) (IsExplanation checked.now)) }
+    ensures reported { OnOk result (Writes (W.contents out.old) (W.contents out.new) (IsExplanation checked.now)) }
     ensures begins { BeginsText (IsExplanation checked.now) (W.contents out.old) (W.contents out.new) }
     ensures unwritten { IfErr result (λ failure. IsUnwritten (status_of failure)) }
 {
     match checked.explain(alloc) {
-        Ok(text) => write_told(&text, out),
+        Ok(text) => write_reported(&text, out),
         Err(_) => Err(Failure::Refused(Refusal::Memory)),
     }
 }
@@ -195,8 +195,8 @@ fn by_verb<'p, R: Read + Drop, W: Write>(
         (streams (option_map (λ r. R.remaining r) rows) (W.contents out.old) (W.contents out.new)) }
 {
     match asked.plan.verb {
-        Verb::Check => tell_filter(alloc, asked.checked, out),
-        Verb::Explain => tell_nodes(alloc, asked.checked, out),
+        Verb::Check => report_filter(alloc, asked.checked, out),
+        Verb::Explain => report_nodes(alloc, asked.checked, out),
         Verb::Filter => filter_rows(alloc, asked, rows, out),
     }
 }
@@ -233,25 +233,25 @@ fn carry_out<'p, R: Read + Drop, W: Write>(
 fn refused_line(alloc: Global, failure: &Failure<'_>) -> Result<String, AllocError>
     ensures { IfOk result (λ text. IsRefusedLine (string_bytes text)) }
 {
-    let told = format!(in alloc; "{failure}")?;
+    let reported = format!(in alloc; "{failure}")?;
     let mut text = String::from_str(alloc, "refused ")?;
-    text.push_str(&told)?;
+    text.push_str(&reported)?;
     text.push('\n')?;
     Ok(text)
 }
 
 /// Writes a refusal to standard output, as an answer.
-fn tell_answer<'p, W: Write>(
+fn report_answer<'p, W: Write>(
     alloc: Global,
     failure: &Failure<'_>,
     out: &mut W,
 ) -> Result<(), Failure<'p>>
-    ensures told { OnOk result (Writes (W.contents out.old) (W.contents out.new) IsRefusedLine) }
+    ensures reported { OnOk result (Writes (W.contents out.old) (W.contents out.new) IsRefusedLine) }
     ensures begins { BeginsText IsRefusedLine (W.contents out.old) (W.contents out.new) }
     ensures unwritten { IfErr result (λ failure. IsUnwritten (status_of failure)) }
 {
     match refused_line(alloc, failure) {
-        Ok(text) => write_told(&text, out),
+        Ok(text) => write_reported(&text, out),
         Err(_) => Err(Failure::Refused(Refusal::Memory)),
     }
 }
@@ -267,7 +267,7 @@ fn is_answer(verb: Verb, failure: &Failure<'_>) -> bool
 }
 
 /// Writes a failure to standard error, after a flush of standard output, and returns the status.
-fn tell_failure<W: Write, E: Write>(failure: &Failure<'_>, out: &mut W, err: &mut E) -> u8
+fn report_failure<W: Write, E: Write>(failure: &Failure<'_>, out: &mut W, err: &mut E) -> u8
     ensures status { result ≡ status_number (status_of failure.now) }
     ensures known { result < 7 }
     ensures kept { Keeps (W.contents out.old) (W.contents out.new) }
@@ -281,7 +281,7 @@ fn tell_failure<W: Write, E: Write>(failure: &Failure<'_>, out: &mut W, err: &mu
 
 /// Writes a refusal as an answer and returns the status. Where standard output does not take it, that failure is
 /// reported instead.
-fn tell_refusal<W: Write, E: Write>(
+fn report_refusal<W: Write, E: Write>(
     alloc: Global,
     failure: &Failure<'_>,
     out: &mut W,
@@ -290,15 +290,15 @@ fn tell_refusal<W: Write, E: Write>(
     ensures known { result < 7 }
     ensures answered { IsAnswered result (W.contents out.old) (W.contents out.new) }
 {
-    match tell_answer(alloc, failure, out) {
+    match report_answer(alloc, failure, out) {
         Ok(()) => 1,
-        Err(other) => tell_failure(&other, out, err),
+        Err(other) => report_failure(&other, out, err),
     }
 }
 
 /// Reports a failure and returns the status: to a verb that reads no rows a refusal is an answer, every other failure
 /// goes to standard error.
-fn tell<W: Write, E: Write>(
+fn report<W: Write, E: Write>(
     alloc: Global,
     verb: Verb,
     failure: &Failure<'_>,
@@ -306,12 +306,12 @@ fn tell<W: Write, E: Write>(
     err: &mut E,
 ) -> u8
     ensures known { result < 7 }
-    ensures told { IsTold result (status_of failure.now) verb (W.contents out.old) (W.contents out.new) }
+    ensures reported { IsReported result (status_of failure.now) verb (W.contents out.old) (W.contents out.new) }
 {
     if is_answer(verb, failure) {
-        tell_refusal(alloc, failure, out, err)
+        report_refusal(alloc, failure, out, err)
     } else {
-        tell_failure(failure, out, err)
+        report_failure(failure, out, err)
     }
 }
 
@@ -334,6 +334,6 @@ pub fn run<R: Read + Drop, W: Write, E: Write>(
 {
     match carry_out(alloc, plan, document, rows, out) {
         Ok(()) => 0,
-        Err(failure) => tell(alloc, plan.verb, &failure, out, err),
+        Err(failure) => report(alloc, plan.verb, &failure, out, err),
     }
 }

@@ -17,9 +17,9 @@ use Rattle.odata_filter_operations.specs.declared.fault.EvalFault.{EvalFault}
 use Rattle.odata_filter_operations.specs.CallGives.{CallGives, UnlessNull, has_null}
 use Rattle.odata_filter_operations.specs.FunctionGives.{FunctionGives, GivesCount, GivesText}
 use Rattle.odata_filter_operations.specs.Outcome.{Outcome, gives}
-use Rattle.odata_filter_operations.specs.Arguments.{Applies, IsArgument}
+use Rattle.odata_filter_operations.specs.Calls.{Applies, IsArgument}
 use Rattle.odata_filter_operations.specs.DatumView.{answer_outcome}
-use Rattle.odata_filter_operations.specs.Tells.{Tells}
+use Rattle.odata_filter_operations.specs.Reports.{Reports}
 use Rattle.odata_filter_operations.proofs.values.Holding.{goes_there}
 
 -- a text and a number are taken by `substring` alone
@@ -193,11 +193,11 @@ by_its_date now _ m applies a b c d e o given = absurd applies.are.0
 -- ---- what is given of the values of arguments
 
 -- a number that is what it is asked to be
-pub number_gives : (told : Option Outcome) (IsIt : ℤ → Type 0) (n : ℤ) → IsIt n → IsSomeAnd told (GivesCount n) → IsSomeAnd told (λ o. (m : ℤ) × IsIt m × GivesCount m o)
-number_gives told IsIt n is given = goes_there told (GivesCount n) (λ o. (m : ℤ) × IsIt m × GivesCount m o) (λ o gives_it. (n, is, gives_it)) given
+pub number_gives : (reported : Option Outcome) (IsIt : ℤ → Type 0) (n : ℤ) → IsIt n → IsSomeAnd reported (GivesCount n) → IsSomeAnd reported (λ o. (m : ℤ) × IsIt m × GivesCount m o)
+number_gives reported IsIt n is given = goes_there reported (GivesCount n) (λ o. (m : ℤ) × IsIt m × GivesCount m o) (λ o gives_it. (n, is, gives_it)) given
 
-pub number_same : (told : Option Outcome) (n m : ℤ) → n ≡ m → IsSomeAnd told (GivesCount n) → IsSomeAnd told (GivesCount m)
-number_same told n m same given = subst (λ (k : ℤ). IsSomeAnd told (GivesCount k)) same given
+pub number_same : (reported : Option Outcome) (n m : ℤ) → n ≡ m → IsSomeAnd reported (GivesCount n) → IsSomeAnd reported (GivesCount m)
+number_same reported n m same given = subst (λ (k : ℤ). IsSomeAnd reported (GivesCount k)) same given
 
 -- null where some value is null
 pub null_gives : (now : MomentParts) (function : Function) (values : List Val) → has_null values ≡ true → CallGives now function values (gives null)
@@ -225,15 +225,15 @@ pub part_gives : (now : MomentParts) (r s : Reading) (function : Function) (firs
     → function ≡ Function.Substring → first ≡ datum.Text t → second ≡ datum.Int n → third ≡ datum.Int m
     → datum_val s made ≡ text (encode_utf8_all (chars part)) → chars part ≡ part_from n m (chars (cow_str_bytes t))
     → CallGives now function (datum_val r first ∷ datum_val r second ∷ datum_val r third ∷ []) (gives (datum_val s made))
-part_gives now r s function first second third made t part n m is a b c told same =
-    rw (is, a, b, c) (ap gives (told ∙ text_same part (part_from n m (chars (cow_str_bytes t))) same))
+part_gives now r s function first second third made t part n m is a b c reported same =
+    rw (is, a, b, c) (ap gives (reported ∙ text_same part (part_from n m (chars (cow_str_bytes t))) same))
 
 pub rest_gives : (now : MomentParts) (r s : Reading) (function : Function) (first second made : Datum) (t : _) (part : List ℕ) (n : ℤ)
     → function ≡ Function.Substring → first ≡ datum.Text t → second ≡ datum.Int n
     → datum_val s made ≡ text (encode_utf8_all (chars part)) → chars part ≡ rest_from n (chars (cow_str_bytes t))
     → CallGives now function (datum_val r first ∷ datum_val r second ∷ []) (gives (datum_val s made))
-rest_gives now r s function first second made t part n is a b told same =
-    rw (is, a, b) (ap gives (told ∙ text_same part (rest_from n (chars (cow_str_bytes t))) same))
+rest_gives now r s function first second made t part n is a b reported same =
+    rw (is, a, b) (ap gives (reported ∙ text_same part (rest_from n (chars (cow_str_bytes t))) same))
 
 -- two texts as they are borrowed
 pub texts_apply : (r : Reading) (function : Function) (first second : Datum) (t u : _) (a b : List ℕ) → first ≡ datum.Text t → second ≡ datum.Text u
@@ -244,15 +244,15 @@ texts_apply r function first second t u a b first_is second_is a_is b_is applies
     (subst (λ (d : Datum). Applies function (datum_val r d ∷ datum_val r second ∷ [])) first_is applies) in
     rw (a_is, b_is) known
 
-pub texts_tell : (now : MomentParts) (r : Reading) (function : Function) (first second : Datum) (t u : _) (a b : List ℕ) (Takes : Type 0) (told : Option Outcome)
-    → first ≡ datum.Text t → second ≡ datum.Text u → a ≡ cow_str_bytes t → b ≡ cow_str_bytes u → Tells Takes (FunctionGives now function (text a ∷ text b ∷ [])) told
-    → Tells Takes (CallGives now function (datum_val r first ∷ datum_val r second ∷ [])) told
-texts_tell now r function first second t u a b Takes told first_is second_is a_is b_is given =
-    let known : Tells Takes (FunctionGives now function (text (cow_str_bytes t) ∷ text (cow_str_bytes u) ∷ [])) told =
-    subst (λ (x : List ℕ). Tells Takes (FunctionGives now function (text (cow_str_bytes t) ∷ text x ∷ [])) told) b_is
-    (subst (λ (x : List ℕ). Tells Takes (FunctionGives now function (text x ∷ text b ∷ [])) told) a_is given) in
-    subst (λ (d : Datum). Tells Takes (CallGives now function (datum_val r d ∷ datum_val r second ∷ [])) told) (sym first_is)
-    (subst (λ (d : Datum). Tells Takes (CallGives now function (text (cow_str_bytes t) ∷ datum_val r d ∷ [])) told) (sym second_is) known)
+pub texts_report : (now : MomentParts) (r : Reading) (function : Function) (first second : Datum) (t u : _) (a b : List ℕ) (Takes : Type 0) (reported : Option Outcome)
+    → first ≡ datum.Text t → second ≡ datum.Text u → a ≡ cow_str_bytes t → b ≡ cow_str_bytes u → Reports Takes (FunctionGives now function (text a ∷ text b ∷ [])) reported
+    → Reports Takes (CallGives now function (datum_val r first ∷ datum_val r second ∷ [])) reported
+texts_report now r function first second t u a b Takes reported first_is second_is a_is b_is given =
+    let known : Reports Takes (FunctionGives now function (text (cow_str_bytes t) ∷ text (cow_str_bytes u) ∷ [])) reported =
+    subst (λ (x : List ℕ). Reports Takes (FunctionGives now function (text (cow_str_bytes t) ∷ text x ∷ [])) reported) b_is
+    (subst (λ (x : List ℕ). Reports Takes (FunctionGives now function (text x ∷ text b ∷ [])) reported) a_is given) in
+    subst (λ (d : Datum). Reports Takes (CallGives now function (datum_val r d ∷ datum_val r second ∷ [])) reported) (sym first_is)
+    (subst (λ (d : Datum). Reports Takes (CallGives now function (text (cow_str_bytes t) ∷ datum_val r d ∷ [])) reported) (sym second_is) known)
 
 pub asked_substring : (r : Reading) (function : Function) (first second : Datum) (t : _) (n : ℤ) → first ≡ datum.Text t → second ≡ datum.Int n
     → Applies function (datum_val r first ∷ datum_val r second ∷ []) → function ≡ Function.Substring
@@ -262,9 +262,9 @@ asked_substring r function first second t n first_is second_is applies =
     (subst (λ (d : Datum). Applies function (datum_val r d ∷ datum_val r second ∷ [])) first_is applies))
 
 -- a text that was made, or running out of memory for it
-pub made_tells : (s : Reading) (answer : Result (String Global) AllocError) (result : Result Datum EvalFault) (cs : List ℕ)
+pub made_reports : (s : Reading) (answer : Result (String Global) AllocError) (result : Result Datum EvalFault) (cs : List ℕ)
     → IfOk answer (λ t. chars (string_bytes t) ≡ cs)
     → IfOk answer (λ t. (reading : Reading) → answer_outcome (datum_val reading) result ≡ Some (gives (text (encode_utf8_all (chars (string_bytes t))))))
-    → IfErr answer (λ refused. result ≡ Err EvalFault.Memory) → Tells (Unit {0}) (GivesText cs) (answer_outcome (datum_val s) result)
-made_tells s (Ok t) result cs same told memory = rw (told s) (ap (λ (xs : List ℕ). gives (text (encode_utf8_all xs))) same)
-made_tells s (Err refused) result cs same told memory = rw memory tt
+    → IfErr answer (λ refused. result ≡ Err EvalFault.Memory) → Reports (Unit {0}) (GivesText cs) (answer_outcome (datum_val s) result)
+made_reports s (Ok t) result cs same reported memory = rw (reported s) (ap (λ (xs : List ℕ). gives (text (encode_utf8_all xs))) same)
+made_reports s (Err refused) result cs same reported memory = rw memory tt

@@ -6,7 +6,7 @@ use Rattle.odata_functions.specs.Comparable.{AreComparableBy}
 use Rattle.odata_functions.specs.DatumVal.{Reading, datum_val}
 use Rattle.odata_syntax.specs.declared.binary_operator.ComparisonOperator.{ComparisonOperator}
 use Rattle.odata_filter_operations.specs.Outcome.{Outcome}
-use Rattle.odata_filter_operations.specs.Tells.{Tells}
+use Rattle.odata_filter_operations.specs.Reports.{Reports}
 
 pub there_found : {X : Type 0} (P : X → Type 0) (held : Option X) (x : X) → held ≡ Some x → P x → IsSomeAnd held P
 there_found {X = X} P held x is holds = subst (λ (o : Option X). IsSomeAnd o P) (sym is) holds
@@ -16,9 +16,9 @@ pub goes_there : {X : Type 0} (held : Option X) (P Q : X → Type 0) → ((x : X
 goes_there (Some x) P Q goes holds = goes x holds
 goes_there None P Q goes holds = absurd holds
 
-pub some_tells : (told : Option Outcome) (Takes : Type 0) (P : Outcome → Type 0) → IsSomeAnd told P → Tells Takes P told
-some_tells (Some o) Takes P is = is
-some_tells None Takes P is = absurd is
+pub some_reports : (reported : Option Outcome) (Takes : Type 0) (P : Outcome → Type 0) → IsSomeAnd reported P → Reports Takes P reported
+some_reports (Some o) Takes P is = is
+some_reports None Takes P is = absurd is
 
 -- which values may be compared does not hang on how records and lists are read
 abbrev pub ComparedAnyhow : Type 0

@@ -22,7 +22,7 @@ use Rattle.odata_filter_operations.specs.LambdaGives.{MemberGives, MembersGive}
 use Rattle.odata_filter_operations.specs.Outcome.{gives}
 use Rattle.odata_filter_operations.specs.QuantifierGives.{Passes}
 use Rattle.odata_filter_operations.specs.DatumView.{IsDatumOf, reading_at}
-use Rattle.odata_filter_operations.specs.Members.{Differs, DiffersBefore, Equals, IsAmong, MayBeMember}
+use Rattle.odata_filter_operations.specs.Collections.{Differs, DiffersBefore, Equals, IsAmong, MayBeMember}
 use Rattle.odata_filter_operations.proofs.values.Holding.{ComparedAnyhow}
 use Rattle.odata_filter_operations.proofs.values.Holding.{there_found}
 

@@ -15,7 +15,7 @@ use Rattle.odata_filter_operations.specs.CalculationGives.{CalculationGives, Neg
 use Rattle.odata_filter_operations.specs.Outcome.{gives}
 use Rattle.odata_filter_operations.specs.TruthGives.{truth_val}
 use Rattle.odata_syntax.specs.declared.binary_operator.ArithmeticOperator.{ArithmeticOperator}
-use Rattle.odata_filter_operations.specs.Operands.{AreNumbers, IsOneNumber}
+use Rattle.odata_filter_operations.specs.Operators.{AreNumbers, IsOneNumber}
 
 -- a reading and a schema, for facts of all of them
 pub one_reading : Reading

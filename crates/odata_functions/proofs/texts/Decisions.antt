@@ -3,16 +3,16 @@ use Rattle.std.proofs.Common.{◌≡◌, ◌↔◌, ◌⊎◌, inl, inr, ⊎_eli
 use Rattle.std.proofs.lemmas.Bool.{cases_order}
 use Rattle.std.specs.Cmp.Lexicographic.{bytes_decides, pointwise}
 use Rattle.odata_functions.specs.Texts.{HasEnd, HasPart, HasStart, IsPlaceOf, StandsBehind}
-use Rattle.odata_functions.proofs.Decided.{Told, never}
+use Rattle.odata_functions.proofs.Decided.{Reported, never}
 
 by_test : {P : Type 0} (b : Bool) → (IsTrue b ↔ P) → P ⊎ ¬ P
 by_test true is = inl (is.0 refl)
 by_test false is = inr (λ p. cc (is.1 p))
 
-same_told : {P Q : Type 0} → (P → Q) → (Q → P) → Told P → Told Q
-same_told to from (answer, is) = (answer, (λ yes. to (is.0 yes), λ q. is.1 (from q)))
+same_reported : {P Q : Type 0} → (P → Q) → (Q → P) → Reported P → Reported Q
+same_reported to from (answer, is) = (answer, (λ yes. to (is.0 yes), λ q. is.1 (from q)))
 
-always : {P : Type 0} → P → Told P
+always : {P : Type 0} → P → Reported P
 always p = (true, (λ is. p, λ q. refl))
 
 more_start : (c d : ℕ) (s t : List ℕ) → d ≡ c → HasStart s t → HasStart (d ∷ s) (c ∷ t)
@@ -30,11 +30,11 @@ apart c d less e = omega arith
 apart' : (c d : ℕ) → c < d → ¬ (d ≡ c)
 apart' c d less e = omega arith
 
-pub start_told : (s t : List ℕ) → Told (HasStart s t)
-start_told s [] = always (s, refl)
-start_told [] (c ∷ t) = never (λ has. cc (has.1))
-start_told (d ∷ s) (c ∷ t) = ⊎_elim
-    (λ same. same_told (more_start c d s t same) (less_start c d s t) (start_told s t))
+pub start_reported : (s t : List ℕ) → Reported (HasStart s t)
+start_reported s [] = always (s, refl)
+start_reported [] (c ∷ t) = never (λ has. cc (has.1))
+start_reported (d ∷ s) (c ∷ t) = ⊎_elim
+    (λ same. same_reported (more_start c d s t same) (less_start c d s t) (start_reported s t))
     (λ other. ⊎_elim
     (λ less. never (λ has. apart c d less (head_start c d s t has)))
     (λ more. never (λ has. apart' c d more (head_start c d s t has)))
@@ -55,11 +55,11 @@ none_end t (x ∷ before) other e = cc
 whole_or : (s t : List ℕ) → (s ≡ t) ⊎ ¬ (s ≡ t)
 whole_or s t = by_test (pointwise nat_eq s t) (bytes_decides s t)
 
-pub end_told : (s t : List ℕ) → Told (HasEnd s t)
-end_told [] t = ⊎_elim (λ same. always ([], same)) (λ other. never (λ has. none_end t has.0 other has.1)) (whole_or [] t)
-end_told (d ∷ s) t = ⊎_elim
+pub end_reported : (s t : List ℕ) → Reported (HasEnd s t)
+end_reported [] t = ⊎_elim (λ same. always ([], same)) (λ other. never (λ has. none_end t has.0 other has.1)) (whole_or [] t)
+end_reported (d ∷ s) t = ⊎_elim
     (λ same. always ([], same))
-    (λ other. same_told (end_before d s t) (end_behind d s t other) (end_told s t))
+    (λ other. same_reported (end_before d s t) (end_behind d s t other) (end_reported s t))
     (whole_or (d ∷ s) t)
 
 -- after nothing is at the start
@@ -106,9 +106,9 @@ no_part : (d : ℕ) (s t : List ℕ) → ¬ HasStart (d ∷ s) t → ¬ HasPart 
 no_part d s t other none zero b = other (start_of (d ∷ s) t b)
 no_part d s t other none (suc n) b = none (n, behind_one d s t n b)
 
-of_told : {P : Type 0} → Told P → P ⊎ ¬ P
-of_told (true, is) = inl (is.0 refl)
-of_told (false, is) = inr (λ p. cc (is.1 p))
+of_reported : {P : Type 0} → Reported P → P ⊎ ¬ P
+of_reported (true, is) = inl (is.0 refl)
+of_reported (false, is) = inr (λ p. cc (is.1 p))
 
 at_first : (s t : List ℕ) → HasStart s t → First s t
 at_first s t has = inl (0, at_start s t has, λ k less b. omega arith)
@@ -118,15 +118,15 @@ further d s t other (inl (n, here, none)) = inl (suc n, one_behind d s t n here,
 further d s t other (inr none) = inr (λ (n, b). no_part d s t other none n b)
 
 pub first_place : (s t : List ℕ) → First s t
-first_place [] t = ⊎_elim (at_first [] t) (λ other. inr (λ (n, b). none_in_nothing t b.before b.behind other b.split)) (of_told (start_told [] t))
-first_place (d ∷ s) t = ⊎_elim (at_first (d ∷ s) t) (λ other. further d s t other (first_place s t)) (of_told (start_told (d ∷ s) t))
+first_place [] t = ⊎_elim (at_first [] t) (λ other. inr (λ (n, b). none_in_nothing t b.before b.behind other b.split)) (of_reported (start_reported [] t))
+first_place (d ∷ s) t = ⊎_elim (at_first (d ∷ s) t) (λ other. further d s t other (first_place s t)) (of_reported (start_reported (d ∷ s) t))
 
-part_of_first : (s t : List ℕ) → First s t → Told (HasPart s t)
+part_of_first : (s t : List ℕ) → First s t → Reported (HasPart s t)
 part_of_first s t (inl (n, here, none)) = always (n, here)
 part_of_first s t (inr none) = never none
 
-pub part_told : (s t : List ℕ) → Told (HasPart s t)
-part_told s t = part_of_first s t (first_place s t)
+pub part_reported : (s t : List ℕ) → Reported (HasPart s t)
+part_reported s t = part_of_first s t (first_place s t)
 
 place_of_first : (s t : List ℕ) → First s t → (n : ℤ) × IsPlaceOf s t n
 place_of_first s t (inl (n, here, none)) = (pos n, (here, none))

@@ -5,7 +5,7 @@ use Rattle.std.proofs.Math.Utf8.{encode}
 use Rattle.std.proofs.lemmas.List.{append-nil, drop_all, length-append, length-drop, take_all}
 use Rattle.std.proofs.lemmas.Str.{chars-append, chars-nil, IsCharBoundary-at_seam, IsUtf8-nil, IsUtf8-past_char, chars_past_char}
 use Rattle.std.specs.Str.{IsUtf8, chars}
-use Rattle.odata_functions.specs.private.Cuts.{IsOffset, IsRest}
+use Rattle.odata_functions.specs.private.Cuts.{IsOffset, IsRemaining}
 use Rattle.odata_functions.proofs.texts.Characters.{front_utf8}
 
 no_items : (xs : List ℕ) → length xs ≡ 0 → xs ≡ []
@@ -39,7 +39,7 @@ module _ (text : List ℕ) (of_text : IsUtf8 text) where
       let counted = r.counted in
       record { front = r.front ++ encode c; split = longer; rest_utf8 = of_more; counted = omega arith }
 
-  pub read_rest : (rest : List ℕ) (count : ℕ) → IsRead text rest count → IsRest text rest count
+  pub read_rest : (rest : List ℕ) (count : ℕ) → IsRead text rest count → IsRemaining text rest count
   read_rest rest count r = record {
     front = r.front;
     split = r.split;
@@ -51,7 +51,7 @@ module _ (text : List ℕ) (of_text : IsUtf8 text) where
   }
 
   -- nothing is left, and so many or more were asked for
-  pub all_read : (rest : List ℕ) (count most : ℕ) → IsRead text rest count → length rest ≡ 0 → count ≤ most → IsRest text [] most
+  pub all_read : (rest : List ℕ) (count most : ℕ) → IsRead text rest count → length rest ≡ 0 → count ≤ most → IsRemaining text [] most
   all_read rest count most r empty less =
       let none = no_items rest empty in
       let whole : length (chars text) ≤ most = omega (arith, ap length (apart rest count r) ∙ length-append (chars r.front) (chars rest), r.counted, ap (λ (l : List ℕ). length (chars l)) none ∙ ap length chars-nil) in
@@ -69,7 +69,7 @@ module _ (text : List ℕ) (of_text : IsUtf8 text) where
   next_read rest more count None None' r steps some = cc
   next_read rest more count (Some c) None' r steps some = one_read rest more count c r steps
 
-  pub rest_offset : (rest : List ℕ) (count : ℕ) → IsRest text rest count → IsOffset text count (length text - length rest)
+  pub rest_offset : (rest : List ℕ) (count : ℕ) → IsRemaining text rest count → IsOffset text count (length text - length rest)
   rest_offset rest count r =
       let size : length text - length rest ≡ length r.front = omega (arith, ap length r.split ∙ length-append r.front rest) in
       subst (IsOffset text count) (sym size) (record {

@@ -9,7 +9,7 @@ pub record IsFoundAt (text part : List ℕ) (place : ℕ) : Type 0 where
   pub is_place : IsPlaceOf (chars text) (chars part) (pos (length (chars (take place text))))
 
 -- what stands after so many characters of the text, or after all where it has no more
-pub record IsRest (text rest : List ℕ) (count : ℕ) : Type 0 where
+pub record IsRemaining (text rest : List ℕ) (count : ℕ) : Type 0 where
   pub front : List ℕ
   pub split : text ≡ front ++ rest
   pub rest_utf8 : IsUtf8 rest

@@ -15,10 +15,10 @@ pub behind_first : (schema : SchemaModel) (kinds : List ArgumentKind) (types : L
     → IsArgumentType (get_or kinds 0 ArgumentKind.Text) (expr_type schema first)
     → (IsTrue test ↔ AreArgumentTypes (take (length kinds - 1) (drop 1 kinds)) (map (expr_type schema) (take (length types - 1) (drop 1 types))))
     → IsTrue test ↔ AreArgumentTypes kinds (map (expr_type schema) types)
-behind_first schema [] types first test some more is fits told = absurd (omega (arith, some))
-behind_first schema kinds [] first test some more is fits told = absurd (omega (arith, more))
-behind_first schema (kind ∷ kinds) (type ∷ types) first test some more is fits told =
+behind_first schema [] types first test some more is fits reported = absurd (omega (arith, some))
+behind_first schema kinds [] first test some more is fits reported = absurd (omega (arith, more))
+behind_first schema (kind ∷ kinds) (type ∷ types) first test some more is fits reported =
     let here : IsArgumentType kind (expr_type schema type) = subst (λ (t : EdmType). IsArgumentType kind (expr_type schema t)) is fits in
-    let half = subst (λ (k : List ArgumentKind). IsTrue test ↔ AreArgumentTypes k (map (expr_type schema) (take (length (type ∷ types) - 1) (drop 1 (type ∷ types))))) (rest kind kinds) told in
+    let half = subst (λ (k : List ArgumentKind). IsTrue test ↔ AreArgumentTypes k (map (expr_type schema) (take (length (type ∷ types) - 1) (drop 1 (type ∷ types))))) (rest kind kinds) reported in
     let whole = subst (λ (t : List EdmType). IsTrue test ↔ AreArgumentTypes kinds (map (expr_type schema) t)) (rest type types) half in
     (λ holds. (here, whole.0 holds), λ both. whole.1 both.1)

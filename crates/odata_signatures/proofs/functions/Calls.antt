@@ -37,8 +37,8 @@ module _ (function : Function) (signature : Signature) (types : List ExprType) (
 
 -- what a test denies does not hold
 pub refuted : {P : Type 0} (test : Bool) → test ≡ false → (IsTrue test ↔ P) → ¬ P
-refuted true is told = cc
-refuted false is told = λ p. cc (told.1 p)
+refuted true is reported = cc
+refuted false is reported = λ p. cc (reported.1 p)
 
 pub one_type : (name : List ℕ) (types : List ExprType) (t u : ExprType) → CallTyped name types t → CallTyped name types u → t ≡ u
 one_type name types t u first second =

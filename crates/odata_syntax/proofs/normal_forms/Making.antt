@@ -13,7 +13,7 @@ use Rattle.odata_syntax.specs.TreeView.{tree_of, trees_of}
 use Rattle.odata_syntax.specs.declared.node.Node.{Node}
 use Rattle.odata_syntax.specs.declared.normal_form.Task.{Task}
 use Rattle.odata_syntax.specs.private.Forests.{trees_grown}
-use Rattle.odata_syntax.specs.private.Normals.{HasChildren, IsMade, IsNormalText, IsPutOver, IsReady, Wanted, all_wanted, children_of, children_wanted, count_trees, item_count, items, items_wanted, over, shape_kind, stacked, wanted, wanted_weight, whole, work}
+use Rattle.odata_syntax.specs.private.NormalForm.{HasChildren, IsMade, IsNormalText, IsPutOver, IsReady, Wanted, all_wanted, children_of, children_wanted, count_trees, item_count, items, items_wanted, over, shape_kind, stacked, wanted, wanted_weight, whole, work}
 use Rattle.odata_syntax.specs.private.Weights.{tree_weight}
 
 -- ---- trees on a stack

@@ -8,14 +8,14 @@ use Rattle.odata_syntax.specs.declared.binary_operator.BinaryOperator.{BinaryOpe
 use Rattle.odata_syntax.specs.declared.node.LiteralKind.{LiteralKind}
 use Rattle.odata_syntax.specs.declared.node.Node.{Node}
 use Rattle.odata_syntax.specs.declared.node.Quantifier.{Quantifier}
-use Rattle.odata_syntax.specs.Appended.{IsAppended}
+use Rattle.odata_syntax.specs.LiteralText.{IsAppended}
 use Rattle.odata_syntax.specs.CanonicalText.{grouped, tree_level, tree_text, trees_text}
 use Rattle.odata_syntax.specs.Grammar.{Level, operator_level, primary_level, unary_level}
 use Rattle.odata_syntax.specs.Lexeme.{quantifier_word}
 use Rattle.odata_syntax.specs.NormalForm.{literal_token}
 use Rattle.odata_syntax.specs.Tree.{Shape, Tree, Trees, any_item, binary, call, count, has, in_list, in_path, it, lambda, literal, logical_not, member, more_trees, name, negation, no_trees, node}
 use Rattle.odata_syntax.specs.TreeView.{tree_of, trees_of}
-use Rattle.odata_syntax.specs.private.Prints.{ArePieceTexts, AreTextsOf, IsAfterFirst, IsPieceText, IsTextOf, Piece, Writes, after_first, after_weight, body_text, further, group_weight, listed, operand, operand_text, piece_weight, plain, right_text, weight}
+use Rattle.odata_syntax.specs.private.Printer.{ArePieceTexts, AreTextsOf, IsAfterFirst, IsPieceText, IsTextOf, Piece, Writes, after_first, after_weight, body_text, further, group_weight, listed, operand, operand_text, piece_weight, plain, right_text, weight}
 use Rattle.odata_syntax.specs.private.Weights.{shape_weight, tree_weight, trees_weight}
 use Rattle.odata_syntax.proofs.printing.Levels.{tree_level-kept}
 use Rattle.odata_syntax.proofs.printing.Stack.{single, ungrouped}

@@ -6,11 +6,11 @@ use Rattle.std.specs.List.{IsFirstAndRest}
 use Rattle.std.proofs.lemmas.Bool.Decides.{nat_tests}
 use Rattle.std.proofs.lemmas.List.Sums.{sum_by-append}
 use Rattle.odata_syntax.specs.declared.node.Node.{Node}
-use Rattle.odata_syntax.specs.declared.printer.Part.{Part}
+use Rattle.odata_syntax.specs.declared.printer.PrintTask.{PrintTask}
 use Rattle.odata_syntax.specs.CanonicalText.{IsCanonicalText, tree_level, tree_text}
 use Rattle.odata_syntax.specs.Tree.{Tree}
 use Rattle.odata_syntax.specs.TreeView.{tree_of, trees_of}
-use Rattle.odata_syntax.specs.private.Prints.{ArePieceTexts, IsFrontOf, IsPending, IsPieceText, Piece, Writes, further, listed, operand, operand_text, piece_of, piece_weight, weight}
+use Rattle.odata_syntax.specs.private.Printer.{ArePieceTexts, IsFrontOf, IsPending, IsPieceText, Piece, Writes, further, listed, operand, operand_text, piece_of, piece_weight, weight}
 
 -- ---- texts of pieces
 
@@ -58,13 +58,13 @@ step root text after old new piece pending writes rest are =
     ∙ regrouped text writes.text cut.front cut.back in
     subst (IsPieceText root) (sym same) (pending ((writes.text ++ cut.front) ++ cut.back) all)
 
-pieces_snoc : (parts : List Part) (part : Part) → map piece_of (parts ++ part ∷ []) ≡ map piece_of parts ++ piece_of part ∷ []
-pieces_snoc [] part = refl
-pieces_snoc (x ∷ xs) part = ap (λ (ps : List Piece). piece_of x ∷ ps) (pieces_snoc xs part)
+pieces_snoc : (tasks : List PrintTask) (task : PrintTask) → map piece_of (tasks ++ task ∷ []) ≡ map piece_of tasks ++ piece_of task ∷ []
+pieces_snoc [] task = refl
+pieces_snoc (x ∷ xs) task = ap (λ (ps : List Piece). piece_of x ∷ ps) (pieces_snoc xs task)
 
 -- one more part on the stack
-pub put_part : (old new : List Part) (part : Part) → new ≡ old ++ part ∷ [] → map piece_of new ≡ map piece_of old ++ piece_of part ∷ []
-put_part old new part same = ap (λ (ps : List Part). map piece_of ps) same ∙ pieces_snoc old part
+pub put_task : (old new : List PrintTask) (task : PrintTask) → new ≡ old ++ task ∷ [] → map piece_of new ≡ map piece_of old ++ piece_of task ∷ []
+put_task old new task same = ap (λ (ps : List PrintTask). map piece_of ps) same ∙ pieces_snoc old task
 
 -- one piece after others, and pieces after that
 pub put_below : (old mid new : List Piece) (piece : Piece) (more : List Piece) → mid ≡ old ++ piece ∷ [] → new ≡ mid ++ more → new ≡ old ++ (piece ∷ more)
@@ -82,21 +82,21 @@ put_none nodes old none =
 
 pub put_some : (nodes : List Node) (first : Node) (rest : List Node) (old mid new : List Piece) → IsFirstAndRest nodes first rest
     → mid ≡ old ++ further (trees_of rest) ∷ [] → new ≡ mid ++ operand 0 (tree_of first) ∷ [] → new ≡ old ++ listed (trees_of nodes)
-put_some nodes first rest old mid new parts below top =
+put_some nodes first rest old mid new tasks below top =
     put_below old mid new (further (trees_of rest)) (operand 0 (tree_of first) ∷ []) below top
-    ∙ sym (ap (λ (ns : List Node). old ++ listed (trees_of ns)) parts.0)
+    ∙ sym (ap (λ (ns : List Node). old ++ listed (trees_of ns)) tasks.0)
 
-pub on_top : (root : Piece) (text : List ℕ) (all parts : List Part) (part : Part) → all ≡ parts ++ part ∷ []
-    → IsPending root text (map piece_of all) → IsPending root text (map piece_of parts ++ piece_of part ∷ [])
-on_top root text all parts part same pending = subst (λ (ps : List Piece). IsPending root text ps) (put_part parts all part same) pending
+pub on_top : (root : Piece) (text : List ℕ) (all tasks : List PrintTask) (task : PrintTask) → all ≡ tasks ++ task ∷ []
+    → IsPending root text (map piece_of all) → IsPending root text (map piece_of tasks ++ piece_of task ∷ [])
+on_top root text all tasks task same pending = subst (λ (ps : List Piece). IsPending root text ps) (put_task tasks all task same) pending
 
-pub lighter_than : (text after : List ℕ) (all parts : List Part) (new : List Piece) (part : Part)
-    → all ≡ parts ++ part ∷ [] → Writes (piece_of part) text after (map piece_of parts) new → weight new < weight (map piece_of all)
-lighter_than text after all parts new part same writes =
-    let before : weight (map piece_of all) ≡ weight (map piece_of parts) + weight (piece_of part ∷ []) =
-    ap weight (put_part parts all part same) ∙ sum_by-append piece_weight (map piece_of parts) (piece_of part ∷ []) in
-    let now : weight new ≡ weight (map piece_of parts) + weight writes.pieces =
-    ap weight writes.pushed ∙ sum_by-append piece_weight (map piece_of parts) writes.pieces in
+pub lighter_than : (text after : List ℕ) (all tasks : List PrintTask) (new : List Piece) (task : PrintTask)
+    → all ≡ tasks ++ task ∷ [] → Writes (piece_of task) text after (map piece_of tasks) new → weight new < weight (map piece_of all)
+lighter_than text after all tasks new task same writes =
+    let before : weight (map piece_of all) ≡ weight (map piece_of tasks) + weight (piece_of task ∷ []) =
+    ap weight (put_task tasks all task same) ∙ sum_by-append piece_weight (map piece_of tasks) (piece_of task ∷ []) in
+    let now : weight new ≡ weight (map piece_of tasks) + weight writes.pieces =
+    ap weight writes.pushed ∙ sum_by-append piece_weight (map piece_of tasks) writes.pieces in
     omega (arith, writes.lighter, before, now)
 
 -- ---- the first part and the last
@@ -107,26 +107,26 @@ not_below_none n = grind (arith, nat_tests)
 pub ungrouped : (tree : Tree) → operand_text 0 tree ≡ tree_text tree
 ungrouped tree = let loose : nat_lt (tree_level tree) 0 ≡ false = not_below_none (tree_level tree) in rw loose refl
 
-pub begun : (root : Piece) (text : List ℕ) (parts : List Part) (part : Part) → root ≡ piece_of part → text ≡ [] → parts ≡ part ∷ []
-    → IsPending root text (map piece_of parts)
-begun root text parts part first empty one rest are =
+pub begun : (root : Piece) (text : List ℕ) (tasks : List PrintTask) (task : PrintTask) → root ≡ piece_of task → text ≡ [] → tasks ≡ task ∷ []
+    → IsPending root text (map piece_of tasks)
+begun root text tasks task first empty one rest are =
     let alone : IsPieceText root rest = subst (λ (p : Piece). IsPieceText p rest) (sym first)
-    (single (piece_of part) rest (subst (λ (ps : List Part). ArePieceTexts (map piece_of ps) rest) one are)) in
+    (single (piece_of task) rest (subst (λ (ps : List PrintTask). ArePieceTexts (map piece_of ps) rest) one are)) in
     subst (λ (t : List ℕ). IsPieceText root (t ++ rest)) (sym empty) alone
 
-emptied : (o : Option Part) (all new : List Part) (n m : ℕ) → o ≡ None → all ≡ new ++ option_to_list o
+emptied : (o : Option PrintTask) (all new : List PrintTask) (n m : ℕ) → o ≡ None → all ≡ new ++ option_to_list o
     → MatchOption o ((n ≡ 0) × (m ≡ 0)) (λ _. m + 1 ≡ n) → new ≡ take (n - 1) all → all ≡ []
 emptied None all new n m is items cases rest =
     let zero : n ≡ 0 = cases.0 in
     let before : n - 1 ≡ 0 = omega arith in
     let none : new ≡ [] = rest ∙ ap (λ (k : ℕ). take k all) before in
-    items ∙ ap (λ (xs : List Part). xs ++ []) none
+    items ∙ ap (λ (xs : List PrintTask). xs ++ []) none
 emptied (Some x) all new n m is items cases rest = cc
 
-pub ended : (tree : Tree) (text : List ℕ) (o : Option Part) (all new : List Part) (n m : ℕ)
+pub ended : (tree : Tree) (text : List ℕ) (o : Option PrintTask) (all new : List PrintTask) (n m : ℕ)
     → o ≡ None → all ≡ new ++ option_to_list o → MatchOption o ((n ≡ 0) × (m ≡ 0)) (λ _. m + 1 ≡ n) → new ≡ take (n - 1) all
     → IsPending (operand 0 tree) text (map piece_of all) → IsCanonicalText tree text
 ended tree text o all new n m is items cases rest pending =
     let none = emptied o all new n m is items cases rest in
-    let last = pending [] (subst (λ (ps : List Part). ArePieceTexts (map piece_of ps) []) (sym none) refl) in
+    let last = pending [] (subst (λ (ps : List PrintTask). ArePieceTexts (map piece_of ps) []) (sym none) refl) in
     record { normal = last.normal; is_normal = last.is_normal; printed = sym (append-nil text) ∙ last.printed ∙ ungrouped last.normal }

@@ -14,7 +14,7 @@ use Rattle.odata_syntax.specs.Tree.{Tree}
 use Rattle.odata_syntax.specs.private.ListSteps.{read_tree}
 use Rattle.odata_syntax.specs.private.Machine.{Machine, finish, run, start}
 use Rattle.odata_syntax.specs.private.MachineView.{machine_of}
-use Rattle.odata_syntax.specs.private.TextRun.{RefusesText, StopsText, TakesText}
+use Rattle.odata_syntax.specs.private.TextParser.{RefusesText, StopsText, TakesText}
 use Rattle.odata_syntax.proofs.machine.Fronts.{run_only, run_parsed, stuck_fault, stuck_none, unended_fault, unended_none}
 use Rattle.odata_syntax.proofs.text_trees.Ranges.{text_ranges}
 

@@ -12,7 +12,7 @@ use Rattle.odata_syntax.specs.PostOrder.{AreFedBack, IsWholeTree, Texts, child_c
 use Rattle.odata_syntax.specs.Spans.{list_of_trees}
 use Rattle.odata_syntax.specs.TextTree.{AreTextRanges, HasText, IsTextRange, text_in}
 use Rattle.odata_syntax.specs.Tree.{Shape, Tree, Trees, any_item, binary, call, count, has, in_list, in_path, it, lambda, literal, logical_not, member, name, negation, shape_of, trees_of_list}
-use Rattle.odata_syntax.specs.private.TextRun.{AreRangeTexts}
+use Rattle.odata_syntax.specs.private.TextParser.{AreRangeTexts}
 use Rattle.odata_syntax.proofs.lists.Counts.{length_back, trees_length}
 
 -- What a tree says of the list that it is made of.

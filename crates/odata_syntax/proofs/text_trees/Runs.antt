@@ -16,7 +16,7 @@ use Rattle.odata_syntax.specs.TextTree.{IsTextRange, text_in}
 use Rattle.odata_syntax.specs.private.Machine.{Machine, run, start, step}
 use Rattle.odata_syntax.specs.private.MachineView.{machine_of}
 use Rattle.odata_syntax.specs.private.Stops.{IsReached, RefusesOneOf}
-use Rattle.odata_syntax.specs.private.TextRun.{AreRangeTexts, BeginTokens, IsFirstAfter, IsRun, RefusesText, StopsText, TakesText}
+use Rattle.odata_syntax.specs.private.TextParser.{AreRangeTexts, BeginTokens, IsFirstAfter, IsRun, RefusesText, StopsText, TakesText}
 use Rattle.odata_syntax.proofs.machine.Depth.{close_count-snoc, open_count-snoc, shallow-nil, shallow-snoc, shallow-whole}
 use Rattle.odata_syntax.proofs.machine.Loop.{at_most_one, one_too_many, opens_no_close, room}
 use Rattle.odata_syntax.proofs.machine.Run.{run-snoc}

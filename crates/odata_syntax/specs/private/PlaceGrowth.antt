@@ -58,7 +58,8 @@ AreEven places index (root ∷ roots) =
 -- at least as many trees begin within a tree as it has nodes
 pub record HasRoom (places : List Place) (index : ℕ) : Type 0 where
   pub order : first_at places index ≤ index
-  pub room : begun_before places (first_at places index) + (index + 1) ≤ begun_before places (index + 1) + first_at places index
+  pub room : begun_before places (first_at places index) + (index + 1) ≤ begun_before places
+      (index + 1) + first_at places index
 
 -- the tree of a node
 pub record IsGrown (places : List Place) (n : SyntaxNode) (earlier : List SyntaxNode) : Type 0 where

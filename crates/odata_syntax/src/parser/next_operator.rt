@@ -5,7 +5,7 @@ ghost use Rattle.odata_text.specs.TokenModel.{token_model};
 ghost use Rattle.odata_syntax.specs.PostOrder.{Texts};
 ghost use Rattle.odata_syntax.specs.private.Machine.{word_next as machine_word, next_of_kind, next_level};
 ghost use Rattle.odata_syntax.specs.private.Machine.{take_next as machine_take_next};
-ghost use Rattle.odata_syntax.specs.private.Bindings.{IsBinding};
+ghost use Rattle.odata_syntax.specs.private.NextOperator.{IsBinding};
 ghost use Rattle.odata_syntax.specs.private.MachineView.{machine_of};
 ghost use Rattle.odata_syntax.specs.private.ListSteps.{HasRead, IfTaken, IsSteadyState, IsStepTo};
 ghost use Rattle.odata_syntax.specs.private.ListSteps.{read_tree, waiting_behind};

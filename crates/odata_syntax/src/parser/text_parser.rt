@@ -9,7 +9,7 @@ ghost use Rattle.odata_syntax.specs.Tree.{Tree};
 ghost use Rattle.odata_syntax.specs.private.ListSteps.{IsSteadyState};
 ghost use Rattle.odata_syntax.specs.private.Machine.{start};
 ghost use Rattle.odata_syntax.specs.private.MachineView.{machine_of};
-ghost use Rattle.odata_syntax.specs.private.TextRun.{IsFirstAfter, StopsText, TakesText};
+ghost use Rattle.odata_syntax.specs.private.TextParser.{IsFirstAfter, StopsText, TakesText};
 
 use super::{Depth, ROOM_LIMIT, unended};
 use crate::SyntaxFault;

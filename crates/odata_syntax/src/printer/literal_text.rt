@@ -4,7 +4,7 @@ ghost use Rattle.std.specs.List.{list_any};
 ghost use Rattle.std.specs.Str.{str_to_ascii_lowercase};
 ghost use Rattle.odata_text.specs.LiteralSpelling.{IsLiteralSpelling};
 ghost use Rattle.odata_syntax.specs.NormalForm.{literal_token};
-ghost use Rattle.odata_syntax.specs.Appended.{IsAppended};
+ghost use Rattle.odata_syntax.specs.LiteralText.{IsAppended};
 
 use crate::LiteralKind;
 use crate::printer::enumeration_text::write_enumeration;

@@ -139,12 +139,12 @@ whole-reached text n utf8 reach characters =
     let some = identifier-nonempty text identifier in
     (omega arith, omega arith)
 
-pub reach-tells-none : (text : List ℕ) (n : ℕ) → IsUtf8 text → IsReach IsIdentifier n text → n ≡ 0 → false ≡ is_identifier (chars text)
-reach-tells-none text n utf8 reach none =
+pub reach-reports-none : (text : List ℕ) (n : ℕ) → IsUtf8 text → IsReach IsIdentifier n text → n ≡ 0 → false ≡ is_identifier (chars text)
+reach-reports-none text n utf8 reach none =
     sym (false_from_ne_true _ (λ identifier. let some = (whole-reached text n utf8 reach identifier).1 in omega arith))
 
-pub reach-tells : (text : List ℕ) (n : ℕ) → IsUtf8 text → IsReach IsIdentifier n text → 0 < n → (n == length text) ≡ is_identifier (chars text)
-reach-tells text n utf8 reach some =
+pub reach-reports : (text : List ℕ) (n : ℕ) → IsUtf8 text → IsReach IsIdentifier n text → 0 < n → (n == length text) ≡ is_identifier (chars text)
+reach-reports text n utf8 reach some =
     ⊎_elim
     (λ whole. eq-eqb n (length text) whole ∙ sym (subst (λ (bytes : List ℕ). is_identifier (chars bytes) ≡ true) (ap (λ (k : ℕ). take k text) whole ∙ take-length text) (reach.found some).characters))
     (λ part. ne_eqb n (length text) part ∙ sym (false_from_ne_true _ (λ identifier. part (whole-reached text n utf8 reach identifier).0)))

@@ -8,7 +8,7 @@ use Rattle.odata_text.proofs.Common.{length_push, count_by, get_or_default, â—Œâ
 use Rattle.odata_text.specs.Disguise.{is_disguised}
 use Rattle.odata_text.specs.Find.{AreClear, FoundModel, HasFound, IsClear, IsFindFault, IsFoundAt, IsFoundIn, IsPieceFault, found_in}
 use Rattle.odata_text.specs.declared.find_fault.FindFault.{FindFault}
-use Rattle.odata_text.specs.private.FindParts.{IsFilterAmong, KeepsFound, found_of}
+use Rattle.odata_text.specs.private.Find.{IsFilterAmong, KeepsFound, found_of}
 use Rattle.odata_text.proofs.queries.Finds.{found-counted}
 use Rattle.odata_text.proofs.queries.QueryLoops.{IsNext, next-room}
 

@@ -11,7 +11,7 @@ decreases-lambda_node::checked_lambda l = 2 * (l.index - l.from) + 1
 
 -- the trees of the run so far have been judged
 abbrev pub invariant-node_walk::checked_nodes-loop-index : goal.invariant-node_walk::checked_nodes-loop-index
-invariant-node_walk::checked_nodes-loop-index l = IsWalking l.setting l.from l.stop l.index l.initial.walk l.walk
+invariant-node_walk::checked_nodes-loop-index l = IsWalking l.context l.from l.stop l.index l.initial.walk l.walk
 
 abbrev pub decreases-node_walk::checked_nodes-loop-index : goal.decreases-node_walk::checked_nodes-loop-index
 decreases-node_walk::checked_nodes-loop-index l = l.stop - l.index

@@ -15,9 +15,9 @@ is_read slots (single (enumeration name)) None n number = absurd number
 is_read slots _ quoted n number = absurd number
 
 -- what is not read stands for none
-pub reads_none : (slots : Slots) (Beside : ExprType → Type 0) (type : ExprType) (tree : Tree) → ((t : ExprType) → Beside t → t ≡ type)
-    → ¬ IsReadBeside type (quoted_text tree) → ReadsNone slots Beside tree
-reads_none slots Beside type tree one unread n reads =
+pub reads_none : (slots : Slots) (ResolvedText : ExprType → Type 0) (type : ExprType) (tree : Tree) → ((t : ExprType) → ResolvedText t → t ≡ type)
+    → ¬ IsReadBeside type (quoted_text tree) → ReadsNone slots ResolvedText tree
+reads_none slots ResolvedText type tree one unread n reads =
     unread (subst (λ (t : ExprType). IsReadBeside t (quoted_text tree)) (one reads.type_of reads.beside) (is_read slots reads.type_of (quoted_text tree) n reads.number))
 
 -- an enumeration, and a text that is read beside it

@@ -10,12 +10,12 @@ use Rattle.odata_signatures.specs.FirstUntypable.{IsFirstUntypable}
 use Rattle.odata_signatures.specs.Typed.{Typed, variable_type, with_variable}
 use Rattle.odata_signatures.specs.declared.refusal.TypeFault.{TypeFault}
 use Rattle.odata_signatures.specs.declared.refusal.TypeFaultCode.{TypeFaultCode}
-use Rattle.odata_typing.specs.declared.setting.Judged.{Judged}
-use Rattle.odata_typing.specs.declared.setting.Setting.{Setting}
+use Rattle.odata_typing.specs.declared.check_context.Judged.{Judged}
+use Rattle.odata_typing.specs.declared.check_context.CheckContext.{CheckContext}
 use Rattle.odata_typing.specs.declared.judged_list.Walk.{Walk}
 use Rattle.odata_typing.specs.private.Judging.{IsNodeJudged, IsStanding}
 use Rattle.odata_typing.specs.private.LawsBelow.{LawsBelow}
-use Rattle.odata_typing.specs.private.Settings.{name_of}
+use Rattle.odata_typing.specs.private.CheckContexts.{name_of}
 use Rattle.odata_typing.specs.private.Variables.{scope_of}
 use Rattle.odata_typing.specs.private.Walks.{walk_refused}
 use Rattle.odata_typing.proofs.bodies.Faults.{base_reason, base_unbound, body_first, taken_reason, taken_unbound, unbound_fault}
@@ -25,21 +25,21 @@ some_first : (fault : Option TypeFault) (P Q : TypeFault → Type 0) → ((f : T
 some_first (Some f) P Q then holds = then f holds
 some_first None P Q then holds = tt
 
-module _ (laws : LawsBelow) (setting : Setting) (judged : Judged) (old new : Walk) (quantifier : Quantifier) (base body : Tree) (middle : ℕ) (result : Bool)
-    (stands : IsStanding setting.schema.now setting.filtered_type (scope_of setting) old (judged.number + 1) middle base) where
+module _ (laws : LawsBelow) (context : CheckContext) (judged : Judged) (old new : Walk) (quantifier : Quantifier) (base body : Tree) (middle : ℕ) (result : Bool)
+    (stands : IsStanding context.schema.now context.filtered_type (scope_of context) old (judged.number + 1) middle base) where
   base_refused :
       (mid : Walk) (type : EdmType)
       → type ≡ stands.found.edm_type
       → (code : TypeFaultCode)
       → result ≡ false
       → new ≡ walk_refused mid judged.node.now.span code
-      → IsFirstUntypable (slots_in setting) (root_in setting) (scope_of setting) (tree_over judged (lambda quantifier base (name_of setting judged) body)) (record { code = code; span = judged.node.now.span })
-      → IsNodeJudged setting judged (lambda quantifier base (name_of setting judged) body) old new result
+      → IsFirstUntypable (slots_in context) (root_in context) (scope_of context) (tree_over judged (lambda quantifier base (name_of context judged) body)) (record { code = code; span = judged.node.now.span })
+      → IsNodeJudged context judged (lambda quantifier base (name_of context judged) body) old new result
   base_refused mid type same code stops is found =
-      refused_tree setting judged old mid new (lambda quantifier base (name_of setting judged) body) code result stops is found
+      refused_tree context judged old mid new (lambda quantifier base (name_of context judged) body) code result stops is found
 
-  base_typed : (type : EdmType) → type ≡ stands.found.edm_type → Typed (slots_in setting) (root_in setting) (scope_of setting) base (expr_type setting.schema.now type)
-  base_typed type same = subst (λ (t : EdmType). Typed (slots_in setting) (root_in setting) (scope_of setting) base (expr_type setting.schema.now t)) (sym same) stands.typed
+  base_typed : (type : EdmType) → type ≡ stands.found.edm_type → Typed (slots_in context) (root_in context) (scope_of context) base (expr_type context.schema.now type)
+  base_typed type same = subst (λ (t : EdmType). Typed (slots_in context) (root_in context) (scope_of context) base (expr_type context.schema.now t)) (sym same) stands.typed
 
   -- the base is not a collection
   pub not_collection :
@@ -48,13 +48,13 @@ module _ (laws : LawsBelow) (setting : Setting) (judged : Judged) (old new : Wal
       → ((member : ValueType) → ¬ (type ≡ EdmType.Collection member))
       → result ≡ false
       → new ≡ walk_refused mid judged.node.now.span TypeFaultCode.NotCollection
-      → IsNodeJudged setting judged (lambda quantifier base (name_of setting judged) body) old new result
+      → IsNodeJudged context judged (lambda quantifier base (name_of context judged) body) old new result
   not_collection mid type same other stops is =
-      let schema = setting.schema.now in
-      let scope = scope_of setting in
-      let variable : List ℕ = name_of setting judged in
+      let schema = context.schema.now in
+      let scope = scope_of context in
+      let variable : List ℕ = name_of context judged in
       base_refused mid type same TypeFaultCode.NotCollection stops is
-      (unbound_fault laws (slots_in setting) (root_in setting) scope judged.node.now.span quantifier variable base body (expr_type schema type) TypeFaultCode.NotCollection (base_typed type same)
+      (unbound_fault laws (slots_in context) (root_in context) scope judged.node.now.span quantifier variable base body (expr_type schema type) TypeFaultCode.NotCollection (base_typed type same)
       (base_reason schema scope variable type other) (base_unbound schema scope variable type other))
 
   -- the variable is in scope already
@@ -62,19 +62,19 @@ module _ (laws : LawsBelow) (setting : Setting) (judged : Judged) (old new : Wal
       (mid : Walk) (type : EdmType) (member : ValueType) (taken : ExprType)
       → type ≡ stands.found.edm_type
       → type ≡ EdmType.Collection member
-      → variable_type (scope_of setting) (name_of setting judged) ≡ Some taken
+      → variable_type (scope_of context) (name_of context judged) ≡ Some taken
       → result ≡ false
       → new ≡ walk_refused mid judged.node.now.span TypeFaultCode.VariableTaken
-      → IsNodeJudged setting judged (lambda quantifier base (name_of setting judged) body) old new result
+      → IsNodeJudged context judged (lambda quantifier base (name_of context judged) body) old new result
   variable_taken mid type member taken same of_member found stops is =
-      let schema = setting.schema.now in
-      let scope = scope_of setting in
-      let variable : List ℕ = name_of setting judged in
+      let schema = context.schema.now in
+      let scope = scope_of context in
+      let variable : List ℕ = name_of context judged in
       let m = single_type schema member in
-      let typed : Typed (slots_in setting) (root_in setting) scope base (collection m) =
-      subst (λ (t : EdmType). Typed (slots_in setting) (root_in setting) scope base (expr_type schema t)) of_member (base_typed type same) in
+      let typed : Typed (slots_in context) (root_in context) scope base (collection m) =
+      subst (λ (t : EdmType). Typed (slots_in context) (root_in context) scope base (expr_type schema t)) of_member (base_typed type same) in
       base_refused mid type same TypeFaultCode.VariableTaken stops is
-      (unbound_fault laws (slots_in setting) (root_in setting) scope judged.node.now.span quantifier variable base body (collection m) TypeFaultCode.VariableTaken typed
+      (unbound_fault laws (slots_in context) (root_in context) scope judged.node.now.span quantifier variable base body (collection m) TypeFaultCode.VariableTaken typed
       (taken_reason scope variable m taken found) (taken_unbound scope variable taken (collection m) found))
 
   -- the body has no type
@@ -82,15 +82,15 @@ module _ (laws : LawsBelow) (setting : Setting) (judged : Judged) (old new : Wal
       (type : EdmType) (member : ValueType)
       → type ≡ stands.found.edm_type
       → type ≡ EdmType.Collection member
-      → variable_type (scope_of setting) (name_of setting judged) ≡ None
+      → variable_type (scope_of context) (name_of context judged) ≡ None
       → result ≡ false
-      → IfSome new.fault (IsFirstUntypable (slots_in setting) (root_in setting) (with_variable (scope_of setting) (name_of setting judged) (single (single_type setting.schema.now member))) body)
-      → IsNodeJudged setting judged (lambda quantifier base (name_of setting judged) body) old new result
+      → IfSome new.fault (IsFirstUntypable (slots_in context) (root_in context) (with_variable (scope_of context) (name_of context judged) (single (single_type context.schema.now member))) body)
+      → IsNodeJudged context judged (lambda quantifier base (name_of context judged) body) old new result
   body_refused type member same of_member fresh stops found =
-      let schema = setting.schema.now in
-      let scope = scope_of setting in
-      let variable : List ℕ = name_of setting judged in
-      let typed : Typed (slots_in setting) (root_in setting) scope base (collection (single_type schema member)) =
-      subst (λ (t : EdmType). Typed (slots_in setting) (root_in setting) scope base (expr_type schema t)) of_member (base_typed type same) in
+      let schema = context.schema.now in
+      let scope = scope_of context in
+      let variable : List ℕ = name_of context judged in
+      let typed : Typed (slots_in context) (root_in context) scope base (collection (single_type schema member)) =
+      subst (λ (t : EdmType). Typed (slots_in context) (root_in context) scope base (expr_type schema t)) of_member (base_typed type same) in
       rw stops (some_first new.fault _ _ (λ fault first.
-      body_first laws (slots_in setting) (root_in setting) scope judged.node.now.span.start judged.node.now.span.stop quantifier variable base body (single_type schema member) fault typed fresh first) found)
+      body_first laws (slots_in context) (root_in context) scope judged.node.now.span.start judged.node.now.span.stop quantifier variable base body (single_type schema member) fault typed fresh first) found)

@@ -11,13 +11,13 @@ use Rattle.odata_signatures.specs.Typed.{BindsVariable, Typed}
 use Rattle.odata_signatures.specs.declared.refusal.TypeFaultCode.{TypeFaultCode}
 use Rattle.odata_checked_filter.specs.declared.checked_node.CheckedNode.{CheckedNode}
 use Rattle.odata_checked_filter.specs.declared.checked_node.NodeKind.{NodeKind}
-use Rattle.odata_typing.specs.declared.setting.Judged.{Judged}
-use Rattle.odata_typing.specs.declared.setting.Setting.{Setting}
+use Rattle.odata_typing.specs.declared.check_context.Judged.{Judged}
+use Rattle.odata_typing.specs.declared.check_context.CheckContext.{CheckContext}
 use Rattle.odata_typing.specs.declared.judged_list.Walk.{Walk}
 use Rattle.odata_typing.specs.private.Judging.{IsNodeJudged}
-use Rattle.odata_typing.specs.private.Lambda.{IsOverBody}
+use Rattle.odata_typing.specs.private.LambdaNode.{IsOverBody}
 use Rattle.odata_typing.specs.private.LawsBelow.{LawsBelow}
-use Rattle.odata_typing.specs.private.Settings.{IsNodeReady, name_of}
+use Rattle.odata_typing.specs.private.CheckContexts.{IsNodeReady, name_of}
 use Rattle.odata_typing.specs.private.Variables.{scope_of}
 use Rattle.odata_typing.specs.private.Walks.{truth_type, walk_put, walk_refused}
 use Rattle.odata_typing.proofs.bodies.Faults.{refused_body}
@@ -25,28 +25,28 @@ use Rattle.odata_typing.proofs.flat.Closing.{put_tree, refused_tree, root_in, sl
 use Rattle.odata_typing.proofs.flat.Idle.{idle_lambda}
 use Rattle.odata_typing.proofs.flat.Kept.{same_more}
 
-module _ (laws : LawsBelow) (setting : Setting) (judged : Judged) (old new : Walk) (quantifier : Quantifier) (base body : Tree) (result : Bool)
-    (ready : IsNodeReady setting old judged) (over : IsOverBody setting old judged base body) where
+module _ (laws : LawsBelow) (context : CheckContext) (judged : Judged) (old new : Walk) (quantifier : Quantifier) (base body : Tree) (result : Bool)
+    (ready : IsNodeReady context old judged) (over : IsOverBody context old judged base body) where
   -- the base has the type of a collection
-  over_typed : Typed (slots_in setting) (root_in setting) (scope_of setting) base (collection (single_type setting.schema.now over.member))
+  over_typed : Typed (slots_in context) (root_in context) (scope_of context) base (collection (single_type context.schema.now over.member))
   over_typed =
-      subst (λ (t : EdmType). Typed (slots_in setting) (root_in setting) (scope_of setting) base (expr_type setting.schema.now t)) over.base_type over.base_stands.typed
+      subst (λ (t : EdmType). Typed (slots_in context) (root_in context) (scope_of context) base (expr_type context.schema.now t)) over.base_type over.base_stands.typed
 
   pub lambda_put :
       (text : List ℕ)
-      → IsBooleanOrNull (expr_type setting.schema.now over.body_stands.found.edm_type)
+      → IsBooleanOrNull (expr_type context.schema.now over.body_stands.found.edm_type)
       → result ≡ true
-      → text ≡ name_of setting judged
+      → text ≡ name_of context judged
       → new ≡ walk_put old judged (NodeKind.Lambda quantifier) truth_type text
-      → IsNodeJudged setting judged (lambda quantifier base (name_of setting judged) body) old new result
+      → IsNodeJudged context judged (lambda quantifier base (name_of context judged) body) old new result
   lambda_put text truth goes_on same is =
-      let schema = setting.schema.now in
-      let scope = scope_of setting in
-      let variable = name_of setting judged in
+      let schema = context.schema.now in
+      let scope = scope_of context in
+      let variable = name_of context judged in
       let span = judged.node.now.span in
       let m = single_type schema over.member in
-      let binds : BindsVariable scope variable (Typed (slots_in setting) (root_in setting) scope base) m = record { over = over_typed; fresh = over.fresh } in
-      put_tree setting judged laws old old new (lambda quantifier base variable body) (NodeKind.Lambda quantifier) truth_type result ready (same_more old) ready.ready.fresh goes_on
+      let binds : BindsVariable scope variable (Typed (slots_in context) (root_in context) scope base) m = record { over = over_typed; fresh = over.fresh } in
+      put_tree context judged laws old old new (lambda quantifier base variable body) (NodeKind.Lambda quantifier) truth_type result ready (same_more old) ready.ready.fresh goes_on
       (subst (λ (t : List ℕ). new ≡ walk_put old judged (NodeKind.Lambda quantifier) truth_type t) same is)
       tt refl tt
       (record { member_type = m; body = expr_type schema over.body_stands.found.edm_type; binds = binds; body_typed = over.body_stands.typed; truth = truth; makes = refl })
@@ -59,28 +59,28 @@ module _ (laws : LawsBelow) (setting : Setting) (judged : Judged) (old new : Wal
           right = refl;
         };
       })
-      (λ idle. idle_lambda laws (slots_in setting) (root_in setting) scope span.start span.stop quantifier base variable body m over_typed (over.base_stands.idle idle) (over.body_stands.idle idle))
+      (λ idle. idle_lambda laws (slots_in context) (root_in context) scope span.start span.stop quantifier base variable body m over_typed (over.base_stands.idle idle) (over.body_stands.idle idle))
 
   pub lambda_refused :
-      ¬ IsBooleanOrNull (expr_type setting.schema.now over.body_stands.found.edm_type)
+      ¬ IsBooleanOrNull (expr_type context.schema.now over.body_stands.found.edm_type)
       → result ≡ false
       → new ≡ walk_refused old judged.node.now.span TypeFaultCode.BodyNotBoolean
-      → IsNodeJudged setting judged (lambda quantifier base (name_of setting judged) body) old new result
+      → IsNodeJudged context judged (lambda quantifier base (name_of context judged) body) old new result
   lambda_refused other stops is =
-      refused_tree setting judged old old new (lambda quantifier base (name_of setting judged) body) TypeFaultCode.BodyNotBoolean result stops is
-      (refused_body laws (slots_in setting) (root_in setting) (scope_of setting) judged.node.now.span quantifier (name_of setting judged) base body (single_type setting.schema.now over.member)
-      (expr_type setting.schema.now over.body_stands.found.edm_type) over_typed over.fresh over.body_stands.typed other)
+      refused_tree context judged old old new (lambda quantifier base (name_of context judged) body) TypeFaultCode.BodyNotBoolean result stops is
+      (refused_body laws (slots_in context) (root_in context) (scope_of context) judged.node.now.span quantifier (name_of context judged) base body (single_type context.schema.now over.member)
+      (expr_type context.schema.now over.body_stands.found.edm_type) over_typed over.fresh over.body_stands.typed other)
 
 -- the type that the code finds where the base stops is the body's
 pub body_type :
-    (setting : Setting) (judged : Judged) (walk : Walk) (base body : Tree) (over : IsOverBody setting walk judged base body) (middle : ℕ) (type : EdmType)
+    (context : CheckContext) (judged : Judged) (walk : Walk) (base body : Tree) (over : IsOverBody context walk judged base body) (middle : ℕ) (type : EdmType)
     → middle ≡ over.base_stands.found.stop
     → ((found : CheckedNode) → slice_get walk.list.nodes middle ≡ Some found → type ≡ found.edm_type)
     → type ≡ over.body_stands.found.edm_type
-body_type setting judged walk base body over middle type stops at =
+body_type context judged walk base body over middle type stops at =
     at over.body_stands.found (ap (slice_get walk.list.nodes) (stops ∙ over.base_stands.last) ∙ over.body_stands.at)
 
 -- and there is one
-pub body_there : (setting : Setting) (judged : Judged) (walk : Walk) (base body : Tree) (over : IsOverBody setting walk judged base body) (middle : ℕ) → middle ≡ over.base_stands.found.stop → middle < length walk.list.nodes
-body_there setting judged walk base body over middle stops =
+pub body_there : (context : CheckContext) (judged : Judged) (walk : Walk) (base body : Tree) (over : IsOverBody context walk judged base body) (middle : ℕ) → middle ≡ over.base_stands.found.stop → middle < length walk.list.nodes
+body_there context judged walk base body over middle stops =
     slice_get_within walk.list.nodes middle over.body_stands.found (ap (slice_get walk.list.nodes) (stops ∙ over.base_stands.last) ∙ over.body_stands.at)

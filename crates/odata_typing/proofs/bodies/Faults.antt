@@ -158,5 +158,5 @@ base_unbound schema scope variable EdmType.Null other m is none = cc
 base_unbound schema scope variable (EdmType.Single member) other m is none = cc
 base_unbound schema scope variable (EdmType.Collection member) other m is none = other member refl
 
-pub not_truth : (schema : SchemaModel) (type : EdmType) (told : Bool) → (IsTrue told ↔ IsBooleanOrNull (expr_type schema type)) → told ≡ false → ¬ IsBooleanOrNull (expr_type schema type)
-not_truth schema type told is refused truth = let yes : told ≡ true = is.1 truth in cc
+pub not_truth : (schema : SchemaModel) (type : EdmType) (reported : Bool) → (IsTrue reported ↔ IsBooleanOrNull (expr_type schema type)) → reported ≡ false → ¬ IsBooleanOrNull (expr_type schema type)
+not_truth schema type reported is refused truth = let yes : reported ≡ true = is.1 truth in cc

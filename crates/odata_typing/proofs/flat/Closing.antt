@@ -15,12 +15,12 @@ use Rattle.odata_checked_filter.specs.declared.checked_node.NodeKind.{NodeKind}
 use Rattle.odata_checked_filter.specs.FlatTree.{FlatTree}
 use Rattle.odata_checked_filter.specs.ListChanges.{IsKeptOutside, node_put, with_value}
 use Rattle.odata_checked_filter.specs.Stands.{ChildrenStand, HasOwnValue, IsKindOf, text_of_shape}
-use Rattle.odata_typing.specs.declared.setting.Judged.{Judged}
-use Rattle.odata_typing.specs.declared.setting.Setting.{Setting}
+use Rattle.odata_typing.specs.declared.check_context.Judged.{Judged}
+use Rattle.odata_typing.specs.declared.check_context.CheckContext.{CheckContext}
 use Rattle.odata_typing.specs.declared.judged_list.Walk.{Walk}
 use Rattle.odata_typing.specs.private.Judging.{IsIdle, IsNodeJudged}
 use Rattle.odata_typing.specs.private.LawsBelow.{LawsBelow}
-use Rattle.odata_typing.specs.private.Settings.{IsNodeReady}
+use Rattle.odata_typing.specs.private.CheckContexts.{IsNodeReady}
 use Rattle.odata_typing.specs.private.Variables.{scope_of}
 use Rattle.odata_typing.specs.private.Walks.{checked, walk_put, walk_refused}
 use Rattle.odata_typing.proofs.flat.Kept.{IsMore, IsOnward, kept_on, kept_wider}
@@ -76,28 +76,28 @@ more_within i j old new more = record { kept = kept_anywhere i j old.list new.li
 abbrev pub tree_over : Judged → Shape → Tree
 tree_over judged shape = node judged.node.now.span.start judged.node.now.span.stop shape
 
--- the types and the filtered type of a setting
-abbrev pub slots_in : Setting → Slots
-slots_in setting = slots_of setting.schema.now
+-- the types and the filtered type of a context
+abbrev pub slots_in : CheckContext → Slots
+slots_in context = slots_of context.schema.now
 
-abbrev pub root_in : Setting → List ℕ
-root_in setting = type_name_at setting.schema.now setting.filtered_type
+abbrev pub root_in : CheckContext → List ℕ
+root_in context = type_name_at context.schema.now context.filtered_type
 
-module _ (setting : Setting) (judged : Judged) where
+module _ (context : CheckContext) (judged : Judged) where
   pub put_changed :
       LawsBelow → (old mid new : Walk) (shape : Shape) (kind : NodeKind) (type : EdmType) (result : Bool)
-      → IsNodeReady setting old judged
+      → IsNodeReady context old judged
       → IsOnward judged.number judged.stop old mid
       → mid.fault ≡ None
       → result ≡ true
       → new ≡ walk_put mid judged kind type (text_of_shape shape)
-      → IsTypeThere setting.schema.now type
-      → IsKindOf (slots_in setting) (root_in setting) (scope_of setting) shape kind
-      → HasOwnValue mid.list.values (slots_in setting) shape kind
-      → Typed (slots_in setting) (root_in setting) (scope_of setting) (tree_over judged shape) (expr_type setting.schema.now type)
-      → ChildrenStand setting.schema.now setting.filtered_type (scope_of setting) mid.list (judged.number + 1) judged.stop shape
-      → (mid.navigates ≡ false → IsIdle (slots_in setting) (root_in setting) (scope_of setting) (tree_over judged shape))
-      → IsNodeJudged setting judged shape old new result
+      → IsTypeThere context.schema.now type
+      → IsKindOf (slots_in context) (root_in context) (scope_of context) shape kind
+      → HasOwnValue mid.list.values (slots_in context) shape kind
+      → Typed (slots_in context) (root_in context) (scope_of context) (tree_over judged shape) (expr_type context.schema.now type)
+      → ChildrenStand context.schema.now context.filtered_type (scope_of context) mid.list (judged.number + 1) judged.stop shape
+      → (mid.navigates ≡ false → IsIdle (slots_in context) (root_in context) (scope_of context) (tree_over judged shape))
+      → IsNodeJudged context judged shape old new result
   put_changed laws old mid new shape kind type result ready onward fresh goes_on is there of_kind valued typed children idle =
       let put : CheckedNode = checked judged kind type in
       let count : length mid.list.nodes ≡ length old.list.nodes = onward.kept.count in
@@ -115,7 +115,7 @@ module _ (setting : Setting) (judged : Judged) where
           last = refl;
           there = there;
           typed = typed;
-          stands = laws.put setting.schema.now setting.filtered_type (scope_of setting) mid.list judged.number put shape inside beside of_kind valued typed children;
+          stands = laws.put context.schema.now context.filtered_type (scope_of context) mid.list judged.number put shape inside beside of_kind valued typed children;
           idle = idle;
         };
         navigates = onward.navigates;
@@ -125,18 +125,18 @@ module _ (setting : Setting) (judged : Judged) where
   -- the same where only values were put before
   pub put_tree :
       (laws : LawsBelow) (old mid new : Walk) (shape : Shape) (kind : NodeKind) (type : EdmType) (result : Bool)
-      → IsNodeReady setting old judged
+      → IsNodeReady context old judged
       → IsMore old mid
       → mid.fault ≡ None
       → result ≡ true
       → new ≡ walk_put mid judged kind type (text_of_shape shape)
-      → IsTypeThere setting.schema.now type
-      → IsKindOf (slots_in setting) (root_in setting) (scope_of setting) shape kind
-      → HasOwnValue mid.list.values (slots_in setting) shape kind
-      → Typed (slots_in setting) (root_in setting) (scope_of setting) (tree_over judged shape) (expr_type setting.schema.now type)
-      → ChildrenStand setting.schema.now setting.filtered_type (scope_of setting) mid.list (judged.number + 1) judged.stop shape
-      → (mid.navigates ≡ false → IsIdle (slots_in setting) (root_in setting) (scope_of setting) (tree_over judged shape))
-      → IsNodeJudged setting judged shape old new result
+      → IsTypeThere context.schema.now type
+      → IsKindOf (slots_in context) (root_in context) (scope_of context) shape kind
+      → HasOwnValue mid.list.values (slots_in context) shape kind
+      → Typed (slots_in context) (root_in context) (scope_of context) (tree_over judged shape) (expr_type context.schema.now type)
+      → ChildrenStand context.schema.now context.filtered_type (scope_of context) mid.list (judged.number + 1) judged.stop shape
+      → (mid.navigates ≡ false → IsIdle (slots_in context) (root_in context) (scope_of context) (tree_over judged shape))
+      → IsNodeJudged context judged shape old new result
   put_tree laws old mid new shape kind type result ready more =
       put_changed laws old mid new shape kind type result ready (more_within judged.number judged.stop old mid more)
 
@@ -145,10 +145,10 @@ module _ (setting : Setting) (judged : Judged) where
       (old mid new : Walk) (shape : Shape) (code : TypeFaultCode) (result : Bool)
       → result ≡ false
       → new ≡ walk_refused mid judged.node.now.span code
-      → IsFirstUntypable (slots_in setting) (root_in setting) (scope_of setting) (tree_over judged shape) (record { code = code; span = judged.node.now.span })
-      → IsNodeJudged setting judged shape old new result
+      → IsFirstUntypable (slots_in context) (root_in context) (scope_of context) (tree_over judged shape) (record { code = code; span = judged.node.now.span })
+      → IsNodeJudged context judged shape old new result
   refused_tree old mid new shape code result stops is found = rw (stops, is) found
 
   -- an allocation failed
-  pub unjudged : (old new : Walk) (shape : Shape) (result : Bool) → result ≡ false → new.fault ≡ None → IsNodeJudged setting judged shape old new result
+  pub unjudged : (old new : Walk) (shape : Shape) (result : Bool) → result ≡ false → new.fault ≡ None → IsNodeJudged context judged shape old new result
   unjudged old new shape result stops none = rw (stops, none) tt

@@ -15,12 +15,12 @@ use Rattle.odata_signatures.specs.declared.refusal.TypeFaultCode.{TypeFaultCode}
 use Rattle.odata_checked_filter.specs.declared.checked_node.CheckedNode.{CheckedNode}
 use Rattle.odata_checked_filter.specs.declared.checked_node.NodeKind.{NodeKind}
 use Rattle.odata_checked_filter.specs.Stands.{IsCallNode}
-use Rattle.odata_typing.specs.declared.setting.Judged.{Judged}
-use Rattle.odata_typing.specs.declared.setting.Setting.{Setting}
+use Rattle.odata_typing.specs.declared.check_context.Judged.{Judged}
+use Rattle.odata_typing.specs.declared.check_context.CheckContext.{CheckContext}
 use Rattle.odata_typing.specs.declared.judged_list.Walk.{Walk}
 use Rattle.odata_typing.specs.private.Judging.{IsNodeJudged}
 use Rattle.odata_typing.specs.private.LawsBelow.{LawsBelow}
-use Rattle.odata_typing.specs.private.Settings.{IsNodeReady}
+use Rattle.odata_typing.specs.private.CheckContexts.{IsNodeReady}
 use Rattle.odata_typing.specs.private.Variables.{scope_of}
 use Rattle.odata_typing.specs.private.Walks.{walk_put, walk_refused}
 use Rattle.odata_typing.proofs.calls.FewArguments.{reason_by_first, typed_by_first, untyped_by_first}
@@ -39,45 +39,45 @@ named_first schema (suc k) (found ∷ row) = ap (λ (types : List ExprType). exp
 pub first_of_row : (schema : SchemaModel) (types : List EdmType) (row : List CheckedNode) → types ≡ take 4 (map (λ found. found.edm_type) row) → map (expr_type schema) types ≡ take 4 (types_of schema row)
 first_of_row schema types row same = ap (map (expr_type schema)) same ∙ named_first schema 4 row
 
-module _ (laws : LawsBelow) (setting : Setting) (judged : Judged) (old new : Walk) (asked : List ℕ) (arguments : List Tree) (row : List CheckedNode) (types : List EdmType) (result : Bool)
-    (ready : IsNodeReady setting old judged)
-    (is : IsRowOf setting.schema.now setting.filtered_type (scope_of setting) old arguments (judged.number + 1) judged.stop row)
+module _ (laws : LawsBelow) (context : CheckContext) (judged : Judged) (old new : Walk) (asked : List ℕ) (arguments : List Tree) (row : List CheckedNode) (types : List EdmType) (result : Bool)
+    (ready : IsNodeReady context old judged)
+    (is : IsRowOf context.schema.now context.filtered_type (scope_of context) old arguments (judged.number + 1) judged.stop row)
     (first : types ≡ take 4 (map (λ found. found.edm_type) row)) where
   pub called :
       (function : Function) (kind : NodeKind) (type : EdmType)
       → IsNamed function asked
-      → FunctionTyped function (map (expr_type setting.schema.now) types) (expr_type setting.schema.now type)
-      → IsTypeThere setting.schema.now type
+      → FunctionTyped function (map (expr_type context.schema.now) types) (expr_type context.schema.now type)
+      → IsTypeThere context.schema.now type
       → IsCallNode asked kind
       → result ≡ true
       → new ≡ walk_put old judged kind type []
-      → IsNodeJudged setting judged (call asked (trees_of_list arguments)) old new result
+      → IsNodeJudged context judged (call asked (trees_of_list arguments)) old new result
   called function kind type named makes there of_kind goes_on put =
-      let schema = setting.schema.now in
+      let schema = context.schema.now in
       let span = judged.node.now.span in
       let makes_first : FunctionTyped function (take 4 (types_of schema row)) (expr_type schema type) = subst (λ (ts : List ExprType). FunctionTyped function ts (expr_type schema type)) (first_of_row schema types row first) makes in
-      put_tree setting judged laws old old new (call asked (trees_of_list arguments)) kind type result ready (same_more old) ready.ready.fresh goes_on put there of_kind tt
+      put_tree context judged laws old old new (call asked (trees_of_list arguments)) kind type result ready (same_more old) ready.ready.fresh goes_on put there of_kind tt
       (record {
         types = types_of schema row;
         arguments_typed = is.typed;
         call_typed = record { function = function; named = named; typed = typed_by_first function (types_of schema row) (expr_type schema type) makes_first };
       })
       is.stand
-      (λ idle. idle_call (slots_in setting) (root_in setting) (scope_of setting) span.start span.stop asked arguments (is.idle idle))
+      (λ idle. idle_call (slots_in context) (root_in context) (scope_of context) span.start span.stop asked arguments (is.idle idle))
 
   pub uncalled :
       (fault : CallFault) (code : TypeFaultCode)
-      → ((type : ExprType) → ¬ CallTyped asked (map (expr_type setting.schema.now) types) type)
-      → CallReason asked (map (expr_type setting.schema.now) types) fault
+      → ((type : ExprType) → ¬ CallTyped asked (map (expr_type context.schema.now) types) type)
+      → CallReason asked (map (expr_type context.schema.now) types) fault
       → code ≡ code_of_call fault
       → result ≡ false
       → new ≡ walk_refused old judged.node.now.span code
-      → IsNodeJudged setting judged (call asked (trees_of_list arguments)) old new result
+      → IsNodeJudged context judged (call asked (trees_of_list arguments)) old new result
   uncalled fault code none reason same stops refused =
-      let schema = setting.schema.now in
+      let schema = context.schema.now in
       let all : List ExprType = types_of schema row in
       let by_first = first_of_row schema types row first in
-      refused_tree setting judged old old new (call asked (trees_of_list arguments)) code result stops refused
-      (refused_call laws (slots_in setting) (root_in setting) (scope_of setting) judged.node.now.span asked arguments all fault code is.typed is.each
+      refused_tree context judged old old new (call asked (trees_of_list arguments)) code result stops refused
+      (refused_call laws (slots_in context) (root_in context) (scope_of context) judged.node.now.span asked arguments all fault code is.typed is.each
       (untyped_by_first asked all (subst (λ (ts : List ExprType). (type : ExprType) → ¬ CallTyped asked ts type) by_first none))
       (reason_by_first asked all fault (subst (λ (ts : List ExprType). CallReason asked ts fault) by_first reason)) same)

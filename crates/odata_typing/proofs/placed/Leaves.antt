@@ -19,13 +19,13 @@ use Rattle.odata_signatures.specs.declared.refusal.TypeFaultCode.{TypeFaultCode}
 use Rattle.odata_checked_filter.specs.declared.checked_node.NodeKind.{NodeKind}
 use Rattle.odata_checked_filter.specs.ListChanges.{with_value}
 use Rattle.odata_checked_filter.specs.Stands.{IsNameNode, variable_names}
-use Rattle.odata_typing.specs.declared.setting.Judged.{Judged}
-use Rattle.odata_typing.specs.declared.setting.Setting.{Setting}
+use Rattle.odata_typing.specs.declared.check_context.Judged.{Judged}
+use Rattle.odata_typing.specs.declared.check_context.CheckContext.{CheckContext}
 use Rattle.odata_typing.specs.declared.judged_list.Walk.{Walk}
 use Rattle.odata_typing.specs.private.Answer.{IsReading}
 use Rattle.odata_typing.specs.private.Judging.{IsIdle, IsNodeJudged, IsStanding}
 use Rattle.odata_typing.specs.private.LawsBelow.{LawsBelow}
-use Rattle.odata_typing.specs.private.Settings.{IsNodeReady, name_of}
+use Rattle.odata_typing.specs.private.CheckContexts.{IsNodeReady, name_of}
 use Rattle.odata_typing.specs.private.Variables.{scope_of}
 use Rattle.odata_typing.specs.private.Walks.{walk_put, walk_refused}
 use Rattle.odata_typing.proofs.flat.Closing.{put_tree, refused_tree, root_in, slots_in, tree_over, valued_more, value_put}
@@ -37,23 +37,23 @@ use Rattle.odata_typing.proofs.untypable.Operands.{refused_step, unread_literal}
 some_at : (P : Value → Type 0) (o : Option Value) (value : Value) → o ≡ Some value → P value → IsSomeAnd o P
 some_at P o value same holds = rw same holds
 
-module _ (laws : LawsBelow) (setting : Setting) (judged : Judged) (old new : Walk) (result : Bool)
-    (ready : IsNodeReady setting old judged) where
+module _ (laws : LawsBelow) (context : CheckContext) (judged : Judged) (old new : Walk) (result : Bool)
+    (ready : IsNodeReady context old judged) where
   -- a literal's node, after its value
   pub literal_put :
       (mid : Walk) (kind : LiteralKind) (value : Value) (type : EdmType) (place : ℕ) (text : List ℕ)
       → judged.stop ≡ judged.number + 1
-      → IsReading setting.schema.now kind (name_of setting judged) value type
-      → IsTypeThere setting.schema.now type
+      → IsReading context.schema.now kind (name_of context judged) value type
+      → IsTypeThere context.schema.now type
       → place ≡ length old.list.values
       → mid ≡ record old { list = with_value old.list value }
       → result ≡ true
-      → text ≡ name_of setting judged
+      → text ≡ name_of context judged
       → new ≡ walk_put mid judged (NodeKind.Literal kind place) type text
-      → IsNodeJudged setting judged (literal kind (name_of setting judged)) old new result
+      → IsNodeJudged context judged (literal kind (name_of context judged)) old new result
   literal_put mid kind value type place text leaf reading there at is_valued goes_on same is =
-      let spelling : List ℕ = name_of setting judged in
-      put_tree setting judged laws old mid new (literal kind spelling) (NodeKind.Literal kind place) type result ready (valued_more old mid value is_valued)
+      let spelling : List ℕ = name_of context judged in
+      put_tree context judged laws old mid new (literal kind spelling) (NodeKind.Literal kind place) type result ready (valued_more old mid value is_valued)
       (ap (λ (w : Walk). w.fault) is_valued ∙ ready.ready.fresh) goes_on
       (subst (λ (t : List ℕ). new ≡ walk_put mid judged (NodeKind.Literal kind place) type t) same is)
       there
@@ -62,23 +62,23 @@ module _ (laws : LawsBelow) (setting : Setting) (judged : Judged) (old new : Wal
 
   pub literal_refused :
       (mid : Walk) (kind : LiteralKind) (code : TypeFaultCode)
-      → ((type : ExprType) → ¬ LiteralTyped (slots_in setting) kind (name_of setting judged) type)
+      → ((type : ExprType) → ¬ LiteralTyped (slots_in context) kind (name_of context judged) type)
       → LiteralReason kind code
       → result ≡ false
       → new ≡ walk_refused mid judged.node.now.span code
-      → IsNodeJudged setting judged (literal kind (name_of setting judged)) old new result
+      → IsNodeJudged context judged (literal kind (name_of context judged)) old new result
   literal_refused mid kind code untyped reason stops is =
-      refused_tree setting judged old mid new (literal kind (name_of setting judged)) code result stops is
-      (unread_literal laws (slots_in setting) (root_in setting) (scope_of setting) judged.node.now.span kind (name_of setting judged) code untyped reason)
+      refused_tree context judged old mid new (literal kind (name_of context judged)) code result stops is
+      (unread_literal laws (slots_in context) (root_in context) (scope_of context) judged.node.now.span kind (name_of context judged) code untyped reason)
 
   -- `$it`
   pub it_put :
       judged.stop ≡ judged.number + 1
       → result ≡ true
-      → new ≡ walk_put old judged NodeKind.It (EdmType.Single (ValueType.Structured setting.filtered_type)) []
-      → IsNodeJudged setting judged it old new result
+      → new ≡ walk_put old judged NodeKind.It (EdmType.Single (ValueType.Structured context.filtered_type)) []
+      → IsNodeJudged context judged it old new result
   it_put leaf goes_on is =
-      put_tree setting judged laws old old new it NodeKind.It (EdmType.Single (ValueType.Structured setting.filtered_type)) result ready (same_more old) ready.ready.fresh goes_on is
+      put_tree context judged laws old old new it NodeKind.It (EdmType.Single (ValueType.Structured context.filtered_type)) result ready (same_more old) ready.ready.fresh goes_on is
       tt refl tt refl (sym leaf) (λ idle paths path needed. needed)
 
   -- a name, of a variable or of a property
@@ -87,93 +87,93 @@ module _ (laws : LawsBelow) (setting : Setting) (judged : Judged) (old new : Wal
       → judged.stop ≡ judged.number + 1
       → IsMore old mid
       → mid.fault ≡ None
-      → IsNameNode ((slots_in setting).properties (root_in setting)) (variable_names (scope_of setting)) (name_of setting judged) kind
-      → NameTyped (slots_in setting) (root_in setting) (scope_of setting) (name_of setting judged) (expr_type setting.schema.now type)
-      → IsTypeThere setting.schema.now type
-      → (mid.navigates ≡ false → IsIdle (slots_in setting) (root_in setting) (scope_of setting) (tree_over judged (name (name_of setting judged))))
+      → IsNameNode ((slots_in context).properties (root_in context)) (variable_names (scope_of context)) (name_of context judged) kind
+      → NameTyped (slots_in context) (root_in context) (scope_of context) (name_of context judged) (expr_type context.schema.now type)
+      → IsTypeThere context.schema.now type
+      → (mid.navigates ≡ false → IsIdle (slots_in context) (root_in context) (scope_of context) (tree_over judged (name (name_of context judged))))
       → result ≡ true
-      → text ≡ name_of setting judged
+      → text ≡ name_of context judged
       → new ≡ walk_put mid judged kind type text
-      → IsNodeJudged setting judged (name (name_of setting judged)) old new result
+      → IsNodeJudged context judged (name (name_of context judged)) old new result
   name_put mid kind type text leaf more fresh named typed there idle goes_on same is =
-      put_tree setting judged laws old mid new (name (name_of setting judged)) kind type result ready more fresh goes_on
+      put_tree context judged laws old mid new (name (name_of context judged)) kind type result ready more fresh goes_on
       (subst (λ (t : List ℕ). new ≡ walk_put mid judged kind type t) same is) there named tt typed (sym leaf) idle
 
 -- a fault with that reason and that span is the first of the name
 pub name_refused_so :
-    (laws : LawsBelow) (setting : Setting) (judged : Judged) (fault : Option TypeFault)
-    → variable_type (scope_of setting) (name_of setting judged) ≡ None
-    → ((type : ExprType) → ¬ PropertyTyped ((slots_in setting).properties (root_in setting)) (name_of setting judged) type)
-    → IsSomeAnd fault (λ f. NameReason ((slots_in setting).properties (root_in setting)) (name_of setting judged) f.code)
+    (laws : LawsBelow) (context : CheckContext) (judged : Judged) (fault : Option TypeFault)
+    → variable_type (scope_of context) (name_of context judged) ≡ None
+    → ((type : ExprType) → ¬ PropertyTyped ((slots_in context).properties (root_in context)) (name_of context judged) type)
+    → IsSomeAnd fault (λ f. NameReason ((slots_in context).properties (root_in context)) (name_of context judged) f.code)
     → IsSomeAnd fault (λ f. f.span ≡ judged.node.now.span)
-    → IfSome fault (IsFirstUntypable (slots_in setting) (root_in setting) (scope_of setting) (tree_over judged (name (name_of setting judged))))
-name_refused_so laws setting judged (Some fault) free untyped reason span =
-    subst (λ (s : Span). IsFirstUntypable (slots_in setting) (root_in setting) (scope_of setting) (tree_over judged (name (name_of setting judged))) (record { code = fault.code; span = s })) (sym span)
-    (first_name laws (slots_in setting) (root_in setting) (scope_of setting) (name_of setting judged) judged.node.now.span fault.code free untyped reason)
-name_refused_so laws setting judged None free untyped reason span = absurd reason
+    → IfSome fault (IsFirstUntypable (slots_in context) (root_in context) (scope_of context) (tree_over judged (name (name_of context judged))))
+name_refused_so laws context judged (Some fault) free untyped reason span =
+    subst (λ (s : Span). IsFirstUntypable (slots_in context) (root_in context) (scope_of context) (tree_over judged (name (name_of context judged))) (record { code = fault.code; span = s })) (sym span)
+    (first_name laws (slots_in context) (root_in context) (scope_of context) (name_of context judged) judged.node.now.span fault.code free untyped reason)
+name_refused_so laws context judged None free untyped reason span = absurd reason
 
 -- steps, from what stands before the slash
-module _ (laws : LawsBelow) (setting : Setting) (judged : Judged) (old new : Walk) (base : Tree) (result : Bool)
-    (ready : IsNodeReady setting old judged)
-    (stands : IsStanding setting.schema.now setting.filtered_type (scope_of setting) old (judged.number + 1) judged.stop base) where
+module _ (laws : LawsBelow) (context : CheckContext) (judged : Judged) (old new : Walk) (base : Tree) (result : Bool)
+    (ready : IsNodeReady context old judged)
+    (stands : IsStanding context.schema.now context.filtered_type (scope_of context) old (judged.number + 1) judged.stop base) where
   -- to a property of one value of a structured type
   pub member_put :
       (mid : Walk) (owner slot : ℕ) (type : EdmType) (text : List ℕ)
       → stands.found.edm_type ≡ EdmType.Single (ValueType.Structured owner)
       → IsMore old mid
       → mid.fault ≡ None
-      → slot_named (properties_at setting.schema.now owner) (name_of setting judged) ≡ Some slot
-      → PropertyTyped (properties_at setting.schema.now owner) (name_of setting judged) (expr_type setting.schema.now type)
-      → IsTypeThere setting.schema.now type
-      → (mid.navigates ≡ false → ¬ Navigates (properties_at setting.schema.now owner) (name_of setting judged))
+      → slot_named (properties_at context.schema.now owner) (name_of context judged) ≡ Some slot
+      → PropertyTyped (properties_at context.schema.now owner) (name_of context judged) (expr_type context.schema.now type)
+      → IsTypeThere context.schema.now type
+      → (mid.navigates ≡ false → ¬ Navigates (properties_at context.schema.now owner) (name_of context judged))
       → result ≡ true
-      → text ≡ name_of setting judged
+      → text ≡ name_of context judged
       → new ≡ walk_put mid judged (NodeKind.Member slot) type text
-      → IsNodeJudged setting judged (member base (name_of setting judged)) old new result
+      → IsNodeJudged context judged (member base (name_of context judged)) old new result
   member_put mid owner slot type text of_owner more fresh slot_is makes there idle goes_on same is =
-      let asked : List ℕ = name_of setting judged in
-      let schema = setting.schema.now in
+      let asked : List ℕ = name_of context judged in
+      let schema = context.schema.now in
       let owner_name : List ℕ = type_name_at schema owner in
-      let typed : Typed (slots_in setting) (root_in setting) (scope_of setting) base (single (structured owner_name)) =
-      subst (λ (t : EdmType). Typed (slots_in setting) (root_in setting) (scope_of setting) base (expr_type schema t)) of_owner stands.typed in
-      let now = standing_kept laws schema setting.filtered_type (scope_of setting) 0 0 old mid more (judged.number + 1) judged.stop base (inr (omega arith)) stands in
-      put_tree setting judged laws old mid new (member base asked) (NodeKind.Member slot) type result ready more fresh goes_on
+      let typed : Typed (slots_in context) (root_in context) (scope_of context) base (single (structured owner_name)) =
+      subst (λ (t : EdmType). Typed (slots_in context) (root_in context) (scope_of context) base (expr_type schema t)) of_owner stands.typed in
+      let now = standing_kept laws schema context.filtered_type (scope_of context) 0 0 old mid more (judged.number + 1) judged.stop base (inr (omega arith)) stands in
+      put_tree context judged laws old mid new (member base asked) (NodeKind.Member slot) type result ready more fresh goes_on
       (subst (λ (t : List ℕ). new ≡ walk_put mid judged (NodeKind.Member slot) type t) same is) there
       (owner_name, typed, slot_is) tt
       (record { operand = single (structured owner_name); operand_typed = typed; makes = makes })
       (record { middle = judged.stop; left = now.stands; right = refl })
-      (λ none. idle_step laws (slots_in setting) (root_in setting) (scope_of setting) judged.node.now.span.start judged.node.now.span.stop base asked owner_name typed (idle none) (now.idle none))
+      (λ none. idle_step laws (slots_in context) (root_in context) (scope_of context) judged.node.now.span.start judged.node.now.span.stop base asked owner_name typed (idle none) (now.idle none))
 
   pub member_refused :
       (mid : Walk) (code : TypeFaultCode)
-      → ((made : ExprType) → ¬ StepTyped (slots_in setting) (name_of setting judged) (expr_type setting.schema.now stands.found.edm_type) made)
-      → StepReason (slots_in setting) (name_of setting judged) (expr_type setting.schema.now stands.found.edm_type) code
+      → ((made : ExprType) → ¬ StepTyped (slots_in context) (name_of context judged) (expr_type context.schema.now stands.found.edm_type) made)
+      → StepReason (slots_in context) (name_of context judged) (expr_type context.schema.now stands.found.edm_type) code
       → result ≡ false
       → new ≡ walk_refused mid judged.node.now.span code
-      → IsNodeJudged setting judged (member base (name_of setting judged)) old new result
+      → IsNodeJudged context judged (member base (name_of context judged)) old new result
   member_refused mid code untyped reason stops is =
-      refused_tree setting judged old mid new (member base (name_of setting judged)) code result stops is
-      (refused_step laws (slots_in setting) (root_in setting) (scope_of setting) judged.node.now.span base (name_of setting judged) (expr_type setting.schema.now stands.found.edm_type) code stands.typed untyped reason)
+      refused_tree context judged old mid new (member base (name_of context judged)) code result stops is
+      (refused_step laws (slots_in context) (root_in context) (scope_of context) judged.node.now.span base (name_of context judged) (expr_type context.schema.now stands.found.edm_type) code stands.typed untyped reason)
 
 -- no step leads from another type
 pub no_owner :
-    (laws : LawsBelow) (setting : Setting) (asked : List ℕ) (type : EdmType) → ((owner : ℕ) → type ≢ EdmType.Single (ValueType.Structured owner))
-    → ((made : ExprType) → ¬ StepTyped (slots_in setting) asked (expr_type setting.schema.now type) made) × StepReason (slots_in setting) asked (expr_type setting.schema.now type) TypeFaultCode.UnknownProperty
-no_owner laws setting asked EdmType.Null other = ((λ made typed. typed), refl)
-no_owner laws setting asked (EdmType.Single (ValueType.Prim p)) other = ((λ made typed. typed), refl)
-no_owner laws setting asked (EdmType.Single (ValueType.Enum e)) other = ((λ made typed. typed), refl)
-no_owner laws setting asked (EdmType.Single (ValueType.Structured owner)) other = absurd (other owner refl)
-no_owner laws setting asked (EdmType.Collection inner) other = ((λ made typed. typed), refl)
+    (laws : LawsBelow) (context : CheckContext) (asked : List ℕ) (type : EdmType) → ((owner : ℕ) → type ≢ EdmType.Single (ValueType.Structured owner))
+    → ((made : ExprType) → ¬ StepTyped (slots_in context) asked (expr_type context.schema.now type) made) × StepReason (slots_in context) asked (expr_type context.schema.now type) TypeFaultCode.UnknownProperty
+no_owner laws context asked EdmType.Null other = ((λ made typed. typed), refl)
+no_owner laws context asked (EdmType.Single (ValueType.Prim p)) other = ((λ made typed. typed), refl)
+no_owner laws context asked (EdmType.Single (ValueType.Enum e)) other = ((λ made typed. typed), refl)
+no_owner laws context asked (EdmType.Single (ValueType.Structured owner)) other = absurd (other owner refl)
+no_owner laws context asked (EdmType.Collection inner) other = ((λ made typed. typed), refl)
 
 -- a fault with that reason and that span is the first of the step
 pub member_refused_so :
-    (laws : LawsBelow) (setting : Setting) (judged : Judged) (base : Tree) (type : ExprType) (fault : Option TypeFault)
-    → Typed (slots_in setting) (root_in setting) (scope_of setting) base type
-    → ((made : ExprType) → ¬ StepTyped (slots_in setting) (name_of setting judged) type made)
-    → IsSomeAnd fault (λ f. StepReason (slots_in setting) (name_of setting judged) type f.code)
+    (laws : LawsBelow) (context : CheckContext) (judged : Judged) (base : Tree) (type : ExprType) (fault : Option TypeFault)
+    → Typed (slots_in context) (root_in context) (scope_of context) base type
+    → ((made : ExprType) → ¬ StepTyped (slots_in context) (name_of context judged) type made)
+    → IsSomeAnd fault (λ f. StepReason (slots_in context) (name_of context judged) type f.code)
     → IsSomeAnd fault (λ f. f.span ≡ judged.node.now.span)
-    → IfSome fault (IsFirstUntypable (slots_in setting) (root_in setting) (scope_of setting) (tree_over judged (member base (name_of setting judged))))
-member_refused_so laws setting judged base type (Some fault) typed untyped reason span =
-    subst (λ (s : Span). IsFirstUntypable (slots_in setting) (root_in setting) (scope_of setting) (tree_over judged (member base (name_of setting judged))) (record { code = fault.code; span = s })) (sym span)
-    (refused_step laws (slots_in setting) (root_in setting) (scope_of setting) judged.node.now.span base (name_of setting judged) type fault.code typed untyped reason)
-member_refused_so laws setting judged base type None typed untyped reason span = absurd reason
+    → IfSome fault (IsFirstUntypable (slots_in context) (root_in context) (scope_of context) (tree_over judged (member base (name_of context judged))))
+member_refused_so laws context judged base type (Some fault) typed untyped reason span =
+    subst (λ (s : Span). IsFirstUntypable (slots_in context) (root_in context) (scope_of context) (tree_over judged (member base (name_of context judged))) (record { code = fault.code; span = s })) (sym span)
+    (refused_step laws (slots_in context) (root_in context) (scope_of context) judged.node.now.span base (name_of context judged) type fault.code typed untyped reason)
+member_refused_so laws context judged base type None typed untyped reason span = absurd reason

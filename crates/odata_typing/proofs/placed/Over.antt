@@ -7,14 +7,14 @@ use Rattle.odata_signatures.specs.TypeView.{expr_type}
 use Rattle.odata_signatures.specs.declared.edm_type.EdmType.{EdmType}
 use Rattle.odata_signatures.specs.declared.refusal.TypeFaultCode.{TypeFaultCode}
 use Rattle.odata_checked_filter.specs.declared.checked_node.NodeKind.{NodeKind}
-use Rattle.odata_typing.specs.declared.setting.Judged.{Judged}
-use Rattle.odata_typing.specs.declared.setting.Setting.{Setting}
+use Rattle.odata_typing.specs.declared.check_context.Judged.{Judged}
+use Rattle.odata_typing.specs.declared.check_context.CheckContext.{CheckContext}
 use Rattle.odata_typing.specs.declared.unary_node.Unary.{Unary}
 use Rattle.odata_typing.specs.declared.judged_list.Walk.{Walk}
 use Rattle.odata_typing.specs.private.Forms.{UnaryTyped, unary_code, unary_kind, unary_shape}
 use Rattle.odata_typing.specs.private.Judging.{AreChildren, IsNodeJudged, IsStanding}
 use Rattle.odata_typing.specs.private.LawsBelow.{LawsBelow}
-use Rattle.odata_typing.specs.private.Settings.{IsNodeReady}
+use Rattle.odata_typing.specs.private.CheckContexts.{IsNodeReady}
 use Rattle.odata_typing.specs.private.Variables.{scope_of}
 use Rattle.odata_typing.specs.private.Walks.{walk_put, walk_refused}
 use Rattle.odata_typing.proofs.flat.Closing.{put_tree, refused_tree, root_in, slots_in}
@@ -24,45 +24,45 @@ use Rattle.odata_typing.proofs.forms.Unary.{unary_of_kind, unary_stands, unary_t
 use Rattle.odata_typing.proofs.untypable.Operands.{refused_over}
 
 -- the only child stands in all the places after the node
-pub one_child : (setting : Setting) (walk : Walk) (judged : Judged) (child : Tree) → AreChildren setting walk judged (child ∷ [])
-    → IsStanding setting.schema.now setting.filtered_type (scope_of setting) walk (judged.number + 1) judged.stop child
-one_child setting walk judged child over =
-    subst (λ (j : ℕ). IsStanding setting.schema.now setting.filtered_type (scope_of setting) walk (judged.number + 1) j child) over.right over.left
+pub one_child : (context : CheckContext) (walk : Walk) (judged : Judged) (child : Tree) → AreChildren context walk judged (child ∷ [])
+    → IsStanding context.schema.now context.filtered_type (scope_of context) walk (judged.number + 1) judged.stop child
+one_child context walk judged child over =
+    subst (λ (j : ℕ). IsStanding context.schema.now context.filtered_type (scope_of context) walk (judged.number + 1) j child) over.right over.left
 
-module _ (laws : LawsBelow) (setting : Setting) (judged : Judged) (old new : Walk) (unary : Unary) (operand : Tree) (result : Bool)
-    (ready : IsNodeReady setting old judged)
-    (stands : IsStanding setting.schema.now setting.filtered_type (scope_of setting) old (judged.number + 1) judged.stop operand) where
+module _ (laws : LawsBelow) (context : CheckContext) (judged : Judged) (old new : Walk) (unary : Unary) (operand : Tree) (result : Bool)
+    (ready : IsNodeReady context old judged)
+    (stands : IsStanding context.schema.now context.filtered_type (scope_of context) old (judged.number + 1) judged.stop operand) where
   put_over :
       (type : EdmType)
       → result ≡ true
       → new ≡ walk_put old judged (unary_kind unary) type []
-      → UnaryTyped unary (expr_type setting.schema.now stands.found.edm_type) (expr_type setting.schema.now type)
-      → IsTypeThere setting.schema.now type
-      → IsNodeJudged setting judged (unary_shape unary operand) old new result
+      → UnaryTyped unary (expr_type context.schema.now stands.found.edm_type) (expr_type context.schema.now type)
+      → IsTypeThere context.schema.now type
+      → IsNodeJudged context judged (unary_shape unary operand) old new result
   put_over type goes_on is makes there =
-      let slots = slots_in setting in
-      let root = root_in setting in
-      let scope = scope_of setting in
+      let slots = slots_in context in
+      let root = root_in context in
+      let scope = scope_of context in
       let span = judged.node.now.span in
-      put_tree setting judged laws old old new (unary_shape unary operand) (unary_kind unary) type result ready (same_more old) ready.ready.fresh goes_on
+      put_tree context judged laws old old new (unary_shape unary operand) (unary_kind unary) type result ready (same_more old) ready.ready.fresh goes_on
       (subst (λ (text : List ℕ). new ≡ walk_put old judged (unary_kind unary) type text) (sym (unary_text unary operand)) is)
       there
       (unary_of_kind slots root scope unary operand) (unary_valued old.list.values slots unary operand)
-      (unary_typed slots root scope span.start span.stop unary operand (expr_type setting.schema.now type)
-      (record { operand = expr_type setting.schema.now stands.found.edm_type; operand_typed = stands.typed; makes = makes }))
-      (unary_stands setting.schema.now setting.filtered_type scope old.list (judged.number + 1) judged.stop unary operand stands.stands)
+      (unary_typed slots root scope span.start span.stop unary operand (expr_type context.schema.now type)
+      (record { operand = expr_type context.schema.now stands.found.edm_type; operand_typed = stands.typed; makes = makes }))
+      (unary_stands context.schema.now context.filtered_type scope old.list (judged.number + 1) judged.stop unary operand stands.stands)
       (λ idle. idle_over slots root scope span.start span.stop unary operand (stands.idle idle))
 
   refuse_over :
       (code : TypeFaultCode)
       → result ≡ false
       → new ≡ walk_refused old judged.node.now.span code
-      → ((made : ExprType) → ¬ UnaryTyped unary (expr_type setting.schema.now stands.found.edm_type) made)
+      → ((made : ExprType) → ¬ UnaryTyped unary (expr_type context.schema.now stands.found.edm_type) made)
       → code ≡ unary_code unary
-      → IsNodeJudged setting judged (unary_shape unary operand) old new result
+      → IsNodeJudged context judged (unary_shape unary operand) old new result
   refuse_over code stops is none reason =
-      refused_tree setting judged old old new (unary_shape unary operand) code result stops is
-      (refused_over laws (slots_in setting) (root_in setting) (scope_of setting) judged.node.now.span unary operand (expr_type setting.schema.now stands.found.edm_type) code stands.typed none reason)
+      refused_tree context judged old old new (unary_shape unary operand) code result stops is
+      (refused_over laws (slots_in context) (root_in context) (scope_of context) judged.node.now.span unary operand (expr_type context.schema.now stands.found.edm_type) code stands.typed none reason)
 
   -- the node over its operand, from what is made of the operand's type
   pub judged_over :
@@ -70,17 +70,17 @@ module _ (laws : LawsBelow) (setting : Setting) (judged : Judged) (old new : Wal
       → below ≡ stands.found.edm_type
       → kind ≡ unary_kind unary
       → code ≡ unary_code unary
-      → IfSome made (λ type. UnaryTyped unary (expr_type setting.schema.now below) (expr_type setting.schema.now type))
-      → IfSome made (IsTypeThere setting.schema.now)
-      → IfNone made ((type : ExprType) → ¬ UnaryTyped unary (expr_type setting.schema.now below) type)
+      → IfSome made (λ type. UnaryTyped unary (expr_type context.schema.now below) (expr_type context.schema.now type))
+      → IfSome made (IsTypeThere context.schema.now)
+      → IfNone made ((type : ExprType) → ¬ UnaryTyped unary (expr_type context.schema.now below) type)
       → IfSome made (λ type. result ≡ true)
       → IfSome made (λ type. new ≡ walk_put old judged kind type [])
       → IfNone made (result ≡ false)
       → IfNone made (new ≡ walk_refused old judged.node.now.span code)
-      → IsNodeJudged setting judged (unary_shape unary operand) old new result
+      → IsNodeJudged context judged (unary_shape unary operand) old new result
   judged_over (Some type) kind code below same kind_is code_is typed there none goes_on put stops refused =
       put_over type goes_on (subst (λ (k : NodeKind). new ≡ walk_put old judged k type []) kind_is put)
-      (subst (λ (t : EdmType). UnaryTyped unary (expr_type setting.schema.now t) (expr_type setting.schema.now type)) same typed) there
+      (subst (λ (t : EdmType). UnaryTyped unary (expr_type context.schema.now t) (expr_type context.schema.now type)) same typed) there
   judged_over None kind code below same kind_is code_is typed there none goes_on put stops refused =
       refuse_over code stops refused
-      (subst (λ (t : EdmType). (type : ExprType) → ¬ UnaryTyped unary (expr_type setting.schema.now t) type) same none) code_is
+      (subst (λ (t : EdmType). (type : ExprType) → ¬ UnaryTyped unary (expr_type context.schema.now t) type) same none) code_is

@@ -7,37 +7,37 @@ use Rattle.odata_syntax.specs.Tree.{Tree, lambda, node}
 use Rattle.odata_syntax.specs.declared.node.Quantifier.{Quantifier}
 use Rattle.odata_syntax.specs.declared.syntax_list.SyntaxKind.{SyntaxKind}
 use Rattle.odata_syntax.specs.declared.syntax_list.SyntaxNode.{SyntaxNode}
-use Rattle.odata_typing.specs.declared.setting.Judged.{Judged}
-use Rattle.odata_typing.specs.declared.setting.Setting.{Setting}
+use Rattle.odata_typing.specs.declared.check_context.Judged.{Judged}
+use Rattle.odata_typing.specs.declared.check_context.CheckContext.{CheckContext}
 use Rattle.odata_typing.specs.declared.judged_list.Walk.{Walk}
 use Rattle.odata_typing.specs.private.Judging.{IsJudged, IsNodeJudged, IsStanding}
-use Rattle.odata_typing.specs.private.Lambda.{IsLambdaReady}
-use Rattle.odata_typing.specs.private.Settings.{IsNodeAt, name_of}
+use Rattle.odata_typing.specs.private.LambdaNode.{IsLambdaReady}
+use Rattle.odata_typing.specs.private.CheckContexts.{IsNodeAt, name_of}
 use Rattle.odata_typing.specs.private.Variables.{scope_of}
 
-same_node : (setting : Setting) (index : ℕ) (a b : Judged) → IsNodeAt setting index a → IsNodeAt setting index b → a.node.now ≡ b.node.now
-same_node setting index a b x y = same_Some a.node.now b.node.now (sym x.at ∙ y.at)
+same_node : (context : CheckContext) (index : ℕ) (a b : Judged) → IsNodeAt context index a → IsNodeAt context index b → a.node.now ≡ b.node.now
+same_node context index a b x y = same_Some a.node.now b.node.now (sym x.at ∙ y.at)
 
-same_number : (setting : Setting) (index : ℕ) (a b : Judged) → IsNodeAt setting index a → IsNodeAt setting index b → a.number ≡ b.number
-same_number setting index a b x y = x.number ∙ sym y.number
+same_number : (context : CheckContext) (index : ℕ) (a b : Judged) → IsNodeAt context index a → IsNodeAt context index b → a.number ≡ b.number
+same_number context index a b x y = x.number ∙ sym y.number
 
-same_stop : (setting : Setting) (index : ℕ) (a b : Judged) → IsNodeAt setting index a → IsNodeAt setting index b → a.stop ≡ b.stop
-same_stop setting index a b x y = x.stop ∙ sym y.stop
+same_stop : (context : CheckContext) (index : ℕ) (a b : Judged) → IsNodeAt context index a → IsNodeAt context index b → a.stop ≡ b.stop
+same_stop context index a b x y = x.stop ∙ sym y.stop
 
 -- a lambda operator that can be judged by the one reading can be by the other
 pub ready_again :
-    (setting : Setting) (walk : Walk) (from index : ℕ) (a b : Judged) (quantifier : Quantifier) (base : Tree)
-    → IsNodeAt setting index b
-    → IsLambdaReady setting walk from index a quantifier base
-    → IsLambdaReady setting walk from index b quantifier base
-ready_again setting walk from index a b quantifier base at ready =
-    let node_is : a.node.now ≡ b.node.now = same_node setting index a b ready.at at in
-    let number_is : a.number ≡ b.number = same_number setting index a b ready.at at in
-    let stop_is : a.stop ≡ b.stop = same_stop setting index a b ready.at at in
+    (context : CheckContext) (walk : Walk) (from index : ℕ) (a b : Judged) (quantifier : Quantifier) (base : Tree)
+    → IsNodeAt context index b
+    → IsLambdaReady context walk from index a quantifier base
+    → IsLambdaReady context walk from index b quantifier base
+ready_again context walk from index a b quantifier base at ready =
+    let node_is : a.node.now ≡ b.node.now = same_node context index a b ready.at at in
+    let number_is : a.number ≡ b.number = same_number context index a b ready.at at in
+    let stop_is : a.stop ≡ b.stop = same_stop context index a b ready.at at in
     let Order : ℕ → ℕ → Type 0 = λ (i j : ℕ). i < j in
-    let Base : ℕ → Type 0 = λ (i : ℕ). IsStanding setting.schema.now setting.filtered_type (scope_of setting) walk (i + 1) (number_at (places_of setting.nodes.now) (index - 1)) base in
+    let Base : ℕ → Type 0 = λ (i : ℕ). IsStanding context.schema.now context.filtered_type (scope_of context) walk (i + 1) (number_at (places_of context.nodes.now) (index - 1)) base in
     record {
-      setting_is = ready.setting_is;
+      context_is = ready.context_is;
       at = at;
       lambda_is = subst (λ (n : SyntaxNode). n.kind ≡ SyntaxKind.Lambda quantifier) node_is ready.lambda_is;
       ready = record {
@@ -45,7 +45,7 @@ ready_again setting walk from index a b quantifier base at ready =
         order = subst (λ (j : ℕ). Order b.number j) stop_is (subst (λ (i : ℕ). Order i a.stop) number_is ready.ready.order);
         inside = subst (λ (j : ℕ). j ≤ length walk.list.nodes) stop_is ready.ready.inside;
       };
-      text = subst (λ (n : SyntaxNode). IsTextRange setting.text.now n.text) node_is ready.text;
+      text = subst (λ (n : SyntaxNode). IsTextRange context.text.now n.text) node_is ready.text;
       base_stands = subst Base number_is ready.base_stands;
       body = ready.body;
       body_stop = ready.body_stop ∙ stop_is;
@@ -53,14 +53,14 @@ ready_again setting walk from index a b quantifier base at ready =
 
 -- and what is judged of it is the same
 pub judged_again :
-    (setting : Setting) (index : ℕ) (a b : Judged) (quantifier : Quantifier) (base body : Tree) (old new : Walk) (result : Bool)
-    → IsNodeAt setting index a
-    → IsNodeAt setting index b
-    → IsNodeJudged setting b (lambda quantifier base (name_of setting b) body) old new result
-    → IsNodeJudged setting a (lambda quantifier base (name_of setting a) body) old new result
-judged_again setting index a b quantifier base body old new result x y judged =
+    (context : CheckContext) (index : ℕ) (a b : Judged) (quantifier : Quantifier) (base body : Tree) (old new : Walk) (result : Bool)
+    → IsNodeAt context index a
+    → IsNodeAt context index b
+    → IsNodeJudged context b (lambda quantifier base (name_of context b) body) old new result
+    → IsNodeJudged context a (lambda quantifier base (name_of context a) body) old new result
+judged_again context index a b quantifier base body old new result x y judged =
     let Is : ℕ → ℕ → SyntaxNode → Type 0 = λ (i j : ℕ) (n : SyntaxNode).
-    IsJudged setting.schema.now setting.filtered_type (scope_of setting) i j (node n.span.start n.span.stop (lambda quantifier base (text_in setting.text.now n.text) body)) old new result in
-    let first : Is a.number b.stop b.node.now = subst (λ (i : ℕ). Is i b.stop b.node.now) (sym (same_number setting index a b x y)) judged in
-    let second : Is a.number a.stop b.node.now = subst (λ (j : ℕ). Is a.number j b.node.now) (sym (same_stop setting index a b x y)) first in
-    subst (λ (n : SyntaxNode). Is a.number a.stop n) (sym (same_node setting index a b x y)) second
+    IsJudged context.schema.now context.filtered_type (scope_of context) i j (node n.span.start n.span.stop (lambda quantifier base (text_in context.text.now n.text) body)) old new result in
+    let first : Is a.number b.stop b.node.now = subst (λ (i : ℕ). Is i b.stop b.node.now) (sym (same_number context index a b x y)) judged in
+    let second : Is a.number a.stop b.node.now = subst (λ (j : ℕ). Is a.number j b.node.now) (sym (same_stop context index a b x y)) first in
+    subst (λ (n : SyntaxNode). Is a.number a.stop n) (sym (same_node context index a b x y)) second

@@ -8,12 +8,12 @@ use Rattle.odata_syntax.specs.declared.node.Quantifier.{Quantifier}
 use Rattle.odata_syntax.specs.declared.node_places.Place.{Place}
 use Rattle.odata_syntax.specs.declared.syntax_list.SyntaxKind.{SyntaxKind}
 use Rattle.odata_syntax.specs.declared.syntax_list.SyntaxNode.{SyntaxNode}
-use Rattle.odata_typing.specs.declared.setting.Judged.{Judged}
-use Rattle.odata_typing.specs.declared.setting.Setting.{Setting}
+use Rattle.odata_typing.specs.declared.check_context.Judged.{Judged}
+use Rattle.odata_typing.specs.declared.check_context.CheckContext.{CheckContext}
 use Rattle.odata_typing.specs.declared.judged_list.Walk.{Walk}
 use Rattle.odata_typing.specs.private.Judging.{IsStanding}
-use Rattle.odata_typing.specs.private.Lambda.{IsLambdaReady}
-use Rattle.odata_typing.specs.private.Settings.{IsNodeAt, IsReady, IsRun, IsSetting, run_tree}
+use Rattle.odata_typing.specs.private.LambdaNode.{IsLambdaReady}
+use Rattle.odata_typing.specs.private.CheckContexts.{IsNodeAt, IsReady, IsRun, IsContext, run_tree}
 use Rattle.odata_typing.specs.private.Variables.{scope_of}
 use Rattle.odata_typing.proofs.stacks.Children.{roots_count, trees_count}
 use Rattle.odata_typing.proofs.stacks.FirstFault.{none_after}
@@ -22,7 +22,7 @@ use Rattle.odata_typing.proofs.stacks.Marks.{IsBodyWithin, IsMarked, body_within
 use Rattle.odata_typing.proofs.stacks.Placed.{IsPlacedFrom, placed_one}
 use Rattle.odata_typing.proofs.stacks.Ranges.{one_root}
 use Rattle.odata_typing.proofs.stacks.Runs.{roots_apart}
-use Rattle.odata_typing.proofs.stacks.Settings.{body_run, fed_within, fits_within, node_ready, whole_run}
+use Rattle.odata_typing.proofs.stacks.Contexts.{body_run, fed_within, fits_within, node_ready, whole_run}
 use Rattle.odata_typing.proofs.stacks.Slices.{run_joined, run_length, run_more}
 use Rattle.odata_typing.proofs.stacks.Stacks.{roots_from, run_before}
 use Rattle.odata_typing.proofs.stacks.TreeRuns.{IsWholeRun, one_more_tree}
@@ -40,57 +40,57 @@ has_last (root ∷ roots) [] some more = absurd (omega arith)
 has_last (root ∷ roots) (tree ∷ trees) some more = record { root = root; roots_are = refl; trees_are = refl }
 
 -- the body of a lambda expression, and the base before it
-pub record IsOverRuns (setting : Setting) (from index stop last : ℕ) (n : SyntaxNode) (quantifier : Quantifier) : Type 0 where
-  pub body : IsBodyWithin setting.nodes.now (places_of setting.nodes.now) index stop last
-  pub run : IsRun setting index last
-  pub at : slice_get setting.nodes.now last ≡ Some n
+pub record IsOverRuns (context : CheckContext) (from index stop last : ℕ) (n : SyntaxNode) (quantifier : Quantifier) : Type 0 where
+  pub body : IsBodyWithin context.nodes.now (places_of context.nodes.now) index stop last
+  pub run : IsRun context index last
+  pub at : slice_get context.nodes.now last ≡ Some n
   pub is_lambda : n.kind ≡ SyntaxKind.Lambda quantifier
-  pub roots_are : run_roots setting from last ≡ (last - 1) ∷ run_roots setting from index
-  pub trees_are : run_trees setting from last ≡ run_tree setting index last ∷ run_trees setting from index
-  pub base : HasLast (run_roots setting from index) (run_trees setting from index)
-  pub placed : IsPlacedFrom (places_of setting.nodes.now) from n (run_before setting.nodes.now from last)
-  pub here : from + length (run_before setting.nodes.now from last) ≡ last
+  pub roots_are : run_roots context from last ≡ (last - 1) ∷ run_roots context from index
+  pub trees_are : run_trees context from last ≡ run_tree context index last ∷ run_trees context from index
+  pub base : HasLast (run_roots context from index) (run_trees context from index)
+  pub placed : IsPlacedFrom (places_of context.nodes.now) from n (run_before context.nodes.now from last)
+  pub here : from + length (run_before context.nodes.now from last) ≡ last
 
 pub over_runs :
-    (setting : Setting) (from index stop : ℕ)
-    → IsSetting setting
-    → IsRun setting from stop
+    (context : CheckContext) (from index stop : ℕ)
+    → IsContext context
+    → IsRun context from stop
     → from < index
     → index < stop
-    → lambda_at (places_of setting.nodes.now) index ≢ 0
-    → (n : SyntaxNode) × (quantifier : Quantifier) × IsOverRuns setting from index stop (lambda_at (places_of setting.nodes.now) index) n quantifier
-over_runs setting from index stop is run later before marked =
-    let nodes = setting.nodes.now in
-    let places = places_of setting.nodes.now in
-    let names : Texts = text_in setting.text.now in
+    → lambda_at (places_of context.nodes.now) index ≢ 0
+    → (n : SyntaxNode) × (quantifier : Quantifier) × IsOverRuns context from index stop (lambda_at (places_of context.nodes.now) index) n quantifier
+over_runs context from index stop is run later before marked =
+    let nodes = context.nodes.now in
+    let places = places_of context.nodes.now in
+    let names : Texts = text_in context.text.now in
     let last = lambda_at places index in
     let inside : stop ≤ length nodes = run.inside in
     let body : IsBodyWithin nodes places index stop last = body_within nodes places from index stop is.places run.begins later before inside marked in
     let order : index < last = body.order in
     let within : last < stop = body.within in
-    let own : IsRun setting index last = body_run setting index stop last is inside refl body in
-    let whole : IsWholeRun (run_before nodes index last) = whole_run setting index last own in
+    let own : IsRun context index last = body_run context index stop last is inside refl body in
+    let whole : IsWholeRun (run_before nodes index last) = whole_run context index last own in
     let n = body.node in
     let two : child_count n.kind n.count ≡ 2 = ap (λ (k : SyntaxKind). child_count k n.count) body.is_lambda in
     let fits : child_count n.kind n.count ≤ tree_count_back (run_before nodes from last) =
-    fits_within setting from stop last n run (omega arith) within body.at in
+    fits_within context from stop last n run (omega arith) within body.at in
     let joined : run_before nodes from last ≡ run_before nodes index last ++ run_before nodes from index = run_joined nodes from index last (omega arith) (omega arith) in
     let long : length (run_before nodes from index) ≡ index - from = run_length nodes from index (omega arith) (omega arith) in
     let start : from + length (run_before nodes from index) ≡ index = omega arith in
     let body_long : length (run_before nodes index last) ≡ last - index = run_length nodes index last (omega arith) (omega arith) in
     let all_long : length (run_before nodes from last) ≡ last - from = run_length nodes from last (omega arith) (omega arith) in
     let one : roots_from index (run_before nodes index last) ≡ (last - 1) ∷ [] = one_root index last (run_before nodes index last) (omega arith) whole.one in
-    let roots : run_roots setting from last ≡ (last - 1) ∷ run_roots setting from index =
+    let roots : run_roots context from last ≡ (last - 1) ∷ run_roots context from index =
     ap (λ (ns : List SyntaxNode). roots_from from ns) joined
     ∙ roots_apart from (run_before nodes index last) (run_before nodes from index) whole.fed
-    ∙ ap (λ (k : ℕ). roots_from k (run_before nodes index last) ++ run_roots setting from index) start
-    ∙ ap (λ (rs : List ℕ). rs ++ run_roots setting from index) one in
-    let trees : run_trees setting from last ≡ run_tree setting index last ∷ run_trees setting from index =
+    ∙ ap (λ (k : ℕ). roots_from k (run_before nodes index last) ++ run_roots context from index) start
+    ∙ ap (λ (rs : List ℕ). rs ++ run_roots context from index) one in
+    let trees : run_trees context from last ≡ run_tree context index last ∷ run_trees context from index =
     ap (λ (ns : List SyntaxNode). trees_back names ns) joined ∙ one_more_tree names (run_before nodes index last) (run_before nodes from index) whole in
-    let count : length (run_roots setting from last) ≡ tree_count_back (run_before nodes from last) = roots_count from (run_before nodes from last) in
-    let more : length (run_roots setting from last) ≡ suc (length (run_roots setting from index)) = ap (λ (rs : List ℕ). length rs) roots in
-    let roots_many : length (run_roots setting from index) ≡ tree_count_back (run_before nodes from index) = roots_count from (run_before nodes from index) in
-    let trees_many : length (run_trees setting from index) ≡ tree_count_back (run_before nodes from index) = trees_count names (run_before nodes from index) in (
+    let count : length (run_roots context from last) ≡ tree_count_back (run_before nodes from last) = roots_count from (run_before nodes from last) in
+    let more : length (run_roots context from last) ≡ suc (length (run_roots context from index)) = ap (λ (rs : List ℕ). length rs) roots in
+    let roots_many : length (run_roots context from index) ≡ tree_count_back (run_before nodes from index) = roots_count from (run_before nodes from index) in
+    let trees_many : length (run_trees context from index) ≡ tree_count_back (run_before nodes from index) = trees_count names (run_before nodes from index) in (
       n,
       body.quantifier,
       record {
@@ -100,10 +100,10 @@ over_runs setting from index stop is run later before marked =
         is_lambda = body.is_lambda;
         roots_are = roots;
         trees_are = trees;
-        base = has_last (run_roots setting from index) (run_trees setting from index) (omega arith) (omega arith);
+        base = has_last (run_roots context from index) (run_trees context from index) (omega arith) (omega arith);
         placed =
             placed_one nodes places from last n is.places (omega arith) (omega arith) body.at
-            (fed_within setting from stop last run (omega arith) (omega arith)) fits;
+            (fed_within context from stop last run (omega arith) (omega arith)) fits;
         here = omega arith;
       },
     )
@@ -115,48 +115,48 @@ pub record StandBaseAndBody (places : List Place) (root last : ℕ) : Type 0 whe
   pub stops : stop_at places (last - 1) ≡ stop_at places last
 
 pub base_and_body :
-    (setting : Setting) (from index stop last : ℕ) (n : SyntaxNode) (quantifier : Quantifier) (over : IsOverRuns setting from index stop last n quantifier)
-    → StandBaseAndBody (places_of setting.nodes.now) over.base.root last
-base_and_body setting from index stop last n quantifier over =
-    let places = places_of setting.nodes.now in
+    (context : CheckContext) (from index stop last : ℕ) (n : SyntaxNode) (quantifier : Quantifier) (over : IsOverRuns context from index stop last n quantifier)
+    → StandBaseAndBody (places_of context.nodes.now) over.base.root last
+base_and_body context from index stop last n quantifier over =
+    let places = places_of context.nodes.now in
     let Row : ℕ → List ℕ → Type 0 = λ (k : ℕ) (rs : List ℕ). AreSideBySide places (number_at places k + 1) (stop_at places k) rs in
     let two : child_count n.kind n.count ≡ 2 = ap (λ (k : SyntaxKind). child_count k n.count) over.is_lambda in
-    let roots : run_roots setting from last ≡ (last - 1) ∷ over.base.root ∷ drop 1 (run_roots setting from index) =
+    let roots : run_roots context from last ≡ (last - 1) ∷ over.base.root ∷ drop 1 (run_roots context from index) =
     over.roots_are ∙ ap (λ (rs : List ℕ). (last - 1) ∷ rs) over.base.roots_are in
-    let taken : take (child_count n.kind n.count) (run_roots setting from last) ≡ (last - 1) ∷ over.base.root ∷ [] =
-    ap (λ (k : ℕ). take k (run_roots setting from last)) two ∙ ap (λ (rs : List ℕ). take 2 rs) roots in
-    let placed : Row (from + length (run_before setting.nodes.now from last)) (take (child_count n.kind n.count) (run_roots setting from last)) = over.placed.children in
+    let taken : take (child_count n.kind n.count) (run_roots context from last) ≡ (last - 1) ∷ over.base.root ∷ [] =
+    ap (λ (k : ℕ). take k (run_roots context from last)) two ∙ ap (λ (rs : List ℕ). take 2 rs) roots in
+    let placed : Row (from + length (run_before context.nodes.now from last)) (take (child_count n.kind n.count) (run_roots context from last)) = over.placed.children in
     let row : Row last ((last - 1) ∷ over.base.root ∷ []) =
     subst (λ (rs : List ℕ). Row last rs) taken
-    (subst (λ (k : ℕ). Row k (take (child_count n.kind n.count) (run_roots setting from last))) over.here placed) in
+    (subst (λ (k : ℕ). Row k (take (child_count n.kind n.count) (run_roots context from last))) over.here placed) in
     record { starts = row.1.1; between = row.1.0; stops = row.0 }
 
 -- it can be judged
 pub lambda_ready :
-    (setting : Setting) (from index stop last : ℕ) (old walk : Walk) (judged : Judged) (quantifier : Quantifier)
-    → IsSetting setting
-    → IsReady setting old
-    → IsWalking setting from stop index old walk
-    → IsNodeAt setting last judged
-    → IsOverRuns setting from index stop last judged.node.now quantifier
-    → IsLambdaReady setting walk index last judged quantifier (last_tree (run_trees setting from index))
-lambda_ready setting from index stop last old walk judged quantifier is ready walking at over =
-    let places = places_of setting.nodes.now in
-    let schema = setting.schema.now in
-    let stand = base_and_body setting from index stop last judged.node.now quantifier over in
-    let split : AreTreesJudged setting walk (over.base.root ∷ drop 1 (run_roots setting from index)) (last_tree (run_trees setting from index) ∷ drop 1 (run_trees setting from index)) =
-    subst (λ (rs : List ℕ). AreTreesJudged setting walk rs (last_tree (run_trees setting from index) ∷ drop 1 (run_trees setting from index))) over.base.roots_are
-    (subst (λ (ts : List Tree). AreTreesJudged setting walk (run_roots setting from index) ts) over.base.trees_are walking.judged) in
+    (context : CheckContext) (from index stop last : ℕ) (old walk : Walk) (judged : Judged) (quantifier : Quantifier)
+    → IsContext context
+    → IsReady context old
+    → IsWalking context from stop index old walk
+    → IsNodeAt context last judged
+    → IsOverRuns context from index stop last judged.node.now quantifier
+    → IsLambdaReady context walk index last judged quantifier (last_tree (run_trees context from index))
+lambda_ready context from index stop last old walk judged quantifier is ready walking at over =
+    let places = places_of context.nodes.now in
+    let schema = context.schema.now in
+    let stand = base_and_body context from index stop last judged.node.now quantifier over in
+    let split : AreTreesJudged context walk (over.base.root ∷ drop 1 (run_roots context from index)) (last_tree (run_trees context from index) ∷ drop 1 (run_trees context from index)) =
+    subst (λ (rs : List ℕ). AreTreesJudged context walk rs (last_tree (run_trees context from index) ∷ drop 1 (run_trees context from index))) over.base.roots_are
+    (subst (λ (ts : List Tree). AreTreesJudged context walk (run_roots context from index) ts) over.base.trees_are walking.judged) in
     let number : number_at places over.base.root ≡ judged.number + 1 = sym stand.starts ∙ ap (λ (k : ℕ). k + 1) (sym at.number) in
-    let Base : ℕ → ℕ → Type 0 = λ (i j : ℕ). IsStanding schema setting.filtered_type (scope_of setting) walk i j (last_tree (run_trees setting from index)) in
+    let Base : ℕ → ℕ → Type 0 = λ (i j : ℕ). IsStanding schema context.filtered_type (scope_of context) walk i j (last_tree (run_trees context from index)) in
     let base : Base (judged.number + 1) (number_at places (last - 1)) =
     subst (λ (i : ℕ). Base i (number_at places (last - 1))) number (subst (λ (j : ℕ). Base (number_at places over.base.root) j) stand.between split.0) in
     let has_text : HasText judged.node.now.kind = subst (λ (k : SyntaxKind). HasText k) (sym over.is_lambda) tt in
     record {
-      setting_is = is;
+      context_is = is;
       at = at;
       lambda_is = over.is_lambda;
-      ready = node_ready setting walk last judged is (ready_still setting from stop index old walk ready walking) at;
+      ready = node_ready context walk last judged is (ready_still context from stop index old walk ready walking) at;
       text = is.ranges last judged.node.now at.at has_text;
       base_stands = base;
       body = over.run;
@@ -179,33 +179,33 @@ lambda_leaves n quantifier [] body base is some = absurd (cc)
 lambda_leaves n quantifier (tree ∷ trees) body base is some = ap (λ (k : SyntaxKind). trees_left k n.count (body ∷ tree ∷ trees)) is
 
 pub lambda_joins :
-    (setting : Setting) (from index stop last : ℕ) (old walk : Walk) (n : SyntaxNode) (quantifier : Quantifier)
-    → IsSetting setting
+    (context : CheckContext) (from index stop last : ℕ) (old walk : Walk) (n : SyntaxNode) (quantifier : Quantifier)
+    → IsContext context
     → from < index
-    → IsWalking setting from stop index old walk
-    → IsOverRuns setting from index stop last n quantifier
-    → IsJoin setting walk from last
-    (node n.span.start n.span.stop (lambda quantifier (last_tree (run_trees setting from index)) (text_in setting.text.now n.text) (run_tree setting index last)))
-    (drop 1 (run_roots setting from index))
-    (drop 1 (run_trees setting from index))
-lambda_joins setting from index stop last old walk n quantifier is later walking over =
-    let nodes = setting.nodes.now in
-    let places = places_of setting.nodes.now in
-    let names : Texts = text_in setting.text.now in
-    let roots = run_roots setting from index in
-    let trees = run_trees setting from index in
-    let body = run_tree setting index last in
+    → IsWalking context from stop index old walk
+    → IsOverRuns context from index stop last n quantifier
+    → IsJoin context walk from last
+    (node n.span.start n.span.stop (lambda quantifier (last_tree (run_trees context from index)) (text_in context.text.now n.text) (run_tree context index last)))
+    (drop 1 (run_roots context from index))
+    (drop 1 (run_trees context from index))
+lambda_joins context from index stop last old walk n quantifier is later walking over =
+    let nodes = context.nodes.now in
+    let places = places_of context.nodes.now in
+    let names : Texts = text_in context.text.now in
+    let roots = run_roots context from index in
+    let trees = run_trees context from index in
+    let body = run_tree context index last in
     let order : index < last = over.body.order in
     let two : child_count n.kind n.count ≡ 2 = ap (λ (k : SyntaxKind). child_count k n.count) over.is_lambda in
     let next : run_before nodes from (last + 1) ≡ n ∷ run_before nodes from last = run_more nodes from last n (omega arith) over.at in
-    let left : drop (child_count n.kind n.count) (run_roots setting from last) ≡ drop 1 roots =
-    ap (λ (k : ℕ). drop k (run_roots setting from last)) two ∙ ap (λ (rs : List ℕ). drop 2 rs) over.roots_are in
+    let left : drop (child_count n.kind n.count) (run_roots context from last) ≡ drop 1 roots =
+    ap (λ (k : ℕ). drop k (run_roots context from last)) two ∙ ap (λ (rs : List ℕ). drop 2 rs) over.roots_are in
     record {
       n = n;
       at = over.at;
       roots_are =
           ap (λ (ns : List SyntaxNode). roots_from from ns) next
-          ∙ ap (λ (k : ℕ). k ∷ drop (child_count n.kind n.count) (run_roots setting from last)) over.here
+          ∙ ap (λ (k : ℕ). k ∷ drop (child_count n.kind n.count) (run_roots context from last)) over.here
           ∙ ap (λ (rs : List ℕ). last ∷ rs) left;
       trees_are =
           ap (λ (ns : List SyntaxNode). trees_back names ns) next
@@ -216,6 +216,6 @@ lambda_joins setting from index stop last old walk n quantifier is later walking
       before =
           subst (λ (k : ℕ). AreBefore places (number_at places k) (drop 1 roots)) over.here
           (subst (λ (rs : List ℕ). AreBefore places (number_at places (from + length (run_before nodes from last))) rs) left over.placed.older);
-      judged = judged_drop setting.schema.now setting.filtered_type (scope_of setting) walk places 1 roots trees walking.judged;
+      judged = judged_drop context.schema.now context.filtered_type (scope_of context) walk places 1 roots trees walking.judged;
       apart = none_after (IsMarked places) last 0 roots walking.apart;
     }

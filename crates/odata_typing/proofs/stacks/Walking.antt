@@ -14,11 +14,11 @@ use Rattle.csdl_schema.specs.SchemaModel.{slots_of, type_name_at}
 use Rattle.odata_signatures.specs.FirstUntypable.{IsFirstUntypable}
 use Rattle.odata_signatures.specs.declared.refusal.TypeFault.{TypeFault}
 use Rattle.odata_checked_filter.specs.ListChanges.{IsKeptOutside}
-use Rattle.odata_typing.specs.declared.setting.Judged.{Judged}
-use Rattle.odata_typing.specs.declared.setting.Setting.{Setting}
+use Rattle.odata_typing.specs.declared.check_context.Judged.{Judged}
+use Rattle.odata_typing.specs.declared.check_context.CheckContext.{CheckContext}
 use Rattle.odata_typing.specs.declared.judged_list.Walk.{Walk}
 use Rattle.odata_typing.specs.private.Judging.{AreLastTrees, IsPut}
-use Rattle.odata_typing.specs.private.Settings.{IsNodeAt, IsReady, IsRun, IsSetting, run_tree, whole_tree}
+use Rattle.odata_typing.specs.private.CheckContexts.{IsNodeAt, IsReady, IsRun, IsContext, run_tree, whole_tree}
 use Rattle.odata_typing.specs.private.LawsBelow.{LawsBelow}
 use Rattle.odata_typing.specs.private.Variables.{scope_of}
 use Rattle.odata_typing.proofs.flat.Kept.{kept_on, kept_wider, same_kept}
@@ -28,47 +28,47 @@ use Rattle.odata_typing.proofs.stacks.Judged.{AreJudged, judged_drop, judged_kep
 use Rattle.odata_typing.proofs.stacks.Marks.{IsMarked, bodies_marked, marked_one}
 use Rattle.odata_typing.proofs.stacks.Placed.{IsPlacedFrom, placed_one}
 use Rattle.odata_typing.proofs.stacks.Ranges.{IsInRange, node_range, whole_root}
-use Rattle.odata_typing.proofs.stacks.Settings.{fed_before, fed_within, fits_within, whole_run}
+use Rattle.odata_typing.proofs.stacks.Contexts.{fed_before, fed_within, fits_within, whole_run}
 use Rattle.odata_typing.proofs.stacks.Slices.{onward_run, run_empty, run_length, run_more}
 use Rattle.odata_typing.proofs.stacks.Stacks.{BodiesBegin, NoneBegins, onward, roots_from, run_before}
 use Rattle.odata_typing.proofs.stacks.TreeRuns.{IsWholeRun, whole_trees}
 
 -- the roots and the trees of a run up to an index
-abbrev pub run_roots : Setting → ℕ → ℕ → List ℕ
-run_roots setting from index = roots_from from (run_before setting.nodes.now from index)
+abbrev pub run_roots : CheckContext → ℕ → ℕ → List ℕ
+run_roots context from index = roots_from from (run_before context.nodes.now from index)
 
-abbrev pub run_trees : Setting → ℕ → ℕ → List Tree
-run_trees setting from index = trees_back (text_in setting.text.now) (run_before setting.nodes.now from index)
+abbrev pub run_trees : CheckContext → ℕ → ℕ → List Tree
+run_trees context from index = trees_back (text_in context.text.now) (run_before context.nodes.now from index)
 
-abbrev pub AreTreesJudged : Setting → Walk → List ℕ → List Tree → Type 0
-AreTreesJudged setting walk roots trees =
-    AreJudged setting.schema.now setting.filtered_type (scope_of setting) walk (places_of setting.nodes.now) roots trees
+abbrev pub AreTreesJudged : CheckContext → Walk → List ℕ → List Tree → Type 0
+AreTreesJudged context walk roots trees =
+    AreJudged context.schema.now context.filtered_type (scope_of context) walk (places_of context.nodes.now) roots trees
 
 -- the trees of a run up to an index have been judged, and all else stands where it stood
-pub record IsWalking (setting : Setting) (from stop index : ℕ) (old new : Walk) : Type 0 where
+pub record IsWalking (context : CheckContext) (from stop index : ℕ) (old new : Walk) : Type 0 where
   pub order : from ≤ index
   pub inside : index ≤ stop
-  pub kept : IsKeptOutside (number_at (places_of setting.nodes.now) (stop - 1)) (stop_at (places_of setting.nodes.now) (stop - 1)) old.list new.list
+  pub kept : IsKeptOutside (number_at (places_of context.nodes.now) (stop - 1)) (stop_at (places_of context.nodes.now) (stop - 1)) old.list new.list
   pub navigates : new.navigates ≡ false → old.navigates ≡ false
   pub fault : new.fault ≡ None
-  pub judged : AreTreesJudged setting new (run_roots setting from index) (run_trees setting from index)
-  pub apart : NoneBegins (IsMarked (places_of setting.nodes.now)) (run_roots setting from index)
+  pub judged : AreTreesJudged context new (run_roots context from index) (run_trees context from index)
+  pub apart : NoneBegins (IsMarked (places_of context.nodes.now)) (run_roots context from index)
 
-pub walk_begins : (setting : Setting) (from stop : ℕ) (walk : Walk) → IsReady setting walk → from ≤ stop → IsWalking setting from stop from walk walk
-walk_begins setting from stop walk ready order =
-    let none : run_before setting.nodes.now from from ≡ [] = run_empty setting.nodes.now from in
+pub walk_begins : (context : CheckContext) (from stop : ℕ) (walk : Walk) → IsReady context walk → from ≤ stop → IsWalking context from stop from walk walk
+walk_begins context from stop walk ready order =
+    let none : run_before context.nodes.now from from ≡ [] = run_empty context.nodes.now from in
     record {
       order = omega arith;
       inside = order;
-      kept = same_kept (number_at (places_of setting.nodes.now) (stop - 1)) (stop_at (places_of setting.nodes.now) (stop - 1)) walk.list;
+      kept = same_kept (number_at (places_of context.nodes.now) (stop - 1)) (stop_at (places_of context.nodes.now) (stop - 1)) walk.list;
       navigates = λ still. still;
       fault = ready.fresh;
-      judged = subst (λ (ns : List SyntaxNode). AreTreesJudged setting walk (roots_from from ns) (trees_back (text_in setting.text.now) ns)) (sym none) tt;
-      apart = subst (λ (ns : List SyntaxNode). NoneBegins (IsMarked (places_of setting.nodes.now)) (roots_from from ns)) (sym none) tt;
+      judged = subst (λ (ns : List SyntaxNode). AreTreesJudged context walk (roots_from from ns) (trees_back (text_in context.text.now) ns)) (sym none) tt;
+      apart = subst (λ (ns : List SyntaxNode). NoneBegins (IsMarked (places_of context.nodes.now)) (roots_from from ns)) (sym none) tt;
     }
 
-pub ready_still : (setting : Setting) (from stop index : ℕ) (old new : Walk) → IsReady setting old → IsWalking setting from stop index old new → IsReady setting new
-ready_still setting from stop index old new ready walking = record {
+pub ready_still : (context : CheckContext) (from stop index : ℕ) (old new : Walk) → IsReady context old → IsWalking context from stop index old new → IsReady context new
+ready_still context from stop index old new ready walking = record {
   source = walking.kept.source ∙ ready.source;
   count = walking.kept.count ∙ ready.count;
   beside = walking.kept.beside ∙ ready.beside ∙ sym walking.kept.count;
@@ -78,35 +78,35 @@ ready_still setting from stop index old new ready walking = record {
 
 -- the node at a root is put over the last trees of the run: the trees before these have been judged, and stand before
 -- it
-pub record IsJoin (setting : Setting) (walk : Walk) (from root : ℕ) (tree : Tree) (roots : List ℕ) (trees : List Tree) : Type 0 where
+pub record IsJoin (context : CheckContext) (walk : Walk) (from root : ℕ) (tree : Tree) (roots : List ℕ) (trees : List Tree) : Type 0 where
   pub n : SyntaxNode
-  pub at : slice_get setting.nodes.now root ≡ Some n
-  pub roots_are : run_roots setting from (root + 1) ≡ root ∷ roots
-  pub trees_are : run_trees setting from (root + 1) ≡ tree ∷ trees
-  pub before : AreBefore (places_of setting.nodes.now) (number_at (places_of setting.nodes.now) root) roots
-  pub judged : AreTreesJudged setting walk roots trees
-  pub apart : NoneBegins (IsMarked (places_of setting.nodes.now)) (root ∷ roots)
+  pub at : slice_get context.nodes.now root ≡ Some n
+  pub roots_are : run_roots context from (root + 1) ≡ root ∷ roots
+  pub trees_are : run_trees context from (root + 1) ≡ tree ∷ trees
+  pub before : AreBefore (places_of context.nodes.now) (number_at (places_of context.nodes.now) root) roots
+  pub judged : AreTreesJudged context walk roots trees
+  pub apart : NoneBegins (IsMarked (places_of context.nodes.now)) (root ∷ roots)
 
 module _ (laws : LawsBelow) where
   -- once its tree is put, one more tree has been judged
   pub join_walked :
-      (setting : Setting) (from stop index root : ℕ) (old walk new : Walk) (tree : Tree) (roots : List ℕ) (trees : List Tree)
-      → IsSetting setting
-      → IsRun setting from stop
-      → IsWalking setting from stop index old walk
+      (context : CheckContext) (from stop index root : ℕ) (old walk new : Walk) (tree : Tree) (roots : List ℕ) (trees : List Tree)
+      → IsContext context
+      → IsRun context from stop
+      → IsWalking context from stop index old walk
       → from ≤ root
       → root < stop
-      → IsJoin setting walk from root tree roots trees
-      → IsPut setting.schema.now setting.filtered_type (scope_of setting) (number_at (places_of setting.nodes.now) root) (stop_at (places_of setting.nodes.now) root) tree walk new
-      → IsWalking setting from stop (root + 1) old new
-  join_walked setting from stop index root old walk new tree roots trees is run walking order inside join put =
-      let places = places_of setting.nodes.now in
+      → IsJoin context walk from root tree roots trees
+      → IsPut context.schema.now context.filtered_type (scope_of context) (number_at (places_of context.nodes.now) root) (stop_at (places_of context.nodes.now) root) tree walk new
+      → IsWalking context from stop (root + 1) old new
+  join_walked context from stop index root old walk new tree roots trees is run walking order inside join put =
+      let places = places_of context.nodes.now in
       let range : IsInRange places stop root =
-      node_range setting.nodes.now places from stop root join.n is.places order inside run.inside join.at (whole_run setting from stop run) in
-      let rest : AreTreesJudged setting new roots trees =
-      judged_kept laws setting.schema.now setting.filtered_type (scope_of setting) walk new places (number_at places root) (stop_at places root) (number_at places root) roots trees
+      node_range context.nodes.now places from stop root join.n is.places order inside run.inside join.at (whole_run context from stop run) in
+      let rest : AreTreesJudged context new roots trees =
+      judged_kept laws context.schema.now context.filtered_type (scope_of context) walk new places (number_at places root) (stop_at places root) (number_at places root) roots trees
       (record { kept = put.kept; navigates = put.navigates }) (omega arith) join.before join.judged in
-      let all : AreTreesJudged setting new (root ∷ roots) (tree ∷ trees) = (put.stands, rest) in
+      let all : AreTreesJudged context new (root ∷ roots) (tree ∷ trees) = (put.stands, rest) in
       record {
         order = omega arith;
         inside = omega arith;
@@ -116,105 +116,105 @@ module _ (laws : LawsBelow) where
         navigates = λ still. walking.navigates (put.navigates still);
         fault = put.fault;
         judged =
-            subst (λ (rs : List ℕ). AreTreesJudged setting new rs (run_trees setting from (root + 1))) (sym join.roots_are)
-            (subst (λ (ts : List Tree). AreTreesJudged setting new (root ∷ roots) ts) (sym join.trees_are) all);
+            subst (λ (rs : List ℕ). AreTreesJudged context new rs (run_trees context from (root + 1))) (sym join.roots_are)
+            (subst (λ (ts : List Tree). AreTreesJudged context new (root ∷ roots) ts) (sym join.trees_are) all);
         apart = subst (λ (rs : List ℕ). NoneBegins (IsMarked places) rs) (sym join.roots_are) join.apart;
       }
 
   -- where its tree has a fault, that is the first one of the run
   pub join_faulted :
-      (setting : Setting) (from stop root : ℕ) (walk : Walk) (tree : Tree) (roots : List ℕ) (trees : List Tree) (fault : TypeFault)
-      → IsSetting setting
-      → IsRun setting from stop
+      (context : CheckContext) (from stop root : ℕ) (walk : Walk) (tree : Tree) (roots : List ℕ) (trees : List Tree) (fault : TypeFault)
+      → IsContext context
+      → IsRun context from stop
       → from ≤ root
       → root < stop
-      → IsJoin setting walk from root tree roots trees
-      → IsFirstUntypable (slots_of setting.schema.now) (type_name_at setting.schema.now setting.filtered_type) (scope_of setting) tree fault
-      → IsFirstUntypable (slots_of setting.schema.now) (type_name_at setting.schema.now setting.filtered_type) (scope_of setting) (run_tree setting from stop) fault
-  join_faulted setting from stop root walk tree roots trees fault is run order inside join found =
-      let slots = slots_of setting.schema.now in
-      let root_type = type_name_at setting.schema.now setting.filtered_type in
-      let scope = scope_of setting in
-      let nodes = setting.nodes.now in
-      let places = places_of setting.nodes.now in
-      let names : Texts = text_in setting.text.now in
+      → IsJoin context walk from root tree roots trees
+      → IsFirstUntypable (slots_of context.schema.now) (type_name_at context.schema.now context.filtered_type) (scope_of context) tree fault
+      → IsFirstUntypable (slots_of context.schema.now) (type_name_at context.schema.now context.filtered_type) (scope_of context) (run_tree context from stop) fault
+  join_faulted context from stop root walk tree roots trees fault is run order inside join found =
+      let slots = slots_of context.schema.now in
+      let root_type = type_name_at context.schema.now context.filtered_type in
+      let scope = scope_of context in
+      let nodes = context.nodes.now in
+      let places = places_of context.nodes.now in
+      let names : Texts = text_in context.text.now in
       let later = slice_range nodes (root + 1) stop in
       let earlier = run_before nodes from (root + 1) in
       let last : stop ≤ length nodes = run.inside in
       let so_far : onward later earlier ≡ run_before nodes from stop = onward_run nodes from (root + 1) stop (omega arith) (omega arith) in
       let marked : BodiesBegin (IsMarked places) from (run_before nodes from stop) =
-      bodies_marked nodes places from stop is.places (fed_before setting stop is last) (omega arith) last run.whole.fed in
+      bodies_marked nodes places from stop is.places (fed_before context stop is last) (omega arith) last run.whole.fed in
       subst (λ (ns : List SyntaxNode). IsFirstUntypable slots root_type scope (last_tree (trees_back names ns)) fault) so_far
-      (first_fault laws.spans laws.clear laws.below (IsMarked places) slots root_type scope (whole_tree setting) from names fault later earlier tree trees
+      (first_fault laws.spans laws.clear laws.below (IsMarked places) slots root_type scope (whole_tree context) from names fault later earlier tree trees
       is.expression
       (subst (λ (ns : List SyntaxNode). AreFedBack ns) (sym so_far) run.whole.fed)
       (subst (λ (ns : List SyntaxNode). tree_count_back ns ≡ 1) (sym so_far) run.whole.one)
-      (subst (λ (ns : List SyntaxNode). IsWithin (last_tree (trees_back names ns)) (whole_tree setting)) (sym so_far) run.within)
+      (subst (λ (ns : List SyntaxNode). IsWithin (last_tree (trees_back names ns)) (whole_tree context)) (sym so_far) run.within)
       (subst (λ (ns : List SyntaxNode). BodiesBegin (IsMarked places) from ns) (sym so_far) marked)
       (subst (λ (rs : List ℕ). NoneBegins (IsMarked places) rs) (sym join.roots_are) join.apart)
       join.trees_are
-      (judged_typed setting.schema.now setting.filtered_type scope walk places roots trees join.judged)
+      (judged_typed context.schema.now context.filtered_type scope walk places roots trees join.judged)
       found)
 
 -- A node that is not a lambda expression.
 
 -- its children have been judged
 pub node_children :
-    (setting : Setting) (from stop index : ℕ) (old walk : Walk) (judged : Judged)
-    → IsSetting setting
-    → IsRun setting from stop
-    → IsWalking setting from stop index old walk
+    (context : CheckContext) (from stop index : ℕ) (old walk : Walk) (judged : Judged)
+    → IsContext context
+    → IsRun context from stop
+    → IsWalking context from stop index old walk
     → index < stop
-    → IsNodeAt setting index judged
-    → AreLastTrees setting walk judged (run_trees setting from index)
-node_children setting from stop index old walk judged is run walking inside at =
-    let nodes = setting.nodes.now in
-    let places = places_of setting.nodes.now in
+    → IsNodeAt context index judged
+    → AreLastTrees context walk judged (run_trees context from index)
+node_children context from stop index old walk judged is run walking inside at =
+    let nodes = context.nodes.now in
+    let places = places_of context.nodes.now in
     let n = judged.node.now in
     let count = child_count n.kind n.count in
-    let trees = run_trees setting from index in
+    let trees = run_trees context from index in
     let earlier = run_before nodes from index in
     let last : stop ≤ length nodes = run.inside in
-    let fits : count ≤ tree_count_back earlier = fits_within setting from stop index n run walking.order inside at.at in
-    let many : length trees ≡ tree_count_back earlier = trees_count (text_in setting.text.now) earlier in
+    let fits : count ≤ tree_count_back earlier = fits_within context from stop index n run walking.order inside at.at in
+    let many : length trees ≡ tree_count_back earlier = trees_count (text_in context.text.now) earlier in
     let placed : IsPlacedFrom places from n earlier =
-    placed_one nodes places from index n is.places walking.order (omega arith) at.at (fed_within setting from stop index run walking.order walking.inside) fits in
+    placed_one nodes places from index n is.places walking.order (omega arith) at.at (fed_within context from stop index run walking.order walking.inside) fits in
     let own : length earlier ≡ index - from = run_length nodes from index walking.order (omega arith) in
     let order : from ≤ index = walking.order in
     let here : from + length earlier ≡ index = omega arith in
-    let Row : ℕ → Type 0 = λ (k : ℕ). AreSideBySide places (number_at places k + 1) (stop_at places k) (take count (run_roots setting from index)) in
+    let Row : ℕ → Type 0 = λ (k : ℕ). AreSideBySide places (number_at places k + 1) (stop_at places k) (take count (run_roots context from index)) in
     let row : Row index = subst Row here placed.children in
-    let number : AreSideBySide places (judged.number + 1) (stop_at places index) (take count (run_roots setting from index)) =
-    subst (λ (k : ℕ). AreSideBySide places (k + 1) (stop_at places index) (take count (run_roots setting from index))) (sym at.number) row in
-    let both : AreSideBySide places (judged.number + 1) judged.stop (take count (run_roots setting from index)) =
-    subst (λ (k : ℕ). AreSideBySide places (judged.number + 1) k (take count (run_roots setting from index))) (sym at.stop) number in
+    let number : AreSideBySide places (judged.number + 1) (stop_at places index) (take count (run_roots context from index)) =
+    subst (λ (k : ℕ). AreSideBySide places (k + 1) (stop_at places index) (take count (run_roots context from index))) (sym at.number) row in
+    let both : AreSideBySide places (judged.number + 1) judged.stop (take count (run_roots context from index)) =
+    subst (λ (k : ℕ). AreSideBySide places (judged.number + 1) k (take count (run_roots context from index))) (sym at.stop) number in
     record {
       enough = omega arith;
       children =
-          judged_row setting.schema.now setting.filtered_type (scope_of setting) walk places (judged.number + 1) judged.stop
-          (take count (run_roots setting from index)) (take count trees) both
-          (judged_take setting.schema.now setting.filtered_type (scope_of setting) walk places count (run_roots setting from index) trees walking.judged);
+          judged_row context.schema.now context.filtered_type (scope_of context) walk places (judged.number + 1) judged.stop
+          (take count (run_roots context from index)) (take count trees) both
+          (judged_take context.schema.now context.filtered_type (scope_of context) walk places count (run_roots context from index) trees walking.judged);
     }
 
 -- where no body begins with it, it is not a lambda expression
 pub node_is_plain :
-    (setting : Setting) (from stop index : ℕ) (old walk : Walk) (n : SyntaxNode) (quantifier : Quantifier)
-    → IsSetting setting
-    → IsRun setting from stop
-    → IsWalking setting from stop index old walk
+    (context : CheckContext) (from stop index : ℕ) (old walk : Walk) (n : SyntaxNode) (quantifier : Quantifier)
+    → IsContext context
+    → IsRun context from stop
+    → IsWalking context from stop index old walk
     → index < stop
-    → slice_get setting.nodes.now index ≡ Some n
+    → slice_get context.nodes.now index ≡ Some n
     → n.kind ≢ SyntaxKind.Lambda quantifier
-node_is_plain setting from stop index old walk n quantifier is run walking inside at lambda =
-    let nodes = setting.nodes.now in
+node_is_plain context from stop index old walk n quantifier is run walking inside at lambda =
+    let nodes = context.nodes.now in
     let earlier = run_before nodes from index in
     let last : stop ≤ length nodes = run.inside in
-    let fits : child_count n.kind n.count ≤ tree_count_back earlier = fits_within setting from stop index n run walking.order inside at in
+    let fits : child_count n.kind n.count ≤ tree_count_back earlier = fits_within context from stop index n run walking.order inside at in
     let two : child_count n.kind n.count ≡ 2 = ap (λ (k : SyntaxKind). child_count k n.count) lambda in
-    let count : length (run_roots setting from index) ≡ tree_count_back earlier = roots_count from earlier in
-    not_a_body (IsMarked (places_of setting.nodes.now)) from (run_roots setting from index) (omega arith)
-    (marked_one nodes (places_of setting.nodes.now) from index n quantifier is.places (fed_before setting index is (omega arith)) walking.order at lambda
-    (fed_within setting from stop index run walking.order walking.inside) fits)
+    let count : length (run_roots context from index) ≡ tree_count_back earlier = roots_count from earlier in
+    not_a_body (IsMarked (places_of context.nodes.now)) from (run_roots context from index) (omega arith)
+    (marked_one nodes (places_of context.nodes.now) from index n quantifier is.places (fed_before context index is (omega arith)) walking.order at lambda
+    (fed_within context from stop index run walking.order walking.inside) fits)
     walking.apart
 
 -- the trees that it leaves begin no body, and it begins none
@@ -233,30 +233,30 @@ leaf_apart places from index (suc count) earlier long unmarked none = none_after
 
 -- it joins the last trees
 pub node_joins :
-    (setting : Setting) (from stop index : ℕ) (old walk : Walk) (n : SyntaxNode)
-    → IsSetting setting
-    → IsRun setting from stop
-    → IsWalking setting from stop index old walk
+    (context : CheckContext) (from stop index : ℕ) (old walk : Walk) (n : SyntaxNode)
+    → IsContext context
+    → IsRun context from stop
+    → IsWalking context from stop index old walk
     → index < stop
-    → slice_get setting.nodes.now index ≡ Some n
-    → (lambda_at (places_of setting.nodes.now) index ≡ 0) ⊎ (index ≡ from)
-    → IsJoin setting walk from index
-    (node n.span.start n.span.stop (shape_over n.kind (text_in setting.text.now n.text) n.count (run_trees setting from index)))
-    (drop (child_count n.kind n.count) (run_roots setting from index))
-    (drop (child_count n.kind n.count) (run_trees setting from index))
-node_joins setting from stop index old walk n is run walking inside at unmarked =
-    let nodes = setting.nodes.now in
-    let places = places_of setting.nodes.now in
+    → slice_get context.nodes.now index ≡ Some n
+    → (lambda_at (places_of context.nodes.now) index ≡ 0) ⊎ (index ≡ from)
+    → IsJoin context walk from index
+    (node n.span.start n.span.stop (shape_over n.kind (text_in context.text.now n.text) n.count (run_trees context from index)))
+    (drop (child_count n.kind n.count) (run_roots context from index))
+    (drop (child_count n.kind n.count) (run_trees context from index))
+node_joins context from stop index old walk n is run walking inside at unmarked =
+    let nodes = context.nodes.now in
+    let places = places_of context.nodes.now in
     let count = child_count n.kind n.count in
-    let names : Texts = text_in setting.text.now in
+    let names : Texts = text_in context.text.now in
     let earlier = run_before nodes from index in
-    let trees = run_trees setting from index in
-    let roots = run_roots setting from index in
+    let trees = run_trees context from index in
+    let roots = run_roots context from index in
     let last : stop ≤ length nodes = run.inside in
     let order : from ≤ index = walking.order in
-    let fits : count ≤ tree_count_back earlier = fits_within setting from stop index n run walking.order inside at in
+    let fits : count ≤ tree_count_back earlier = fits_within context from stop index n run walking.order inside at in
     let placed : IsPlacedFrom places from n earlier =
-    placed_one nodes places from index n is.places walking.order (omega arith) at (fed_within setting from stop index run walking.order walking.inside) fits in
+    placed_one nodes places from index n is.places walking.order (omega arith) at (fed_within context from stop index run walking.order walking.inside) fits in
     let own : length earlier ≡ index - from = run_length nodes from index walking.order (omega arith) in
     let here : from + length earlier ≡ index = omega arith in
     let next : run_before nodes from (index + 1) ≡ n ∷ earlier = run_more nodes from index n walking.order at in
@@ -267,22 +267,22 @@ node_joins setting from stop index old walk n is run walking inside at unmarked 
       roots_are = ap (λ (ns : List SyntaxNode). roots_from from ns) next ∙ ap (λ (k : ℕ). k ∷ drop count roots) here;
       trees_are = ap (λ (ns : List SyntaxNode). trees_back names ns) next ∙ ap (λ (ts : List Tree). own_tree ∷ ts) (left_over n.kind n.count trees);
       before = subst (λ (k : ℕ). AreBefore places (number_at places k) (drop count roots)) here placed.older;
-      judged = judged_drop setting.schema.now setting.filtered_type (scope_of setting) walk places count roots trees walking.judged;
+      judged = judged_drop context.schema.now context.filtered_type (scope_of context) walk places count roots trees walking.judged;
       apart = leaf_apart places from index count earlier here unmarked walking.apart;
     }
 
 -- at the end the tree of the run has been put
 pub walk_ends :
-    (setting : Setting) (from stop : ℕ) (old new : Walk)
-    → IsRun setting from stop
-    → IsWalking setting from stop stop old new
-    → IsPut setting.schema.now setting.filtered_type (scope_of setting) (number_at (places_of setting.nodes.now) (stop - 1)) (stop_at (places_of setting.nodes.now) (stop - 1)) (run_tree setting from stop) old new
-walk_ends setting from stop old new run walking =
-    let nodes = setting.nodes.now in
-    let whole : IsWholeRun (run_before nodes from stop) = whole_run setting from stop run in
-    let roots : run_roots setting from stop ≡ (stop - 1) ∷ [] = whole_root nodes from stop walking.order run.inside whole in
-    let trees : run_trees setting from stop ≡ run_tree setting from stop ∷ [] = whole_trees (text_in setting.text.now) (run_before nodes from stop) whole in
-    let all : AreTreesJudged setting new ((stop - 1) ∷ []) (run_tree setting from stop ∷ []) =
-    subst (λ (rs : List ℕ). AreTreesJudged setting new rs (run_tree setting from stop ∷ [])) roots
-    (subst (λ (ts : List Tree). AreTreesJudged setting new (run_roots setting from stop) ts) trees walking.judged) in
+    (context : CheckContext) (from stop : ℕ) (old new : Walk)
+    → IsRun context from stop
+    → IsWalking context from stop stop old new
+    → IsPut context.schema.now context.filtered_type (scope_of context) (number_at (places_of context.nodes.now) (stop - 1)) (stop_at (places_of context.nodes.now) (stop - 1)) (run_tree context from stop) old new
+walk_ends context from stop old new run walking =
+    let nodes = context.nodes.now in
+    let whole : IsWholeRun (run_before nodes from stop) = whole_run context from stop run in
+    let roots : run_roots context from stop ≡ (stop - 1) ∷ [] = whole_root nodes from stop walking.order run.inside whole in
+    let trees : run_trees context from stop ≡ run_tree context from stop ∷ [] = whole_trees (text_in context.text.now) (run_before nodes from stop) whole in
+    let all : AreTreesJudged context new ((stop - 1) ∷ []) (run_tree context from stop ∷ []) =
+    subst (λ (rs : List ℕ). AreTreesJudged context new rs (run_tree context from stop ∷ [])) roots
+    (subst (λ (ts : List Tree). AreTreesJudged context new (run_roots context from stop) ts) trees walking.judged) in
     record { kept = walking.kept; stands = all.0; navigates = walking.navigates; fault = walking.fault }

@@ -1,4 +1,4 @@
--- The walk over all nodes of a setting.
+-- The walk over all nodes of a context.
 use Rattle.std.proofs.Common.{◌≡◌, refl, replicate, ◌∙◌, sym, ap, subst, ℕ, ◌-◌, ◌<◌, List, [], Bool, true, false, Option, Some, IfErr, IfOk, IfSome, Result, Ok, Err, length, slice_get, slice_range, take, arith}
 use Rattle.std.proofs.lemmas.List.{length-replicate, take_all}
 use Rattle.std.proofs.lemmas.Option.{slice_get_within}
@@ -19,21 +19,21 @@ use Rattle.odata_checked_filter.specs.FlatTree.{FlatTree, tree_of_nodes}
 use Rattle.odata_checked_filter.specs.Laws.{OneTree}
 use Rattle.odata_checked_filter.specs.ListChanges.{nothing_yet, with_room}
 use Rattle.odata_checked_filter.specs.declared.checked_node.CheckedNode.{CheckedNode}
-use Rattle.odata_typing.specs.declared.setting.Setting.{Setting}
+use Rattle.odata_typing.specs.declared.check_context.CheckContext.{CheckContext}
 use Rattle.odata_typing.specs.declared.judged_list.Walk.{Walk}
 use Rattle.odata_typing.specs.private.Answer.{IsTypeRefusal}
 use Rattle.odata_typing.specs.private.Judging.{IsJudged, IsPut, IsStanding, IsTreeJudged}
 use Rattle.odata_typing.specs.private.LawsBelow.{LawsBelow}
-use Rattle.odata_typing.specs.private.Settings.{IsReady, IsSetting, run_tree, whole_tree}
+use Rattle.odata_typing.specs.private.CheckContexts.{IsReady, IsContext, run_tree, whole_tree}
 use Rattle.odata_typing.specs.private.Variables.{scope_of}
-use Rattle.odata_typing.specs.private.Wholes.{IsRefusedFor, IsWalked}
+use Rattle.odata_typing.specs.private.Checker.{IsRefusedFor, IsWalked}
 use Rattle.odata_typing.proofs.untypable.Checks.{not_boolean, type_none, type_refusal, whole_filter, whole_idle, whole_stands, whole_typing}
 
 all_nodes : (nodes : List SyntaxNode) → slice_range nodes 0 (length nodes) ≡ nodes
 all_nodes nodes = ap (λ (k : ℕ). take k nodes) (omega arith) ∙ take_all (length nodes) nodes (omega arith)
 
-pub run_whole : (setting : Setting) → run_tree setting 0 (length setting.nodes.now) ≡ whole_tree setting
-run_whole setting = ap (listed_tree setting.text.now) (all_nodes setting.nodes.now)
+pub run_whole : (context : CheckContext) → run_tree context 0 (length context.nodes.now) ≡ whole_tree context
+run_whole context = ap (listed_tree context.text.now) (all_nodes context.nodes.now)
 
 -- a list with room for the nodes of a text
 pub room_made :
@@ -48,30 +48,30 @@ room_made old new text count is =
 
 -- in all places, without variables
 pub whole_judged :
-    (setting : Setting) (old new : Walk) (result : Bool)
-    → IsSetting setting
-    → scope_of setting ≡ []
-    → IsTreeJudged setting (number_at (places_of setting.nodes.now) (length setting.nodes.now - 1)) (stop_at (places_of setting.nodes.now) (length setting.nodes.now - 1)) (run_tree setting 0 (length setting.nodes.now)) old new result
-    → IsJudged setting.schema.now setting.filtered_type [] 0 (length setting.nodes.now) (whole_tree setting) old new result
-whole_judged setting old new result is none judged =
-    let n = setting.filtered_type in
-    let schema = setting.schema.now in
-    let at_scope = subst (λ (scope : Scope). IsJudged schema n scope (number_at (places_of setting.nodes.now) (length setting.nodes.now - 1)) (stop_at (places_of setting.nodes.now) (length setting.nodes.now - 1)) (run_tree setting 0 (length setting.nodes.now)) old new result) none judged in
-    let at_start = subst (λ (i : ℕ). IsJudged schema n [] i (stop_at (places_of setting.nodes.now) (length setting.nodes.now - 1)) (run_tree setting 0 (length setting.nodes.now)) old new result) is.places.root at_scope in
-    let at_stop = subst (λ (j : ℕ). IsJudged schema n [] 0 j (run_tree setting 0 (length setting.nodes.now)) old new result) is.places.whole at_start in
-    subst (λ (tree : Tree). IsJudged schema n [] 0 (length setting.nodes.now) tree old new result) (run_whole setting) at_stop
+    (context : CheckContext) (old new : Walk) (result : Bool)
+    → IsContext context
+    → scope_of context ≡ []
+    → IsTreeJudged context (number_at (places_of context.nodes.now) (length context.nodes.now - 1)) (stop_at (places_of context.nodes.now) (length context.nodes.now - 1)) (run_tree context 0 (length context.nodes.now)) old new result
+    → IsJudged context.schema.now context.filtered_type [] 0 (length context.nodes.now) (whole_tree context) old new result
+whole_judged context old new result is none judged =
+    let n = context.filtered_type in
+    let schema = context.schema.now in
+    let at_scope = subst (λ (scope : Scope). IsJudged schema n scope (number_at (places_of context.nodes.now) (length context.nodes.now - 1)) (stop_at (places_of context.nodes.now) (length context.nodes.now - 1)) (run_tree context 0 (length context.nodes.now)) old new result) none judged in
+    let at_start = subst (λ (i : ℕ). IsJudged schema n [] i (stop_at (places_of context.nodes.now) (length context.nodes.now - 1)) (run_tree context 0 (length context.nodes.now)) old new result) is.places.root at_scope in
+    let at_stop = subst (λ (j : ℕ). IsJudged schema n [] 0 j (run_tree context 0 (length context.nodes.now)) old new result) is.places.whole at_start in
+    subst (λ (tree : Tree). IsJudged schema n [] 0 (length context.nodes.now) tree old new result) (run_whole context) at_stop
 
 -- it stands in the whole list
 pub whole_put :
-    (setting : Setting) (old new : Walk)
-    → IsReady setting old
-    → IsPut setting.schema.now setting.filtered_type [] 0 (length setting.nodes.now) (whole_tree setting) old new
-    → IsStanding setting.schema.now setting.filtered_type [] new 0 (length new.list.nodes) (whole_tree setting)
-whole_put setting old new ready put =
-    subst (λ (j : ℕ). IsStanding setting.schema.now setting.filtered_type [] new 0 j (whole_tree setting)) (sym (put.kept.count ∙ ready.count)) put.stands
+    (context : CheckContext) (old new : Walk)
+    → IsReady context old
+    → IsPut context.schema.now context.filtered_type [] 0 (length context.nodes.now) (whole_tree context) old new
+    → IsStanding context.schema.now context.filtered_type [] new 0 (length new.list.nodes) (whole_tree context)
+whole_put context old new ready put =
+    subst (λ (j : ℕ). IsStanding context.schema.now context.filtered_type [] new 0 j (whole_tree context)) (sym (put.kept.count ∙ ready.count)) put.stands
 
-pub some_place : (setting : Setting) (walk : Walk) (stop : ℕ) (tree : Tree) → IsStanding setting.schema.now setting.filtered_type [] walk 0 stop tree → 0 < length walk.list.nodes
-some_place setting walk stop tree stands = slice_get_within walk.list.nodes 0 stands.found stands.at
+pub some_place : (context : CheckContext) (walk : Walk) (stop : ℕ) (tree : Tree) → IsStanding context.schema.now context.filtered_type [] walk 0 stop tree → 0 < length walk.list.nodes
+some_place context walk stop tree stands = slice_get_within walk.list.nodes 0 stands.found stands.at
 
 -- ---- what is returned
 

@@ -12,8 +12,8 @@ use Rattle.odata_signatures.specs.Typed.{Scope, Typed}
 use Rattle.odata_checked_filter.specs.declared.checked_node.CheckedNode.{CheckedNode}
 use Rattle.odata_checked_filter.specs.ListChanges.{IsKeptOutside}
 use Rattle.odata_checked_filter.specs.Stands.{SideBySide, Stands}
-use Rattle.odata_typing.specs.declared.setting.Judged.{Judged}
-use Rattle.odata_typing.specs.declared.setting.Setting.{Setting}
+use Rattle.odata_typing.specs.declared.check_context.Judged.{Judged}
+use Rattle.odata_typing.specs.declared.check_context.CheckContext.{CheckContext}
 use Rattle.odata_typing.specs.declared.judged_list.Walk.{Walk}
 use Rattle.odata_typing.specs.private.Variables.{scope_of}
 
@@ -43,15 +43,15 @@ StandInRow schema n scope walk (tree ∷ trees) i j =
     (λ middle. StandInRow schema n scope walk trees middle j)
 
 -- they do so for the children of a node that is to be judged
-abbrev pub AreChildren : Setting → Walk → Judged → List Tree → Type 0
-AreChildren setting walk judged trees =
-    StandInRow setting.schema.now setting.filtered_type (scope_of setting) walk trees (judged.number + 1) judged.stop
+abbrev pub AreChildren : CheckContext → Walk → Judged → List Tree → Type 0
+AreChildren context walk judged trees =
+    StandInRow context.schema.now context.filtered_type (scope_of context) walk trees (judged.number + 1) judged.stop
 
 -- of these trees, of which the last comes first, the last ones are the children of the node
-pub record AreLastTrees (setting : Setting) (walk : Walk) (judged : Judged) (trees : List Tree) : Type 0 where
+pub record AreLastTrees (context : CheckContext) (walk : Walk) (judged : Judged) (trees : List Tree) : Type 0 where
   pub enough : child_count judged.node.now.kind judged.node.now.count ≤ length trees
   pub children :
-      AreChildren setting walk judged
+      AreChildren context walk judged
       (last_trees (child_count judged.node.now.kind judged.node.now.count) trees)
 
 -- the tree stands in its places, and all else where it stood
@@ -67,13 +67,13 @@ IsJudged schema n scope i j tree old new true = IsPut schema n scope i j tree ol
 IsJudged schema n scope i j tree old new false =
     IfSome new.fault (IsFirstUntypable (slots_of schema) (type_name_at schema n) scope tree)
 
--- the same of a tree of the setting
-abbrev pub IsTreeJudged : Setting → ℕ → ℕ → Tree → Walk → Walk → Bool → Type 0
-IsTreeJudged setting i j tree old new result =
-    IsJudged setting.schema.now setting.filtered_type (scope_of setting) i j tree old new result
+-- the same of a tree of the context
+abbrev pub IsTreeJudged : CheckContext → ℕ → ℕ → Tree → Walk → Walk → Bool → Type 0
+IsTreeJudged context i j tree old new result =
+    IsJudged context.schema.now context.filtered_type (scope_of context) i j tree old new result
 
 -- of a node of that shape, in its places
-abbrev pub IsNodeJudged : Setting → Judged → Shape → Walk → Walk → Bool → Type 0
-IsNodeJudged setting judged shape old new result =
-    IsTreeJudged setting judged.number judged.stop
+abbrev pub IsNodeJudged : CheckContext → Judged → Shape → Walk → Walk → Bool → Type 0
+IsNodeJudged context judged shape old new result =
+    IsTreeJudged context judged.number judged.stop
     (node judged.node.now.span.start judged.node.now.span.stop shape) old new result

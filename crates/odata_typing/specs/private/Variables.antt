@@ -8,7 +8,7 @@ use Rattle.odata_signatures.specs.declared.edm_type.EdmType.{EdmType}
 use Rattle.odata_signatures.specs.Typed.{Scope, variable_type, with_variable}
 use Rattle.odata_checked_filter.specs.Levels.{level_named}
 use Rattle.odata_checked_filter.specs.Stands.{variable_names}
-use Rattle.odata_typing.specs.declared.setting.Setting.{Setting}
+use Rattle.odata_typing.specs.declared.check_context.CheckContext.{CheckContext}
 use Rattle.odata_typing.specs.declared.variables.NamedVariable.{NamedVariable}
 use Rattle.odata_typing.specs.declared.variables.Variables.{Variables, fold-Variables}
 use Rattle.odata_typing.specs.declared.variables.Variables.TheOpen.{Variables-F}
@@ -22,8 +22,8 @@ abbrev pub scope_in : SchemaModel → Variables → Scope
 scope_in schema = fold-Variables Scope (scope_step schema)
 
 -- those in scope where a tree is judged
-abbrev pub scope_of : Setting → Scope
-scope_of setting = scope_in setting.schema.now setting.variables.now
+abbrev pub scope_of : CheckContext → Scope
+scope_of context = scope_in context.schema.now context.variables.now
 
 abbrev pub type_step : Variables-F (List EdmType) → List EdmType
 type_step Variables-F.Empty = []

@@ -11,7 +11,7 @@ use Rattle.odata_checked_filter.specs.declared.checked_node.NodeKind.{NodeKind}
 use Rattle.odata_checked_filter.specs.FlatTree.{FlatTree}
 use Rattle.odata_checked_filter.specs.ListChanges.{node_put, number_put, with_value}
 use Rattle.odata_typing.specs.declared.in_list.ItemsFit.{ItemsFit}
-use Rattle.odata_typing.specs.declared.setting.Judged.{Judged}
+use Rattle.odata_typing.specs.declared.check_context.Judged.{Judged}
 use Rattle.odata_typing.specs.declared.judged_list.Walk.{Walk}
 
 -- the node that is put for one that was judged

@@ -1,19 +1,19 @@
 //! Calls over texts, each with all that it stands on, as the suite of cases spells their answers.
 use crate::items;
-use crate::refused::tell;
+use crate::refused::report;
 use crate::shop::{E0, LINKED, LINKS, NAMED, SHOP, TWICE};
 use odata_functions::{concat, to_lower, to_upper};
 use serde_json::Value;
-use spelled_answers::entities::line_and_row_answer;
-use spelled_answers::expansions::paths_answer;
-use spelled_answers::filters::{AskedOfFilter, TypeOf, answer_of, moment_of};
-use spelled_answers::literals::value_behind;
-use spelled_answers::runs::{plan_answer, query_filter, run_answer};
-use spelled_answers::schemas::{fault_of, slots_of};
-use spelled_answers::texts::{AskedOfText, answer_of as answer_of_text};
-use spelled_answers::trouble::Trouble;
 use std::alloc::Global;
 use std::test::Fail;
+use suite_driver::entities::line_and_row_answer;
+use suite_driver::expansions::paths_answer;
+use suite_driver::filters::{AskedOfFilter, TypeOf, answer_of, moment_of};
+use suite_driver::runs::{plan_answer, query_filter, run_answer};
+use suite_driver::schemas::{fault_of, slots_of};
+use suite_driver::spelled_literals::value_behind;
+use suite_driver::spelled_texts::{AskedOfText, answer_of as answer_of_text};
+use suite_driver::trouble::Trouble;
 
 /// What is asked: of a document, of a type of the shop, of a line as a product, of a filter of products (last its
 /// outcome on one, and that of so many evaluations on the product), of a filter of entities with links (last its
@@ -439,7 +439,7 @@ fn calls(rt: HostRuntime) -> Result<(), Fail> {
             is_refused(rt.alloc(), call, wanted)?,
             is_refused(rt.alloc(), call, wanted)?,
         );
-        tell(&rt, name, first, again)?;
+        report(&rt, name, first, again)?;
     }
     Ok(())
 }
@@ -468,7 +468,7 @@ const MOMENT: &str = "Changed eq 2020-01-01T01:00:00+01:00";
 fn evaluations(rt: HostRuntime) -> Result<(), Fail> {
     for &(filter, times, name, wanted) in EVALUATIONS {
         let call = Call::Evaluations(filter, times);
-        tell(&rt, name, is_refused(rt.alloc(), call, wanted)?, false)?;
+        report(&rt, name, is_refused(rt.alloc(), call, wanted)?, false)?;
     }
     Ok(())
 }

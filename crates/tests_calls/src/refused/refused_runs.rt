@@ -2,17 +2,17 @@
 ghost use Rattle.csdl_schema.specs.SchemaModel.{HoldsType};
 
 use crate::items::{A, FIRST, SCHEMA as ITEMS};
-use crate::refused::tell;
+use crate::refused::report;
 use csdl_schema::{Schema, TypeId};
 use edm_entities::RowFault;
 use odata_filter::{RunFault, Tally, filter_collection, filter_lines};
 use odata_typing::{Checked, Refusal, check};
-use spelled_answers::filters::{moment_of, schema_of};
-use spelled_answers::trouble::Trouble;
 use std::alloc::Global;
 use std::io;
 use std::io::Read;
 use std::test::Fail;
+use suite_driver::filters::{moment_of, schema_of};
+use suite_driver::trouble::Trouble;
 
 const SCHEMA: &str =
     "{\"$Version\":\"4.01\",\"N\":{\"T\":{\"$Kind\":\"EntityType\",\"Name\":{},\"On\":{\"$Type\":\"Edm.Boolean\"}}}}";
@@ -200,7 +200,7 @@ const RUNS: &[(Run, &str)] = &[
 fn runs(rt: HostRuntime) -> Result<(), Fail> {
     for &(run, name) in RUNS {
         let (first, again) = (is_refused(rt.alloc(), run)?, is_refused(rt.alloc(), run)?);
-        tell(&rt, name, first, again)?;
+        report(&rt, name, first, again)?;
     }
     Ok(())
 }

@@ -24,9 +24,9 @@ returns-then-count_types-gt-MAX_TYPES-clause-read c =
     ∙ ap (count_by (λ t. is_some (type_kind_in t.body))) (ap declarations_of c.deref-3.ensures.value ∙ c.in_ok-declarations.ensures ∙ ap (flat_map types_in) schemas_again) in
     let Many : ℕ → Type 0 = λ n. 4096 < n in
     let many : 4096 < type_count d = subst Many total c.if-count_types-gt-MAX_TYPES.true in
-    let told : nat_lt 4096 (type_count d) ≡ true = grind (arith, nat_tests) in
+    let reported : nat_lt 4096 (type_count d) ≡ true = grind (arith, nat_tests) in
     count_first d (sym c.is_object.ensures ∙ c.if-not-is_object.false) (sym c.is_version.ensures ∙ c.if-not-is_version.false)
-    c.in_ok-check_namespaces.ensures.0 told
+    c.in_ok-check_namespaces.ensures.0 reported
 
 pub returns-clause-ordered : goal.returns-clause-ordered
 returns-clause-ordered c =

@@ -10,11 +10,11 @@ loop-index-preserved c =
     let types = c.args.types.now in
     let ps = placed_of types in
     let i = c.loop-index.index in
-    let told = option_map (λ (s : Bor (List ℕ)). s.now) in
+    let reported = option_map (λ (s : Bor (List ℕ)). s.now) in
     let within : i < length types = omega (arith, c.loop-index-test.true) in
     let next : i + 1 ≡ suc i = omega arith in
     let here = split_at types i within in
-    ap (λ k. map told c.push.new.self.items ++ firsts_from ps k (placed_of (drop k types))) next
-    ∙ pushed_map told c.loop-index.firsts.items c.push.new.self.items c.in_ok-first_again.field-0 (first_name (names_again_at ps i)) (firsts_from ps (suc i) (placed_of (drop (suc i) types))) _
+    ap (λ k. map reported c.push.new.self.items ++ firsts_from ps k (placed_of (drop k types))) next
+    ∙ pushed_map reported c.loop-index.firsts.items c.push.new.self.items c.in_ok-first_again.field-0 (first_name (names_again_at ps i)) (firsts_from ps (suc i) (placed_of (drop (suc i) types))) _
     c.in_ok-push.ensures.items c.in_ok-first_again.ensures.first
-    (ap (λ ts. map told c.loop-index.firsts.items ++ firsts_from ps i (placed_of ts)) (sym here.2) ∙ c.loop-index.invariant)
+    (ap (λ ts. map reported c.loop-index.firsts.items ++ firsts_from ps i (placed_of ts)) (sym here.2) ∙ c.loop-index.invariant)

@@ -1,7 +1,7 @@
 use Rattle.std.proofs.Common.{◌≡◌, ◌∙◌, Some, length, map, option_map, sym, ap, arith}
 use Rattle.csdl_schema.specs.private.Placed.{entry_view}
 use Rattle.csdl_schema.specs.private.PlacedView.{placed_of, structured_view}
-use Rattle.csdl_schema.specs.private.SlotWalk.{structured_in}
+use Rattle.csdl_schema.specs.private.Slots.{structured_in}
 use Rattle.csdl_schema.proofs.Placing.{length-map}
 use Rattle.csdl_schema.proofs.SlotSteps.{slots_fit}
 use Rattle.csdl_schema.proofs.slots.count_slots.Goals as goal

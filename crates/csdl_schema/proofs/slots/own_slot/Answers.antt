@@ -3,7 +3,7 @@ use Rattle.std.specs.Cmp.Lexicographic.{pointwise}
 use Rattle.csdl_schema.specs.private.Placed.{entry_view, own_at}
 use Rattle.csdl_schema.specs.private.PlacedView.{placed_of, structured_view}
 use Rattle.csdl_schema.specs.private.SchemaView.{chain_in}
-use Rattle.csdl_schema.specs.private.SlotWalk.{structured_in}
+use Rattle.csdl_schema.specs.private.Slots.{structured_in}
 use Rattle.csdl_schema.proofs.Placing.{length-map, position-map}
 use Rattle.csdl_schema.proofs.SlotSteps.{of_structured, slots_fit}
 use Rattle.csdl_schema.proofs.slots.own_slot.Goals as goal

@@ -2,7 +2,7 @@ use Rattle.std.proofs.Common.{◌<◌, length}
 use Rattle.csdl_schema.specs.SchemaModel.{properties_at}
 use Rattle.csdl_schema.specs.private.PlacedView.{placed_of}
 use Rattle.csdl_schema.specs.private.SchemaView.{chain_in, model_of}
-use Rattle.csdl_schema.specs.private.SlotWalk.{BeginsWith}
+use Rattle.csdl_schema.specs.private.Slots.{BeginsWith}
 use Rattle.csdl_schema.proofs.slots.owner_of.Given as goal
 
 -- the slot is one of the type so far, whose properties are the first

@@ -21,7 +21,7 @@ use Rattle.edm_values.specs.declared.value.Value.{Null, Record}
 use Rattle.edm_entities.proofs.SlotLemmas.Depth.{found_measure, found_less, item_within}
 use Rattle.edm_entities.proofs.SlotLemmas.EachSlot.{IsLookedAt, null_holds, null_in_slot, held_seen, primitive_holds, member_holds, slots_held, list_held, holds_push, holds_as}
 use Rattle.edm_entities.proofs.SlotLemmas.FaultsBelow.{fault_by}
-use Rattle.edm_entities.proofs.SlotLemmas.FoundWalk.{ok_by, err_by, told_here, other_fits, other_fault, null_fits, null_flaw, type_wanted, seen_as, items_as, items_null, ok_seen, err_seen, unwanted_fits, nothing_fits, nothing_missing, nothing_expanded, node_slots}
+use Rattle.edm_entities.proofs.SlotLemmas.FoundWalk.{ok_by, err_by, reported_here, other_fits, other_fault, null_fits, null_flaw, type_wanted, seen_as, items_as, items_null, ok_seen, err_seen, unwanted_fits, nothing_fits, nothing_missing, nothing_expanded, node_slots}
 use Rattle.edm_entities.proofs.SlotLemmas.ItemWalk.{item_there, list_push, list_fault}
 use Rattle.edm_entities.proofs.SlotLemmas.ReadEntities.{slots_fit}
 use Rattle.edm_entities.proofs.SlotLemmas.SlotWalk.{slot_pushed, slots_fault}
@@ -37,8 +37,8 @@ read_slots-read_property-requires t c =
 pub read_slots-loop-slot-preserved : goal.read_slots-loop-slot-preserved
 read_slots-loop-slot-preserved t c =
     let l = c.loop-slot in
-    let schema = c.args.scene.now.schema.now in
-    let steps = c.args.scene.now.expansion.now in
+    let schema = c.args.context.now.schema.now in
+    let steps = c.args.context.now.expansion.now in
     let name = c.at.result.0.now in
     let type = property_type schema c.at.result.1.now in
     let v = c.in-Ok-read_property.value in
@@ -49,13 +49,13 @@ read_slots-loop-slot-preserved t c =
     let read = slot_pushed schema (paths_at steps c.args.node) c.args.type_id l.slot (view c.args.json.now) l.values.items name c.at.result.1.now c.at.ensures.name c.at.ensures.property l.invariant.0 v
     (subst (λ (o : Option Data). FitsProperty (slots_behind (slots_at schema steps c.args.node) name) c.at.result.1.now.nullable type o (field_of (slots_behind (slots_at schema steps c.args.node) name).properties type (val_of v))) c.find.ensures.found fits)
     (subst (λ (s : Slots). HoldsInSlot s type v) inner c.in-Ok-read_property.ensures.holds) in
-    rw (pushed, add-one) (read, c.at.ensures.lent, c.find.ensures.walk)
+    rw (pushed, add-one) (read, c.at.ensures.cursor, c.find.ensures.walk)
 
 pub read_slots-returns-in-Err-clause-fault : goal.read_slots-returns-in-Err-clause-fault
 read_slots-returns-in-Err-clause-fault t c =
     let l = c.loop-slot in
-    let schema = c.args.scene.now.schema.now in
-    let steps = c.args.scene.now.expansion.now in
+    let schema = c.args.context.now.schema.now in
+    let steps = c.args.context.now.expansion.now in
     let name = c.at.result.0.now in
     let type = property_type schema c.at.result.1.now in
     let inner : slots_at schema steps c.node_behind-inner.result ≡ slots_behind (slots_at schema steps c.args.node) name =
@@ -67,7 +67,7 @@ read_slots-returns-in-Err-clause-fault t c =
 
 pub read_slots-returns-in_default-clause-fault : goal.read_slots-returns-in_default-clause-fault
 read_slots-returns-in_default-clause-fault t c =
-    told_here (λ path flaw. IsValueFault (slots_in c.args.scene.now c.args.node) false path (single (structured (type_name_at c.args.scene.now.schema.now c.args.type_id))) (view c.args.json.now) flaw)
+    reported_here (λ path flaw. IsValueFault (slots_in c.args.context.now c.args.node) false path (single (structured (type_name_at c.args.context.now.schema.now c.args.type_id))) (view c.args.json.now) flaw)
     c.fault_here.result code.WrongKind c.fault_here.ensures.flaw c.fault_here.ensures.here
     (none_of (as_object (view c.args.json.now)) (is_some c.members_of.result) c.members_of.ensures.object (ap is_some c.in_default.is))
 
@@ -83,16 +83,16 @@ read_property-read_single-requires t c =
 
 pub read_property-returns-in_default-clause-fits : goal.read_property-returns-in_default-clause-fits
 read_property-returns-in_default-clause-fits t c =
-    unwanted_fits c.args.scene.now.schema.now (slots_in c.args.scene.now c.args.node) c.args.property.now.nullable c.args.property.now.kind (target_of c.args.property.now) c.args.property.now.many _ Null
+    unwanted_fits c.args.context.now.schema.now (slots_in c.args.context.now c.args.node) c.args.property.now.nullable c.args.property.now.kind (target_of c.args.property.now) c.args.property.now.many _ Null
     (ap (wanted_with c.args.property.now.kind) (sym c.expanded_target-target.ensures) ∙ sym c.wanted_with.ensures ∙ c.in_default.is) refl
 
 pub read_property-returns-in_default-clause-holds : goal.read_property-returns-in_default-clause-holds
-read_property-returns-in_default-clause-holds t c = null_in_slot (slots_in c.args.scene.now c.args.node) (property_type c.args.scene.now.schema.now c.args.property.now) Null refl
+read_property-returns-in_default-clause-holds t c = null_in_slot (slots_in c.args.context.now c.args.node) (property_type c.args.context.now.schema.now c.args.property.now) Null refl
 
 pub read_property-returns-then-property-clause-fits : goal.read_property-returns-then-property-clause-fits
 read_property-returns-then-property-clause-fits t c =
-    let schema = c.args.scene.now.schema.now in
-    let slots = slots_in c.args.scene.now c.args.node in
+    let schema = c.args.context.now.schema.now in
+    let slots = slots_in c.args.context.now c.args.node in
     let p = c.args.property.now in
     let is = ap (wanted_with c.args.property.now.kind) (sym c.expanded_target-target.ensures) ∙ sym c.wanted_with.ensures ∙ c.in-Some.is in
     let seen = subst (IsLookedAt slots (property_type schema p)) (ap (type_wanted schema c.in-Some.wanted) c.if-property.true) (seen_as schema slots p.kind (target_of p) p.many c.in-Some.wanted is) in
@@ -101,8 +101,8 @@ read_property-returns-then-property-clause-fits t c =
 
 pub read_property-returns-then-property-clause-holds : goal.read_property-returns-then-property-clause-holds
 read_property-returns-then-property-clause-holds t c =
-    let schema = c.args.scene.now.schema.now in
-    let slots = slots_in c.args.scene.now c.args.node in
+    let schema = c.args.context.now.schema.now in
+    let slots = slots_in c.args.context.now c.args.node in
     let p = c.args.property.now in
     let is = ap (wanted_with c.args.property.now.kind) (sym c.expanded_target-target.ensures) ∙ sym c.wanted_with.ensures ∙ c.in-Some.is in
     let seen = subst (IsLookedAt slots (property_type schema p)) (ap (type_wanted schema c.in-Some.wanted) c.if-property.true) (seen_as schema slots p.kind (target_of p) p.many c.in-Some.wanted is) in
@@ -111,8 +111,8 @@ read_property-returns-then-property-clause-holds t c =
 
 pub read_property-returns-then-property-clause-fault : goal.read_property-returns-then-property-clause-fault
 read_property-returns-then-property-clause-fault t c =
-    let schema = c.args.scene.now.schema.now in
-    let slots = slots_in c.args.scene.now c.args.node in
+    let schema = c.args.context.now.schema.now in
+    let slots = slots_in c.args.context.now c.args.node in
     let p = c.args.property.now in
     let is = ap (wanted_with c.args.property.now.kind) (sym c.expanded_target-target.ensures) ∙ sym c.wanted_with.ensures ∙ c.in-Some.is in
     let seen = subst (IsLookedAt slots (property_type schema p)) (ap (type_wanted schema c.in-Some.wanted) c.if-property.true) (seen_as schema slots p.kind (target_of p) p.many c.in-Some.wanted is) in
@@ -121,8 +121,8 @@ read_property-returns-then-property-clause-fault t c =
 
 pub read_property-returns-else-property-clause-fits : goal.read_property-returns-else-property-clause-fits
 read_property-returns-else-property-clause-fits t c =
-    let schema = c.args.scene.now.schema.now in
-    let slots = slots_in c.args.scene.now c.args.node in
+    let schema = c.args.context.now.schema.now in
+    let slots = slots_in c.args.context.now c.args.node in
     let p = c.args.property.now in
     let is = ap (wanted_with c.args.property.now.kind) (sym c.expanded_target-target.ensures) ∙ sym c.wanted_with.ensures ∙ c.in-Some.is in
     let seen = subst (IsLookedAt slots (property_type schema p)) (ap (type_wanted schema c.in-Some.wanted) c.if-property.false) (seen_as schema slots p.kind (target_of p) p.many c.in-Some.wanted is) in
@@ -131,8 +131,8 @@ read_property-returns-else-property-clause-fits t c =
 
 pub read_property-returns-else-property-clause-holds : goal.read_property-returns-else-property-clause-holds
 read_property-returns-else-property-clause-holds t c =
-    let schema = c.args.scene.now.schema.now in
-    let slots = slots_in c.args.scene.now c.args.node in
+    let schema = c.args.context.now.schema.now in
+    let slots = slots_in c.args.context.now c.args.node in
     let p = c.args.property.now in
     let is = ap (wanted_with c.args.property.now.kind) (sym c.expanded_target-target.ensures) ∙ sym c.wanted_with.ensures ∙ c.in-Some.is in
     let seen = subst (IsLookedAt slots (property_type schema p)) (ap (type_wanted schema c.in-Some.wanted) c.if-property.false) (seen_as schema slots p.kind (target_of p) p.many c.in-Some.wanted is) in
@@ -141,8 +141,8 @@ read_property-returns-else-property-clause-holds t c =
 
 pub read_property-returns-else-property-clause-fault : goal.read_property-returns-else-property-clause-fault
 read_property-returns-else-property-clause-fault t c =
-    let schema = c.args.scene.now.schema.now in
-    let slots = slots_in c.args.scene.now c.args.node in
+    let schema = c.args.context.now.schema.now in
+    let slots = slots_in c.args.context.now c.args.node in
     let p = c.args.property.now in
     let is = ap (wanted_with c.args.property.now.kind) (sym c.expanded_target-target.ensures) ∙ sym c.wanted_with.ensures ∙ c.in-Some.is in
     let seen = subst (IsLookedAt slots (property_type schema p)) (ap (type_wanted schema c.in-Some.wanted) c.if-property.false) (seen_as schema slots p.kind (target_of p) p.many c.in-Some.wanted is) in
@@ -151,126 +151,126 @@ read_property-returns-else-property-clause-fault t c =
 
 pub read_single-returns-then-is_null-clause-fits : goal.read_single-returns-then-is_null-clause-fits
 read_single-returns-then-is_null-clause-fits t c items =
-    let type = single (wanted_single c.args.scene.now.schema.now c.args.wanted.now) in
+    let type = single (wanted_single c.args.context.now.schema.now c.args.wanted.now) in
     ok_by c.null_value.result (λ v. (c.args.nullable ≡ true) × (v ≡ Null))
-    (λ v. FitsFound (Some (view c.args.json.now)) c.args.nullable (val_of v (slots_in c.args.scene.now c.args.node).properties type)
-    (λ found. FitsType (slots_in c.args.scene.now c.args.node) items type found (val_of v (slots_in c.args.scene.now c.args.node).properties type)))
-    (λ v is. null_fits (view c.args.json.now) c.args.nullable (slots_in c.args.scene.now c.args.node) type v _ (sym c.is_null.ensures ∙ c.if-is_null.true) is.0 is.1)
+    (λ v. FitsFound (Some (view c.args.json.now)) c.args.nullable (val_of v (slots_in c.args.context.now c.args.node).properties type)
+    (λ found. FitsType (slots_in c.args.context.now c.args.node) items type found (val_of v (slots_in c.args.context.now c.args.node).properties type)))
+    (λ v is. null_fits (view c.args.json.now) c.args.nullable (slots_in c.args.context.now c.args.node) type v _ (sym c.is_null.ensures ∙ c.if-is_null.true) is.0 is.1)
     c.null_value.ensures.value
 
 pub read_single-returns-then-is_null-clause-holds : goal.read_single-returns-then-is_null-clause-holds
 read_single-returns-then-is_null-clause-holds t c =
-    let type = single (wanted_single c.args.scene.now.schema.now c.args.wanted.now) in
-    ok_by c.null_value.result (λ v. (c.args.nullable ≡ true) × (v ≡ Null)) (λ v. HoldsEachSlot v (slots_in c.args.scene.now c.args.node) type)
-    (λ v is. null_holds (slots_in c.args.scene.now c.args.node) type v is.1) c.null_value.ensures.value
+    let type = single (wanted_single c.args.context.now.schema.now c.args.wanted.now) in
+    ok_by c.null_value.result (λ v. (c.args.nullable ≡ true) × (v ≡ Null)) (λ v. HoldsEachSlot v (slots_in c.args.context.now c.args.node) type)
+    (λ v is. null_holds (slots_in c.args.context.now c.args.node) type v is.1) c.null_value.ensures.value
 
 pub read_single-returns-then-is_null-clause-fault : goal.read_single-returns-then-is_null-clause-fault
 read_single-returns-then-is_null-clause-fault t c items =
-    let type = single (wanted_single c.args.scene.now.schema.now c.args.wanted.now) in
+    let type = single (wanted_single c.args.context.now.schema.now c.args.wanted.now) in
     let P : (Path → Flaw → Type 0) = λ path flaw. IsFoundFault (Some (view c.args.json.now)) c.args.nullable path flaw
-    (λ found. IsValueFault (slots_in c.args.scene.now c.args.node) items path type found flaw) in
+    (λ found. IsValueFault (slots_in c.args.context.now c.args.node) items path type found flaw) in
     err_by c.null_value.result (λ fault. (c.args.nullable ≡ false) × (fault.path ≡ None) × (fault.flaw ≡ code.NullNotAllowed)) (IsFaultOf P)
-    (λ fault is. told_here P fault code.NullNotAllowed is.2 is.1 (null_flaw (view c.args.json.now) c.args.nullable _ (sym c.is_null.ensures ∙ c.if-is_null.true) is.0))
+    (λ fault is. reported_here P fault code.NullNotAllowed is.2 is.1 (null_flaw (view c.args.json.now) c.args.nullable _ (sym c.is_null.ensures ∙ c.if-is_null.true) is.0))
     c.null_value.ensures.fault
 
 pub read_single-returns-clause-fits : goal.read_single-returns-clause-fits
 read_single-returns-clause-fits t c items =
-    let type = single (wanted_single c.args.scene.now.schema.now c.args.wanted.now) in
-    ok_by c.read_value.result (λ v. FitsType (slots_in c.args.scene.now c.args.node) items type (view c.args.json.now) (val_of v (slots_in c.args.scene.now c.args.node).properties type))
-    (λ v. FitsFound (Some (view c.args.json.now)) c.args.nullable (val_of v (slots_in c.args.scene.now c.args.node).properties type)
-    (λ found. FitsType (slots_in c.args.scene.now c.args.node) items type found (val_of v (slots_in c.args.scene.now c.args.node).properties type)))
+    let type = single (wanted_single c.args.context.now.schema.now c.args.wanted.now) in
+    ok_by c.read_value.result (λ v. FitsType (slots_in c.args.context.now c.args.node) items type (view c.args.json.now) (val_of v (slots_in c.args.context.now c.args.node).properties type))
+    (λ v. FitsFound (Some (view c.args.json.now)) c.args.nullable (val_of v (slots_in c.args.context.now c.args.node).properties type)
+    (λ found. FitsType (slots_in c.args.context.now c.args.node) items type found (val_of v (slots_in c.args.context.now c.args.node).properties type)))
     (λ v fits. other_fits (view c.args.json.now) c.args.nullable _ _ (sym c.is_null.ensures ∙ c.if-is_null.false) fits)
     (c.read_value.ensures.fits items)
 
 pub read_single-returns-clause-fault : goal.read_single-returns-clause-fault
 read_single-returns-clause-fault t c items =
-    let type = single (wanted_single c.args.scene.now.schema.now c.args.wanted.now) in
-    let Here : (Path → Flaw → Type 0) = λ path flaw. IsValueFault (slots_in c.args.scene.now c.args.node) items path type (view c.args.json.now) flaw in
+    let type = single (wanted_single c.args.context.now.schema.now c.args.wanted.now) in
+    let Here : (Path → Flaw → Type 0) = λ path flaw. IsValueFault (slots_in c.args.context.now c.args.node) items path type (view c.args.json.now) flaw in
     let P : (Path → Flaw → Type 0) = λ path flaw. IsFoundFault (Some (view c.args.json.now)) c.args.nullable path flaw
-    (λ found. IsValueFault (slots_in c.args.scene.now c.args.node) items path type found flaw) in
+    (λ found. IsValueFault (slots_in c.args.context.now c.args.node) items path type found flaw) in
     err_by c.read_value.result (IsFaultOf Here) (IsFaultOf P)
-    (λ told fault. fault_by Here P told (λ path flaw here. other_fault (view c.args.json.now) c.args.nullable path flaw _ (sym c.is_null.ensures ∙ c.if-is_null.false) here) fault)
+    (λ reported fault. fault_by Here P reported (λ path flaw here. other_fault (view c.args.json.now) c.args.nullable path flaw _ (sym c.is_null.ensures ∙ c.if-is_null.false) here) fault)
     (c.read_value.ensures.fault items)
 
 pub read_value-returns-in-Prim-clause-fits : goal.read_value-returns-in-Prim-clause-fits
 read_value-returns-in-Prim-clause-fits t c nullable =
     let type = single (primitive c.in-Prim.prim) in
-    read_as (slots_in c.args.scene.now c.args.node) nullable (view c.args.json.now) (wanted_single c.args.scene.now.schema.now c.args.wanted.now) (primitive c.in-Prim.prim) c.leaf_read.result
-    (ap (wanted_single c.args.scene.now.schema.now) c.in-Prim.is)
-    (leaf_fits c.read_primitive.result c.leaf_read.result (λ v. FitsType (slots_in c.args.scene.now c.args.node) nullable type (view c.args.json.now) (val_of v (slots_in c.args.scene.now c.args.node).properties type))
-    c.leaf_read.ensures.value (c.read_primitive.ensures.fits (view c.args.json.now) (slots_in c.args.scene.now c.args.node) type c.scalar_of.ensures))
+    read_as (slots_in c.args.context.now c.args.node) nullable (view c.args.json.now) (wanted_single c.args.context.now.schema.now c.args.wanted.now) (primitive c.in-Prim.prim) c.leaf_read.result
+    (ap (wanted_single c.args.context.now.schema.now) c.in-Prim.is)
+    (leaf_fits c.read_primitive.result c.leaf_read.result (λ v. FitsType (slots_in c.args.context.now c.args.node) nullable type (view c.args.json.now) (val_of v (slots_in c.args.context.now c.args.node).properties type))
+    c.leaf_read.ensures.value (c.read_primitive.ensures.fits (view c.args.json.now) (slots_in c.args.context.now c.args.node) type c.scalar_of.ensures))
 
 pub read_value-returns-in-Prim-clause-holds : goal.read_value-returns-in-Prim-clause-holds
 read_value-returns-in-Prim-clause-holds t c =
-    let slots = slots_in c.args.scene.now c.args.node in
+    let slots = slots_in c.args.context.now c.args.node in
     let type = primitive c.in-Prim.prim in
-    let wanted = wanted_single c.args.scene.now.schema.now c.args.wanted.now in
+    let wanted = wanted_single c.args.context.now.schema.now c.args.wanted.now in
     leaf_fits c.read_primitive.result c.leaf_read.result (λ v. HoldsEachSlot v slots (single wanted)) c.leaf_read.ensures.value
     (ok_by c.read_primitive.result (λ v. FitsPrimitive c.in-Prim.prim (view c.args.json.now) (val_of v slots.properties (single type))) (λ v. HoldsEachSlot v slots (single wanted))
-    (λ v fits. holds_as slots wanted type v (ap (wanted_single c.args.scene.now.schema.now) c.in-Prim.is) (primitive_holds slots c.in-Prim.prim (view c.args.json.now) v fits))
+    (λ v fits. holds_as slots wanted type v (ap (wanted_single c.args.context.now.schema.now) c.in-Prim.is) (primitive_holds slots c.in-Prim.prim (view c.args.json.now) v fits))
     (c.read_primitive.ensures.fits (view c.args.json.now) slots (single type) c.scalar_of.ensures))
 
 pub read_value-returns-in-Prim-clause-fault : goal.read_value-returns-in-Prim-clause-fault
 read_value-returns-in-Prim-clause-fault t c nullable =
     rw c.in-Prim.is (leaf_fault c.read_primitive.result c.leaf_read.result
-    (λ path flaw. IsValueFault (slots_in c.args.scene.now c.args.node) nullable path (single (primitive c.in-Prim.prim)) (view c.args.json.now) flaw)
+    (λ path flaw. IsValueFault (slots_in c.args.context.now c.args.node) nullable path (single (primitive c.in-Prim.prim)) (view c.args.json.now) flaw)
     c.leaf_read.ensures.fault (c.read_primitive.ensures.flaw (view c.args.json.now) c.scalar_of.ensures))
 
 pub read_value-returns-in-Enum-clause-fits : goal.read_value-returns-in-Enum-clause-fits
 read_value-returns-in-Enum-clause-fits t c nullable =
-    let type = single (enumeration (type_name_at c.args.scene.now.schema.now c.in-Enum.id)) in
-    read_as (slots_in c.args.scene.now c.args.node) nullable (view c.args.json.now) (wanted_single c.args.scene.now.schema.now c.args.wanted.now) (enumeration (type_name_at c.args.scene.now.schema.now c.in-Enum.id))
-    c.leaf_read-in-Enum.result (ap (wanted_single c.args.scene.now.schema.now) c.in-Enum.is)
+    let type = single (enumeration (type_name_at c.args.context.now.schema.now c.in-Enum.id)) in
+    read_as (slots_in c.args.context.now c.args.node) nullable (view c.args.json.now) (wanted_single c.args.context.now.schema.now c.args.wanted.now) (enumeration (type_name_at c.args.context.now.schema.now c.in-Enum.id))
+    c.leaf_read-in-Enum.result (ap (wanted_single c.args.context.now.schema.now) c.in-Enum.is)
     (leaf_fits c.read_member.result c.leaf_read-in-Enum.result
-    (λ v. FitsType (slots_in c.args.scene.now c.args.node) nullable type (view c.args.json.now) (val_of v (slots_in c.args.scene.now c.args.node).properties type))
-    c.leaf_read-in-Enum.ensures.value (c.read_member.ensures.fits (view c.args.json.now) (slots_in c.args.scene.now c.args.node) type c.scalar_of-in-Enum.ensures))
+    (λ v. FitsType (slots_in c.args.context.now c.args.node) nullable type (view c.args.json.now) (val_of v (slots_in c.args.context.now c.args.node).properties type))
+    c.leaf_read-in-Enum.ensures.value (c.read_member.ensures.fits (view c.args.json.now) (slots_in c.args.context.now c.args.node) type c.scalar_of-in-Enum.ensures))
 
 pub read_value-returns-in-Enum-clause-holds : goal.read_value-returns-in-Enum-clause-holds
 read_value-returns-in-Enum-clause-holds t c =
-    let slots = slots_in c.args.scene.now c.args.node in
-    let name = type_name_at c.args.scene.now.schema.now c.in-Enum.id in
-    let wanted = wanted_single c.args.scene.now.schema.now c.args.wanted.now in
+    let slots = slots_in c.args.context.now c.args.node in
+    let name = type_name_at c.args.context.now.schema.now c.in-Enum.id in
+    let wanted = wanted_single c.args.context.now.schema.now c.args.wanted.now in
     leaf_fits c.read_member.result c.leaf_read-in-Enum.result (λ v. HoldsEachSlot v slots (single wanted)) c.leaf_read-in-Enum.ensures.value
     (ok_by c.read_member.result (λ v. FitsText (IsMemberText (slots.enumerations name)) (view c.args.json.now) (val_of v slots.properties (single (enumeration name)))) (λ v. HoldsEachSlot v slots (single wanted))
-    (λ v fits. holds_as slots wanted (enumeration name) v (ap (wanted_single c.args.scene.now.schema.now) c.in-Enum.is) (member_holds slots name (view c.args.json.now) v fits))
+    (λ v fits. holds_as slots wanted (enumeration name) v (ap (wanted_single c.args.context.now.schema.now) c.in-Enum.is) (member_holds slots name (view c.args.json.now) v fits))
     (c.read_member.ensures.fits (view c.args.json.now) slots (single (enumeration name)) c.scalar_of-in-Enum.ensures))
 
 pub read_value-returns-in-Enum-clause-fault : goal.read_value-returns-in-Enum-clause-fault
 read_value-returns-in-Enum-clause-fault t c nullable =
-    let type = single (enumeration (type_name_at c.args.scene.now.schema.now c.in-Enum.id)) in
+    let type = single (enumeration (type_name_at c.args.context.now.schema.now c.in-Enum.id)) in
     rw c.in-Enum.is (leaf_fault c.read_member.result c.leaf_read-in-Enum.result
-    (λ path flaw. IsValueFault (slots_in c.args.scene.now c.args.node) nullable path type (view c.args.json.now) flaw)
+    (λ path flaw. IsValueFault (slots_in c.args.context.now c.args.node) nullable path type (view c.args.json.now) flaw)
     c.leaf_read-in-Enum.ensures.fault (c.read_member.ensures.flaw (view c.args.json.now) c.scalar_of-in-Enum.ensures))
 
 pub read_value-returns-in_ok-values-in-Complex-clause-fits : goal.read_value-returns-in_ok-values-in-Complex-clause-fits
 read_value-returns-in_ok-values-in-Complex-clause-fits t c nullable =
-    value_as (slots_in c.args.scene.now c.args.node) nullable (view c.args.json.now) (wanted_single c.args.scene.now.schema.now c.args.wanted.now) (structured (type_name_at c.args.scene.now.schema.now c.in-Complex.id))
-    (Record c.in_ok-values-in-Complex.values) (ap (wanted_single c.args.scene.now.schema.now) c.in-Complex.is)
-    (slots_fit (slots_in c.args.scene.now c.args.node) (type_name_at c.args.scene.now.schema.now c.in-Complex.id) nullable (view c.args.json.now) c.in_ok-values-in-Complex.values c.in_ok-values-in-Complex.ensures.distinct c.in_ok-values-in-Complex.ensures.object c.in_ok-values-in-Complex.ensures.fits)
+    value_as (slots_in c.args.context.now c.args.node) nullable (view c.args.json.now) (wanted_single c.args.context.now.schema.now c.args.wanted.now) (structured (type_name_at c.args.context.now.schema.now c.in-Complex.id))
+    (Record c.in_ok-values-in-Complex.values) (ap (wanted_single c.args.context.now.schema.now) c.in-Complex.is)
+    (slots_fit (slots_in c.args.context.now c.args.node) (type_name_at c.args.context.now.schema.now c.in-Complex.id) nullable (view c.args.json.now) c.in_ok-values-in-Complex.values c.in_ok-values-in-Complex.ensures.distinct c.in_ok-values-in-Complex.ensures.object c.in_ok-values-in-Complex.ensures.fits)
 
 pub read_value-returns-in_ok-values-in-Complex-clause-holds : goal.read_value-returns-in_ok-values-in-Complex-clause-holds
 read_value-returns-in_ok-values-in-Complex-clause-holds t c =
-    holds_as (slots_in c.args.scene.now c.args.node) (wanted_single c.args.scene.now.schema.now c.args.wanted.now) (structured (type_name_at c.args.scene.now.schema.now c.in-Complex.id)) (Record c.in_ok-values-in-Complex.values)
-    (ap (wanted_single c.args.scene.now.schema.now) c.in-Complex.is) (slots_held (slots_in c.args.scene.now c.args.node) (type_name_at c.args.scene.now.schema.now c.in-Complex.id) (λ name. get name (view c.args.json.now)) c.in_ok-values-in-Complex.values c.in_ok-values-in-Complex.ensures.fits)
+    holds_as (slots_in c.args.context.now c.args.node) (wanted_single c.args.context.now.schema.now c.args.wanted.now) (structured (type_name_at c.args.context.now.schema.now c.in-Complex.id)) (Record c.in_ok-values-in-Complex.values)
+    (ap (wanted_single c.args.context.now.schema.now) c.in-Complex.is) (slots_held (slots_in c.args.context.now c.args.node) (type_name_at c.args.context.now.schema.now c.in-Complex.id) (λ name. get name (view c.args.json.now)) c.in_ok-values-in-Complex.values c.in_ok-values-in-Complex.ensures.fits)
 
 pub read_value-returns-in_err-values-in-Complex-clause-fault : goal.read_value-returns-in_err-values-in-Complex-clause-fault
 read_value-returns-in_err-values-in-Complex-clause-fault t c nullable =
     let exit = err_from_is_err_and c.from_residual.result c.from_residual.ensures.1 in
-    rw (exit.1 ∙ ap Err exit.2) (rw c.in-Complex.is (record_fault (slots_in c.args.scene.now c.args.node) false nullable (type_name_at c.args.scene.now.schema.now c.in-Complex.id) (view c.args.json.now) c.in_err-values-in-Complex.field-0.0 c.in_err-values-in-Complex.ensures.fault))
+    rw (exit.1 ∙ ap Err exit.2) (rw c.in-Complex.is (record_fault (slots_in c.args.context.now c.args.node) false nullable (type_name_at c.args.context.now.schema.now c.in-Complex.id) (view c.args.json.now) c.in_err-values-in-Complex.field-0.0 c.in_err-values-in-Complex.ensures.fault))
 
 pub read_items-returns-clause-fits : goal.read_items-returns-clause-fits
 read_items-returns-clause-fits t c =
-    array_fits (slots_in c.args.scene.now c.args.node) c.args.nullable (wanted_single c.args.scene.now.schema.now c.args.wanted.now) (view c.args.json.now) (items_view c.in-Some.items.now.items) c.in_ok-values.values
+    array_fits (slots_in c.args.context.now c.args.node) c.args.nullable (wanted_single c.args.context.now.schema.now c.args.wanted.now) (view c.args.json.now) (items_view c.in-Some.items.now.items) c.in_ok-values.values
     (sym c.as_array.ensures ∙ ap (option_map (λ v. items_view v.now.items)) c.in-Some.is) (rw c.as_slice.ensures.value at c.in_ok-values.ensures.fits)
 
 pub read_items-returns-clause-holds : goal.read_items-returns-clause-holds
 read_items-returns-clause-holds t c =
-    list_held (slots_in c.args.scene.now c.args.node) (wanted_single c.args.scene.now.schema.now c.args.wanted.now) c.in_ok-values.values c.in_ok-values.ensures.holds
+    list_held (slots_in c.args.context.now c.args.node) (wanted_single c.args.context.now.schema.now c.args.wanted.now) c.in_ok-values.values c.in_ok-values.ensures.holds
 
 pub read_items-returns-in_err-values-clause-fault : goal.read_items-returns-in_err-values-clause-fault
 read_items-returns-in_err-values-clause-fault t c =
     let exit = err_from_is_err_and c.from_residual.result c.from_residual.ensures.1 in
-    rw (exit.1 ∙ ap Err exit.2) (array_fault (slots_in c.args.scene.now c.args.node) c.args.nullable (wanted_single c.args.scene.now.schema.now c.args.wanted.now) (view c.args.json.now) (items_view c.in-Some.items.now.items) c.in_err-values.field-0.0
+    rw (exit.1 ∙ ap Err exit.2) (array_fault (slots_in c.args.context.now c.args.node) c.args.nullable (wanted_single c.args.context.now.schema.now c.args.wanted.now) (view c.args.json.now) (items_view c.in-Some.items.now.items) c.in_err-values.field-0.0
     (sym c.as_array.ensures ∙ ap (option_map (λ v. items_view v.now.items)) c.in-Some.is) (rw c.as_slice.ensures.value at c.in_err-values.ensures.fault))
 
 pub read_list-read_single-requires : goal.read_list-read_single-requires
@@ -288,9 +288,9 @@ read_list-loop-index-preserved t c =
     let at = item_there c.args.items.now l.index x (omega arith) c.index-items-index.is in
     let pushed : c.push.new.self.items ≡ l.values.items ++ c.in-Ok-read_single.value ∷ [] = grind (arith, common_steps) in
     rw (pushed, add-one) (
-      list_push (slots_in c.args.scene.now c.args.node) c.args.nullable (wanted_single c.args.scene.now.schema.now c.args.wanted.now) c.args.items.now l.index l.values.items x c.in-Ok-read_single.value
+      list_push (slots_in c.args.context.now c.args.node) c.args.nullable (wanted_single c.args.context.now.schema.now c.args.wanted.now) c.args.items.now l.index l.values.items x c.in-Ok-read_single.value
           at l.invariant.0 (c.in-Ok-read_single.ensures.fits c.args.nullable),
-      holds_push (slots_in c.args.scene.now c.args.node) (wanted_single c.args.scene.now.schema.now c.args.wanted.now) l.values.items c.in-Ok-read_single.value l.invariant.1 c.in-Ok-read_single.ensures.holds,
+      holds_push (slots_in c.args.context.now c.args.node) (wanted_single c.args.context.now.schema.now c.args.wanted.now) l.values.items c.in-Ok-read_single.value l.invariant.1 c.in-Ok-read_single.ensures.holds,
     )
 
 pub read_list-returns-in-Err-clause-fault : goal.read_list-returns-in-Err-clause-fault
@@ -298,24 +298,24 @@ read_list-returns-in-Err-clause-fault t c =
     let l = c.loop-index in
     let x = c.index-items-index.result in
     let at = item_there c.args.items.now l.index x (omega arith) c.index-items-index.is in
-    list_fault (slots_in c.args.scene.now c.args.node) c.args.nullable (wanted_single c.args.scene.now.schema.now c.args.wanted.now) c.args.items.now l.index l.values.items x c.in-Err.fault c.fault_in_item.result
+    list_fault (slots_in c.args.context.now c.args.node) c.args.nullable (wanted_single c.args.context.now.schema.now c.args.wanted.now) c.args.items.now l.index l.values.items x c.in-Err.fault c.fault_in_item.result
     at l.invariant.0 c.fault_in_item.ensures (c.in-Err.ensures.fault c.args.nullable)
 
 pub read_property-returns-then-navigates-clause-fault : goal.read_property-returns-then-navigates-clause-fault
 read_property-returns-then-navigates-clause-fault t c =
-    let schema = c.args.scene.now.schema.now in
-    let slots = slots_in c.args.scene.now c.args.node in
+    let schema = c.args.context.now.schema.now in
+    let slots = slots_in c.args.context.now c.args.node in
     let p = c.args.property.now in
     let P : (Option Data → Path → Flaw → Type 0) = λ o. IsPropertyFault slots p.nullable (property_type schema p) o in
     let none : option_map (λ j. view j.now) c.args.found ≡ None = ap (option_map (λ j. view j.now)) c.in-None.is in
     subst (λ (o : Option Data). IsFaultOf (P o) c.fault_here.result) (sym none)
-    (told_here (P None) c.fault_here.result code.NotExpanded c.fault_here.ensures.flaw c.fault_here.ensures.here
+    (reported_here (P None) c.fault_here.result code.NotExpanded c.fault_here.ensures.flaw c.fault_here.ensures.here
     (nothing_expanded schema slots p.nullable p.kind (target_of p) p.many c.in-Some.wanted (ap (wanted_with c.args.property.now.kind) (sym c.expanded_target-target.ensures) ∙ sym c.wanted_with.ensures ∙ c.in-Some.is) (sym c.navigates.ensures ∙ c.if-navigates.true)))
 
 pub read_property-returns-else-navigates-clause-fits : goal.read_property-returns-else-navigates-clause-fits
 read_property-returns-else-navigates-clause-fits t c =
-    let schema = c.args.scene.now.schema.now in
-    let slots = slots_in c.args.scene.now c.args.node in
+    let schema = c.args.context.now.schema.now in
+    let slots = slots_in c.args.context.now c.args.node in
     let p = c.args.property.now in
     let type = property_type schema p in
     let none : option_map (λ j. view j.now) c.args.found ≡ None = ap (option_map (λ j. view j.now)) c.in-None.is in
@@ -327,18 +327,18 @@ read_property-returns-else-navigates-clause-fits t c =
 pub read_property-returns-else-navigates-clause-holds : goal.read_property-returns-else-navigates-clause-holds
 read_property-returns-else-navigates-clause-holds t c =
     let p = c.args.property.now in
-    ok_by c.absent_value.result (λ v. (p.many ≡ false) × (p.nullable ≡ true) × (v ≡ Null)) (HoldsInSlot (slots_in c.args.scene.now c.args.node) (property_type c.args.scene.now.schema.now p))
-    (λ v is. null_in_slot (slots_in c.args.scene.now c.args.node) (property_type c.args.scene.now.schema.now p) v is.2) c.absent_value.ensures.value
+    ok_by c.absent_value.result (λ v. (p.many ≡ false) × (p.nullable ≡ true) × (v ≡ Null)) (HoldsInSlot (slots_in c.args.context.now c.args.node) (property_type c.args.context.now.schema.now p))
+    (λ v is. null_in_slot (slots_in c.args.context.now c.args.node) (property_type c.args.context.now.schema.now p) v is.2) c.absent_value.ensures.value
 
 pub read_property-returns-else-navigates-clause-fault : goal.read_property-returns-else-navigates-clause-fault
 read_property-returns-else-navigates-clause-fault t c =
-    let schema = c.args.scene.now.schema.now in
-    let slots = slots_in c.args.scene.now c.args.node in
+    let schema = c.args.context.now.schema.now in
+    let slots = slots_in c.args.context.now c.args.node in
     let p = c.args.property.now in
     let P : (Option Data → Path → Flaw → Type 0) = λ o. IsPropertyFault slots p.nullable (property_type schema p) o in
     let none : option_map (λ j. view j.now) c.args.found ≡ None = ap (option_map (λ j. view j.now)) c.in-None.is in
     subst (λ (o : Option Data). IfErr c.absent_value.result (IsFaultOf (P o))) (sym none)
     (err_by c.absent_value.result (λ fault. ((p.many ≡ true) ⊎ (p.nullable ≡ false)) × (fault.path ≡ None) × (fault.flaw ≡ code.Missing)) (IsFaultOf (P None))
-    (λ fault is. told_here (P None) fault code.Missing is.2 is.1
+    (λ fault is. reported_here (P None) fault code.Missing is.2 is.1
     (nothing_missing schema slots p.nullable p.kind (target_of p) p.many c.in-Some.wanted (ap (wanted_with c.args.property.now.kind) (sym c.expanded_target-target.ensures) ∙ sym c.wanted_with.ensures ∙ c.in-Some.is) (sym c.navigates.ensures ∙ c.if-navigates.false) is.0))
     c.absent_value.ensures.fault)

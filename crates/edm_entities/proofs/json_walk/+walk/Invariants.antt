@@ -2,9 +2,9 @@ use Rattle.std.proofs.Common.{◌+◌, ◌*◌, option_map, take}
 use Rattle.serde_json.specs.Data.{depth, items_depth}
 use Rattle.serde_json.specs.View.{view, items_view}
 use Rattle.csdl_schema.specs.SchemaModel.{properties_at}
-use Rattle.edm_entities.specs.private.Lent.{IsLent}
+use Rattle.edm_entities.specs.private.PropertyCursor.{IsCursor}
 use Rattle.edm_row_plans.specs.Expanded.{slots_in}
-use Rattle.edm_entities.specs.private.Members.{IsWalkOf}
+use Rattle.edm_entities.specs.private.MemberWalk.{IsWalkOf}
 use Rattle.edm_entities.specs.private.Walk.{FitSlots, FitList, HoldInItems, wanted_single}
 use Rattle.edm_entities.proofs.SlotLemmas.Depth.{found_measure}
 use Rattle.edm_entities.proofs.json_walk.+walk.Given as goal
@@ -31,12 +31,12 @@ decreases-read_list l = 4 * items_depth (items_view l.items.now) + 4
 -- the values so far fit the slots so far, the current piece is one of the type, and the members are the object's
 abbrev pub invariant-read_slots-loop-slot : goal.invariant-read_slots-loop-slot
 invariant-read_slots-loop-slot l =
-    FitSlots (slots_in l.scene l.node) (view l.json) (take l.slot (properties_at l.scene.schema.now l.type_id)) l.values.items
-    × IsLent l.scene.schema.now l.type_id l.lent
+    FitSlots (slots_in l.context l.node) (view l.json) (take l.slot (properties_at l.context.schema.now l.type_id)) l.values.items
+    × IsCursor l.context.schema.now l.type_id l.cursor
     × IsWalkOf (view l.json) l.members
 
 -- the values so far fit the items so far, and hold one value for each slot
 abbrev pub invariant-read_list-loop-index : goal.invariant-read_list-loop-index
 invariant-read_list-loop-index l =
-    FitList (slots_in l.scene l.node) l.nullable (wanted_single l.scene.schema.now l.wanted) (items_view (take l.index l.items)) l.values.items
-    × HoldInItems (slots_in l.scene l.node) (wanted_single l.scene.schema.now l.wanted) l.values.items
+    FitList (slots_in l.context l.node) l.nullable (wanted_single l.context.schema.now l.wanted) (items_view (take l.index l.items)) l.values.items
+    × HoldInItems (slots_in l.context l.node) (wanted_single l.context.schema.now l.wanted) l.values.items

@@ -1,7 +1,7 @@
 use Rattle.std.proofs.Common.{option_map, sym, ap, ◌∙◌, subst}
 use Rattle.std.specs.List.{AllByRecursion}
 use Rattle.serde_json.specs.View.{view, members_view}
-use Rattle.edm_entities.specs.private.Members.{IsMember}
+use Rattle.edm_entities.specs.private.MemberWalk.{IsMember}
 use Rattle.edm_entities.proofs.SlotLemmas.ObjectMembers.{members_all, first_member}
 use Rattle.edm_entities.proofs.member_walk.members_of.Goals as goal
 

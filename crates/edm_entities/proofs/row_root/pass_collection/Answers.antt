@@ -13,19 +13,19 @@ use Rattle.edm_entities.proofs.row_root.pass_collection.Goals as goal
 
 pub returns-in_default-clause-kept : goal.returns-in_default-clause-kept
 returns-in_default-clause-kept c done =
-    let schema = c.args.scene.now.schema.now in
-    let slots = slots_below c.args.scene.now c.args.plan.now.node in
+    let schema = c.args.context.now.schema.now in
+    let slots = slots_below c.args.context.now c.args.plan.now.node in
     let p = c.args.plan.now.property in
     let never = ap (wanted_with p.kind) (sym c.requires.leads) ∙ sym c.wanted_with.ensures ∙ c.in_default.is in
     (json_null, unwanted_fits schema slots p.nullable p.kind (target_of p) p.many (Some json_null) Null never refl)
 
 pub returns-in_default-clause-holds : goal.returns-in_default-clause-holds
-returns-in_default-clause-holds c _ = null_in_slot (slots_below c.args.scene.now c.args.plan.now.node) (property_type c.args.scene.now.schema.now c.args.plan.now.property) Null refl
+returns-in_default-clause-holds c _ = null_in_slot (slots_below c.args.context.now c.args.plan.now.node) (property_type c.args.context.now.schema.now c.args.plan.now.property) Null refl
 
 pub returns-in-Some-list_in-clause-kept : goal.returns-in-Some-list_in-clause-kept
 returns-in-Some-list_in-clause-kept c done =
-    let schema = c.args.scene.now.schema.now in
-    let slots = slots_below c.args.scene.now c.args.plan.now.node in
+    let schema = c.args.context.now.schema.now in
+    let slots = slots_below c.args.context.now c.args.plan.now.node in
     let p = c.args.plan.now.property in
     let wanted = c.in-Some._wanted in
     let type = wanted_single schema wanted in
@@ -41,8 +41,8 @@ returns-in-Some-list_in-clause-kept c done =
 
 pub returns-in-Some-list_in-clause-holds : goal.returns-in-Some-list_in-clause-holds
 returns-in-Some-list_in-clause-holds c done =
-    let schema = c.args.scene.now.schema.now in
-    let slots = slots_below c.args.scene.now c.args.plan.now.node in
+    let schema = c.args.context.now.schema.now in
+    let slots = slots_below c.args.context.now c.args.plan.now.node in
     let p = c.args.plan.now.property in
     let wanted = c.in-Some._wanted in
     let type = wanted_single schema wanted in

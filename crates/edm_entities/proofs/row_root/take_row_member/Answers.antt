@@ -11,14 +11,14 @@ use Rattle.edm_entities.proofs.row_root.take_row_member.Goals as goal
 
 pub take_slot-requires : goal.take_slot-requires
 take_slot-requires c =
-    let planned = slot_planned c.args.scene.now.schema.now c.args.scene.now.expansion.now c.args.plan.now c.likely-likely.result c.slot_at-slot.result.plan.now c.requires.plan c.slot_at-slot.ensures.plan in
+    let planned = slot_planned c.args.context.now.schema.now c.args.context.now.expansion.now c.args.plan.now c.likely-likely.result c.slot_at-slot.result.plan.now c.requires.plan c.slot_at-slot.ensures.plan in
     let leads = planned.leads in
     search rules
 
 pub returns-then-take_key : goal.returns-then-take_key
 returns-then-take_key c =
-    let schema = c.args.scene.now.schema.now in
-    let steps = c.args.scene.now.expansion.now in
+    let schema = c.args.context.now.schema.now in
+    let steps = c.args.context.now.expansion.now in
     let plan = c.args.plan.now in
     let slot = c.likely-likely.result in
     let s = c.slot_at-slot.result.plan.now in
@@ -27,7 +27,7 @@ returns-then-take_key c =
     let named = (slot_planned schema steps plan slot k c.requires.plan at).named.0 in
     let planned = slot_planned schema steps plan slot s c.requires.plan c.slot_at-slot.ensures.plan in (
       omega (arith, c.requires.plan.planned.count),
-      row_slot c.args.scene.now.depth schema steps plan slot s k.key c.args.reader.now c.take_key.new.self c.take_slot.new.reader (passed_names (properties_at schema plan.type_id) c.args.scene.now.passed.now)
+      row_slot c.args.context.now.depth schema steps plan slot s k.key c.args.reader.now c.take_key.new.self c.take_slot.new.reader (passed_names (properties_at schema plan.type_id) c.args.context.now.passed.now)
           (c.slot_at-slot.result.is_passed ≡ true) c.args.values.now.items c.take_slot.new.place c.requires.plan planned (c.take_key.ensures.taken c.if-take_key.true) named
           (λ is. (slot, sym c.slot_at-slot.ensures.passed ∙ is, named)) (c.take_slot.ensures.read c.if-not-take_slot.false) (c.take_slot.ensures.holds c.if-not-take_slot.false),
     )
@@ -35,11 +35,11 @@ returns-then-take_key c =
 pub returns-then-take_named_row_member : goal.returns-then-take_named_row_member
 returns-then-take_named_row_member c =
     let plan = c.args.plan.now in
-    let ps = properties_at c.args.scene.now.schema.now plan.type_id in
+    let ps = properties_at c.args.context.now.schema.now plan.type_id in
     let kept : c.if-likely-len.reader ≡ c.args.reader.now =
     elim c.if-likely-len.branch [
       | then-likely-len+else-take_key w ↦ w.reader-is ∙ w.take_key.ensures.kept w.if-take_key.false
       | else-likely-len+else-take_end_object w ↦ w.reader-is ∙ w.take_end_object.ensures.kept w.if-take_end_object.false
     ] in
-    subst (λ ts. TakesRowMember c.args.scene.now.depth (slots_below c.args.scene.now plan.node) (passed_names ps c.args.scene.now.passed.now) ps ts c.take_named_row_member.new.reader
+    subst (λ ts. TakesRowMember c.args.context.now.depth (slots_below c.args.context.now plan.node) (passed_names ps c.args.context.now.passed.now) ps ts c.take_named_row_member.new.reader
     c.args.values.now.items c.take_named_row_member.new.values.items c.take_named_row_member.new.cache.found) kept (c.take_named_row_member.ensures c.if-take_named_row_member.true)

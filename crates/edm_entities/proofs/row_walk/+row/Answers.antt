@@ -35,10 +35,10 @@ use Rattle.edm_entities.proofs.row_walk.+row.Goals as goal
 
 pub take_array-returns-in-Some-clause-read : goal.take_array-returns-in-Some-clause-read
 take_array-returns-in-Some-clause-read t c done =
-    let slots = slots_below c.args.scene.now c.args.one.now.node in
+    let slots = slots_below c.args.context.now c.args.one.now.node in
     let one = c.args.one.now in
-    let type = wanted_single c.args.scene.now.schema.now one.wanted in
-    let depth = c.args.scene.now.depth in
+    let type = wanted_single c.args.context.now.schema.now one.wanted in
+    let depth = c.args.context.now.depth in
     let values = c.take_items.new.values in
     let first : c.args.reader.now ≡ Token.begin_array ∷ c.take_begin_array.new.self = c.take_begin_array.ensures.taken c.if-not-take_begin_array.false in
     subst (λ ts. Reads depth ts c.take_items.new.reader (FitsNullable slots false one.nullable (collection type) (ListOf values))) (sym first)
@@ -48,16 +48,16 @@ take_array-returns-in-Some-clause-read t c done =
 
 pub take_array-returns-in-Some-clause-holds : goal.take_array-returns-in-Some-clause-holds
 take_array-returns-in-Some-clause-holds t c done =
-    let type = wanted_single c.args.scene.now.schema.now c.args.one.now.wanted in
-    array_holds (slots_below c.args.scene.now c.args.one.now.node) type c.take_items.new.values (c.take_items.ensures.holds done)
+    let type = wanted_single c.args.context.now.schema.now c.args.one.now.wanted in
+    array_holds (slots_below c.args.context.now c.args.one.now.node) type c.take_items.new.values (c.take_items.ensures.holds done)
 
 pub take_items-items-init : goal.take_items-items-init
 take_items-items-init t c =
-    let slots = slots_below c.args.scene.now c.args.one.now.node in
+    let slots = slots_below c.args.context.now c.args.one.now.node in
     let one = c.args.one.now in
-    let type = wanted_single c.args.scene.now.schema.now one.wanted in
+    let type = wanted_single c.args.context.now.schema.now one.wanted in
     let none : take 0 c.args.values.now.items ≡ [] = take_none c.args.values.now.items in (
-      items_start c.args.scene.now.depth c.args.reader.now (λ jsons. FitList slots one.nullable type jsons (take 0 c.args.values.now.items))
+      items_start c.args.context.now.depth c.args.reader.now (λ jsons. FitList slots one.nullable type jsons (take 0 c.args.values.now.items))
           (subst (λ vs. FitList slots one.nullable type no_items vs) (sym none) tt),
       subst (HoldInItems slots type) (sym none) refl,
       omega arith,
@@ -67,8 +67,8 @@ pub take_items-items-smaller : goal.take_items-items-smaller
 take_items-items-smaller t c =
     let l = c.items in
     let one = c.args.one.now in
-    let depth = c.args.scene.now.depth in
-    let Q : (Data → Type 0) = FitsNullable (slots_below c.args.scene.now c.args.one.now.node) one.nullable one.nullable (single (wanted_single c.args.scene.now.schema.now one.wanted)) c.take_single.new.place in
+    let depth = c.args.context.now.depth in
+    let Q : (Data → Type 0) = FitsNullable (slots_below c.args.context.now c.args.one.now.node) one.nullable one.nullable (single (wanted_single c.args.context.now.schema.now one.wanted)) c.take_single.new.place in
     let kept : c.take_end_array.new.self ≡ l.reader = grind arith in
     let read : Reads depth l.reader c.take_single.new.reader Q = subst (λ ts. Reads depth ts c.take_single.new.reader Q) kept (c.take_single.ensures.read c.if-not-take_single.false) in
     let less : length c.take_single.new.reader < length l.reader = read_shorter depth l.reader c.take_single.new.reader Q read in
@@ -77,10 +77,10 @@ take_items-items-smaller t c =
 pub take_items-items-preserved : goal.take_items-items-preserved
 take_items-items-preserved t c =
     let l = c.items in
-    let slots = slots_below c.args.scene.now c.args.one.now.node in
+    let slots = slots_below c.args.context.now c.args.one.now.node in
     let one = c.args.one.now in
-    let depth = c.args.scene.now.depth in
-    let type = wanted_single c.args.scene.now.schema.now one.wanted in
+    let depth = c.args.context.now.depth in
+    let type = wanted_single c.args.context.now.schema.now one.wanted in
     let nullable = one.nullable in
     let v = c.take_single.new.place in
     let held = c.has_place.new.values.items in
@@ -101,16 +101,16 @@ pub take_items-returns-clause-read : goal.take_items-returns-clause-read
 take_items-returns-clause-read t c done =
     let l = c.items in
     let one = c.args.one.now in
-    let schema = c.args.scene.now.schema.now in
+    let schema = c.args.context.now.schema.now in
     let closed : after_end_array l.reader ≡ Some c.take_end_array.new.self = grind arith in
-    let reads = items_over c.args.scene.now.depth c.args.reader.now l.reader c.take_end_array.new.self
-    (λ jsons. FitList (slots_below c.args.scene.now c.args.one.now.node) one.nullable (wanted_single schema one.wanted) jsons (take l.count l.values.items)) closed l.invariant.0 in
-    subst (λ vs. ReadsItems c.args.scene.now.depth c.args.reader.now c.take_end_array.new.self (λ jsons. FitList (slots_below c.args.scene.now c.args.one.now.node) one.nullable (wanted_single schema one.wanted) jsons vs)) (sym c.cut.ensures) reads
+    let reads = items_over c.args.context.now.depth c.args.reader.now l.reader c.take_end_array.new.self
+    (λ jsons. FitList (slots_below c.args.context.now c.args.one.now.node) one.nullable (wanted_single schema one.wanted) jsons (take l.count l.values.items)) closed l.invariant.0 in
+    subst (λ vs. ReadsItems c.args.context.now.depth c.args.reader.now c.take_end_array.new.self (λ jsons. FitList (slots_below c.args.context.now c.args.one.now.node) one.nullable (wanted_single schema one.wanted) jsons vs)) (sym c.cut.ensures) reads
 
 pub take_items-returns-clause-holds : goal.take_items-returns-clause-holds
 take_items-returns-clause-holds t c done =
-    let schema = c.args.scene.now.schema.now in
-    subst (HoldInItems (slots_below c.args.scene.now c.args.one.now.node) (wanted_single schema c.args.one.now.wanted)) (sym c.cut.ensures) c.items.invariant.1
+    let schema = c.args.context.now.schema.now in
+    subst (HoldInItems (slots_below c.args.context.now c.args.one.now.node) (wanted_single schema c.args.one.now.wanted)) (sym c.cut.ensures) c.items.invariant.1
 
 pub take_member-take_property-requires : goal.take_member-take_property-requires
 take_member-take_property-requires t c =
@@ -118,22 +118,22 @@ take_member-take_property-requires t c =
     let slot = c.likely-likely.result in
     let s = c.index-slot_plan.result.now in
     let at : slice_get plan.slots.items slot ≡ Some s = slice_get_read plan.slots.items (length plan.slots.items) slot s refl (omega arith) c.index-slot_plan.ensures in
-    let planned : IsSlotPlan c.args.scene.now.schema.now c.args.scene.now.expansion.now plan.type_id plan.node slot s =
-    slot_planned c.args.scene.now.schema.now c.args.scene.now.expansion.now plan slot s c.requires.plan at in
+    let planned : IsSlotPlan c.args.context.now.schema.now c.args.context.now.expansion.now plan.type_id plan.node slot s =
+    slot_planned c.args.context.now.schema.now c.args.context.now.expansion.now plan slot s c.requires.plan at in
     let leads = planned.leads in
     search rules
 
 pub take_member-returns-then-take_key : goal.take_member-returns-then-take_key
 take_member-returns-then-take_key t c =
-    let schema = c.args.scene.now.schema.now in
-    let steps = c.args.scene.now.expansion.now in
+    let schema = c.args.context.now.schema.now in
+    let steps = c.args.context.now.expansion.now in
     let plan = c.args.plan.now in
     let slot = c.likely-likely.result in
     let s = c.index-slot_plan.result.now in
     let at : slice_get plan.slots.items slot ≡ Some s = slice_get_read plan.slots.items (length plan.slots.items) slot s refl (omega arith) c.index-slot_plan.ensures in
     let planned = slot_planned schema steps plan slot s c.requires.plan at in (
       omega (arith, c.requires.plan.planned.count),
-      member_of_slot c.args.scene.now.depth schema steps plan slot s s.key c.args.reader.now c.take_key.new.self c.take_property.new.reader c.args.values.now.items c.take_property.new.place
+      member_of_slot c.args.context.now.depth schema steps plan slot s s.key c.args.reader.now c.take_key.new.self c.take_property.new.reader c.args.values.now.items c.take_property.new.place
           c.requires.plan planned (c.take_key.ensures.taken c.if-take_key.true) planned.named.0 (c.take_property.ensures.read c.if-not-take_property.false) (c.take_property.ensures.holds c.if-not-take_property.false),
     )
 
@@ -146,13 +146,13 @@ take_member-returns-then-take_named_member t c =
       | take_member-else-likely-len+else-take_end_object w ↦ w.reader-is ∙ w.take_end_object.ensures.kept w.if-take_end_object.false
     ] in
     let taken = c.take_named_member.ensures c.if-take_named_member.true in
-    subst (λ ts. TakesMember c.args.scene.now.depth (slots_below c.args.scene.now plan.node) (properties_at c.args.scene.now.schema.now plan.type_id) ts c.take_named_member.new.reader
+    subst (λ ts. TakesMember c.args.context.now.depth (slots_below c.args.context.now plan.node) (properties_at c.args.context.now.schema.now plan.type_id) ts c.take_named_member.new.reader
     c.args.values.now.items c.take_named_member.new.values.items c.take_named_member.new.cache.found) kept taken
 
 pub take_named_member-take_property-requires : goal.take_named_member-take_property-requires
 take_named_member-take_property-requires t c =
-    let schema = c.args.scene.now.schema.now in
-    let steps = c.args.scene.now.expansion.now in
+    let schema = c.args.context.now.schema.now in
+    let steps = c.args.context.now.expansion.now in
     let plan = c.args.plan.now in
     let ps = properties_at schema plan.type_id in
     let slot = c.in-OfSlot.slot in
@@ -165,8 +165,8 @@ take_named_member-take_property-requires t c =
 
 pub take_named_member-returns-else-not-take_property : goal.take_named_member-returns-else-not-take_property
 take_named_member-returns-else-not-take_property t c _ =
-    let schema = c.args.scene.now.schema.now in
-    let steps = c.args.scene.now.expansion.now in
+    let schema = c.args.context.now.schema.now in
+    let steps = c.args.context.now.expansion.now in
     let plan = c.args.plan.now in
     let ps = properties_at schema plan.type_id in
     let slot = c.in-OfSlot.slot in
@@ -176,17 +176,17 @@ take_named_member-returns-else-not-take_property t c _ =
     let planned : IsSlotPlan schema steps plan.type_id plan.node slot s =
     slot_planned schema steps plan slot s c.requires.plan (slice_get_read plan.slots.items (length plan.slots.items) slot s refl (omega (arith, c.requires.plan.planned.count, within)) c.index.ensures) in (
       within,
-      member_of_slot c.args.scene.now.depth schema steps plan slot s next.0 c.args.reader.now c.find_member.new.reader c.take_property.new.reader c.args.values.now.items c.take_property.new.place
+      member_of_slot c.args.context.now.depth schema steps plan slot s next.0 c.args.reader.now c.find_member.new.reader c.take_property.new.reader c.args.values.now.items c.take_property.new.place
           c.requires.plan planned next.1 next.2 (c.take_property.ensures.read c.if-not-take_property.false) (c.take_property.ensures.holds c.if-not-take_property.false),
     )
 
 pub take_named_member-returns-in-Other : goal.take_named_member-returns-in-Other
 take_named_member-returns-in-Other t c done =
-    let schema = c.args.scene.now.schema.now in
+    let schema = c.args.context.now.schema.now in
     let plan = c.args.plan.now in
-    let slots = slots_below c.args.scene.now plan.node in
+    let slots = slots_below c.args.context.now plan.node in
     let ps = properties_at schema plan.type_id in
-    let depth = c.args.scene.now.depth in
+    let depth = c.args.context.now.depth in
     let values = c.args.values.now.items in
     let next : IsNextMember schema plan.type_id c.args.reader.now c.find_member.new.reader Other = rw c.in-Other.is at (c.find_member.ensures c.if-not-find_member.false) in
     subst (TakesMember depth slots ps c.args.reader.now c.skip_value.new.reader values values) (sym c.in-Other.is)
@@ -194,27 +194,27 @@ take_named_member-returns-in-Other t c done =
 
 pub take_named_member-returns-in-End : goal.take_named_member-returns-in-End
 take_named_member-returns-in-End t c _ =
-    let schema = c.args.scene.now.schema.now in
+    let schema = c.args.context.now.schema.now in
     let plan = c.args.plan.now in
     let values = c.args.values.now.items in
     let next : IsNextMember schema plan.type_id c.args.reader.now c.find_member.new.reader End = rw c.in-End.is at (c.find_member.ensures c.if-not-find_member.false) in
-    subst (TakesMember c.args.scene.now.depth (slots_below c.args.scene.now plan.node) (properties_at schema plan.type_id) c.args.reader.now c.find_member.new.reader values values) (sym c.in-End.is) (next, refl)
+    subst (TakesMember c.args.context.now.depth (slots_below c.args.context.now plan.node) (properties_at schema plan.type_id) c.args.reader.now c.find_member.new.reader values values) (sym c.in-End.is) (next, refl)
 
 pub take_members-members-init : goal.take_members-members-init
 take_members-members-init t c =
-    let ps = properties_at c.args.scene.now.schema.now c.args.plan.now.type_id in
-    let slots = slots_below c.args.scene.now c.args.plan.now.node in
+    let ps = properties_at c.args.context.now.schema.now c.args.plan.now.type_id in
+    let slots = slots_below c.args.context.now c.args.plan.now.node in
     let values = c.begin_slots.new.values.items in
     let long : c.len.result ≡ length ps = omega (arith, c.requires.plan.planned.count) in
-    members_start c.args.scene.now.depth c.args.reader.now (λ found. SlotsSoFar slots ps found c.new-filled.result values)
+    members_start c.args.context.now.depth c.args.reader.now (λ found. SlotsSoFar slots ps found c.new-filled.result values)
     (slots_start slots ps 1024 c.new-filled.result values c.new-filled.ensures (omega (arith, long, c.begin_slots.ensures.few c.if-not-begin_slots.false)) (c.begin_slots.ensures.long c.if-not-begin_slots.false ∙ long))
 
 pub take_members-take_member-requires : goal.take_members-take_member-requires
 take_members-take_member-requires t c =
     let l = c.members in
     let plan = c.args.plan.now in
-    let slots = slots_below c.args.scene.now plan.node in
-    let ps = properties_at c.args.scene.now.schema.now plan.type_id in
+    let slots = slots_below c.args.context.now plan.node in
+    let ps = properties_at c.args.context.now.schema.now plan.type_id in
     let values : length l.values.items ≡ length plan.slots.items =
     as_many_values (HoldsSoFar slots (found_in l.invariant.found)) ps l.filled l.values.items l.invariant.holds ∙ sym c.requires.plan.planned.count in
     search rules
@@ -223,70 +223,70 @@ pub take_members-members-smaller-in-OfSlot : goal.take_members-members-smaller-i
 take_members-members-smaller-in-OfSlot t c =
     let l = c.members in
     let plan = c.args.plan.now in
-    let slots = slots_below c.args.scene.now plan.node in
-    let ps = properties_at c.args.scene.now.schema.now plan.type_id in
+    let slots = slots_below c.args.context.now plan.node in
+    let ps = properties_at c.args.context.now.schema.now plan.type_id in
     let slot = c.in-OfSlot.slot in
     let values = c.take_member.new.values.items in
-    let taken : TakesMember c.args.scene.now.depth slots ps l.reader c.take_member.new.reader l.values.items values (OfSlot slot) = rw c.in-OfSlot.is at c.in-Some.ensures in
-    member_shorter c.args.scene.now.depth l.reader c.take_member.new.reader (FillsSlots slots ps (OfSlot slot) l.values.items values) taken.1
+    let taken : TakesMember c.args.context.now.depth slots ps l.reader c.take_member.new.reader l.values.items values (OfSlot slot) = rw c.in-OfSlot.is at c.in-Some.ensures in
+    member_shorter c.args.context.now.depth l.reader c.take_member.new.reader (FillsSlots slots ps (OfSlot slot) l.values.items values) taken.1
 
 pub take_members-members-smaller : goal.take_members-members-smaller
 take_members-members-smaller t c =
     let l = c.members in
     let plan = c.args.plan.now in
-    let slots = slots_below c.args.scene.now plan.node in
-    let ps = properties_at c.args.scene.now.schema.now plan.type_id in
+    let slots = slots_below c.args.context.now plan.node in
+    let ps = properties_at c.args.context.now.schema.now plan.type_id in
     let values = c.take_member.new.values.items in
-    let taken : TakesMember c.args.scene.now.depth slots ps l.reader c.take_member.new.reader l.values.items values Other = rw c.in-Other.is at c.in-Some.ensures in
-    member_shorter c.args.scene.now.depth l.reader c.take_member.new.reader (FillsSlots slots ps Other l.values.items values) taken
+    let taken : TakesMember c.args.context.now.depth slots ps l.reader c.take_member.new.reader l.values.items values Other = rw c.in-Other.is at c.in-Some.ensures in
+    member_shorter c.args.context.now.depth l.reader c.take_member.new.reader (FillsSlots slots ps Other l.values.items values) taken
 
 pub take_members-members-preserved-in-OfSlot : goal.take_members-members-preserved-in-OfSlot
 take_members-members-preserved-in-OfSlot t c =
     let l = c.members in
     let plan = c.args.plan.now in
-    let slots = slots_below c.args.scene.now plan.node in
-    let ps = properties_at c.args.scene.now.schema.now plan.type_id in
+    let slots = slots_below c.args.context.now plan.node in
+    let ps = properties_at c.args.context.now.schema.now plan.type_id in
     let slot = c.in-OfSlot.slot in
     let values = c.take_member.new.values.items in
-    let taken : TakesMember c.args.scene.now.depth slots ps l.reader c.take_member.new.reader l.values.items values (OfSlot slot) = rw c.in-OfSlot.is at c.in-Some.ensures in
-    member_taken c.args.scene.now.depth c.args.reader.now l.reader c.take_member.new.reader slots ps (OfSlot slot) l.values.items values l.filled c.pass.new.self taken.1 c.pass.ensures l.invariant
+    let taken : TakesMember c.args.context.now.depth slots ps l.reader c.take_member.new.reader l.values.items values (OfSlot slot) = rw c.in-OfSlot.is at c.in-Some.ensures in
+    member_taken c.args.context.now.depth c.args.reader.now l.reader c.take_member.new.reader slots ps (OfSlot slot) l.values.items values l.filled c.set.new.self taken.1 c.set.ensures l.invariant
 
 pub take_members-members-preserved : goal.take_members-members-preserved
 take_members-members-preserved t c =
     let l = c.members in
     let plan = c.args.plan.now in
-    let slots = slots_below c.args.scene.now plan.node in
-    let ps = properties_at c.args.scene.now.schema.now plan.type_id in
+    let slots = slots_below c.args.context.now plan.node in
+    let ps = properties_at c.args.context.now.schema.now plan.type_id in
     let values = c.take_member.new.values.items in
-    let taken : TakesMember c.args.scene.now.depth slots ps l.reader c.take_member.new.reader l.values.items values Other = rw c.in-Other.is at c.in-Some.ensures in
-    member_taken c.args.scene.now.depth c.args.reader.now l.reader c.take_member.new.reader slots ps Other l.values.items values l.filled l.filled taken refl l.invariant
+    let taken : TakesMember c.args.context.now.depth slots ps l.reader c.take_member.new.reader l.values.items values Other = rw c.in-Other.is at c.in-Some.ensures in
+    member_taken c.args.context.now.depth c.args.reader.now l.reader c.take_member.new.reader slots ps Other l.values.items values l.filled l.filled taken refl l.invariant
 
 pub take_members-fill_slots-requires-clause-marks : goal.take_members-fill_slots-requires-clause-marks
 take_members-fill_slots-requires-clause-marks t c =
     let l = c.members in
     let plan = c.args.plan.now in
-    let slots = slots_below c.args.scene.now plan.node in
-    omega (arith, c.requires.plan.planned.count, marked (HoldsSoFar slots (found_in l.invariant.found)) (properties_at c.args.scene.now.schema.now plan.type_id) l.filled l.values.items l.invariant.holds)
+    let slots = slots_below c.args.context.now plan.node in
+    omega (arith, c.requires.plan.planned.count, marked (HoldsSoFar slots (found_in l.invariant.found)) (properties_at c.args.context.now.schema.now plan.type_id) l.filled l.values.items l.invariant.holds)
 
 pub take_members-fill_slots-requires-clause-values : goal.take_members-fill_slots-requires-clause-values
 take_members-fill_slots-requires-clause-values t c =
     let l = c.members in
     let plan = c.args.plan.now in
-    let slots = slots_below c.args.scene.now plan.node in
+    let slots = slots_below c.args.context.now plan.node in
     let values = c.take_member.new.values.items in
-    let ends : TakesMember c.args.scene.now.depth slots (properties_at c.args.scene.now.schema.now plan.type_id) l.reader c.take_member.new.reader l.values.items values End = rw c.in-End.is at c.in-Some.ensures in
+    let ends : TakesMember c.args.context.now.depth slots (properties_at c.args.context.now.schema.now plan.type_id) l.reader c.take_member.new.reader l.values.items values End = rw c.in-End.is at c.in-Some.ensures in
     ap length ends.1
-    ∙ as_many_values (HoldsSoFar slots (found_in l.invariant.found)) (properties_at c.args.scene.now.schema.now plan.type_id) l.filled l.values.items l.invariant.holds ∙ sym c.requires.plan.planned.count
+    ∙ as_many_values (HoldsSoFar slots (found_in l.invariant.found)) (properties_at c.args.context.now.schema.now plan.type_id) l.filled l.values.items l.invariant.holds ∙ sym c.requires.plan.planned.count
 
 pub take_members-returns-then-are_first : goal.take_members-returns-then-are_first
 take_members-returns-then-are_first t c done =
     let l = c.members in
     let plan = c.args.plan.now in
-    let slots = slots_below c.args.scene.now plan.node in
-    let ps = properties_at c.args.scene.now.schema.now plan.type_id in
+    let slots = slots_below c.args.context.now plan.node in
+    let ps = properties_at c.args.context.now.schema.now plan.type_id in
     let values = c.take_member.new.values.items in
-    let ends : TakesMember c.args.scene.now.depth slots ps l.reader c.take_member.new.reader l.values.items c.take_member.new.values.items End = rw c.in-End.is at c.in-Some.ensures in
-    members_over c.args.scene.now.depth c.args.reader.now l.reader c.take_member.new.reader (λ found. SlotsSoFar slots ps found l.filled l.values.items)
+    let ends : TakesMember c.args.context.now.depth slots ps l.reader c.take_member.new.reader l.values.items c.take_member.new.values.items End = rw c.in-End.is at c.in-Some.ensures in
+    members_over c.args.context.now.depth c.args.reader.now l.reader c.take_member.new.reader (λ found. SlotsSoFar slots ps found l.filled l.values.items)
     (λ found. FitSlots slots (object found) ps values) ends.0
     (λ found so_far. slots_over slots ps found l.filled values (λ k less. c.are_first.ensures.first c.if-are_first.true k (omega (arith, less, c.requires.plan.planned.count)))
     (subst (λ vs. SlotsSoFar slots ps found l.filled vs) (sym ends.1) so_far)) l.invariant
@@ -294,25 +294,25 @@ take_members-returns-then-are_first t c done =
 pub take_members-returns-else-are_first : goal.take_members-returns-else-are_first
 take_members-returns-else-are_first t c done =
     let l = c.members in
-    let schema = c.args.scene.now.schema.now in
+    let schema = c.args.context.now.schema.now in
     let plan = c.args.plan.now in
-    let slots = slots_below c.args.scene.now plan.node in
+    let slots = slots_below c.args.context.now plan.node in
     let ps = properties_at schema plan.type_id in
-    let ends : TakesMember c.args.scene.now.depth slots ps l.reader c.take_member.new.reader l.values.items c.take_member.new.values.items End = rw c.in-End.is at c.in-Some.ensures in
-    members_over c.args.scene.now.depth c.args.reader.now l.reader c.take_member.new.reader (λ found. SlotsSoFar slots ps found l.filled l.values.items)
+    let ends : TakesMember c.args.context.now.depth slots ps l.reader c.take_member.new.reader l.values.items c.take_member.new.values.items End = rw c.in-End.is at c.in-Some.ensures in
+    members_over c.args.context.now.depth c.args.reader.now l.reader c.take_member.new.reader (λ found. SlotsSoFar slots ps found l.filled l.values.items)
     (λ found. FitSlots slots (object found) ps c.fill_slots.new.values.items) ends.0
-    (λ found so_far. c.fill_slots.ensures.fits schema c.args.scene.now.expansion.now found c.requires.plan done (subst (λ vs. SlotsSoFar slots ps found l.filled vs) (sym ends.1) so_far)) l.invariant
+    (λ found so_far. c.fill_slots.ensures.fits schema c.args.context.now.expansion.now found c.requires.plan done (subst (λ vs. SlotsSoFar slots ps found l.filled vs) (sym ends.1) so_far)) l.invariant
 
 pub take_record-returns-in-Some-clause-holds : goal.take_record-returns-in-Some-clause-holds
 take_record-returns-in-Some-clause-holds t c done =
     let read = c.take_members.ensures (c.leaf_put.ensures.read done) in
-    slots_held (slots_below c.args.scene.now c.args.plan.now.node) (type_name_at c.args.scene.now.schema.now c.args.plan.now.type_id) (λ name. get name (object read.found)) c.take_members.new.values read.holds
+    slots_held (slots_below c.args.context.now c.args.plan.now.node) (type_name_at c.args.context.now.schema.now c.args.plan.now.type_id) (λ name. get name (object read.found)) c.take_members.new.values read.holds
 
 pub take_record-returns-in-Some-clause-read : goal.take_record-returns-in-Some-clause-read
 take_record-returns-in-Some-clause-read t c done =
-    let schema = c.args.scene.now.schema.now in
-    let slots = slots_below c.args.scene.now c.args.plan.now.node in
-    let depth = c.args.scene.now.depth in
+    let schema = c.args.context.now.schema.now in
+    let slots = slots_below c.args.context.now c.args.plan.now.node in
+    let depth = c.args.context.now.depth in
     let id = c.args.plan.now.type_id in
     let values = c.take_members.new.values in
     let type : SingleType = structured (type_name_at schema id) in
@@ -320,55 +320,55 @@ take_record-returns-in-Some-clause-read t c done =
     subst (λ ts. Reads depth ts c.take_members.new.reader (FitsHoweverNullable slots (single type) (Record values))) (sym first)
     (object_reads depth c.take_begin_object.new.self c.take_members.new.reader (λ found. FitSlots slots (object found) (properties_at schema id) values.items)
     (FitsHoweverNullable slots (single type) (Record values)) (omega arith)
-    (λ found fits. record_held schema c.args.scene.now.expansion.now c.args.plan.now.node id values found c.requires.plan.distinct fits) (c.take_members.ensures (c.leaf_put.ensures.read done)))
+    (λ found fits. record_held schema c.args.context.now.expansion.now c.args.plan.now.node id values found c.requires.plan.distinct fits) (c.take_members.ensures (c.leaf_put.ensures.read done)))
 
 -- a single value of a primitive type
 pub take_property-returns-then-not-plan-clause-read : goal.take_property-returns-then-not-plan-clause-read
 take_property-returns-then-not-plan-clause-read t c done =
-    let schema = c.args.scene.now.schema.now in
-    let slots = slots_below c.args.scene.now c.args.plan.now.node in
+    let schema = c.args.context.now.schema.now in
+    let slots = slots_below c.args.context.now c.args.plan.now.node in
     let p = c.args.plan.now.property in
-    let depth = c.args.scene.now.depth in
+    let depth = c.args.context.now.depth in
     single_read slots p.nullable (property_type schema p) (primitive c.in-Prim.prim) depth c.args.reader.now c.take_scalar.new.reader c.take_scalar.new.place
     (primitive_seen schema slots p c.in-Prim.prim c.in-Prim.is c.if-not-plan.true) (c.take_scalar.ensures.read slots depth done)
 
 pub take_property-returns-then-not-plan-clause-holds : goal.take_property-returns-then-not-plan-clause-holds
 take_property-returns-then-not-plan-clause-holds t c done =
-    let schema = c.args.scene.now.schema.now in
-    let slots = slots_below c.args.scene.now c.args.plan.now.node in
+    let schema = c.args.context.now.schema.now in
+    let slots = slots_below c.args.context.now c.args.plan.now.node in
     let p = c.args.plan.now.property in
     held_seen slots (property_type schema p) (single (primitive c.in-Prim.prim)) c.take_scalar.new.place (primitive_seen schema slots p c.in-Prim.prim c.in-Prim.is c.if-not-plan.true) (c.take_scalar.ensures.holds slots done)
 
 pub take_other_property-returns-in_default-clause-read : goal.take_other_property-returns-in_default-clause-read
 take_other_property-returns-in_default-clause-read t c done =
-    let schema = c.args.scene.now.schema.now in
-    let slots = slots_below c.args.scene.now c.args.plan.now.node in
+    let schema = c.args.context.now.schema.now in
+    let slots = slots_below c.args.context.now c.args.plan.now.node in
     let p = c.args.plan.now.property in
     let never = ap (wanted_with p.kind) (sym c.requires.leads) ∙ sym c.wanted_with.ensures ∙ c.in_default.is in
-    reads_as c.args.scene.now.depth c.args.reader.now c.skip_value.new.reader (λ json. Unit {0})
+    reads_as c.args.context.now.depth c.args.reader.now c.skip_value.new.reader (λ json. Unit {0})
     (λ json. FitsProperty slots p.nullable (property_type schema p) (Some json) (field_of slots.properties (property_type schema p) (val_of Null)))
     (λ json _. unwanted_fits schema slots p.nullable p.kind (target_of p) p.many (Some json) Null never refl)
     (c.skip_value.ensures done)
 
 pub take_other_property-returns-in_default-clause-holds : goal.take_other_property-returns-in_default-clause-holds
 take_other_property-returns-in_default-clause-holds t c _ =
-    null_in_slot (slots_below c.args.scene.now c.args.plan.now.node) (property_type c.args.scene.now.schema.now c.args.plan.now.property) Null refl
+    null_in_slot (slots_below c.args.context.now c.args.plan.now.node) (property_type c.args.context.now.schema.now c.args.plan.now.property) Null refl
 
 pub take_other_property-returns-then-plan-clause-read : goal.take_other_property-returns-then-plan-clause-read
 take_other_property-returns-then-plan-clause-read t c done =
-    let schema = c.args.scene.now.schema.now in
-    let slots = slots_below c.args.scene.now c.args.plan.now.node in
+    let schema = c.args.context.now.schema.now in
+    let slots = slots_below c.args.context.now c.args.plan.now.node in
     let p = c.args.plan.now.property in
     let wanted = c.in-Some.wanted in
     let is = ap (wanted_with p.kind) (sym c.requires.leads) ∙ sym c.wanted_with.ensures ∙ c.in-Some.is in
     let seen = subst (IsLookedAt slots (property_type schema p)) (ap (type_wanted schema wanted) c.if-plan.true) (seen_as schema slots p.kind (target_of p) p.many wanted is) in
-    property_read slots p.nullable (property_type schema p) (collection (wanted_single schema wanted)) false c.may_hold_null.result c.args.scene.now.depth c.args.reader.now c.take_array.new.reader c.take_array.new.place seen refl
+    property_read slots p.nullable (property_type schema p) (collection (wanted_single schema wanted)) false c.may_hold_null.result c.args.context.now.depth c.args.reader.now c.take_array.new.reader c.take_array.new.place seen refl
     (c.may_hold_null.ensures ∙ items_as schema slots p.kind (target_of p) p.many p.nullable wanted is) (c.take_array.ensures.read done)
 
 pub take_other_property-returns-then-plan-clause-holds : goal.take_other_property-returns-then-plan-clause-holds
 take_other_property-returns-then-plan-clause-holds t c done =
-    let schema = c.args.scene.now.schema.now in
-    let slots = slots_below c.args.scene.now c.args.plan.now.node in
+    let schema = c.args.context.now.schema.now in
+    let slots = slots_below c.args.context.now c.args.plan.now.node in
     let p = c.args.plan.now.property in
     let wanted = c.in-Some.wanted in
     let is = ap (wanted_with p.kind) (sym c.requires.leads) ∙ sym c.wanted_with.ensures ∙ c.in-Some.is in
@@ -377,18 +377,18 @@ take_other_property-returns-then-plan-clause-holds t c done =
 
 pub take_other_property-returns-clause-read : goal.take_other_property-returns-clause-read
 take_other_property-returns-clause-read t c done =
-    let schema = c.args.scene.now.schema.now in
-    let slots = slots_below c.args.scene.now c.args.plan.now.node in
+    let schema = c.args.context.now.schema.now in
+    let slots = slots_below c.args.context.now c.args.plan.now.node in
     let p = c.args.plan.now.property in
     let wanted = c.in-Some.wanted in
     let is = ap (wanted_with p.kind) (sym c.requires.leads) ∙ sym c.wanted_with.ensures ∙ c.in-Some.is in
     let seen = subst (IsLookedAt slots (property_type schema p)) (ap (type_wanted schema wanted) c.if-plan.false) (seen_as schema slots p.kind (target_of p) p.many wanted is) in
-    single_read slots p.nullable (property_type schema p) (wanted_single schema wanted) c.args.scene.now.depth c.args.reader.now c.take_single.new.reader c.take_single.new.place seen (c.take_single.ensures.read done)
+    single_read slots p.nullable (property_type schema p) (wanted_single schema wanted) c.args.context.now.depth c.args.reader.now c.take_single.new.reader c.take_single.new.place seen (c.take_single.ensures.read done)
 
 pub take_other_property-returns-clause-holds : goal.take_other_property-returns-clause-holds
 take_other_property-returns-clause-holds t c done =
-    let schema = c.args.scene.now.schema.now in
-    let slots = slots_below c.args.scene.now c.args.plan.now.node in
+    let schema = c.args.context.now.schema.now in
+    let slots = slots_below c.args.context.now c.args.plan.now.node in
     let p = c.args.plan.now.property in
     let wanted = c.in-Some.wanted in
     let is = ap (wanted_with p.kind) (sym c.requires.leads) ∙ sym c.wanted_with.ensures ∙ c.in-Some.is in
@@ -398,69 +398,69 @@ take_other_property-returns-clause-holds t c done =
 -- what the current plan is of
 pub take_single-take_record-requires : goal.take_single-take_record-requires
 take_single-take_record-requires t c =
-    let plan = c.in-Some.ensures.plan c.args.scene.now.schema.now c.args.scene.now.expansion.now c.requires in
+    let plan = c.in-Some.ensures.plan c.args.context.now.schema.now c.args.context.now.expansion.now c.requires in
     search rules
 
 pub take_single-returns-in-Read-clause-read : goal.take_single-returns-in-Read-clause-read
 take_single-returns-in-Read-clause-read t c _ =
-    let schema = c.args.scene.now.schema.now in
+    let schema = c.args.context.now.schema.now in
     let one = c.args.one.now in
     let v = c.take_record.new.place in
-    let depth = c.args.scene.now.depth in
-    wanted_read schema (slots_below c.args.scene.now one.node) one.wanted (Complex c.in-Complex.id) one.nullable depth c.args.reader.now c.take_record.new.reader v c.in-Complex.is
-    (subst (λ node. Reads depth c.args.reader.now c.take_record.new.reader (FitsHoweverNullable (slots_below c.args.scene.now node) (single (structured (type_name_at schema c.in-Complex.id))) v)) c.in-Some.ensures.of_node
-    (subst (λ id. Reads depth c.args.reader.now c.take_record.new.reader (FitsHoweverNullable (slots_below c.args.scene.now c.in-Some.plan.now.node) (single (structured (type_name_at schema id))) v)) c.in-Some.ensures.of_type
+    let depth = c.args.context.now.depth in
+    wanted_read schema (slots_below c.args.context.now one.node) one.wanted (Complex c.in-Complex.id) one.nullable depth c.args.reader.now c.take_record.new.reader v c.in-Complex.is
+    (subst (λ node. Reads depth c.args.reader.now c.take_record.new.reader (FitsHoweverNullable (slots_below c.args.context.now node) (single (structured (type_name_at schema c.in-Complex.id))) v)) c.in-Some.ensures.of_node
+    (subst (λ id. Reads depth c.args.reader.now c.take_record.new.reader (FitsHoweverNullable (slots_below c.args.context.now c.in-Some.plan.now.node) (single (structured (type_name_at schema id))) v)) c.in-Some.ensures.of_type
     (c.take_record.ensures.read c.in-Read.is)))
 
 pub take_single-returns-in-Read-clause-holds : goal.take_single-returns-in-Read-clause-holds
 take_single-returns-in-Read-clause-holds t c _ =
-    let schema = c.args.scene.now.schema.now in
+    let schema = c.args.context.now.schema.now in
     let v = c.take_record.new.place in
-    holds_as (slots_below c.args.scene.now c.args.one.now.node) (wanted_single schema c.args.one.now.wanted) (structured (type_name_at schema c.in-Some.plan.now.type_id)) v
+    holds_as (slots_below c.args.context.now c.args.one.now.node) (wanted_single schema c.args.one.now.wanted) (structured (type_name_at schema c.in-Some.plan.now.type_id)) v
     (ap (wanted_single schema) c.in-Complex.is ∙ ap (λ id. structured (type_name_at schema id)) (sym c.in-Some.ensures.of_type))
-    (subst (λ node. HoldsEachSlot v (slots_below c.args.scene.now node) (single (structured (type_name_at schema c.in-Some.plan.now.type_id)))) c.in-Some.ensures.of_node (c.take_record.ensures.holds c.in-Read.is))
+    (subst (λ node. HoldsEachSlot v (slots_below c.args.context.now node) (single (structured (type_name_at schema c.in-Some.plan.now.type_id)))) c.in-Some.ensures.of_node (c.take_record.ensures.holds c.in-Read.is))
 
 pub take_single-returns-in-Other-clause-read : goal.take_single-returns-in-Other-clause-read
 take_single-returns-in-Other-clause-read t c done =
     let one = c.args.one.now in
     let is = c.take_null_instead.ensures.may_be done in
-    null_taken (slots_below c.args.scene.now one.node) one.nullable (wanted_single c.args.scene.now.schema.now one.wanted) c.args.scene.now.depth c.args.reader.now c.take_null_instead.new.reader c.take_null_instead.new.place
+    null_taken (slots_below c.args.context.now one.node) one.nullable (wanted_single c.args.context.now.schema.now one.wanted) c.args.context.now.depth c.args.reader.now c.take_null_instead.new.reader c.take_null_instead.new.place
     (sym (c.take_record.ensures.kept c.in-Other.is) ∙ c.take_null_instead.ensures.taken done) is.0 is.1
 
 pub take_single-returns-in-Read-take_enumeration-clause-read : goal.take_single-returns-in-Read-take_enumeration-clause-read
 take_single-returns-in-Read-take_enumeration-clause-read t c _ =
-    let schema = c.args.scene.now.schema.now in
+    let schema = c.args.context.now.schema.now in
     let one = c.args.one.now in
     let v = c.take_enumeration.new.place in
-    wanted_read schema (slots_below c.args.scene.now one.node) one.wanted (Enum c.in-Enum.id) one.nullable c.args.scene.now.depth c.args.reader.now c.take_enumeration.new.reader v c.in-Enum.is
-    (leaf_read c.args.scene.now.depth c.args.reader.now c.take_enumeration.new.reader (FitsHoweverNullable (slots_below c.args.scene.now one.node) (single (enumeration (type_name_at schema c.in-Enum.id))) v)
+    wanted_read schema (slots_below c.args.context.now one.node) one.wanted (Enum c.in-Enum.id) one.nullable c.args.context.now.depth c.args.reader.now c.take_enumeration.new.reader v c.in-Enum.is
+    (leaf_read c.args.context.now.depth c.args.reader.now c.take_enumeration.new.reader (FitsHoweverNullable (slots_below c.args.context.now one.node) (single (enumeration (type_name_at schema c.in-Enum.id))) v)
     (c.take_enumeration.ensures.read c.in-Read-take_enumeration.is))
 
 pub take_single-returns-in-Read-take_enumeration-clause-holds : goal.take_single-returns-in-Read-take_enumeration-clause-holds
 take_single-returns-in-Read-take_enumeration-clause-holds t c _ =
-    let schema = c.args.scene.now.schema.now in
+    let schema = c.args.context.now.schema.now in
     let name = type_name_at schema c.in-Enum.id in
     let v = c.take_enumeration.new.place in
-    holds_as (slots_below c.args.scene.now c.args.one.now.node) (wanted_single schema c.args.one.now.wanted) (enumeration name) v (ap (wanted_single schema) c.in-Enum.is)
-    (member_leaf_holds (slots_below c.args.scene.now c.args.one.now.node) name c.args.reader.now c.take_enumeration.new.reader v (c.take_enumeration.ensures.read c.in-Read-take_enumeration.is))
+    holds_as (slots_below c.args.context.now c.args.one.now.node) (wanted_single schema c.args.one.now.wanted) (enumeration name) v (ap (wanted_single schema) c.in-Enum.is)
+    (member_leaf_holds (slots_below c.args.context.now c.args.one.now.node) name c.args.reader.now c.take_enumeration.new.reader v (c.take_enumeration.ensures.read c.in-Read-take_enumeration.is))
 
 pub take_single-returns-in-Other-take_enumeration-clause-read : goal.take_single-returns-in-Other-take_enumeration-clause-read
 take_single-returns-in-Other-take_enumeration-clause-read t c done =
     let one = c.args.one.now in
     let is = c.take_null_instead-in-Other-take_enumeration.ensures.may_be done in
-    null_taken (slots_below c.args.scene.now one.node) one.nullable (wanted_single c.args.scene.now.schema.now one.wanted) c.args.scene.now.depth c.args.reader.now c.take_null_instead-in-Other-take_enumeration.new.reader c.take_null_instead-in-Other-take_enumeration.new.place
+    null_taken (slots_below c.args.context.now one.node) one.nullable (wanted_single c.args.context.now.schema.now one.wanted) c.args.context.now.depth c.args.reader.now c.take_null_instead-in-Other-take_enumeration.new.reader c.take_null_instead-in-Other-take_enumeration.new.place
     (sym (c.take_enumeration.ensures.kept c.in-Other-take_enumeration.is) ∙ c.take_null_instead-in-Other-take_enumeration.ensures.taken done) is.0 is.1
 
 pub take_single-returns-in-Prim-clause-read : goal.take_single-returns-in-Prim-clause-read
 take_single-returns-in-Prim-clause-read t c done =
     let one = c.args.one.now in
-    let slots = slots_below c.args.scene.now one.node in
-    let depth = c.args.scene.now.depth in
-    subst (λ (w : Wanted). Reads depth c.args.reader.now c.take_scalar.new.reader (FitsNullable slots one.nullable one.nullable (single (wanted_single c.args.scene.now.schema.now w)) c.take_scalar.new.place))
+    let slots = slots_below c.args.context.now one.node in
+    let depth = c.args.context.now.depth in
+    subst (λ (w : Wanted). Reads depth c.args.reader.now c.take_scalar.new.reader (FitsNullable slots one.nullable one.nullable (single (wanted_single c.args.context.now.schema.now w)) c.take_scalar.new.place))
     (sym c.in-Prim.is) (c.take_scalar.ensures.read slots depth done)
 
 pub take_single-returns-in-Prim-clause-holds : goal.take_single-returns-in-Prim-clause-holds
 take_single-returns-in-Prim-clause-holds t c done =
-    let schema = c.args.scene.now.schema.now in
-    let slots = slots_below c.args.scene.now c.args.one.now.node in
+    let schema = c.args.context.now.schema.now in
+    let slots = slots_below c.args.context.now c.args.one.now.node in
     holds_as slots (wanted_single schema c.args.one.now.wanted) (primitive c.in-Prim.prim) c.take_scalar.new.place (ap (wanted_single schema) c.in-Prim.is) (c.take_scalar.ensures.holds slots done)

@@ -7,14 +7,14 @@ use Rattle.edm_row_plans.proofs.type_plan.slot_plans.Goals as goal
 
 pub loop-slot-init : goal.loop-slot-init
 loop-slot-init c =
-    let Q : (ℕ → SlotPlan → Type 0) = IsSlotPlan c.args.scene.now.schema.now c.args.scene.now.expansion.now c.args.type_id c.args.node in
+    let Q : (ℕ → SlotPlan → Type 0) = IsSlotPlan c.args.context.now.schema.now c.args.context.now.expansion.now c.args.type_id c.args.node in
     (ap length c.new-slots.ensures.items, subst (λ items. (k : ℕ) → IfSome (slice_get items k) (Q k)) (sym c.new-slots.ensures.items) (none_each Q))
 
 pub loop-slot-preserved : goal.loop-slot-preserved
 loop-slot-preserved c =
     let l = c.loop-slot in
     let plan = c.in-Some.plan in
-    let Q : (ℕ → SlotPlan → Type 0) = IsSlotPlan c.args.scene.now.schema.now c.args.scene.now.expansion.now c.args.type_id c.args.node in
+    let Q : (ℕ → SlotPlan → Type 0) = IsSlotPlan c.args.context.now.schema.now c.args.context.now.expansion.now c.args.type_id c.args.node in
     let pushed : c.push.new.self.items ≡ l.slots.items ++ plan ∷ [] = grind (arith, common_steps) in
     let here : Q (length l.slots.items) plan = subst (λ n. Q n plan) (sym l.invariant.0) c.in-Some.ensures in
     (ap length pushed ∙ long_push l.slots.items plan ∙ omega (arith, l.invariant.0), subst (λ items. (k : ℕ) → IfSome (slice_get items k) (Q k)) (sym pushed) (each_push Q l.slots.items plan l.invariant.1 here))

@@ -10,10 +10,10 @@ use Rattle.edm_rows.proofs.kept_leaf.take_member.Goals as goal
 
 pub returns-in-Some-member_at-clause-taken : goal.returns-in-Some-member_at-clause-taken
 returns-in-Some-member_at-clause-taken c =
-    let schema = c.args.scene.now.schema.now in
+    let schema = c.args.context.now.schema.now in
     let slots = slots_of schema in
     let found = c.in-Some-member_at in
-    let line = c.args.scene.now.line in
+    let line = c.args.context.now.line in
     let name = name_at schema c.args.slot.now.member_of in
     let fits : FitsSigned w64 found.number = search rules in
     subst (λ (z : ℤ). PutsMember line slots name (Enum z) c.args.place found.end) (sym (to_z-of_z w64 found.number fits))

@@ -15,12 +15,12 @@ use Rattle.edm_rows.specs.private.Held.{IsSingle}
 use Rattle.edm_rows.specs.private.KeptLeaves.{PutsLeaf}
 use Rattle.edm_rows.specs.private.Members.{EndsMember}
 use Rattle.edm_rows.specs.private.RowSlots.{HasPrimitive, IsTypeOf, kinds_of}
-use Rattle.edm_rows.specs.private.Scenes.{FindsMember, slots_behind_node}
+use Rattle.edm_rows.specs.private.Contexts.{FindsMember, slots_behind_node}
 use Rattle.edm_rows.proofs.FilledMembers.{filled_brace, filled_comma, filled_empty, filled_none, filled_other}
 use Rattle.edm_rows.proofs.FilledSteps.{no_slot_in, slot_filled_read, slot_found_in}
 use Rattle.edm_rows.proofs.FilledValues.{filled_behind, leaf_filled, list_bracket, list_comma, list_filled, list_start, no_list, put_leaf, record_filled}
 use Rattle.edm_rows.proofs.NextMembers.{as_many}
-use Rattle.edm_rows.proofs.SceneLemmas.{type_there}
+use Rattle.edm_rows.proofs.ContextLemmas.{type_there}
 use Rattle.edm_rows.proofs.UnseenNull.{type_bits}
 use Rattle.edm_rows.proofs.Values.{items_single, primitive_as, record_slot, some_by}
 use Rattle.edm_rows.proofs.kept_tree.+fill.Goals as goal
@@ -29,38 +29,38 @@ use Rattle.edm_rows.proofs.kept_tree.+fill.Goals as goal
 
 pub fill_value-returns-in-None-clause-filled : goal.fill_value-returns-in-None-clause-filled
 fill_value-returns-in-None-clause-filled t c =
-    subst (λ n. IfSome c.fill_other.result (FillsValue c.args.scene.now c.args.slot.now c.args.task n c.fill_other.new.value c.args.place)) c.fill_sure.ensures.depth c.fill_other.ensures.filled
+    subst (λ n. IfSome c.fill_other.result (FillsValue c.args.context.now c.args.slot.now c.args.task n c.fill_other.new.value c.args.place)) c.fill_sure.ensures.depth c.fill_other.ensures.filled
 
 pub fill_sure-take_digits-requires : goal.fill_sure-take_digits-requires
 fill_sure-take_digits-requires t c =
-    let has : HasPrimitive c.args.slot.now.prim c.args.slot.now.sure task.Number = primitive_as c.args.scene.now.plan.now.plans.items c.args.slot.now c.args.task task.Number c.requires.slot c.requires.task c.in-Number.is (λ e. absurd (cc)) in
+    let has : HasPrimitive c.args.slot.now.prim c.args.slot.now.sure task.Number = primitive_as c.args.context.now.plan.now.plans.items c.args.slot.now c.args.task task.Number c.requires.slot c.requires.task c.in-Number.is (λ e. absurd (cc)) in
     search rules
 
 pub fill_sure-returns-in-Number-clause-filled : goal.fill_sure-returns-in-Number-clause-filled
 fill_sure-returns-in-Number-clause-filled t c =
-    let scene = c.args.scene.now in
+    let context = c.args.context.now in
     let slot = c.args.slot.now in
-    let line = scene.line in
+    let line = context.line in
     let puts = put_leaf line (primitive slot.prim) slot.sieve c.args.value.now c.take_digits.new.value c.args.place c.take_digits.result c.put_end.result c.put_end.ensures c.take_digits.ensures in
-    leaf_filled (slots_behind_node scene slot.node) (kinds_of scene.schema.now scene.plan.now.plans.items slot) slot.is_nullable slot.item c.args.cache.now.depth line c.args.place c.take_digits.new.value c.args.task task.Number slot.prim c.put_end.result c.in-Number.is
+    leaf_filled (slots_behind_node context slot.node) (kinds_of context.schema.now context.plan.now.plans.items slot) slot.is_nullable slot.item c.args.cache.now.depth line c.args.place c.take_digits.new.value c.args.task task.Number slot.prim c.put_end.result c.in-Number.is
     ((λ e. absurd (cc)), (λ e. absurd (cc))) refl puts
 
 pub fill_sure-returns-in-Truth-clause-filled : goal.fill_sure-returns-in-Truth-clause-filled
 fill_sure-returns-in-Truth-clause-filled t c =
-    let scene = c.args.scene.now in
+    let context = c.args.context.now in
     let slot = c.args.slot.now in
-    let line = scene.line in
+    let line = context.line in
     let puts = put_leaf line (primitive prim.Bool) slot.sieve c.args.value.now c.take_truth.new.value c.args.place c.take_truth.result c.put_end-in-Truth.result c.put_end-in-Truth.ensures c.take_truth.ensures in
-    leaf_filled (slots_behind_node scene slot.node) (kinds_of scene.schema.now scene.plan.now.plans.items slot) slot.is_nullable slot.item c.args.cache.now.depth line c.args.place c.take_truth.new.value c.args.task task.Truth prim.Bool c.put_end-in-Truth.result c.in-Truth.is
+    leaf_filled (slots_behind_node context slot.node) (kinds_of context.schema.now context.plan.now.plans.items slot) slot.is_nullable slot.item c.args.cache.now.depth line c.args.place c.take_truth.new.value c.args.task task.Truth prim.Bool c.put_end-in-Truth.result c.in-Truth.is
     ((λ e. absurd (cc)), (λ e. absurd (cc))) refl puts
 
 pub fill_sure-returns-in-Text-clause-filled : goal.fill_sure-returns-in-Text-clause-filled
 fill_sure-returns-in-Text-clause-filled t c =
-    let scene = c.args.scene.now in
+    let context = c.args.context.now in
     let slot = c.args.slot.now in
-    let line = scene.line in
+    let line = context.line in
     let puts = put_leaf line (primitive prim.String) slot.sieve c.args.value.now c.take_text.new.value c.args.place c.take_text.result c.put_end-in-Text.result c.put_end-in-Text.ensures c.take_text.ensures in
-    leaf_filled (slots_behind_node scene slot.node) (kinds_of scene.schema.now scene.plan.now.plans.items slot) slot.is_nullable slot.item c.args.cache.now.depth line c.args.place c.take_text.new.value c.args.task task.Text prim.String c.put_end-in-Text.result c.in-Text.is
+    leaf_filled (slots_behind_node context slot.node) (kinds_of context.schema.now context.plan.now.plans.items slot) slot.is_nullable slot.item c.args.cache.now.depth line c.args.place c.take_text.new.value c.args.task task.Text prim.String c.put_end-in-Text.result c.in-Text.is
     ((λ e. absurd (cc)), (λ e. absurd (cc))) refl puts
 
 pub fill_sure-fill_record-requires : goal.fill_sure-fill_record-requires
@@ -70,7 +70,7 @@ fill_sure-fill_record-requires t c =
 
 pub fill_sure-returns-in-Record-clause-filled : goal.fill_sure-returns-in-Record-clause-filled
 fill_sure-returns-in-Record-clause-filled t c =
-    subst (λ k. IfSome c.fill_record.result (FillsValue c.args.scene.now c.args.slot.now k c.args.cache.now.depth c.fill_record.new.value c.args.place)) (sym c.in-Record.is) c.fill_record.ensures.filled
+    subst (λ k. IfSome c.fill_record.result (FillsValue c.args.context.now c.args.slot.now k c.args.cache.now.depth c.fill_record.new.value c.args.place)) (sym c.in-Record.is) c.fill_record.ensures.filled
 
 pub fill_sure-fill_list-requires : goal.fill_sure-fill_list-requires
 fill_sure-fill_list-requires t c =
@@ -79,111 +79,111 @@ fill_sure-fill_list-requires t c =
 
 pub fill_sure-returns-in-Items-clause-filled : goal.fill_sure-returns-in-Items-clause-filled
 fill_sure-returns-in-Items-clause-filled t c =
-    subst (λ k. IfSome c.fill_list.result (FillsValue c.args.scene.now c.args.slot.now k c.args.cache.now.depth c.fill_list.new.value c.args.place)) (sym c.in-Items.is) c.fill_list.ensures.filled
+    subst (λ k. IfSome c.fill_list.result (FillsValue c.args.context.now c.args.slot.now k c.args.cache.now.depth c.fill_list.new.value c.args.place)) (sym c.in-Items.is) c.fill_list.ensures.filled
 
 -- ---- white space
 
 pub fill_other-returns-then-place-from-clause-filled : goal.fill_other-returns-then-place-from-clause-filled
 fill_other-returns-then-place-from-clause-filled t c =
-    let scene = c.args.scene.now in
+    let context = c.args.context.now in
     let slot = c.args.slot.now in
     let depth = c.args.cache.now.depth in
     let place = c.past_blanks-place.result in
-    some_by c.fill_seldom.result (FillsValue scene slot c.args.task depth c.fill_seldom.new.value place) (FillsValue scene slot c.args.task depth c.fill_seldom.new.value c.args.from)
-    (λ to value. filled_behind scene slot c.args.task depth c.fill_seldom.new.value c.args.from place to c.past_blanks-place.ensures value) c.fill_seldom.ensures.filled
+    some_by c.fill_seldom.result (FillsValue context slot c.args.task depth c.fill_seldom.new.value place) (FillsValue context slot c.args.task depth c.fill_seldom.new.value c.args.from)
+    (λ to value. filled_behind context slot c.args.task depth c.fill_seldom.new.value c.args.from place to c.past_blanks-place.ensures value) c.fill_seldom.ensures.filled
 
 pub fill_other-returns-in-Some-clause-filled : goal.fill_other-returns-in-Some-clause-filled
 fill_other-returns-in-Some-clause-filled t c =
-    filled_behind c.args.scene.now c.args.slot.now c.args.task c.args.cache.now.depth c.fill_sure.new.value c.args.from c.past_blanks-place.result c.in-Some.end c.past_blanks-place.ensures c.in-Some.ensures.filled
+    filled_behind c.args.context.now c.args.slot.now c.args.task c.args.cache.now.depth c.fill_sure.new.value c.args.from c.past_blanks-place.result c.in-Some.end c.past_blanks-place.ensures c.in-Some.ensures.filled
 
 pub fill_other-returns-in-None-clause-filled : goal.fill_other-returns-in-None-clause-filled
 fill_other-returns-in-None-clause-filled t c =
-    let scene = c.args.scene.now in
+    let context = c.args.context.now in
     let slot = c.args.slot.now in
     let depth = c.args.cache.now.depth in
     let place = c.past_blanks-place.result in
     let v = c.fill_seldom-in-None.new.value in
-    some_by c.fill_seldom-in-None.result (FillsValue scene slot c.args.task depth v place) (FillsValue scene slot c.args.task depth v c.args.from)
-    (λ to value. filled_behind scene slot c.args.task depth v c.args.from place to c.past_blanks-place.ensures value)
-    (subst (λ n. IfSome c.fill_seldom-in-None.result (FillsValue scene slot c.args.task n v place)) c.fill_sure.ensures.depth c.fill_seldom-in-None.ensures.filled)
+    some_by c.fill_seldom-in-None.result (FillsValue context slot c.args.task depth v place) (FillsValue context slot c.args.task depth v c.args.from)
+    (λ to value. filled_behind context slot c.args.task depth v c.args.from place to c.past_blanks-place.ensures value)
+    (subst (λ n. IfSome c.fill_seldom-in-None.result (FillsValue context slot c.args.task n v place)) c.fill_sure.ensures.depth c.fill_seldom-in-None.ensures.filled)
 
 -- ---- objects
 
 pub fill_record-fill_members-end-requires : goal.fill_record-fill_members-end-requires
 fill_record-fill_members-end-requires t c =
-    let scene = c.args.scene.now in
+    let context = c.args.context.now in
     let slot = c.args.slot.now in
-    let type : RowType = get_or scene.types.now slot.record c.index-scene-slot.result in
-    let at : slice_get scene.types.now slot.record ≡ Some type =
-    slice_get_read scene.types.now (length scene.types.now) slot.record c.index-scene-slot.result refl (omega (arith, c.requires.scene.0.count, (c.requires.slot.leads c.requires.item).within)) c.index-scene-slot.is
-    ∙ ap Some c.index-scene-slot.is in
-    let there = type_there scene.schema.now scene.plan.now.expansion scene.plan.now.plans.items scene.types.now slot type c.requires.scene.0 (c.requires.slot.leads c.requires.item) at in
-    let plan : IsTypeOf scene.schema.now scene.plan.now.expansion scene.plan.now.plans.items type = (there.plan, there.is) in
+    let type : RowType = get_or context.types.now slot.record c.index-context-slot.result in
+    let at : slice_get context.types.now slot.record ≡ Some type =
+    slice_get_read context.types.now (length context.types.now) slot.record c.index-context-slot.result refl (omega (arith, c.requires.context.0.count, (c.requires.slot.leads c.requires.item).within)) c.index-context-slot.is
+    ∙ ap Some c.index-context-slot.is in
+    let there = type_there context.schema.now context.plan.now.expansion context.plan.now.plans.items context.types.now slot type c.requires.context.0 (c.requires.slot.leads c.requires.item) at in
+    let plan : IsTypeOf context.schema.now context.plan.now.expansion context.plan.now.plans.items type = (there.plan, there.is) in
     let here = sym c.byte.ensures.here ∙ c.if-byte-ne123.false in
-    let within : c.args.place + 1 ≤ length scene.line = omega (arith, within_byte scene.line c.args.place 123 here (λ e. omega arith)) in
+    let within : c.args.place + 1 ≤ length context.line = omega (arith, within_byte context.line c.args.place 123 here (λ e. omega arith)) in
     search rules
 
 pub fill_record-returns-clause-filled : goal.fill_record-returns-clause-filled
 fill_record-returns-clause-filled t c =
-    let scene = c.args.scene.now in
+    let context = c.args.context.now in
     let slot = c.args.slot.now in
-    let type : RowType = get_or scene.types.now slot.record c.index-scene-slot.result in
-    let d = scene.line in
+    let type : RowType = get_or context.types.now slot.record c.index-context-slot.result in
+    let d = context.line in
     let i = c.args.place in
     let depth = c.args.cache.now.depth in
-    let at : slice_get scene.types.now slot.record ≡ Some type =
-    slice_get_read scene.types.now (length scene.types.now) slot.record c.index-scene-slot.result refl (omega (arith, c.requires.scene.0.count, (c.requires.slot.leads c.requires.item).within)) c.index-scene-slot.is
-    ∙ ap Some c.index-scene-slot.is in
-    let there = type_there scene.schema.now scene.plan.now.expansion scene.plan.now.plans.items scene.types.now slot type c.requires.scene.0 (c.requires.slot.leads c.requires.item) at in
+    let at : slice_get context.types.now slot.record ≡ Some type =
+    slice_get_read context.types.now (length context.types.now) slot.record c.index-context-slot.result refl (omega (arith, c.requires.context.0.count, (c.requires.slot.leads c.requires.item).within)) c.index-context-slot.is
+    ∙ ap Some c.index-context-slot.is in
+    let there = type_there context.schema.now context.plan.now.expansion context.plan.now.plans.items context.types.now slot type c.requires.context.0 (c.requires.slot.leads c.requires.item) at in
     let here = sym c.byte.ensures.here ∙ c.if-byte-ne123.false in
     let values = c.fill_members-end.new.values in
-    some_by c.fill_members-end.result (FillsMembers scene type (depth - 1) values.items (i + 1)) (FillsValue scene slot task.Record depth (RecordOf values) i)
-    (λ to members. record_filled scene slot type there values depth i to (omega arith) (within_byte d i 123 here (λ e. omega arith)) (other_default d i 123 here (λ e. omega arith)) members) c.fill_members-end.ensures.filled
+    some_by c.fill_members-end.result (FillsMembers context type (depth - 1) values.items (i + 1)) (FillsValue context slot task.Record depth (RecordOf values) i)
+    (λ to members. record_filled context slot type there values depth i to (omega arith) (within_byte d i 123 here (λ e. omega arith)) (other_default d i 123 here (λ e. omega arith)) members) c.fill_members-end.ensures.filled
 
 -- ---- arrays
 
 pub fill_list-fill_items-end-requires : goal.fill_list-fill_items-end-requires
 fill_list-fill_items-end-requires t c =
     let here = sym c.byte.ensures.here ∙ c.if-byte-ne91.false in
-    let within : c.args.place + 1 ≤ length c.args.scene.now.line = omega (arith, within_byte c.args.scene.now.line c.args.place 91 here (λ e. omega arith)) in
+    let within : c.args.place + 1 ≤ length c.args.context.now.line = omega (arith, within_byte c.args.context.now.line c.args.place 91 here (λ e. omega arith)) in
     search rules
 
 pub fill_list-returns-clause-filled : goal.fill_list-returns-clause-filled
 fill_list-returns-clause-filled t c =
-    let scene = c.args.scene.now in
+    let context = c.args.context.now in
     let slot = c.args.slot.now in
-    let d = scene.line in
+    let d = context.line in
     let i = c.args.place in
     let depth = c.args.cache.now.depth in
     let here = sym c.byte.ensures.here ∙ c.if-byte-ne91.false in
     let items = c.fill_items-end.new.items in
-    some_by c.fill_items-end.result (FillsItems scene slot (depth - 1) items.items (i + 1)) (FillsValue scene slot task.Items depth (ListOf items) i)
-    (λ to read. list_filled scene slot items depth i to (omega arith) (within_byte d i 91 here (λ e. omega arith)) (other_default d i 91 here (λ e. omega arith)) read) c.fill_items-end.ensures.filled
+    some_by c.fill_items-end.result (FillsItems context slot (depth - 1) items.items (i + 1)) (FillsValue context slot task.Items depth (ListOf items) i)
+    (λ to read. list_filled context slot items depth i to (omega arith) (within_byte d i 91 here (λ e. omega arith)) (other_default d i 91 here (λ e. omega arith)) read) c.fill_items-end.ensures.filled
 
 -- ---- items
 
 pub fill_items-returns-then-byte-eq93-clause-filled : goal.fill_items-returns-then-byte-eq93-clause-filled
 fill_items-returns-then-byte-eq93-clause-filled t c =
-    let scene = c.args.scene.now in
+    let context = c.args.context.now in
     let slot = c.args.slot.now in
     let place = c.past_blanks-place.result in
     let here = sym c.byte.ensures.here ∙ c.if-byte-eq93.true in
-    subst (λ vs. FillsItems scene slot c.args.cache.now.depth vs c.args.from (place + 1)) (sym c.cut.ensures)
-    (no_list scene slot c.args.cache.now.depth c.args.from place c.args.items.now.items (within_byte scene.line place 93 here (λ e. omega arith)) (other_default scene.line place 93 here (λ e. omega arith)) c.past_blanks-place.ensures)
+    subst (λ vs. FillsItems context slot c.args.cache.now.depth vs c.args.from (place + 1)) (sym c.cut.ensures)
+    (no_list context slot c.args.cache.now.depth c.args.from place c.args.items.now.items (within_byte context.line place 93 here (λ e. omega arith)) (other_default context.line place 93 here (λ e. omega arith)) c.past_blanks-place.ensures)
 
 pub fill_items-items-init : goal.fill_items-items-init
 fill_items-items-init t c = (
   refl,
-  list_start c.args.scene.now c.args.slot.now c.args.cache.now.depth c.args.from c.past_blanks-place.result c.args.items.now.items c.past_blanks-place.ensures,
+  list_start c.args.context.now c.args.slot.now c.args.cache.now.depth c.args.from c.past_blanks-place.result c.args.items.now.items c.past_blanks-place.ensures,
   omega arith,
 )
 
 pub fill_items-items-preserved : goal.fill_items-items-preserved
 fill_items-items-preserved t c =
     let l = c.items in
-    let scene = c.args.scene.now in
+    let context = c.args.context.now in
     let slot = c.args.slot.now in
-    let d = scene.line in
+    let d = context.line in
     let depth = c.args.cache.now.depth in
     let held = c.has_item.new.items.items in
     let v = c.fill_value.new.value in
@@ -191,8 +191,8 @@ fill_items-items-preserved t c =
     let comma = c.past_blanks-place-in-items.result in
     let here = sym c.byte-in-items.ensures.here ∙ c.in-44.is in (
       c.fill_value.ensures.depth ∙ l.invariant.0,
-      list_comma scene slot c.requires.single depth c.args.from l.place c.in-Some.end l.items.items held l.count v c.has_item.ensures.kept within comma c.past_blanks-place-in-44.result l.invariant.1
-          (subst (λ n. FillsValue scene slot slot.item n v l.place c.in-Some.end) l.invariant.0 c.in-Some.ensures.filled) c.past_blanks-place-in-items.ensures
+      list_comma context slot c.requires.single depth c.args.from l.place c.in-Some.end l.items.items held l.count v c.has_item.ensures.kept within comma c.past_blanks-place-in-44.result l.invariant.1
+          (subst (λ n. FillsValue context slot slot.item n v l.place c.in-Some.end) l.invariant.0 c.in-Some.ensures.filled) c.past_blanks-place-in-items.ensures
           (within_byte d comma 44 here (λ e. omega arith)) (other_default d comma 44 here (λ e. omega arith)) c.past_blanks-place-in-44.ensures,
       omega (arith, length-set held l.count v, within),
     )
@@ -200,18 +200,18 @@ fill_items-items-preserved t c =
 pub fill_items-returns-in-93-clause-filled : goal.fill_items-returns-in-93-clause-filled
 fill_items-returns-in-93-clause-filled t c =
     let l = c.items in
-    let scene = c.args.scene.now in
+    let context = c.args.context.now in
     let slot = c.args.slot.now in
-    let d = scene.line in
+    let d = context.line in
     let depth = c.args.cache.now.depth in
     let held = c.has_item.new.items.items in
     let v = c.fill_value.new.value in
     let within : l.count < length held = c.has_item.ensures.room c.if-not-has_item.false in
     let bracket = c.past_blanks-place-in-items.result in
     let here = sym c.byte-in-items.ensures.here ∙ c.in-93.is in
-    subst (λ vs. FillsItems scene slot depth vs c.args.from (bracket + 1)) (sym c.cut-in-93.ensures)
-    (list_bracket scene slot c.requires.single depth c.args.from l.place c.in-Some.end l.items.items held l.count v c.has_item.ensures.kept within bracket l.invariant.1
-    (subst (λ n. FillsValue scene slot slot.item n v l.place c.in-Some.end) l.invariant.0 c.in-Some.ensures.filled) c.past_blanks-place-in-items.ensures
+    subst (λ vs. FillsItems context slot depth vs c.args.from (bracket + 1)) (sym c.cut-in-93.ensures)
+    (list_bracket context slot c.requires.single depth c.args.from l.place c.in-Some.end l.items.items held l.count v c.has_item.ensures.kept within bracket l.invariant.1
+    (subst (λ n. FillsValue context slot slot.item n v l.place c.in-Some.end) l.invariant.0 c.in-Some.ensures.filled) c.past_blanks-place-in-items.ensures
     (within_byte d bracket 93 here (λ e. omega arith)) (other_default d bracket 93 here (λ e. omega arith)))
 
 -- ---- members
@@ -219,12 +219,12 @@ fill_items-returns-in-93-clause-filled t c =
 pub fill_found-returns-in_default-clause-filled : goal.fill_found-returns-in_default-clause-filled
 fill_found-returns-in_default-clause-filled t c from so_far =
     let a = c.args in
-    filled_other a.scene.now a.plan.now a.cache.now.depth from a.so_far.place a.found.place a.so_far.seen a.values.now.items so_far (no_slot_in a.scene.now a.plan.now a.cache.now.depth a.so_far.place a.found c.in_default.is c.requires.found)
+    filled_other a.context.now a.plan.now a.cache.now.depth from a.so_far.place a.found.place a.so_far.seen a.values.now.items so_far (no_slot_in a.context.now a.plan.now a.cache.now.depth a.so_far.place a.found c.in_default.is c.requires.found)
 
 pub fill_found-fill_value-requires : goal.fill_found-fill_value-requires
 fill_found-fill_value-requires t c =
     let a = c.args in
-    let f = slot_found_in a.scene.now c.requires.plan.0 a.plan.now a.cache.now.depth a.so_far.place a.found c.in-Some.slot c.in-Some.is c.requires.plan.1 c.requires.found in
+    let f = slot_found_in a.context.now c.requires.plan.0 a.plan.now a.cache.now.depth a.so_far.place a.found c.in-Some.slot c.in-Some.is c.requires.plan.1 c.requires.found in
     let agrees = f.agrees in
     let of_task = f.task in
     let within = f.names.bounds.1 in
@@ -233,37 +233,37 @@ fill_found-fill_value-requires t c =
 pub fill_found-index_mut-requires : goal.fill_found-index_mut-requires
 fill_found-index_mut-requires t c =
     let a = c.args in
-    let f = slot_found_in a.scene.now c.requires.plan.0 a.plan.now a.cache.now.depth a.so_far.place a.found c.in-Some.slot c.in-Some.is c.requires.plan.1 c.requires.found in
-    omega (arith, f.within, c.requires.long, as_many a.scene.now.schema.now a.scene.now.plan.now.expansion a.scene.now.plan.now.plans.items c.requires.plan.0 a.plan.now c.requires.plan.1)
+    let f = slot_found_in a.context.now c.requires.plan.0 a.plan.now a.cache.now.depth a.so_far.place a.found c.in-Some.slot c.in-Some.is c.requires.plan.1 c.requires.found in
+    omega (arith, f.within, c.requires.long, as_many a.context.now.schema.now a.context.now.plan.now.expansion a.context.now.plan.now.plans.items c.requires.plan.0 a.plan.now c.requires.plan.1)
 
 pub fill_found-returns-in-Some-fill_value-clause-filled : goal.fill_found-returns-in-Some-fill_value-clause-filled
 fill_found-returns-in-Some-fill_value-clause-filled t c from so_far =
     let a = c.args in
-    let f = slot_found_in a.scene.now c.requires.plan.0 a.plan.now a.cache.now.depth a.so_far.place a.found c.in-Some.slot c.in-Some.is c.requires.plan.1 c.requires.found in
-    slot_filled_read a.scene.now c.requires.plan.0 a.plan.now a.cache.now.depth from a.so_far.place a.found.place c.in-Some-fill_value.end a.so_far.seen c.in-Some.slot.now a.values.now.items c.fill_value.new.value c.requires.plan.1 f so_far c.in-Some-fill_value.ensures.filled
+    let f = slot_found_in a.context.now c.requires.plan.0 a.plan.now a.cache.now.depth a.so_far.place a.found c.in-Some.slot c.in-Some.is c.requires.plan.1 c.requires.found in
+    slot_filled_read a.context.now c.requires.plan.0 a.plan.now a.cache.now.depth from a.so_far.place a.found.place c.in-Some-fill_value.end a.so_far.seen c.in-Some.slot.now a.values.now.items c.fill_value.new.value c.requires.plan.1 f so_far c.in-Some-fill_value.ensures.filled
 
 pub fill_found-returns-in-Some-fill_value-clause-further : goal.fill_found-returns-in-Some-fill_value-clause-further
 fill_found-returns-in-Some-fill_value-clause-further t c =
     let a = c.args in
-    let f = slot_found_in a.scene.now c.requires.plan.0 a.plan.now a.cache.now.depth a.so_far.place a.found c.in-Some.slot c.in-Some.is c.requires.plan.1 c.requires.found in
+    let f = slot_found_in a.context.now c.requires.plan.0 a.plan.now a.cache.now.depth a.so_far.place a.found c.in-Some.slot c.in-Some.is c.requires.plan.1 c.requires.found in
     (omega (arith, f.names.bounds.0, c.in-Some-fill_value.ensures.filled.0.bounds.0), f.order)
 
 pub fill_members-members-init : goal.fill_members-members-init
 fill_members-members-init t c =
-    let scene = c.args.scene.now in
+    let context = c.args.context.now in
     let type = c.args.plan.now in
     let fitted = c.fit_count.ensures c.if-not-fit_count.false in
     let long : length c.fit_count.new.values.items ≡ length c.args.plan.now.slots.items = omega (arith, fitted) in (
       refl,
       c.requires.plan.1.order,
-      filled_none scene type c.args.cache.now.depth c.args.from c.past_blanks-first.result c.fit_count.new.values.items c.past_blanks-first.ensures (long ∙ as_many scene.schema.now scene.plan.now.expansion scene.plan.now.plans.items c.requires.plan.0 type c.requires.plan.1),
+      filled_none context type c.args.cache.now.depth c.args.from c.past_blanks-first.result c.fit_count.new.values.items c.past_blanks-first.ensures (long ∙ as_many context.schema.now context.plan.now.expansion context.plan.now.plans.items c.requires.plan.0 type c.requires.plan.1),
       long,
     )
 
 pub fill_members-fill_found-requires : goal.fill_members-fill_found-requires
 fill_members-fill_found-requires t c =
     let l = c.members in
-    let finds = subst (λ n. FindsMember c.args.scene.now c.args.plan.now n l.so_far.place c.in-Some.found) (sym c.next_member.ensures.depth) c.in-Some.ensures.found in
+    let finds = subst (λ n. FindsMember c.args.context.now c.args.plan.now n l.so_far.place c.in-Some.found) (sym c.next_member.ensures.depth) c.in-Some.ensures.found in
     let order = l.invariant.1 in
     let long = l.invariant.3 in
     search rules
@@ -271,36 +271,36 @@ fill_members-fill_found-requires t c =
 pub fill_members-members-preserved : goal.fill_members-members-preserved
 fill_members-members-preserved t c =
     let l = c.members in
-    let scene = c.args.scene.now in
+    let context = c.args.context.now in
     let type = c.args.plan.now in
     let depth = c.args.cache.now.depth in
     let read = c.in-Some-fill_found.read in
     let values = c.fill_found.new.values.items in
     let now = c.next_member.ensures.depth ∙ l.invariant.0 in
-    let up_to = subst (λ n. IsFilledUpTo scene type n c.args.from l.values.items l.so_far) (sym now) l.invariant.2 in
-    let read_to = subst (λ n. IsFilledTo scene type n c.args.from values read) now (c.in-Some-fill_found.ensures.filled c.args.from up_to) in
-    let ends : EndsMember scene.line read.place (After.Comma c.in-Some-Comma.next) = subst (EndsMember scene.line read.place) c.in-Some-Comma.field-0-is c.in-Some-Comma.ensures in (
+    let up_to = subst (λ n. IsFilledUpTo context type n c.args.from l.values.items l.so_far) (sym now) l.invariant.2 in
+    let read_to = subst (λ n. IsFilledTo context type n c.args.from values read) now (c.in-Some-fill_found.ensures.filled c.args.from up_to) in
+    let ends : EndsMember context.line read.place (After.Comma c.in-Some-Comma.next) = subst (EndsMember context.line read.place) c.in-Some-Comma.field-0-is c.in-Some-Comma.ensures in (
       c.fill_found.ensures.depth ∙ now,
       c.in-Some-fill_found.ensures.further.1,
-      filled_comma scene type depth c.args.from read.place c.in-Some-Comma.next read.seen values read_to ends,
+      filled_comma context type depth c.args.from read.place c.in-Some-Comma.next read.seen values read_to ends,
       c.fill_found.ensures.long ∙ l.invariant.3,
     )
 
 pub fill_members-members-smaller : goal.fill_members-members-smaller
 fill_members-members-smaller t c =
     let read = c.in-Some-fill_found.read in
-    let ends : EndsMember c.args.scene.now.line read.place (After.Comma c.in-Some-Comma.next) = subst (EndsMember c.args.scene.now.line read.place) c.in-Some-Comma.field-0-is c.in-Some-Comma.ensures in
+    let ends : EndsMember c.args.context.now.line read.place (After.Comma c.in-Some-Comma.next) = subst (EndsMember c.args.context.now.line read.place) c.in-Some-Comma.field-0-is c.in-Some-Comma.ensures in
     omega (arith, c.in-Some-fill_found.ensures.further.0, ends.0, ends.1)
 
 pub fill_members-returns-then-ends_object-clause-filled : goal.fill_members-returns-then-ends_object-clause-filled
 fill_members-returns-then-ends_object-clause-filled t c =
-    let scene = c.args.scene.now in
+    let context = c.args.context.now in
     let type = c.args.plan.now in
-    let d = scene.line in
+    let d = context.line in
     let brace = c.past_blanks-first.result in
     let here = sym c.byte.ensures.here ∙ c.if-byte-eq125.true in
     let within = within_byte d brace 125 here (λ e. omega arith) in
-    let count = as_many scene.schema.now scene.plan.now.expansion scene.plan.now.plans.items c.requires.plan.0 type c.requires.plan.1 in
+    let count = as_many context.schema.now context.plan.now.expansion context.plan.now.plans.items c.requires.plan.0 type c.requires.plan.1 in
     let fitted = c.fit_count.ensures c.if-not-fit_count.false in
     let long : length c.fit_count.new.values.items ≡ length c.args.plan.now.slots.items = omega (arith, fitted) in
     let old = c.fit_count.new.values in
@@ -308,44 +308,44 @@ fill_members-returns-then-ends_object-clause-filled t c =
     let back = c.as_mut_slice.ensures in
     let fills = subst (λ vs. FillsSlots type 0 vs new) back.value (c.ends_object.ensures.fills c.if-ends_object.true) in
     let as_long : length new ≡ old.len = fills.long ∙ sym (ap length back.value) ∙ back.len in
-    subst (λ vs. FillsMembers scene type c.args.cache.now.depth vs c.args.from (brace + 1)) (sym (take_at new (drop (length new) old.items) old.len as_long)) (
+    subst (λ vs. FillsMembers context type c.args.cache.now.depth vs c.args.from (brace + 1)) (sym (take_at new (drop (length new) old.items) old.len as_long)) (
       (omega (arith, c.past_blanks-first.ensures.bounds.0), omega (arith, within)),
-      filled_empty scene type c.args.cache.now.depth c.requires.plan.1.optional count 0 old.items new fills (long ∙ count) c.args.from brace refl c.past_blanks-first.ensures within (other_default d brace 125 here (λ e. omega arith)),
+      filled_empty context type c.args.cache.now.depth c.requires.plan.1.optional count 0 old.items new fills (long ∙ count) c.args.from brace refl c.past_blanks-first.ensures within (other_default d brace 125 here (λ e. omega arith)),
     )
 
 pub fill_members-returns-then-ends_object-2-clause-filled : goal.fill_members-returns-then-ends_object-2-clause-filled
 fill_members-returns-then-ends_object-2-clause-filled t c =
     let l = c.members in
-    let scene = c.args.scene.now in
+    let context = c.args.context.now in
     let type = c.args.plan.now in
     let depth = c.args.cache.now.depth in
     let read = c.in-Some-fill_found.read in
     let old = c.fill_found.new.values in
     let new = c.ends_object-in-Some-Brace.new.values in
     let back = c.as_mut_slice-in-Some-Brace.ensures in
-    let count = as_many scene.schema.now scene.plan.now.expansion scene.plan.now.plans.items c.requires.plan.0 type c.requires.plan.1 in
+    let count = as_many context.schema.now context.plan.now.expansion context.plan.now.plans.items c.requires.plan.0 type c.requires.plan.1 in
     let now = c.next_member.ensures.depth ∙ l.invariant.0 in
-    let up_to = subst (λ n. IsFilledUpTo scene type n c.args.from l.values.items l.so_far) (sym now) l.invariant.2 in
-    let read_to = subst (λ n. IsFilledTo scene type n c.args.from old.items read) now (c.in-Some-fill_found.ensures.filled c.args.from up_to) in
-    let ends : EndsMember scene.line read.place (After.Brace c.in-Some-Brace.next) = subst (EndsMember scene.line read.place) c.in-Some-Brace.field-0-is c.in-Some-Brace.ensures in
+    let up_to = subst (λ n. IsFilledUpTo context type n c.args.from l.values.items l.so_far) (sym now) l.invariant.2 in
+    let read_to = subst (λ n. IsFilledTo context type n c.args.from old.items read) now (c.in-Some-fill_found.ensures.filled c.args.from up_to) in
+    let ends : EndsMember context.line read.place (After.Brace c.in-Some-Brace.next) = subst (EndsMember context.line read.place) c.in-Some-Brace.field-0-is c.in-Some-Brace.ensures in
     let fills = subst (λ vs. FillsSlots type read.seen vs new) back.value (c.ends_object-in-Some-Brace.ensures.fills c.if-ends_object-2.true) in
     let as_long : length new ≡ old.len = fills.long ∙ sym (ap length back.value) ∙ back.len in
-    subst (λ vs. FillsMembers scene type depth vs c.args.from c.in-Some-Brace.next) (sym (take_at new (drop (length new) old.items) old.len as_long)) (
+    subst (λ vs. FillsMembers context type depth vs c.args.from c.in-Some-Brace.next) (sym (take_at new (drop (length new) old.items) old.len as_long)) (
       (omega (arith, read_to.members.bounds.0, ends.0), ends.1),
-      filled_brace scene type depth c.requires.plan.1.optional count read.seen old.items new fills (c.fill_found.ensures.long ∙ l.invariant.3 ∙ count) c.args.from read.place c.in-Some-Brace.next read_to ends,
+      filled_brace context type depth c.requires.plan.1.optional count read.seen old.items new fills (c.fill_found.ensures.long ∙ l.invariant.3 ∙ count) c.args.from read.place c.in-Some-Brace.next read_to ends,
     )
 
 pub fill_members-after_member-requires : goal.fill_members-after_member-requires
 fill_members-after_member-requires t c =
     let l = c.members in
     let now = c.next_member.ensures.depth ∙ l.invariant.0 in
-    let up_to = subst (λ n. IsFilledUpTo c.args.scene.now c.args.plan.now n c.args.from l.values.items l.so_far) (sym now) l.invariant.2 in
+    let up_to = subst (λ n. IsFilledUpTo c.args.context.now c.args.plan.now n c.args.from l.values.items l.so_far) (sym now) l.invariant.2 in
     (c.in-Some-fill_found.ensures.filled c.args.from up_to).members.bounds.1
 
 pub fill_members-ends_object-requires : goal.fill_members-ends_object-requires
 fill_members-ends_object-requires t c =
-    let scene = c.args.scene.now in
-    let bits = type_bits scene.schema.now scene.plan.now.expansion scene.plan.now.plans.items c.requires.plan.0 c.args.plan.now c.requires.plan.1 in
+    let context = c.args.context.now in
+    let bits = type_bits context.schema.now context.plan.now.expansion context.plan.now.plans.items c.requires.plan.0 c.args.plan.now c.requires.plan.1 in
     let all = c.requires.plan.1.all in
     let fitted = c.fit_count.ensures c.if-not-fit_count.false in
     let long : length c.fit_count.new.values.items ≡ length c.args.plan.now.slots.items = omega (arith, fitted) in
@@ -353,8 +353,8 @@ fill_members-ends_object-requires t c =
 
 pub fill_members-ends_object-requires-in-Some-Brace : goal.fill_members-ends_object-requires-in-Some-Brace
 fill_members-ends_object-requires-in-Some-Brace t c =
-    let scene = c.args.scene.now in
-    let bits = type_bits scene.schema.now scene.plan.now.expansion scene.plan.now.plans.items c.requires.plan.0 c.args.plan.now c.requires.plan.1 in
+    let context = c.args.context.now in
+    let bits = type_bits context.schema.now context.plan.now.expansion context.plan.now.plans.items c.requires.plan.0 c.args.plan.now c.requires.plan.1 in
     let all = c.requires.plan.1.all in
     let long = c.fill_found.ensures.long ∙ c.members.invariant.3 in
     search rules

@@ -31,15 +31,15 @@ decreases-fill_list l = 8 * l.cache.now.depth + 1
 -- the first items are those before the place
 abbrev pub invariant-fill_items-items : goal.invariant-fill_items-items
 invariant-fill_items-items l =
-    (l.cache.depth ≡ l.initial.cache.depth) × ListUpTo l.scene l.slot l.initial.cache.depth l.from l.place (take l.count l.items.items) × (l.count ≤ length l.items.items)
+    (l.cache.depth ≡ l.initial.cache.depth) × ListUpTo l.context l.slot l.initial.cache.depth l.from l.place (take l.count l.items.items) × (l.count ≤ length l.items.items)
 
 abbrev pub decreases-fill_items-items : goal.decreases-fill_items-items
-decreases-fill_items-items l = length l.scene.line - l.place
+decreases-fill_items-items l = length l.context.line - l.place
 
 -- the members before the place fill the slots of their names
 abbrev pub invariant-fill_members-members : goal.invariant-fill_members-members
 invariant-fill_members-members l =
-    (l.cache.depth ≡ l.initial.cache.depth) × (l.so_far.order < 1024) × IsFilledUpTo l.scene l.plan l.initial.cache.depth l.from l.values.items l.so_far × (length l.values.items ≡ length l.plan.slots.items)
+    (l.cache.depth ≡ l.initial.cache.depth) × (l.so_far.order < 1024) × IsFilledUpTo l.context l.plan l.initial.cache.depth l.from l.values.items l.so_far × (length l.values.items ≡ length l.plan.slots.items)
 
 abbrev pub decreases-fill_members-members : goal.decreases-fill_members-members
-decreases-fill_members-members l = length l.scene.line - l.so_far.place
+decreases-fill_members-members l = length l.context.line - l.so_far.place

@@ -1,5 +1,5 @@
 use Rattle.std.proofs.Common.{ℕ, subst}
-use Rattle.edm_rows.specs.private.Scenes.{PassesValue}
+use Rattle.edm_rows.specs.private.Contexts.{PassesValue}
 use Rattle.edm_rows.proofs.kept_value.pass_found.Goals as goal
 
 pub value_end-requires-clause-slot : goal.value_end-requires-clause-slot
@@ -10,7 +10,7 @@ value_end-requires-clause-task c = c.requires.slot.is.task
 
 pub returns-in-Some-clause-passed : goal.returns-in-Some-clause-passed
 returns-in-Some-clause-passed c =
-    subst (λ (d : ℕ). PassesValue c.args.scene.now c.args.slot.now c.args.slot.now.task d c.args.place c.in-Some.end) c.requires.depth c.in-Some.ensures.passed
+    subst (λ (d : ℕ). PassesValue c.args.context.now c.args.slot.now c.args.slot.now.task d c.args.place c.in-Some.end) c.requires.depth c.in-Some.ensures.passed
 
 pub returns-in-Some-clause-order : goal.returns-in-Some-clause-order
 returns-in-Some-clause-order c = c.requires.slot.is.order

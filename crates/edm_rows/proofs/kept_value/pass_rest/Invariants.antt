@@ -6,9 +6,9 @@ use Rattle.edm_rows.proofs.kept_value.pass_rest.Given as goal
 -- one of the members before the place is rejected, and the others were passed
 abbrev pub invariant-members : goal.invariant-members
 invariant-members l =
-    (l.read.place ≤ length l.scene.line) × (l.read.order < 1024) × (l.cache.depth ≡ 126)
-    × ((from : ℕ) → IsReadTo l.scene l.plan true from l.initial.values l.initial.read → IsReadTo l.scene l.plan true from l.values l.read)
-    × RowConforms (root_slots l.scene) (root_properties l.scene) l.values
+    (l.read.place ≤ length l.context.line) × (l.read.order < 1024) × (l.cache.depth ≡ 126)
+    × ((from : ℕ) → IsReadTo l.context l.plan true from l.initial.values l.initial.read → IsReadTo l.context l.plan true from l.values l.read)
+    × RowConforms (root_slots l.context) (root_properties l.context) l.values
 
 abbrev pub decreases-members : goal.decreases-members
-decreases-members l = length l.scene.line - l.read.place
+decreases-members l = length l.context.line - l.read.place

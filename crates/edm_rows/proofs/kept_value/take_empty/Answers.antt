@@ -8,21 +8,21 @@ use Rattle.edm_rows.proofs.kept_value.take_empty.Goals as goal
 
 pub ends_object-requires-clause-as_many : goal.ends_object-requires-clause-as_many
 ends_object-requires-clause-as_many c =
-    held_long _ (root_properties c.args.scene.now) c.args.values.now c.requires.conforms.1 ∙ sym (rows_long c.args.scene.now c.args.plan.now c.requires.plan)
+    held_long _ (root_properties c.args.context.now) c.args.values.now c.requires.conforms.1 ∙ sym (rows_long c.args.context.now c.args.plan.now c.requires.plan)
 
 pub ends_object-requires-clause-all : goal.ends_object-requires-clause-all
 ends_object-requires-clause-all c = c.requires.plan.is.all
 
 pub ends_object-requires-clause-bits : goal.ends_object-requires-clause-bits
-ends_object-requires-clause-bits c = root_bits c.args.scene.now c.args.plan.now c.requires.plan
+ends_object-requires-clause-bits c = root_bits c.args.context.now c.args.plan.now c.requires.plan
 
 pub returns-clause-read : goal.returns-clause-read
 returns-clause-read c =
-    let scene = c.args.scene.now in
-    let line = scene.line in
+    let context = c.args.context.now in
+    let line = context.line in
     let brace = c.past_blanks-brace.result in
     let here = sym c.byte.ensures.here ∙ c.if-byte-ne125.false in
     let within = within_byte line brace 125 here (λ e. omega arith) in
-    row_empty scene c.args.plan.now c.args.from brace c.args.values.now c.ends_object.new.values c.requires.plan (fills_absent scene c.args.plan.now c.requires.plan 0 c.args.values.now c.ends_object.new.values (c.ends_object.ensures.fills c.if-not-ends_object.false)
-    (held_long _ (root_properties scene) c.args.values.now c.requires.conforms.1 ∙ sym (rows_long scene c.args.plan.now c.requires.plan)))
-    (held_long _ (root_properties scene) c.args.values.now c.requires.conforms.1) c.past_blanks-brace.ensures within (other_default line brace 125 here (λ e. omega arith))
+    row_empty context c.args.plan.now c.args.from brace c.args.values.now c.ends_object.new.values c.requires.plan (fills_absent context c.args.plan.now c.requires.plan 0 c.args.values.now c.ends_object.new.values (c.ends_object.ensures.fills c.if-not-ends_object.false)
+    (held_long _ (root_properties context) c.args.values.now c.requires.conforms.1 ∙ sym (rows_long context c.args.plan.now c.requires.plan)))
+    (held_long _ (root_properties context) c.args.values.now c.requires.conforms.1) c.past_blanks-brace.ensures within (other_default line brace 125 here (λ e. omega arith))

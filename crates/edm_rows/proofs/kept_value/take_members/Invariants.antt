@@ -6,9 +6,9 @@ use Rattle.edm_rows.proofs.kept_value.take_members.Given as goal
 -- the members before the place were put into their slots
 abbrev pub invariant-members : goal.invariant-members
 invariant-members l =
-    (l.so_far.place ≤ length l.scene.line) × (l.so_far.order < 1024) × (l.cache.depth ≡ 126)
-    × IsUpTo l.scene l.plan false l.from l.values l.so_far
-    × RowConforms (root_slots l.scene) (root_properties l.scene) l.values
+    (l.so_far.place ≤ length l.context.line) × (l.so_far.order < 1024) × (l.cache.depth ≡ 126)
+    × IsUpTo l.context l.plan false l.from l.values l.so_far
+    × RowConforms (root_slots l.context) (root_properties l.context) l.values
 
 abbrev pub decreases-members : goal.decreases-members
-decreases-members l = length l.scene.line - l.so_far.place
+decreases-members l = length l.context.line - l.so_far.place

@@ -6,20 +6,20 @@ use Rattle.edm_rows.proofs.members.named_member.Goals as goal
 
 pub slot_at-requires-clause-count : goal.slot_at-requires-clause-count
 slot_at-requires-clause-count c =
-    let scene = c.args.scene.now in
-    as_many scene.schema.now scene.plan.now.expansion scene.plan.now.plans.items c.requires.plan.0 c.args.plan.now c.requires.plan.1
+    let context = c.args.context.now in
+    as_many context.schema.now context.plan.now.expansion context.plan.now.plans.items c.requires.plan.0 c.args.plan.now c.requires.plan.1
 
 pub returns-in-Some-clause-name : goal.returns-in-Some-clause-name
 returns-in-Some-clause-name c =
-    let scene = c.args.scene.now in
+    let context = c.args.context.now in
     let type = c.args.plan.now in
     let k = c.loop-slot.slot in
     let slot = c.index.result.now in
     let at : slice_get type.slots.items k ≡ Some slot = slice_get_read type.slots.items (length type.slots.items) k slot refl (omega arith) c.index.ensures in
-    let count = as_many scene.schema.now scene.plan.now.expansion scene.plan.now.plans.items c.requires.plan.0 type c.requires.plan.1 in (
+    let count = as_many context.schema.now context.plan.now.expansion context.plan.now.plans.items c.requires.plan.0 type c.requires.plan.1 in (
       slot.key,
-      names_to scene.line c.args.place slot.key c.in-Some.end c.in-Some.ensures.further c.in-Some.ensures.name,
-      inl (omega (arith, count), slot_named scene.schema.now scene.plan.now.expansion scene.plan.now.plans.items c.requires.plan.0 type k slot c.requires.plan.1 at),
+      names_to context.line c.args.place slot.key c.in-Some.end c.in-Some.ensures.further c.in-Some.ensures.name,
+      inl (omega (arith, count), slot_named context.schema.now context.plan.now.expansion context.plan.now.plans.items c.requires.plan.0 type k slot c.requires.plan.1 at),
     )
 
 pub returns-in-Some-clause-depth : goal.returns-in-Some-clause-depth

@@ -1,6 +1,6 @@
 use Rattle.std.proofs.Common.{None, Some, refl, sym, ap, ◌∙◌, subst}
 use Rattle.edm_rows.specs.declared.row_types.SlotKind.{SlotKind}
-use Rattle.edm_rows.specs.private.SlotKinds.{IsKindOf}
+use Rattle.edm_rows.specs.private.RowTypes.{IsKindOf}
 use Rattle.edm_rows.proofs.row_types.kind_of.Goals as goal
 
 pub returns-in_default : goal.returns-in_default

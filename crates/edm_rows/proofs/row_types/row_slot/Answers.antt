@@ -1,6 +1,6 @@
 use Rattle.std.proofs.Common.{refl, subst}
 use Rattle.std.proofs.lemmas.Nat.{one_shl}
-use Rattle.edm_rows.specs.private.SlotKinds.{IsKindOf}
+use Rattle.edm_rows.specs.private.RowTypes.{IsKindOf}
 use Rattle.edm_rows.proofs.row_types.row_slot.Goals as goal
 
 pub returns-clause-made : goal.returns-clause-made

@@ -14,7 +14,7 @@ use Rattle.edm_entities.proofs.RowLemmas.Plans.{slot_planned}
 use Rattle.edm_rows.specs.declared.row_types.RowSlot.{RowSlot}
 use Rattle.edm_rows.specs.declared.row_types.RowType.{RowType}
 use Rattle.edm_rows.specs.private.RowSlots.{IsFresh, IsRowSlot, IsRowType}
-use Rattle.edm_rows.specs.private.SlotKinds.{HasRecord}
+use Rattle.edm_rows.specs.private.RowTypes.{HasRecord}
 use Rattle.edm_rows.proofs.RowTypes.{each_push, long_push, none_each, optional_more}
 use Rattle.edm_rows.proofs.SlotsFilled.{row_slot_of}
 use Rattle.edm_rows.proofs.row_types.row_type.Goals as goal

@@ -1,5 +1,5 @@
 use Rattle.std.proofs.Common.{◌<◌, ◌≤◌, ℕ}
-use Rattle.json_room.specs.private.WordBytes.{StandsByte}
+use Rattle.json_room.specs.private.SpelledKey.{StandsByte}
 use Rattle.json_room.proofs.spelled_key.word_stands.Given as goal
 
 -- the bytes so far are there

@@ -1,6 +1,6 @@
 use Rattle.std.proofs.Common.{◌+◌, ◌<◌, ◌≤◌, length, sym, subst, arith}
 use Rattle.json_tokens.specs.private.Escapes.{EscapesAt}
-use Rattle.json_tokens.proofs.ToldLemmas.{byte_escapes, unit_escapes}
+use Rattle.json_tokens.proofs.ReportedLemmas.{byte_escapes, unit_escapes}
 use Rattle.json_tokens.proofs.escape.escape_at.Goals as goal
 
 pub returns-in-Some : goal.returns-in-Some
@@ -8,7 +8,7 @@ returns-in-Some c =
     let d = c.args.bytes.now in
     let i = c.args.place in
     let within : i < length d = omega (arith, c.requires, c.if-place-bytes.false) in
-    byte_escapes d i c.in-Some.told within c.if-bytes-place-ne117.true c.in-Some.ensures.value c.in-Some.ensures.ascii.0 c.in-Some.ensures.ascii.1
+    byte_escapes d i c.in-Some.reported within c.if-bytes-place-ne117.true c.in-Some.ensures.value c.in-Some.ensures.ascii.0 c.in-Some.ensures.ascii.1
 
 pub returns-in-Some-from_u32 : goal.returns-in-Some-from_u32
 returns-in-Some-from_u32 c =

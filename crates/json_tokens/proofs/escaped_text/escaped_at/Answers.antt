@@ -19,5 +19,5 @@ returns-in-Some-unescaped c =
     let i = c.args.place in
     let within : i < length d = within_byte d i 34 c.requires (λ e. omega arith) in
     let closed : ClosesText d (i + 1) c.in-Some.quote = subst (λ t. ClosesText t (i + 1) c.in-Some.quote) c.as_bytes.ensures.value c.in-Some.ensures in
-    escaped_text d i c.in-Some.quote c.in-Some-unescaped.told.now within c.requires closed
+    escaped_text d i c.in-Some.quote c.in-Some-unescaped.reported.now within c.requires closed
     (ap (λ q. content plain (drop 1 q)) (sym c.range.ensures.value) ∙ c.in-Some-unescaped.ensures)

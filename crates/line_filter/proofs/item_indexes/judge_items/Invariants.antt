@@ -1,7 +1,7 @@
 -- The items so far passed, and as many as were looked at.
 use Rattle.std.proofs.Common.{◌≡◌, drop}
 use Rattle.line_filter.specs.Places.{placed_from, places}
-use Rattle.line_filter.specs.DeviceCalls.{StaysWell}
+use Rattle.line_filter.specs.CallLogs.{StaysWell}
 use Rattle.line_filter.proofs.ItemLaws.Walked.{HasWalked}
 use Rattle.line_filter.proofs.item_indexes.judge_items.Given as goal
 

@@ -1,7 +1,7 @@
 -- What is gone from the rest was written.
 use Rattle.std.proofs.Common.{◌≡◌, ℕ, List, ◌++◌, length}
 use Rattle.std.specs.Io.KnownBytes.{Appends}
-use Rattle.line_filter.specs.DeviceCalls.{StaysWell}
+use Rattle.line_filter.specs.CallLogs.{StaysWell}
 use Rattle.line_filter.proofs.output.write_out.Given as goal
 
 abbrev pub invariant-loop-rest : goal.invariant-loop-rest

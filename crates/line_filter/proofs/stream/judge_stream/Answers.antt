@@ -7,14 +7,14 @@ use Rattle.line_filter.specs.Kept.{StopsWith}
 use Rattle.line_filter.specs.LineStreams.{LacksLine, ReadsUntil}
 use Rattle.line_filter.specs.private.Giving.{Gives, bytes_to_come}
 use Rattle.line_filter.specs.private.HeldBack.{WritesBut}
-use Rattle.line_filter.specs.declared.run_stop.Stop.{Stop}
+use Rattle.line_filter.specs.declared.run_stop.RunStop.{RunStop}
 use Rattle.line_filter.proofs.DeviceLaws.Called.{stays_well_refl, stays_well_trans}
 use Rattle.line_filter.proofs.DeviceLaws.Unread.{going_read, reads_well_refl, reads_well_more, reads_on}
 use Rattle.line_filter.proofs.ItemLaws.Passing.{outcome_counts}
 use Rattle.line_filter.proofs.ItemLaws.Stopping.{outcome_of-of_item}
 use Rattle.line_filter.proofs.LineLaws.Found.{SaysTheSame-refl, SaysTheSame-trans, found-same}
 use Rattle.line_filter.proofs.RunLaws.AtOnce.{found_at_once, HasCome-at_once, HasCome-failed_at_once}
-use Rattle.line_filter.proofs.RunLaws.Called.{reads_of_item, reads_told}
+use Rattle.line_filter.proofs.RunLaws.Called.{reads_of_item, reads_reported}
 use Rattle.line_filter.proofs.RunLaws.Streams.{HasCome-none, HasCome-written, HasCome-unwritten, HasCome-end, HasCome-fault, HasCome-more, HasCome-stopped, HasCome-failed}
 use Rattle.line_filter.proofs.WriteLaws.HeldBack.{OnErr-from}
 use Rattle.line_filter.proofs.stream.judge_stream.Goals as goal
@@ -71,7 +71,7 @@ returns-in-Fault-clause-ok g c =
     let given = subst (Gives g.R.Read.remaining c.loop-fault.reader c.next_line.new.reader) c.in-Fault.is c.in_ok-next_line.ensures.given in
     let not_over = λ (over : IsOver c.loop-fault.reader). let ends = c.in_ok-next_line.ensures.again.over over in absurd {A = ⊥} (cc) in
     let came = HasCome-written says a r (IsOver c.loop-fault.reader → ⊥) u v w c.loop-fault.held.items c.next_line.new.held.items c.loop-fault.lines c.loop-fault.tally i.4 c.in_ok-next_line.ensures.ok in
-    subst (λ (s : Stop g.row.J-Fault.Denot). IfSome a (λ bytes. (text : List ℕ) × WritesBut u w c.next_line.new.held.items text × StopsWith (lines says bytes) (LacksLine says bytes c.next_line.new.reader.waiting (g.R.Read.remaining c.next_line.new.reader.reader)) text s)) (sym c.fault_stop.ensures)
+    subst (λ (s : RunStop g.row.J-Fault.Denot). IfSome a (λ bytes. (text : List ℕ) × WritesBut u w c.next_line.new.held.items text × StopsWith (lines says bytes) (LacksLine says bytes c.next_line.new.reader.waiting (g.R.Read.remaining c.next_line.new.reader.reader)) text s)) (sym c.fault_stop.ensures)
     (HasCome-fault says c.next_line.new.reader.waiting a r (g.R.Read.remaining c.next_line.new.reader.reader) (IsOver c.loop-fault.reader → ⊥) u w c.next_line.new.held.items c.loop-fault.lines c.loop-fault.tally fault came
     not_over given.left given.unended given.long)
 
@@ -228,8 +228,8 @@ returns-in-Fault-clause-reads g c =
     let remaining = g.R.Read.remaining in
     let given = subst (Gives remaining c.loop-fault.reader c.next_line.new.reader) c.in-Fault.is c.in_ok-next_line.ensures.given in
     let reads = reads_on calls remaining c.args.reader.now c.loop-fault.reader c.next_line.new.reader i.5 c.in_ok-next_line.ensures.reads in
-    subst (λ (s : Stop g.row.J-Fault.Denot). ReadsUntil calls remaining c.args.reader.now c.next_line.new.reader s) (sym c.fault_stop.ensures)
-    (reads_told g.row.J-Fault.Denot calls remaining c.args.reader.now c.next_line.new.reader c.in-Fault.fault (c.loop-fault.lines + 1) given.failed reads)
+    subst (λ (s : RunStop g.row.J-Fault.Denot). ReadsUntil calls remaining c.args.reader.now c.next_line.new.reader s) (sym c.fault_stop.ensures)
+    (reads_reported g.row.J-Fault.Denot calls remaining c.args.reader.now c.next_line.new.reader c.in-Fault.fault (c.loop-fault.lines + 1) given.failed reads)
 
 pub returns-in-Err-clause-reads : goal.returns-in-Err-clause-reads
 returns-in-Err-clause-reads g c =

@@ -3,7 +3,7 @@
 use Rattle.std.proofs.Common.{◌≡◌, ◌+◌, ◌≤◌, []}
 use Rattle.line_filter.specs.LineItems.{SaysTheSame}
 use Rattle.line_filter.specs.LineSource.{left_of, IsOver}
-use Rattle.line_filter.specs.DeviceCalls.{StaysWell}
+use Rattle.line_filter.specs.CallLogs.{StaysWell}
 use Rattle.line_filter.specs.private.Giving.{bytes_to_come}
 use Rattle.line_filter.specs.private.Reading.{IsUnread, ReadsWell}
 use Rattle.line_filter.proofs.RunLaws.Streams.{HasCome}

@@ -15,7 +15,7 @@ returns-in_err-release-in-None-clause-err g c =
 
 pub returns-in-Some-clause-reads : goal.returns-in-Some-clause-reads
 returns-in-Some-clause-reads g c =
-    reads_given g.S.Reads.calls g.R.Read.remaining c.args.reader.now c.loop-next.reader c.give.new.self c.loop-next.invariant.4 c.give.ensures.reader c.give.ensures.unread c.give.ensures.told
+    reads_given g.S.Reads.calls g.R.Read.remaining c.args.reader.now c.loop-next.reader c.give.new.self c.loop-next.invariant.4 c.give.ensures.reader c.give.ensures.unread c.give.ensures.reported
 
 pub loop-next-preserved : goal.loop-next-preserved
 loop-next-preserved g c =

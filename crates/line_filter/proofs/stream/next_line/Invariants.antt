@@ -5,7 +5,7 @@ use Rattle.std.specs.Io.KnownBytes.{Keeps}
 use Rattle.line_filter.specs.declared.line_reader.Course.{Course}
 use Rattle.line_filter.specs.LineSource.{left_of, IsNoWholeLine}
 use Rattle.line_filter.specs.private.Giving.{bytes_to_come, line_to_come}
-use Rattle.line_filter.specs.DeviceCalls.{StaysWell}
+use Rattle.line_filter.specs.CallLogs.{StaysWell}
 use Rattle.line_filter.specs.private.HeldBack.{WritesBut}
 use Rattle.line_filter.specs.private.Reading.{IsUnread, ReadsOn}
 use Rattle.line_filter.proofs.stream.next_line.Given as goal

@@ -1,6 +1,6 @@
 use Rattle.std.proofs.Common.{◌∙◌, [], ◌∷◌, ℕ, ◌+◌, ◌<◌, ◌++◌, ap, length, refl, subst, sym, string_bytes}
-use Rattle.odata_checked_filter.specs.declared.canonical_text.Part.TheVariants.{Close}
-use Rattle.odata_checked_filter.specs.private.CanonicalWalk.{arguments_of, spread, stop_at}
+use Rattle.odata_checked_filter.specs.declared.canonical_text.PrintTask.TheVariants.{Close}
+use Rattle.odata_checked_filter.specs.private.CanonicalText.{arguments_of, spread, stop_at}
 use Rattle.odata_checked_filter.proofs.canonical.Arguments.{argument_within, call_written}
 use Rattle.odata_checked_filter.proofs.canonical.Spreads.{plain_arguments, put_plain}
 use Rattle.odata_checked_filter.proofs.canonical_text.write_call.Goals as goal

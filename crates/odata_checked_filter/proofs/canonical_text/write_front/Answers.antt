@@ -1,7 +1,7 @@
 use Rattle.std.proofs.Common.{ℕ, ap, string_bytes}
 use Rattle.std.specs.Prelude.{nat_lt}
-use Rattle.odata_checked_filter.specs.declared.canonical_text.Part.TheVariants.{Operand}
-use Rattle.odata_checked_filter.specs.private.CanonicalWalk.{WritesNode, WritesPart, closing, first_operand, spread}
+use Rattle.odata_checked_filter.specs.declared.canonical_text.PrintTask.TheVariants.{Operand}
+use Rattle.odata_checked_filter.specs.private.CanonicalText.{WritesNode, WritesTask, closing, first_operand, spread}
 use Rattle.odata_checked_filter.proofs.canonical.Groups.{operand_written}
 use Rattle.odata_checked_filter.proofs.canonical.Leaves.{there_within}
 use Rattle.odata_checked_filter.proofs.canonical.Spreads.{plain_closing, put_plain}
@@ -24,7 +24,7 @@ returns c =
     let new = c.write_node.new.pending.items in
     let is_loose = nat_lt c.kind_level.result needed in
     on_if_ok (λ first. WritesNode list place (first_operand place first) opened after (spread list more) (spread list new))
-    (λ first. WritesPart list (Operand place needed) (first_operand place first) before after (spread list old) (spread list new))
+    (λ first. WritesTask list (Operand place needed) (first_operand place first) before after (spread list old) (spread list new))
     c.write_node.result
     (λ first writes. operand_written list place c.node-kind.result c.node-kind.ensures needed (first_operand place first) is_loose before opened after
     (spread list old) (spread list more) (spread list new) (ap (λ (n : ℕ). nat_lt n needed) c.kind_level.ensures) c.in_ok-open_loose.ensures.text

@@ -1,5 +1,5 @@
 use Rattle.std.proofs.Common.{ℕ, Some, sym, string_bytes, subst}
-use Rattle.odata_checked_filter.specs.private.CanonicalWalk.{WritesNode, first_operand, spread}
+use Rattle.odata_checked_filter.specs.private.CanonicalText.{WritesNode, first_operand, spread}
 use Rattle.odata_checked_filter.proofs.canonical.Leaves.{IsNamed, it_written, literal_written, there_within}
 use Rattle.odata_checked_filter.proofs.canonical.Operands.{joining_else}
 use Rattle.odata_checked_filter.proofs.canonical.Signs.{neg_written, not_written}

@@ -1,6 +1,6 @@
 use Rattle.std.proofs.Common.{◌+◌, ◌<◌, [], List, ap, arith, length, string_bytes}
 use Rattle.odata_checked_filter.specs.declared.checked_node.CheckedNode.{CheckedNode}
-use Rattle.odata_checked_filter.specs.private.CanonicalWalk.{WritesFront, operand_of, spread}
+use Rattle.odata_checked_filter.specs.private.CanonicalText.{WritesFront, operand_of, spread}
 use Rattle.odata_checked_filter.proofs.canonical.Fronts.{front_begins, front_goes, front_there, weaker}
 use Rattle.odata_checked_filter.proofs.canonical.Leaves.{there_within}
 use Rattle.odata_checked_filter.proofs.canonical_text.write_operand.Goals as goal

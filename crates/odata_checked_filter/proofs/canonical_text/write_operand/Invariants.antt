@@ -1,5 +1,5 @@
 use Rattle.std.proofs.Common.{◌-◌, length, string_bytes}
-use Rattle.odata_checked_filter.specs.private.CanonicalWalk.{HasTreeAt, WritesFront, operand_of, spread}
+use Rattle.odata_checked_filter.specs.private.CanonicalText.{HasTreeAt, WritesFront, operand_of, spread}
 use Rattle.odata_checked_filter.proofs.canonical_text.write_operand.Given as goal
 
 -- the operand is written up to the node that is next, where a tree stands

@@ -1,6 +1,6 @@
 use Rattle.std.proofs.Common.{◌≡◌, ◌∙◌, List, ℕ, [], ◌∷◌, ◌++◌, Some, ap, length, slice_get, string_bytes, subst}
 use Rattle.odata_checked_filter.specs.FlatTree.{FlatTree}
-use Rattle.odata_checked_filter.specs.private.ExplanationWalk.{listed_line, still_around}
+use Rattle.odata_checked_filter.specs.private.Explanation.{listed_line, still_around}
 use Rattle.odata_checked_filter.proofs.explanation.push_line.Goals as goal
 
 pub returns : goal.returns

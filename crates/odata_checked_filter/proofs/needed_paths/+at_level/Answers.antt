@@ -1,7 +1,7 @@
 use Rattle.std.proofs.Common.{◌≡◌, ◌∙◌, ℕ, suc, ◌+◌, ◌≤◌, List, arith, inl, inr, length, subst, sym}
 use Rattle.std.proofs.lemmas.Bool.{cases_lt}
 use Rattle.odata_checked_filter.specs.declared.needed_paths.VariableNode.TheVariants.{There}
-use Rattle.odata_checked_filter.specs.private.NeededWalk.{IsNodeAtLevel, nodes_in}
+use Rattle.odata_checked_filter.specs.private.NeededPaths.{IsNodeAtLevel, nodes_in}
 use Rattle.odata_checked_filter.proofs.needed.Levels.{bound_nodes, level_here, level_outer}
 use Rattle.odata_checked_filter.proofs.needed_paths.+at_level.Goals as goal
 

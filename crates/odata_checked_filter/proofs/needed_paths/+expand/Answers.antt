@@ -3,7 +3,7 @@ use Rattle.csdl_schema.specs.ExprType.{single}
 use Rattle.csdl_schema.specs.SchemaModel.{slots_of, type_name_at}
 use Rattle.odata_signatures.specs.NeededPaths.{path_of}
 use Rattle.odata_signatures.specs.Typed.{with_variable}
-use Rattle.odata_checked_filter.specs.private.NeededWalk.{LambdaNeeds, LeadThere, NeedsAmong, Puts, nodes_in}
+use Rattle.odata_checked_filter.specs.private.NeededPaths.{LambdaNeeds, LeadThere, NeedsAmong, Puts, nodes_in}
 use Rattle.odata_checked_filter.proofs.flat.Places.{found_before}
 use Rattle.odata_checked_filter.proofs.flat.Standing.{lies_nonempty}
 use Rattle.odata_checked_filter.proofs.needed.Bodies.{lambda_puts}
@@ -23,13 +23,13 @@ on_ok (Err e) P Q by holds = tt
 
 -- the walk begins with all trees
 pub expand-loop-place-init : goal.expand-loop-place-init
-expand-loop-place-init t c = (omega arith, λ scope paths trees line lead. left_begin c.args.scene.now.schema.now c.args.scene.now.filtered_type scope c.args.scene.now.list.now paths c.args.expansion.now c.args.stop trees c.args.from line)
+expand-loop-place-init t c = (omega arith, λ scope paths trees line lead. left_begin c.args.context.now.schema.now c.args.context.now.filtered_type scope c.args.context.now.list.now paths c.args.expansion.now c.args.stop trees c.args.from line)
 
 pub expand-node-requires : goal.expand-node-requires
 expand-node-requires t c =
-    let schema = c.args.scene.now.schema.now in
-    let n = c.args.scene.now.filtered_type in
-    let list = c.args.scene.now.list.now in
+    let schema = c.args.context.now.schema.now in
+    let n = c.args.context.now.filtered_type in
+    let list = c.args.context.now.list.now in
     let r = c.requires in
     let left = c.loop-place.invariant.1 r.scope r.paths r.trees r.line r.lead in
     let first = head_of schema n r.scope list c.loop-place.place c.args.stop left.rest left.line c.loop-place-test.true in
@@ -38,9 +38,9 @@ expand-node-requires t c =
 
 pub expand-loop-place-preserved : goal.expand-loop-place-preserved
 expand-loop-place-preserved t c =
-    let schema = c.args.scene.now.schema.now in
-    let n = c.args.scene.now.filtered_type in
-    let list = c.args.scene.now.list.now in
+    let schema = c.args.context.now.schema.now in
+    let n = c.args.context.now.filtered_type in
+    let list = c.args.context.now.list.now in
     let place = c.loop-place.place in
     let class = sym c.need_class.ensures ∙ c.in-Children.is in
     let since = c.loop-place.invariant.0 in (
@@ -53,16 +53,16 @@ expand-loop-place-preserved t c =
 
 pub expand-returns : goal.expand-returns
 expand-returns t c scope paths trees line lead =
-    left_over c.args.scene.now.schema.now c.args.scene.now.filtered_type scope c.args.scene.now.list.now paths c.args.expansion.now c.args.stop trees c.loop-place.expansion c.loop-place.place
+    left_over c.args.context.now.schema.now c.args.context.now.filtered_type scope c.args.context.now.list.now paths c.args.expansion.now c.args.stop trees c.loop-place.expansion c.loop-place.place
     (c.loop-place.invariant.1 scope paths trees line lead) (let past = c.loop-place-test.false in omega (arith, past))
 
 -- ---- a lambda operator on the way
 
 pub expand-lambda_places-places-requires : goal.expand-lambda_places-places-requires
 expand-lambda_places-places-requires t c =
-    let schema = c.args.scene.now.schema.now in
-    let n = c.args.scene.now.filtered_type in
-    let list = c.args.scene.now.list.now in
+    let schema = c.args.context.now.schema.now in
+    let n = c.args.context.now.filtered_type in
+    let list = c.args.context.now.list.now in
     let r = c.requires in
     let left = c.loop-place.invariant.1 r.scope r.paths r.trees r.line r.lead in
     let first = head_of schema n r.scope list c.loop-place.place c.args.stop left.rest left.line c.loop-place-test.true in
@@ -72,10 +72,10 @@ expand-lambda_places-places-requires t c =
 
 pub expand-expand_lambda-requires : goal.expand-expand_lambda-requires
 expand-expand_lambda-requires t c =
-    let scene = c.args.scene.now in
-    let schema = scene.schema.now in
-    let n = scene.filtered_type in
-    let list = scene.list.now in
+    let context = c.args.context.now in
+    let schema = context.schema.now in
+    let n = context.filtered_type in
+    let list = context.list.now in
     let place = c.loop-place.place in
     let r = c.requires in
     let left = c.loop-place.invariant.1 r.scope r.paths r.trees r.line r.lead in
@@ -83,8 +83,8 @@ expand-expand_lambda-requires t c =
     let operator = lambda_tree schema n r.scope list place first.middle first.tree c.node.result first.stands c.node.ensures (sym c.need_class.ensures ∙ c.in-Lambda.is) in
     let places = c.lambda_places-places.result in
     let are = c.lambda_places-places.ensures in
-    let stops = operator_stops scene r.scope place first.middle first.tree c.node.result places first.stands c.node.ensures are operator in
-    let parts = parts_onward scene r.scope place first.middle first.tree c.node.result places first.stands c.node.ensures are operator in
+    let stops = operator_stops context r.scope place first.middle first.tree c.node.result places first.stands c.node.ensures are operator in
+    let parts = parts_onward context r.scope place first.middle first.tree c.node.result places first.stands c.node.ensures are operator in
     let onward = line_onward schema n r.scope list first.middle c.args.stop first.more first.behind in
     let since = c.loop-place.invariant.0 in
     let begins = are.base_is in (
@@ -95,17 +95,17 @@ expand-expand_lambda-requires t c =
         base = operator.base;
         variable = operator.variable;
         body = operator.body;
-        is = lambda_of scene r.scope place first.middle first.tree c.node.result places first.stands c.node.ensures are operator;
+        is = lambda_of context r.scope place first.middle first.tree c.node.result places first.stands c.node.ensures are operator;
         lead = lead_still c.args.expansion.now c.loop-place.expansion r.scope r.paths (nodes_in c.args.variables.now) left.leads r.lead;
       },
     )
 
 pub expand-loop-place-preserved-in-Lambda : goal.expand-loop-place-preserved-in-Lambda
 expand-loop-place-preserved-in-Lambda t c =
-    let scene = c.args.scene.now in
-    let schema = scene.schema.now in
-    let n = scene.filtered_type in
-    let list = scene.list.now in
+    let context = c.args.context.now in
+    let schema = context.schema.now in
+    let n = context.filtered_type in
+    let list = context.list.now in
     let place = c.loop-place.place in
     let old = c.args.expansion.now in
     let places = c.lambda_places-places.result in
@@ -114,7 +114,7 @@ expand-loop-place-preserved-in-Lambda t c =
     let begun = c.loop-place.invariant.1 r.scope r.paths r.trees r.line r.lead in
     let head = head_of schema n r.scope list place c.args.stop begun.rest begun.line c.loop-place-test.true in
     let there = lambda_tree schema n r.scope list place head.middle head.tree c.node.result head.stands c.node.ensures (sym c.need_class.ensures ∙ c.in-Lambda.is) in
-    let parts = parts_onward scene r.scope place head.middle head.tree c.node.result places head.stands c.node.ensures are there in
+    let parts = parts_onward context r.scope place head.middle head.tree c.node.result places head.stands c.node.ensures are there in
     let since = c.loop-place.invariant.0 in
     let begins = are.base_is in (
       omega (arith, since, begins, parts.0, parts.1),
@@ -123,9 +123,9 @@ expand-loop-place-preserved-in-Lambda t c =
           let first = first_left schema n scope list paths old c.args.stop trees c.loop-place.expansion place left c.loop-place-test.true in
           let operator = lambda_tree schema n scope list place first.middle first.tree c.node.result first.stands c.node.ensures (sym c.need_class.ensures ∙ c.in-Lambda.is) in
           let puts = c.in_ok-expand_lambda-in-Lambda.ensures scope paths operator.base operator.variable operator.body
-          (lambda_of scene scope place first.middle first.tree c.node.result places first.stands c.node.ensures are operator)
+          (lambda_of context scope place first.middle first.tree c.node.result places first.stands c.node.ensures are operator)
           (lead_still old c.loop-place.expansion scope paths (nodes_in c.args.variables.now) left.leads lead) in
-          let stops = operator_stops scene scope place first.middle first.tree c.node.result places first.stands c.node.ensures are operator in
+          let stops = operator_stops context scope place first.middle first.tree c.node.result places first.stands c.node.ensures are operator in
           let last = last_there schema n scope list place first.middle first.tree c.node.result first.stands c.node.ensures in
           subst (λ (k : ℕ). IsLeft schema n scope list paths old c.expand_lambda.new.expansion k c.args.stop trees) (last ∙ sym stops)
           (past_lambda schema n scope list paths old c.args.stop trees c.loop-place.expansion c.expand_lambda.new.expansion place left first c.node.result c.node.ensures operator puts),
@@ -133,10 +133,10 @@ expand-loop-place-preserved-in-Lambda t c =
 
 pub expand-loop-place-smaller-in-Lambda : goal.expand-loop-place-smaller-in-Lambda
 expand-loop-place-smaller-in-Lambda t c =
-    let scene = c.args.scene.now in
-    let schema = scene.schema.now in
-    let n = scene.filtered_type in
-    let list = scene.list.now in
+    let context = c.args.context.now in
+    let schema = context.schema.now in
+    let n = context.filtered_type in
+    let list = context.list.now in
     let place = c.loop-place.place in
     let places = c.lambda_places-places.result in
     let are = c.lambda_places-places.ensures in
@@ -144,7 +144,7 @@ expand-loop-place-smaller-in-Lambda t c =
     let left = c.loop-place.invariant.1 r.scope r.paths r.trees r.line r.lead in
     let first = head_of schema n r.scope list place c.args.stop left.rest left.line c.loop-place-test.true in
     let operator = lambda_tree schema n r.scope list place first.middle first.tree c.node.result first.stands c.node.ensures (sym c.need_class.ensures ∙ c.in-Lambda.is) in
-    let parts = parts_onward scene r.scope place first.middle first.tree c.node.result places first.stands c.node.ensures are operator in
+    let parts = parts_onward context r.scope place first.middle first.tree c.node.result places first.stands c.node.ensures are operator in
     let begins = are.base_is in
     let before = c.loop-place-test.true in
     omega (arith, begins, parts.0, parts.1, before)
@@ -153,9 +153,9 @@ expand-loop-place-smaller-in-Lambda t c =
 
 pub expand-expand_operand-requires : goal.expand-expand_operand-requires
 expand-expand_operand-requires t c =
-    let schema = c.args.scene.now.schema.now in
-    let n = c.args.scene.now.filtered_type in
-    let list = c.args.scene.now.list.now in
+    let schema = c.args.context.now.schema.now in
+    let n = c.args.context.now.filtered_type in
+    let list = c.args.context.now.list.now in
     let r = c.requires in
     let left = c.loop-place.invariant.1 r.scope r.paths r.trees r.line r.lead in
     let first = head_of schema n r.scope list c.loop-place.place c.args.stop left.rest left.line c.loop-place-test.true in
@@ -170,13 +170,13 @@ expand-expand_operand-requires t c =
 
 pub expand-loop-place-preserved-in-Path : goal.expand-loop-place-preserved-in-Path
 expand-loop-place-preserved-in-Path t c =
-    let schema = c.args.scene.now.schema.now in
-    let n = c.args.scene.now.filtered_type in
-    let list = c.args.scene.now.list.now in
+    let schema = c.args.context.now.schema.now in
+    let n = c.args.context.now.filtered_type in
+    let list = c.args.context.now.list.now in
     let place = c.loop-place.place in
     let old = c.args.expansion.now in
     let base = c.in_ok-base-in-Path.base in
-    let next : c.max-place.result ≡ max base (place + 1) = (let greater = is_max base (place + 1) in let told = c.max-place.ensures in cc) in
+    let next : c.max-place.result ≡ max base (place + 1) = (let greater = is_max base (place + 1) in let reported = c.max-place.ensures in cc) in
     let since = c.loop-place.invariant.0 in (
       omega (arith, since, next),
       λ scope paths trees line lead.
@@ -192,26 +192,26 @@ expand-loop-place-preserved-in-Path t c =
 
 pub expand_lambda-expand-requires : goal.expand_lambda-expand-requires
 expand_lambda-expand-requires t c =
-    let scene = c.args.scene.now in
+    let context = c.args.context.now in
     let r = c.requires in
     let is = r.is in
-    let base = lies_nonempty scene.schema.now scene.filtered_type r.scope scene.list.now c.args.places.now.base c.args.places.now.body r.base is.base_stands in
-    let body = lies_nonempty scene.schema.now scene.filtered_type _ scene.list.now c.args.places.now.body c.args.places.now.stop r.body is.body_stands.body in (
+    let base = lies_nonempty context.schema.now context.filtered_type r.scope context.list.now c.args.places.now.base c.args.places.now.body r.base is.base_stands in
+    let body = lies_nonempty context.schema.now context.filtered_type _ context.list.now c.args.places.now.body c.args.places.now.stop r.body is.body_stands.body in (
       omega (arith, base, body),
       record {
         scope = r.scope;
         paths = r.paths;
         trees = r.base ∷ [];
-        line = one_line scene.schema.now scene.filtered_type r.scope scene.list.now c.args.places.now.base c.args.places.now.body r.base is.base_stands;
+        line = one_line context.schema.now context.filtered_type r.scope context.list.now c.args.places.now.base c.args.places.now.body r.base is.base_stands;
         lead = r.lead;
       },
     )
 
 pub expand_lambda-expand_path-requires : goal.expand_lambda-expand_path-requires
 expand_lambda-expand_path-requires t c =
-    let scene = c.args.scene.now in
+    let context = c.args.context.now in
     let r = c.requires in
-    let line = one_line scene.schema.now scene.filtered_type r.scope scene.list.now c.args.places.now.base c.args.places.now.body r.base r.is.base_stands in
+    let line = one_line context.schema.now context.filtered_type r.scope context.list.now c.args.places.now.base c.args.places.now.body r.base r.is.base_stands in
     let first = c.in_ok-expand.ensures r.scope r.paths (r.base ∷ []) line r.lead in
     record {
       scope = r.scope;
@@ -224,10 +224,10 @@ expand_lambda-expand_path-requires t c =
 
 pub expand_lambda-expand-requires-2 : goal.expand_lambda-expand-requires-2
 expand_lambda-expand-requires-2 t c =
-    let scene = c.args.scene.now in
-    let schema = scene.schema.now in
-    let n = scene.filtered_type in
-    let list = scene.list.now in
+    let context = c.args.context.now in
+    let schema = context.schema.now in
+    let n = context.filtered_type in
+    let list = context.list.now in
     let places = c.args.places.now in
     let nodes = nodes_in c.args.variables.now in
     let r = c.requires in
@@ -253,12 +253,12 @@ expand_lambda-expand-requires-2 t c =
 
 pub expand_lambda-returns : goal.expand_lambda-returns
 expand_lambda-returns t c scope paths base variable body is lead =
-    let scene = c.args.scene.now in
-    let schema = scene.schema.now in
-    let n = scene.filtered_type in
+    let context = c.args.context.now in
+    let schema = context.schema.now in
+    let n = context.filtered_type in
     let slots = slots_of schema in
     let root = type_name_at schema n in
-    let list = scene.list.now in
+    let list = context.list.now in
     let places = c.args.places.now in
     let nodes = nodes_in c.args.variables.now in
     let member = is.body_stands.member_type in

@@ -2,7 +2,7 @@ use Rattle.std.proofs.Common.{◌+◌, ◌*◌, ◌-◌, ◌≤◌, List}
 use Rattle.odata_syntax.specs.Tree.{Tree}
 use Rattle.odata_signatures.specs.NeededPaths.{VariablePaths}
 use Rattle.odata_signatures.specs.Typed.{Scope}
-use Rattle.odata_checked_filter.specs.private.NeededWalk.{LeadThere, StandInLine, nodes_in}
+use Rattle.odata_checked_filter.specs.private.NeededPaths.{LeadThere, StandInLine, nodes_in}
 use Rattle.odata_checked_filter.proofs.needed.Lines.{IsLeft}
 use Rattle.odata_checked_filter.proofs.needed_paths.+expand.Given as goal
 
@@ -17,9 +17,9 @@ decreases-expand_lambda l = 2 * (l.places.now.stop - l.places.now.base) + 1
 abbrev pub invariant-expand-loop-place : goal.invariant-expand-loop-place
 invariant-expand-loop-place l =
     (l.from ≤ l.place)
-    × ((scope : Scope) (paths : VariablePaths) (trees : List Tree) → StandInLine l.scene.schema.now l.scene.filtered_type scope l.scene.list.now l.from l.stop trees
+    × ((scope : Scope) (paths : VariablePaths) (trees : List Tree) → StandInLine l.context.schema.now l.context.filtered_type scope l.context.list.now l.from l.stop trees
     → LeadThere l.fn.expansion scope paths (nodes_in l.variables)
-    → IsLeft l.scene.schema.now l.scene.filtered_type scope l.scene.list.now paths l.fn.expansion l.expansion l.place l.stop trees)
+    → IsLeft l.context.schema.now l.context.filtered_type scope l.context.list.now paths l.fn.expansion l.expansion l.place l.stop trees)
 
 abbrev pub decreases-expand-loop-place : goal.decreases-expand-loop-place
 decreases-expand-loop-place l = l.stop - l.place

@@ -2,7 +2,7 @@ use Rattle.std.proofs.Common.{◌≡◌, ◌∷◌, [], ℕ, List, Option, Some,
 use Rattle.csdl_schema.specs.ExpansionView.{LeadsTo}
 use Rattle.csdl_schema.specs.SchemaModel.{properties_at}
 use Rattle.odata_checked_filter.specs.Stands.{variable_names}
-use Rattle.odata_checked_filter.specs.private.NeededWalk.{IsTargetAt, Puts, nodes_in}
+use Rattle.odata_checked_filter.specs.private.NeededPaths.{IsTargetAt, Puts, nodes_in}
 use Rattle.odata_checked_filter.proofs.flat.Places.{found_before}
 use Rattle.odata_checked_filter.proofs.needed.Kinds.{other_there, property_there, typed_there, variable_there}
 use Rattle.odata_checked_filter.proofs.needed.Levels.{as_many_nodes, level_within}
@@ -18,23 +18,23 @@ same_text o text asked a b = let same : Some text ≡ Some asked = sym a ∙ b i
 pub text-name-requires : goal.text-name-requires
 text-name-requires c =
     let r = c.requires.stands in
-    let list = c.args.scene.now.list.now in
-    let at = typed_there c.args.scene.now.schema.now c.args.scene.now.filtered_type r.scope list c.args.place r.stop r.tree r.stands in
+    let list = c.args.context.now.list.now in
+    let at = typed_there c.args.context.now.schema.now c.args.context.now.filtered_type r.scope list c.args.place r.stop r.tree r.stands in
     found_before list.nodes c.args.place at.0 at.1.0
 
 pub node-requires : goal.node-requires
 node-requires c =
     let r = c.requires.stands in
-    let list = c.args.scene.now.list.now in
-    let at = typed_there c.args.scene.now.schema.now c.args.scene.now.filtered_type r.scope list c.args.place r.stop r.tree r.stands in
+    let list = c.args.context.now.list.now in
+    let at = typed_there c.args.context.now.schema.now c.args.context.now.filtered_type r.scope list c.args.place r.stop r.tree r.stands in
     found_before list.nodes c.args.place at.0 at.1.0
 
 pub property-requires : goal.property-requires
 property-requires c =
     let r = c.requires.stands in
-    let schema = c.args.scene.now.schema.now in
-    let n = c.args.scene.now.filtered_type in
-    let list = c.args.scene.now.list.now in
+    let schema = c.args.context.now.schema.now in
+    let n = c.args.context.now.filtered_type in
+    let list = c.args.context.now.list.now in
     let there = property_there schema n r.scope list c.args.place r.stop c.in-Property.slot r.tree c.node.result r.stands c.node.ensures c.in-Property.is in
     slot_below (properties_at schema n) there.asked c.in-Property.slot there.named
 
@@ -43,9 +43,9 @@ step_to-requires c = ([], refl)
 
 pub returns-in_ok-node-in-Property : goal.returns-in_ok-node-in-Property
 returns-in_ok-node-in-Property c scope paths stop tree stands lead =
-    let schema = c.args.scene.now.schema.now in
-    let n = c.args.scene.now.filtered_type in
-    let list = c.args.scene.now.list.now in
+    let schema = c.args.context.now.schema.now in
+    let n = c.args.context.now.filtered_type in
+    let list = c.args.context.now.list.now in
     let slot = c.in-Property.slot in
     let there = property_there schema n scope list c.args.place stop slot tree c.node.result stands c.node.ensures c.in-Property.is in
     let text = c.text-name.result.now in
@@ -61,24 +61,24 @@ returns-in_ok-node-in-Property c scope paths stop tree stands lead =
 pub variable_node-requires : goal.variable_node-requires
 variable_node-requires c =
     let r = c.requires.stands in
-    let list = c.args.scene.now.list.now in
-    let there = variable_there c.args.scene.now.schema.now c.args.scene.now.filtered_type r.scope list c.args.place r.stop c.in-Variable.level r.tree c.node.result r.stands c.node.ensures c.in-Variable.is in
+    let list = c.args.context.now.list.now in
+    let there = variable_there c.args.context.now.schema.now c.args.context.now.filtered_type r.scope list c.args.place r.stop c.in-Variable.level r.tree c.node.result r.stands c.node.ensures c.in-Variable.is in
     let within = level_within (variable_names r.scope) there.asked c.in-Variable.level there.bound in
     let many = as_many_nodes c.args.expansion.now r.scope r.paths (nodes_in c.args.variables.now) r.lead in
     omega (arith, within, many)
 
 pub returns-in-Variable : goal.returns-in-Variable
 returns-in-Variable c scope paths stop tree stands lead =
-    let schema = c.args.scene.now.schema.now in
-    let n = c.args.scene.now.filtered_type in
-    let list = c.args.scene.now.list.now in
+    let schema = c.args.context.now.schema.now in
+    let n = c.args.context.now.filtered_type in
+    let list = c.args.context.now.list.now in
     let there = variable_there schema n scope list c.args.place stop c.in-Variable.level tree c.node.result stands c.node.ensures c.in-Variable.is in
     variable_end schema n scope list paths c.args.expansion.now c.args.place c.in-Variable.level c.variable_node.result tree (nodes_in c.args.variables.now) there lead c.variable_node.ensures
 
 pub returns-in_default : goal.returns-in_default
 returns-in_default c scope paths stop tree stands lead =
-    let schema = c.args.scene.now.schema.now in
-    let n = c.args.scene.now.filtered_type in
-    let list = c.args.scene.now.list.now in
+    let schema = c.args.context.now.schema.now in
+    let n = c.args.context.now.filtered_type in
+    let list = c.args.context.now.list.now in
     other_end schema n scope list paths c.args.expansion.now c.args.place tree
     (other_there schema n scope list c.args.place stop tree c.node.result stands c.node.ensures (no_step list c.args.place c.node.result c.node.ensures c.requires.base) c.in_default.not-Property c.in_default.not-Variable)

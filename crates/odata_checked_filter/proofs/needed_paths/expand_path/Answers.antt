@@ -6,7 +6,7 @@ use Rattle.odata_checked_filter.specs.private.Layout.{Lies}
 use Rattle.odata_signatures.specs.declared.edm_type.EdmType.{EdmType}
 use Rattle.odata_signatures.specs.declared.edm_type.ValueType.{ValueType}
 use Rattle.odata_checked_filter.specs.declared.checked_node.NodeKind.{NodeKind}
-use Rattle.odata_checked_filter.specs.private.NeededWalk.{IsPathEnd, Puts}
+use Rattle.odata_checked_filter.specs.private.NeededPaths.{IsPathEnd, Puts}
 use Rattle.odata_checked_filter.proofs.flat.Places.{found_before}
 use Rattle.odata_checked_filter.proofs.needed.Kinds.{step_there, typed_there}
 use Rattle.odata_checked_filter.proofs.needed.Paths.{owner_there, step_end}
@@ -20,7 +20,7 @@ same_text o text asked a b = let same : Some text ≡ Some asked = sym a ∙ b i
 pub expand_base-requires-clause-stands : goal.expand_base-requires-clause-stands
 expand_base-requires-clause-stands c =
     let r = c.requires in
-    let below = stands_below c.args.scene.now.schema.now c.args.scene.now.filtered_type r.scope c.args.scene.now.list.now c.args.place c.path_base-bottom.result r.stop c.path_base-bottom.result r.tree r.stands
+    let below = stands_below c.args.context.now.schema.now c.args.context.now.filtered_type r.scope c.args.context.now.list.now c.args.place c.path_base-bottom.result r.stop c.path_base-bottom.result r.tree r.stands
     c.path_base-bottom.ensures.steps c.path_base-bottom.ensures.below (omega arith) in
     record { scope = r.scope; paths = r.paths; stop = r.stop; tree = below.0; stands = below.1; lead = r.lead }
 
@@ -35,13 +35,13 @@ pub step_target-target-requires : goal.step_target-target-requires
 step_target-target-requires c =
     let r = c.requires in
     let b = before_is c.loop-at.at c.args.place c.path_base-bottom.result c.loop-at-test.true c.loop-at.invariant.within in
-    let below = stands_below c.args.scene.now.schema.now c.args.scene.now.filtered_type r.scope c.args.scene.now.list.now c.args.place c.path_base-bottom.result r.stop (c.loop-at.at - 1) r.tree r.stands
+    let below = stands_below c.args.context.now.schema.now c.args.context.now.filtered_type r.scope c.args.context.now.list.now c.args.place c.path_base-bottom.result r.stop (c.loop-at.at - 1) r.tree r.stands
     c.path_base-bottom.ensures.steps b.1.1 (let within = b.1.0 in omega (arith, within)) in
     record { scope = r.scope; stop = r.stop; tree = below.0; stands = below.1 }
 
 pub text-requires : goal.text-requires
 text-requires c =
-    let list = c.args.scene.now.list.now in
+    let list = c.args.context.now.list.now in
     let b = before_is c.loop-at.at c.args.place c.path_base-bottom.result c.loop-at-test.true c.loop-at.invariant.within in
     let step = step_found list (c.loop-at.at - 1) (c.path_base-bottom.ensures.steps (c.loop-at.at - 1) b.1.0 b.1.1) in
     found_before list.nodes (c.loop-at.at - 1) step.found step.stands_at
@@ -49,15 +49,15 @@ text-requires c =
 pub step_to-requires : goal.step_to-requires
 step_to-requires c =
     let r = c.requires in
-    let below = stands_below c.args.scene.now.schema.now c.args.scene.now.filtered_type r.scope c.args.scene.now.list.now c.args.place c.path_base-bottom.result r.stop c.loop-at.at r.tree r.stands
+    let below = stands_below c.args.context.now.schema.now c.args.context.now.filtered_type r.scope c.args.context.now.list.now c.args.place c.path_base-bottom.result r.stop c.loop-at.at r.tree r.stands
     c.path_base-bottom.ensures.steps c.loop-at.invariant.above c.loop-at.invariant.within in
     (path_of r.scope r.paths below.0, (c.loop-at.invariant.ends r.scope r.paths r.stop below.0 below.1 r.lead).leads)
 
 pub loop-at-preserved : goal.loop-at-preserved
 loop-at-preserved c =
-    let schema = c.args.scene.now.schema.now in
-    let n = c.args.scene.now.filtered_type in
-    let list = c.args.scene.now.list.now in
+    let schema = c.args.context.now.schema.now in
+    let n = c.args.context.now.filtered_type in
+    let list = c.args.context.now.list.now in
     let at = c.loop-at.at - 1 in
     let b = before_is c.loop-at.at c.args.place c.path_base-bottom.result c.loop-at-test.true c.loop-at.invariant.within in
     let within = b.1.0 in
@@ -89,5 +89,5 @@ pub returns : goal.returns
 returns c =
     let above : c.loop-at.at ≡ c.args.place = (let past = c.loop-at-test.false in let since = c.loop-at.invariant.above in omega (arith, past, since)) in
     λ scope paths stop tree stands lead.
-    let ended = c.loop-at.invariant.ends scope paths stop tree (subst (λ (k : ℕ). Lies c.args.scene.now.schema.now c.args.scene.now.filtered_type scope c.args.scene.now.list.now k stop tree) (sym above) stands) lead in
-    subst (λ (k : ℕ). IsPathEnd (slots_of c.args.scene.now.schema.now) (type_name_at c.args.scene.now.schema.now c.args.scene.now.filtered_type) scope paths c.args.expansion.now c.loop-at.expansion k tree c.loop-at.end) above ended
+    let ended = c.loop-at.invariant.ends scope paths stop tree (subst (λ (k : ℕ). Lies c.args.context.now.schema.now c.args.context.now.filtered_type scope c.args.context.now.list.now k stop tree) (sym above) stands) lead in
+    subst (λ (k : ℕ). IsPathEnd (slots_of c.args.context.now.schema.now) (type_name_at c.args.context.now.schema.now c.args.context.now.filtered_type) scope paths c.args.expansion.now c.loop-at.expansion k tree c.loop-at.end) above ended

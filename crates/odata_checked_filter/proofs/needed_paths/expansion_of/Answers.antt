@@ -4,7 +4,7 @@ use Rattle.odata_checked_filter.specs.Filter.{HasNeededPaths}
 use Rattle.odata_checked_filter.specs.FlatTree.{FlatTree, tree_of_nodes}
 use Rattle.odata_checked_filter.specs.Stands.{Stands}
 use Rattle.odata_checked_filter.specs.declared.checked_node.CheckedNode.{CheckedNode}
-use Rattle.odata_checked_filter.specs.private.NeededWalk.{LeadThere, StandInLine}
+use Rattle.odata_checked_filter.specs.private.NeededPaths.{LeadThere, StandInLine}
 use Rattle.odata_checked_filter.proofs.flat.Lying.{stands_lie}
 use Rattle.odata_checked_filter.proofs.needed.Bodies.{only_needed}
 use Rattle.odata_checked_filter.proofs.needed.Levels.{nodes_in-Empty}

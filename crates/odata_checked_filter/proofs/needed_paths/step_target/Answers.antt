@@ -5,7 +5,7 @@ use Rattle.odata_signatures.specs.declared.edm_type.EdmType.{EdmType}
 use Rattle.odata_signatures.specs.declared.edm_type.ValueType.{ValueType}
 use Rattle.odata_checked_filter.specs.declared.checked_node.CheckedNode.{CheckedNode}
 use Rattle.odata_checked_filter.specs.declared.checked_node.NodeKind.{NodeKind}
-use Rattle.odata_checked_filter.specs.private.NeededWalk.{IsTargetAt}
+use Rattle.odata_checked_filter.specs.private.NeededPaths.{IsTargetAt}
 use Rattle.odata_checked_filter.proofs.flat.Places.{found_before, same_found}
 use Rattle.odata_checked_filter.proofs.flat.Standing.{lies_nonempty}
 use Rattle.odata_checked_filter.proofs.needed.Heads.{last_there}
@@ -21,16 +21,16 @@ place_fits place stop found before last fits = omega (arith, before, last, fits)
 pub node-requires : goal.node-requires
 node-requires c =
     let r = c.requires in
-    let list = c.args.scene.now.list.now in
-    let at = typed_there c.args.scene.now.schema.now c.args.scene.now.filtered_type r.scope list c.args.place r.stop r.tree r.stands in
+    let list = c.args.context.now.list.now in
+    let at = typed_there c.args.context.now.schema.now c.args.context.now.filtered_type r.scope list c.args.place r.stop r.tree r.stands in
     found_before list.nodes c.args.place at.0 at.1.0
 
 pub overflow_add-place : goal.overflow_add-place
 overflow_add-place c =
     let r = c.requires in
-    let schema = c.args.scene.now.schema.now in
-    let n = c.args.scene.now.filtered_type in
-    let list = c.args.scene.now.list.now in
+    let schema = c.args.context.now.schema.now in
+    let n = c.args.context.now.filtered_type in
+    let list = c.args.context.now.list.now in
     let there = step_there schema n r.scope list c.args.place r.stop c.in-Member.slot r.tree c.node.result r.stands c.node.ensures c.in-Member.is in
     let before : c.args.place + 1 < r.stop = lies_nonempty schema n r.scope list (c.args.place + 1) r.stop there.base there.base_stands in
     let last = last_there schema n r.scope list c.args.place r.stop r.tree c.node.result r.stands c.node.ensures in
@@ -39,9 +39,9 @@ overflow_add-place c =
 pub node-base-requires : goal.node-base-requires
 node-base-requires c =
     let r = c.requires in
-    let schema = c.args.scene.now.schema.now in
-    let n = c.args.scene.now.filtered_type in
-    let list = c.args.scene.now.list.now in
+    let schema = c.args.context.now.schema.now in
+    let n = c.args.context.now.filtered_type in
+    let list = c.args.context.now.list.now in
     let there = step_there schema n r.scope list c.args.place r.stop c.in-Member.slot r.tree c.node.result r.stands c.node.ensures c.in-Member.is in
     let at = typed_there schema n r.scope list (c.args.place + 1) r.stop there.base there.base_stands in
     found_before list.nodes (c.args.place + 1) at.0 at.1.0
@@ -49,9 +49,9 @@ node-base-requires c =
 pub target_at-requires : goal.target_at-requires
 target_at-requires c =
     let r = c.requires in
-    let schema = c.args.scene.now.schema.now in
-    let n = c.args.scene.now.filtered_type in
-    let list = c.args.scene.now.list.now in
+    let schema = c.args.context.now.schema.now in
+    let n = c.args.context.now.filtered_type in
+    let list = c.args.context.now.list.now in
     let there = step_there schema n r.scope list c.args.place r.stop c.in-Member.slot r.tree c.node.result r.stands c.node.ensures c.in-Member.is in
     let owner = owner_there c.trees_have_one_type.ensures schema n r.scope list c.args.place r.stop c.in-Member.slot r.tree c.node-base.result there c.node-base.ensures in
     (owner.id, owner.type_is, owner.slot_in)
@@ -61,8 +61,8 @@ same_slot a b is = cc
 
 pub returns-in-Member : goal.returns-in-Member
 returns-in-Member c slot id on =
-    let schema = c.args.scene.now.schema.now in
-    let list = c.args.scene.now.list.now in
+    let schema = c.args.context.now.schema.now in
+    let list = c.args.context.now.list.now in
     let here = some_there (λ found. found.kind ≡ NodeKind.Member slot) (slice_get list.nodes c.args.place) on.0 in
     let step : here.0 ≡ c.node.result = same_found (slice_get list.nodes c.args.place) here.0 c.node.result here.1.0 c.node.ensures in
     let slots : slot ≡ c.in-Member.slot = same_slot slot c.in-Member.slot (sym here.1.1 ∙ ap (λ (f : CheckedNode). f.kind) step ∙ c.in-Member.is) in
@@ -73,7 +73,7 @@ returns-in-Member c slot id on =
 
 pub returns-in_default : goal.returns-in_default
 returns-in_default c slot id on =
-    let list = c.args.scene.now.list.now in
+    let list = c.args.context.now.list.now in
     let here = some_there (λ found. found.kind ≡ NodeKind.Member slot) (slice_get list.nodes c.args.place) on.0 in
     let same : here.0 ≡ c.node.result = same_found (slice_get list.nodes c.args.place) here.0 c.node.result here.1.0 c.node.ensures in
     absurd (c.in_default.not-Member slot (sym (ap (λ (f : CheckedNode). f.kind) same) ∙ here.1.1))

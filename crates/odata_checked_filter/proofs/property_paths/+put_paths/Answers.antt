@@ -3,7 +3,7 @@ use Rattle.csdl_schema.specs.ExprType.{null_type}
 use Rattle.odata_signatures.specs.NeededPaths.{path_of}
 use Rattle.odata_signatures.specs.Typed.{with_variable}
 use Rattle.odata_checked_filter.specs.private.LambdaLines.{AreInLine}
-use Rattle.odata_checked_filter.specs.private.PathWalk.{AreBound, NamedText, with_texts}
+use Rattle.odata_checked_filter.specs.private.PropertyPaths.{AreBound, NamedText, with_texts}
 use Rattle.odata_checked_filter.proofs.flat.Places.{found_before}
 use Rattle.odata_checked_filter.proofs.named.Texts.{bound_in-Bound, put_none}
 use Rattle.odata_checked_filter.proofs.named.Trees.{IsLeft, base_line, first_of, found_there, lambda_of, last_there, line_below, no_more, onward_there, past_lambda, past_node}
@@ -18,14 +18,14 @@ loop-place-init t c = (omega arith, λ trees line. ((trees, line), λ scope path
 
 pub path_at-requires : goal.path_at-requires
 path_at-requires t c =
-    let list = c.args.scene.now.list.now in
+    let list = c.args.context.now.list.now in
     let left = c.loop-place.invariant.1 c.requires.0 c.requires.1 in
     let first = first_of list c.loop-place.place c.args.stop left.0.0 left.0.1 c.loop-place-test.true in
     record { stop = first.middle; tree = first.tree; stands = first.stands }
 
 pub node-node-requires : goal.node-node-requires
 node-node-requires t c =
-    let list = c.args.scene.now.list.now in
+    let list = c.args.context.now.list.now in
     let left = c.loop-place.invariant.1 c.requires.0 c.requires.1 in
     let first = first_of list c.loop-place.place c.args.stop left.0.0 left.0.1 c.loop-place-test.true in
     let there = found_there list c.loop-place.place first.middle first.tree first.stands in
@@ -33,7 +33,7 @@ node-node-requires t c =
 
 pub node-body-requires : goal.node-body-requires
 node-body-requires t c =
-    let list = c.args.scene.now.list.now in
+    let list = c.args.context.now.list.now in
     let place = c.loop-place.place in
     let left = c.loop-place.invariant.1 c.requires.0 c.requires.1 in
     let first = first_of list place c.args.stop left.0.0 left.0.1 c.loop-place-test.true in
@@ -43,7 +43,7 @@ node-body-requires t c =
 
 pub put_paths-requires : goal.put_paths-requires
 put_paths-requires t c =
-    let list = c.args.scene.now.list.now in
+    let list = c.args.context.now.list.now in
     let place = c.loop-place.place in
     let left = c.loop-place.invariant.1 c.requires.0 c.requires.1 in
     let first = first_of list place c.args.stop left.0.0 left.0.1 c.loop-place-test.true in
@@ -62,7 +62,7 @@ put_paths-requires t c =
 
 pub path_at-requires-then-is_lambda : goal.path_at-requires-then-is_lambda
 path_at-requires-then-is_lambda t c =
-    let list = c.args.scene.now.list.now in
+    let list = c.args.context.now.list.now in
     let place = c.loop-place.place in
     let left = c.loop-place.invariant.1 c.requires.0 c.requires.1 in
     let first = first_of list place c.args.stop left.0.0 left.0.1 c.loop-place-test.true in
@@ -70,11 +70,11 @@ path_at-requires-then-is_lambda t c =
     record { stop = operator.middle; tree = operator.base; stands = operator.base_stands }
 
 pub text-requires : goal.text-requires
-text-requires t c = found_before c.args.scene.now.list.now.nodes c.loop-place.place c.node-node.result c.node-node.ensures
+text-requires t c = found_before c.args.context.now.list.now.nodes c.loop-place.place c.node-node.result c.node-node.ensures
 
 pub put_paths-requires-then-is_lambda : goal.put_paths-requires-then-is_lambda
 put_paths-requires-then-is_lambda t c =
-    let list = c.args.scene.now.list.now in
+    let list = c.args.context.now.list.now in
     let place = c.loop-place.place in
     let left = c.loop-place.invariant.1 c.requires.0 c.requires.1 in
     let first = first_of list place c.args.stop left.0.0 left.0.1 c.loop-place-test.true in
@@ -95,7 +95,7 @@ put_paths-requires-then-is_lambda t c =
 
 pub loop-place-smaller-then-is_lambda : goal.loop-place-smaller-then-is_lambda
 loop-place-smaller-then-is_lambda t c =
-    let list = c.args.scene.now.list.now in
+    let list = c.args.context.now.list.now in
     let place = c.loop-place.place in
     let left = c.loop-place.invariant.1 c.requires.0 c.requires.1 in
     let first = first_of list place c.args.stop left.0.0 left.0.1 c.loop-place-test.true in
@@ -106,7 +106,7 @@ loop-place-smaller-then-is_lambda t c =
 
 pub loop-place-preserved-then-is_lambda : goal.loop-place-preserved-then-is_lambda
 loop-place-preserved-then-is_lambda t c =
-    let list = c.args.scene.now.list.now in
+    let list = c.args.context.now.list.now in
     let place = c.loop-place.place in
     let stop = c.args.stop in
     let here = c.node-node.result in
@@ -151,7 +151,7 @@ loop-place-preserved-then-is_lambda t c =
 
 pub loop-place-preserved : goal.loop-place-preserved
 loop-place-preserved t c =
-    let list = c.args.scene.now.list.now in
+    let list = c.args.context.now.list.now in
     let place = c.loop-place.place in
     let stop = c.args.stop in
     let here = c.node-node.result in
@@ -176,7 +176,7 @@ loop-place-preserved t c =
 
 pub returns : goal.returns
 returns t c scope paths trees line are =
-    let list = c.args.scene.now.list.now in
+    let list = c.args.context.now.list.now in
     let found = map string_bytes c.loop-place.found.items in
     let left = (c.loop-place.invariant.1 trees line).1 scope paths are in
     let past = c.loop-place-test.false in

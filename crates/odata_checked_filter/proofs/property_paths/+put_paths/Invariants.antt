@@ -3,7 +3,7 @@ use Rattle.odata_syntax.specs.Tree.{Tree}
 use Rattle.odata_signatures.specs.NeededPaths.{VariablePaths}
 use Rattle.odata_signatures.specs.Typed.{Scope}
 use Rattle.odata_checked_filter.specs.private.LambdaLines.{AreInLine}
-use Rattle.odata_checked_filter.specs.private.PathWalk.{AreBound, bound_in}
+use Rattle.odata_checked_filter.specs.private.PropertyPaths.{AreBound, bound_in}
 use Rattle.odata_checked_filter.proofs.named.Trees.{IsLeft}
 use Rattle.odata_checked_filter.proofs.property_paths.+put_paths.Given as goal
 
@@ -14,10 +14,10 @@ decreases-put_paths l = l.stop - l.from
 abbrev pub invariant-loop-place : goal.invariant-loop-place
 invariant-loop-place l =
     (l.from ≤ l.place)
-    × ((trees : List Tree) → AreInLine l.scene.list.now l.from l.stop trees
-    → ((rest : List Tree) × AreInLine l.scene.list.now l.place l.stop rest)
+    × ((trees : List Tree) → AreInLine l.context.list.now l.from l.stop trees
+    → ((rest : List Tree) × AreInLine l.context.list.now l.place l.stop rest)
     × ((scope : Scope) (paths : VariablePaths) → AreBound scope paths (bound_in l.variables)
-    → IsLeft l.scene.list.now scope paths (map string_bytes l.fn.found.items) (map string_bytes l.found.items) l.place l.stop trees))
+    → IsLeft l.context.list.now scope paths (map string_bytes l.fn.found.items) (map string_bytes l.found.items) l.place l.stop trees))
 
 abbrev pub decreases-loop-place : goal.decreases-loop-place
 decreases-loop-place l = l.stop - l.place

@@ -4,7 +4,7 @@ use Rattle.odata_signatures.specs.NeededPaths.{VariablePaths, path_of}
 use Rattle.odata_signatures.specs.Typed.{Scope}
 use Rattle.odata_checked_filter.specs.FlatTree.{FlatTree}
 use Rattle.odata_checked_filter.specs.PropertyPaths.{path_text}
-use Rattle.odata_checked_filter.specs.private.PathWalk.{AreBound, NamedText, bound_in, text_named}
+use Rattle.odata_checked_filter.specs.private.PropertyPaths.{AreBound, NamedText, bound_in, text_named}
 use Rattle.odata_checked_filter.proofs.flat.Places.{found_before}
 use Rattle.odata_checked_filter.proofs.named.Texts.{name_text}
 use Rattle.odata_checked_filter.proofs.named.Trees.{IsName, found_there, no_path_there, property_name, variable_name}
@@ -30,20 +30,20 @@ name_path_text list place tree scope paths bound beside named are at =
 pub text-name-requires : goal.text-name-requires
 text-name-requires c =
     let r = c.requires.stands in
-    let list = c.args.scene.now.list.now in
+    let list = c.args.context.now.list.now in
     let at = found_there list c.args.place r.stop r.tree r.stands in
     found_before list.nodes c.args.place at.0 at.1
 
 pub node-requires : goal.node-requires
 node-requires c =
     let r = c.requires.stands in
-    let list = c.args.scene.now.list.now in
+    let list = c.args.context.now.list.now in
     let at = found_there list c.args.place r.stop r.tree r.stands in
     found_before list.nodes c.args.place at.0 at.1
 
 pub returns-in-Property : goal.returns-in-Property
 returns-in-Property c scope paths stop tree stands are =
-    let list = c.args.scene.now.list.now in
+    let list = c.args.context.now.list.now in
     let bound = bound_in c.args.variables.now in
     let named = property_name list c.args.place stop c.in-Property.slot tree c.node.result stands c.node.ensures c.in-Property.is in
     subst (λ (wanted : List ℕ). IfOk c.name_path.result (λ text. string_bytes text ≡ wanted))
@@ -51,7 +51,7 @@ returns-in-Property c scope paths stop tree stands are =
 
 pub returns-in-Variable : goal.returns-in-Variable
 returns-in-Variable c scope paths stop tree stands are =
-    let list = c.args.scene.now.list.now in
+    let list = c.args.context.now.list.now in
     let bound = bound_in c.args.variables.now in
     let named = variable_name list c.args.place stop c.in-Variable.level tree c.node.result stands c.node.ensures c.in-Variable.is in
     subst (λ (wanted : List ℕ). IfOk c.name_path-in-Variable.result (λ text. string_bytes text ≡ wanted))
@@ -59,6 +59,6 @@ returns-in-Variable c scope paths stop tree stands are =
 
 pub returns-in_default : goal.returns-in_default
 returns-in_default c scope paths stop tree stands are =
-    let list = c.args.scene.now.list.now in
+    let list = c.args.context.now.list.now in
     c.new.ensures.bytes
     ∙ sym (ap path_text (no_path_there list c.args.place stop tree c.node.result scope paths stands c.node.ensures (no_step list c.args.place c.node.result c.node.ensures c.requires.base) c.in_default.not-Property c.in_default.not-Variable))

@@ -16,7 +16,7 @@ pub base_text-requires-clause-stands : goal.base_text-requires-clause-stands
 base_text-requires-clause-stands c =
     let r = c.requires in
     let s = r.stands in
-    let below = stands_below s.schema s.filtered s.scope c.args.scene.now.list.now c.args.place c.path_base-bottom.result r.stop c.path_base-bottom.result r.tree s.stands
+    let below = stands_below s.schema s.filtered s.scope c.args.context.now.list.now c.args.place c.path_base-bottom.result r.stop c.path_base-bottom.result r.tree s.stands
     c.path_base-bottom.ensures.steps c.path_base-bottom.ensures.below (omega arith) in
     record { stop = r.stop; tree = below.0; stands = record { schema = s.schema; filtered = s.filtered; scope = s.scope; stands = below.1 } }
 
@@ -29,14 +29,14 @@ before_is at place bottom above within = (omega (arith, above), (omega (arith, a
 
 pub text-requires : goal.text-requires
 text-requires c =
-    let list = c.args.scene.now.list.now in
+    let list = c.args.context.now.list.now in
     let b = before_is c.loop-at.at c.args.place c.path_base-bottom.result c.loop-at-test.true c.loop-at.invariant.within in
     let step = step_found list (c.loop-at.at - 1) (c.path_base-bottom.ensures.steps (c.loop-at.at - 1) b.1.0 b.1.1) in
     found_before list.nodes (c.loop-at.at - 1) step.found step.stands_at
 
 pub loop-at-preserved : goal.loop-at-preserved
 loop-at-preserved c =
-    let list = c.args.scene.now.list.now in
+    let list = c.args.context.now.list.now in
     let at = c.loop-at.at - 1 in
     let b = before_is c.loop-at.at c.args.place c.path_base-bottom.result c.loop-at-test.true c.loop-at.invariant.within in
     let within = b.1.0 in
@@ -59,4 +59,4 @@ pub returns : goal.returns
 returns c =
     let above : c.loop-at.at ≡ c.args.place = (let past = c.loop-at-test.false in let since = c.loop-at.invariant.above in omega (arith, past, since)) in
     λ scope paths stop tree stands are.
-    c.loop-at.invariant.written scope paths stop tree (subst (λ (k : ℕ). StandsBetween c.args.scene.now.list.now k stop tree) (sym above) stands) are
+    c.loop-at.invariant.written scope paths stop tree (subst (λ (k : ℕ). StandsBetween c.args.context.now.list.now k stop tree) (sym above) stands) are

@@ -4,7 +4,7 @@ use Rattle.odata_signatures.specs.NeededPaths.{VariablePaths, path_of}
 use Rattle.odata_signatures.specs.Typed.{Scope}
 use Rattle.odata_checked_filter.specs.PropertyPaths.{path_text}
 use Rattle.odata_checked_filter.specs.private.LambdaLines.{StandsBetween}
-use Rattle.odata_checked_filter.specs.private.PathWalk.{AreBound, bound_in}
+use Rattle.odata_checked_filter.specs.private.PropertyPaths.{AreBound, bound_in}
 use Rattle.odata_checked_filter.proofs.property_paths.path_at.Given as goal
 
 -- the text so far is that of the path up to the current step
@@ -12,7 +12,7 @@ abbrev pub invariant-loop-at : goal.invariant-loop-at
 invariant-loop-at l = record {
   above : l.place ≤ l.at;
   within : l.at ≤ l.bottom;
-  written : (scope : Scope) (paths : VariablePaths) (stop : ℕ) (tree : Tree) → StandsBetween l.scene.list.now l.at stop tree → AreBound scope paths (bound_in l.variables)
+  written : (scope : Scope) (paths : VariablePaths) (stop : ℕ) (tree : Tree) → StandsBetween l.context.list.now l.at stop tree → AreBound scope paths (bound_in l.variables)
       → string_bytes l.text ≡ path_text (path_of scope paths tree);
 }
 

@@ -4,7 +4,7 @@ use Rattle.odata_checked_filter.specs.FlatTree.{FlatTree}
 use Rattle.odata_checked_filter.specs.PropertyPaths.{unseen}
 use Rattle.odata_checked_filter.specs.declared.checked_node.CheckedNode.{CheckedNode}
 use Rattle.odata_checked_filter.specs.private.LambdaLines.{AreInLine, StandsBetween}
-use Rattle.odata_checked_filter.specs.private.PathWalk.{AreBound, NamedText, texts_among, with_texts}
+use Rattle.odata_checked_filter.specs.private.PropertyPaths.{AreBound, NamedText, texts_among, with_texts}
 use Rattle.odata_checked_filter.proofs.named.Texts.{bound_in-Empty}
 use Rattle.odata_checked_filter.proofs.named.Trees.{base_line, one_text}
 use Rattle.odata_checked_filter.proofs.property_paths.paths_of_list.Goals as goal

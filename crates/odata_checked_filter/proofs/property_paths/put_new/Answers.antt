@@ -14,11 +14,11 @@ among_is :
     → answer ≡ list_any (λ s. pointwise nat_eq asked (string_bytes s)) held
     → answer ≡ is
     → list_any (pointwise nat_eq text) (map string_bytes items) ≡ is
-among_is held items asked text answer is same spelled told found =
+among_is held items asked text answer is same spelled reported found =
     sym (any_map (pointwise nat_eq text) string_bytes items)
     ∙ ap (λ (xs : List (String Global)). list_any (λ s. pointwise nat_eq text (string_bytes s)) xs) (sym same)
     ∙ ap (λ (one : List ℕ). list_any (λ s. pointwise nat_eq one (string_bytes s)) held) (sym spelled)
-    ∙ sym told
+    ∙ sym reported
     ∙ found
 
 pub returns-then-is_empty : goal.returns-then-is_empty

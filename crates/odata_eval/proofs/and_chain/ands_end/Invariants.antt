@@ -5,9 +5,9 @@ use Rattle.odata_eval.proofs.and_chain.ands_end.Given as goal
 
 abbrev pub invariant-loop-place : goal.invariant-loop-place
 invariant-loop-place l = record {
-  stands : TruthStands l.scene l.place;
-  ands : AndsBefore l.scene.list l.place;
+  stands : TruthStands l.context l.place;
+  ands : AndsBefore l.context.list l.place;
 }
 
 abbrev pub decreases-loop-place : goal.decreases-loop-place
-decreases-loop-place l = length l.scene.list.nodes - l.place
+decreases-loop-place l = length l.context.list.nodes - l.place

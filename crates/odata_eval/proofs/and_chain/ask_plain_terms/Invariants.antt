@@ -9,9 +9,9 @@ use Rattle.odata_eval.proofs.and_chain.ask_plain_terms.Given as goal
 -- the terms before this one are true
 abbrev pub invariant-loop-truth : goal.invariant-loop-truth
 invariant-loop-truth l = record {
-  stands : TruthStands l.scene l.term;
-  ands : (k : ℕ) → k < l.at → HasOperator l.scene.list k (BinaryOperator.Logical LogicalOperator.And);
-  goes_up : (answer : Result (Option Bool) EvalFault) → AnswersTruth l.scene l.term answer → AnswersTruth l.scene l.at answer;
+  stands : TruthStands l.context l.term;
+  ands : (k : ℕ) → k < l.at → HasOperator l.context.list k (BinaryOperator.Logical LogicalOperator.And);
+  goes_up : (answer : Result (Option Bool) EvalFault) → AnswersTruth l.context l.term answer → AnswersTruth l.context l.at answer;
 }
 
 abbrev pub decreases-loop-truth : goal.decreases-loop-truth

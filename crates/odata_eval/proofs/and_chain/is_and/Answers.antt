@@ -2,4 +2,4 @@ use Rattle.odata_eval.proofs.walking.Parts.{part_inside}
 use Rattle.odata_eval.proofs.and_chain.is_and.Goals as goal
 
 pub node-requires : goal.node-requires
-node-requires c = part_inside c.args.scene.now c.args.place c.requires.stands
+node-requires c = part_inside c.args.context.now c.args.place c.requires.stands

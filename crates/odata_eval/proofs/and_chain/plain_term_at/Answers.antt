@@ -11,18 +11,18 @@ pub returns-in-Some : goal.returns-in-Some
 returns-in-Some c = c.in-Some.ensures.answers
 
 pub node-requires : goal.node-requires
-node-requires c = part_inside c.args.scene.now c.args.place (typed_part c.args.scene.now c.args.place IsBooleanOrNull c.requires.stands)
+node-requires c = part_inside c.args.context.now c.args.place (typed_part c.args.context.now c.args.place IsBooleanOrNull c.requires.stands)
 
 pub overflow_add-place : goal.overflow_add-place
 overflow_add-place c =
-    let within : c.args.place < length c.args.scene.now.list.nodes = part_inside c.args.scene.now c.args.place (typed_part c.args.scene.now c.args.place IsBooleanOrNull c.requires.stands) in
+    let within : c.args.place < length c.args.context.now.list.nodes = part_inside c.args.context.now c.args.place (typed_part c.args.context.now c.args.place IsBooleanOrNull c.requires.stands) in
     let same = c.nodes-nodes.ensures in
     search rules
 
 pub arithmetic_compared_at-requires : goal.arithmetic_compared_at-requires
 arithmetic_compared_at-requires c = record {
-  stands = typed_part c.args.scene.now c.args.place IsBooleanOrNull c.requires.stands;
-  here = there_found (λ (f : CheckedNode). f.kind ≡ NodeKind.Binary (BinaryOperator.Comparison c.in-Comparison.comparison)) (slice_get c.args.scene.now.list.nodes c.args.place) c.node.result.now c.node.ensures
+  stands = typed_part c.args.context.now c.args.place IsBooleanOrNull c.requires.stands;
+  here = there_found (λ (f : CheckedNode). f.kind ≡ NodeKind.Binary (BinaryOperator.Comparison c.in-Comparison.comparison)) (slice_get c.args.context.now.list.nodes c.args.place) c.node.result.now c.node.ensures
       (c.in-Binary.is ∙ ap NodeKind.Binary c.in-Comparison.is);
   numeric = c.is_class_at.ensures.0 c.if-is_class_at.true;
 }

@@ -1,6 +1,6 @@
 use Rattle.std.proofs.Common.{◌≡◌, ℕ, ◌<◌, ◌≤◌, ◌+◌, ◌-◌, None, Ok, arith, subst}
 use Rattle.odata_syntax.specs.declared.binary_operator.BinaryOperator.{BinaryOperator}
-use Rattle.odata_eval.specs.declared.part.WalkClass.{WalkClass}
+use Rattle.odata_eval.specs.declared.walk_operand.WalkClass.{WalkClass}
 use Rattle.odata_eval.specs.private.Place.{PartStands}
 use Rattle.odata_eval.specs.private.WalkAnswer.{AnswersNumber}
 use Rattle.odata_eval.proofs.spending.Budgets.{takes_nothing}
@@ -15,40 +15,40 @@ use Rattle.odata_eval.proofs.walking.Spines.{at_top, part_down}
 use Rattle.odata_eval.proofs.kept_arithmetic.arithmetic_compared_at.Goals as goal
 
 pub right_of-right_place-requires : goal.right_of-right_place-requires
-right_of-right_place-requires c = right_there c.args.scene.now c.args.place (BinaryOperator.Comparison c.args.comparison) c.requires.here c.requires.stands
+right_of-right_place-requires c = right_there c.args.context.now c.args.place (BinaryOperator.Comparison c.args.comparison) c.requires.here c.requires.stands
 
 pub found_number_at-requires : goal.found_number_at-requires
 found_number_at-requires c = record {
-  stands = right_part c.args.scene.now c.args.place (BinaryOperator.Comparison c.args.comparison) c.requires.here c.requires.stands c.right_of-right_place.result c.right_of-right_place.ensures;
+  stands = right_part c.args.context.now c.args.place (BinaryOperator.Comparison c.args.comparison) c.requires.here c.requires.stands c.right_of-right_place.result c.right_of-right_place.ensures;
 }
 
 pub overflow_add-top : goal.overflow_add-top
 overflow_add-top c =
-    let behind = right_further c.args.scene.now c.args.place (BinaryOperator.Comparison c.args.comparison) c.requires.here c.requires.stands c.right_of-right_place.result c.right_of-right_place.ensures in
+    let behind = right_further c.args.context.now c.args.place (BinaryOperator.Comparison c.args.comparison) c.requires.here c.requires.stands c.right_of-right_place.result c.right_of-right_place.ensures in
     omega (arith, behind, c.right_of-right_place.type_inv)
 
 pub found_number_at-requires-2 : goal.found_number_at-requires-2
 found_number_at-requires-2 c =
-    let left : PartStands c.args.scene.now (c.args.place + 1) =
-    tree_of_class c.args.scene.now (c.args.place + 1) WalkClass.Numeric (λ leaf. cc) c.requires.numeric
-    (left_side c.args.scene.now c.args.place (BinaryOperator.Comparison c.args.comparison) c.requires.here c.requires.stands) in
+    let left : PartStands c.args.context.now (c.args.place + 1) =
+    tree_of_class c.args.context.now (c.args.place + 1) WalkClass.Numeric (λ leaf. cc) c.requires.numeric
+    (left_side c.args.context.now c.args.place (BinaryOperator.Comparison c.args.comparison) c.requires.here c.requires.stands) in
     record {
-      stands = part_down c.args.scene.now WalkClass.Numeric (λ leaf. cc) (c.args.place + 1) c.spine_bottom-bottom.result c.spine_bottom-bottom.ensures.below left c.spine_bottom-bottom.ensures.spine;
+      stands = part_down c.args.context.now WalkClass.Numeric (λ leaf. cc) (c.args.place + 1) c.spine_bottom-bottom.result c.spine_bottom-bottom.ensures.below left c.spine_bottom-bottom.ensures.spine;
     }
 
 pub calculation_at-requires : goal.calculation_at-requires
 calculation_at-requires c =
     let l = c.loop-at in
-    let left : PartStands c.args.scene.now (c.args.place + 1) =
-    tree_of_class c.args.scene.now (c.args.place + 1) WalkClass.Numeric (λ leaf. cc) c.requires.numeric
-    (left_side c.args.scene.now c.args.place (BinaryOperator.Comparison c.args.comparison) c.requires.here c.requires.stands) in
+    let left : PartStands c.args.context.now (c.args.place + 1) =
+    tree_of_class c.args.context.now (c.args.place + 1) WalkClass.Numeric (λ leaf. cc) c.requires.numeric
+    (left_side c.args.context.now c.args.place (BinaryOperator.Comparison c.args.comparison) c.requires.here c.requires.stands) in
     let above : c.args.place + 1 < l.at = omega arith in
     let within : l.at ≤ c.spine_bottom-bottom.result = l.invariant.within in
     let e : l.at ≡ l.at - 1 + 1 = omega arith in
     record {
-      stands = tree_of_class c.args.scene.now (l.at - 1) WalkClass.Numeric (λ leaf. cc) (c.spine_bottom-bottom.ensures.spine (l.at - 1) (omega arith) (omega arith))
-          (part_down c.args.scene.now WalkClass.Numeric (λ leaf. cc) (c.args.place + 1) (l.at - 1) (omega arith) left (λ i before from. c.spine_bottom-bottom.ensures.spine i (omega arith) from));
-      left = subst (λ (k : ℕ). AnswersNumber c.args.scene.now k (Ok l.number)) e l.invariant.answers;
+      stands = tree_of_class c.args.context.now (l.at - 1) WalkClass.Numeric (λ leaf. cc) (c.spine_bottom-bottom.ensures.spine (l.at - 1) (omega arith) (omega arith))
+          (part_down c.args.context.now WalkClass.Numeric (λ leaf. cc) (c.args.place + 1) (l.at - 1) (omega arith) left (λ i before from. c.spine_bottom-bottom.ensures.spine i (omega arith) from));
+      left = subst (λ (k : ℕ). AnswersNumber c.args.context.now k (Ok l.number)) e l.invariant.answers;
     }
 
 pub loop-at-preserved : goal.loop-at-preserved
@@ -64,15 +64,15 @@ loop-at-preserved c =
 pub returns-clause-answers : goal.returns-clause-answers
 returns-clause-answers c =
     let here = c.requires.here in
-    let left : AnswersNumber c.args.scene.now (c.args.place + 1) (Ok c.loop-at.number) =
-    at_top (λ k. AnswersNumber c.args.scene.now k (Ok c.loop-at.number)) c.loop-at.at (c.args.place + 1) c.loop-at.invariant.above (omega arith) c.loop-at.invariant.answers in
-    numbers_compared c.args.scene.now c.args.place c.args.comparison here c.right_of-right_place.result c.right_of-right_place.ensures c.loop-at.number c.in-Some.right c.compare_numbers.result
+    let left : AnswersNumber c.args.context.now (c.args.place + 1) (Ok c.loop-at.number) =
+    at_top (λ k. AnswersNumber c.args.context.now k (Ok c.loop-at.number)) c.loop-at.at (c.args.place + 1) c.loop-at.invariant.above (omega arith) c.loop-at.invariant.answers in
+    numbers_compared c.args.context.now c.args.place c.args.comparison here c.right_of-right_place.result c.right_of-right_place.ensures c.loop-at.number c.in-Some.right c.compare_numbers.result
     left c.in-Some.ensures.answers c.compare_numbers.ensures
 
 pub returns-clause-spent : goal.returns-clause-spent
 returns-clause-spent c = λ budget.
-    free_spends c.args.scene.now c.args.place None budget
-    (both_free c.args.scene.now c.args.place (BinaryOperator.Comparison c.args.comparison) c.requires.here c.right_of-right_place.result c.right_of-right_place.ensures
-    (numeric_free c.args.scene.now (c.args.place + 1) c.requires.numeric)
-    (leaf_free c.args.scene.now c.right_of-right_place.result c.in-Some.ensures.leaf))
+    free_spends c.args.context.now c.args.place None budget
+    (both_free c.args.context.now c.args.place (BinaryOperator.Comparison c.args.comparison) c.requires.here c.right_of-right_place.result c.right_of-right_place.ensures
+    (numeric_free c.args.context.now (c.args.place + 1) c.requires.numeric)
+    (leaf_free c.args.context.now c.right_of-right_place.result c.in-Some.ensures.leaf))
     (takes_nothing budget)

@@ -6,7 +6,7 @@ abbrev pub invariant-loop-at : goal.invariant-loop-at
 invariant-loop-at l = record {
   above : l.top ≤ l.at;
   within : l.at ≤ l.bottom;
-  answers : AnswersNumber l.scene l.at (Ok l.number);
+  answers : AnswersNumber l.context l.at (Ok l.number);
 }
 
 abbrev pub decreases-loop-at : goal.decreases-loop-at

@@ -1,7 +1,7 @@
 use Rattle.std.proofs.Common.{◌≡◌, refl, slice_get}
 use Rattle.odata_checked_filter.specs.declared.checked_node.CheckedNode.{CheckedNode}
 use Rattle.odata_checked_filter.specs.declared.checked_node.NodeKind.{NodeKind}
-use Rattle.odata_eval.specs.declared.part.WalkClass.{WalkClass}
+use Rattle.odata_eval.specs.declared.walk_operand.WalkClass.{WalkClass}
 use Rattle.odata_eval.proofs.walking.Leaves.{variable_answers, variable_within}
 use Rattle.odata_eval.proofs.walking.Parts.{there_found}
 use Rattle.odata_eval.proofs.walking.Spines.{kind_walks}
@@ -9,13 +9,13 @@ use Rattle.odata_eval.proofs.walking.Operands.{operand_inside}
 use Rattle.odata_eval.proofs.kept_operands.found_at.Goals as goal
 
 pub node-requires : goal.node-requires
-node-requires c = operand_inside c.args.scene.now c.args.place c.requires.stands
+node-requires c = operand_inside c.args.context.now c.args.place c.requires.stands
 
 pub variable-requires : goal.variable-requires
-variable-requires c = variable_within c.args.scene.now c.args.place c.in-Variable.level (there_found (λ (f : CheckedNode). f.kind ≡ NodeKind.Variable c.in-Variable.level) (slice_get c.args.scene.now.list.nodes c.args.place) c.node.result.now c.node.ensures c.in-Variable.is) c.requires.stands
+variable-requires c = variable_within c.args.context.now c.args.place c.in-Variable.level (there_found (λ (f : CheckedNode). f.kind ≡ NodeKind.Variable c.in-Variable.level) (slice_get c.args.context.now.list.nodes c.args.place) c.node.result.now c.node.ensures c.in-Variable.is) c.requires.stands
 
 pub returns-in-Variable-clause-answers : goal.returns-in-Variable-clause-answers
-returns-in-Variable-clause-answers c = variable_answers c.args.scene.now c.args.place c.in-Variable.level (there_found (λ (f : CheckedNode). f.kind ≡ NodeKind.Variable c.in-Variable.level) (slice_get c.args.scene.now.list.nodes c.args.place) c.node.result.now c.node.ensures c.in-Variable.is) c.variable.result.now c.variable.ensures
+returns-in-Variable-clause-answers c = variable_answers c.args.context.now c.args.place c.in-Variable.level (there_found (λ (f : CheckedNode). f.kind ≡ NodeKind.Variable c.in-Variable.level) (slice_get c.args.context.now.list.nodes c.args.place) c.node.result.now c.node.ensures c.in-Variable.is) c.variable.result.now c.variable.ensures
 
 pub returns-in-Variable-clause-leaf : goal.returns-in-Variable-clause-leaf
-returns-in-Variable-clause-leaf c = kind_walks c.args.scene.now.list c.args.place (NodeKind.Variable c.in-Variable.level) WalkClass.Leaf refl (there_found (λ (f : CheckedNode). f.kind ≡ NodeKind.Variable c.in-Variable.level) (slice_get c.args.scene.now.list.nodes c.args.place) c.node.result.now c.node.ensures c.in-Variable.is)
+returns-in-Variable-clause-leaf c = kind_walks c.args.context.now.list c.args.place (NodeKind.Variable c.in-Variable.level) WalkClass.Leaf refl (there_found (λ (f : CheckedNode). f.kind ≡ NodeKind.Variable c.in-Variable.level) (slice_get c.args.context.now.list.nodes c.args.place) c.node.result.now c.node.ensures c.in-Variable.is)

@@ -4,34 +4,34 @@ use Rattle.odata_eval.proofs.walking.TextArguments.{first_stands, last_text, sec
 use Rattle.odata_eval.proofs.kept_operands.last_text_at.Goals as goal
 
 pub stop_of-own_stop-requires : goal.stop_of-own_stop-requires
-stop_of-own_stop-requires c = part_inside c.args.scene.now c.args.place c.requires.stands
+stop_of-own_stop-requires c = part_inside c.args.context.now c.args.place c.requires.stands
 
 pub overflow_add-place : goal.overflow_add-place
 overflow_add-place c =
-    let within : c.args.place < length c.args.scene.now.list.nodes = part_inside c.args.scene.now c.args.place c.requires.stands in
+    let within : c.args.place < length c.args.context.now.list.nodes = part_inside c.args.context.now c.args.place c.requires.stands in
     let same = c.nodes-nodes.ensures in
     search rules
 
 pub stop_of-second_place-requires : goal.stop_of-second_place-requires
 stop_of-second_place-requires c =
-    part_inside c.args.scene.now (c.args.place + 1)
-    (first_stands c.args.scene.now c.calls_have_one_type.ensures.named c.args.place c.args.function c.requires.here c.stop_of-own_stop.result c.stop_of-own_stop.ensures c.requires.stands)
+    part_inside c.args.context.now (c.args.place + 1)
+    (first_stands c.args.context.now c.calls_have_one_type.ensures.named c.args.place c.args.function c.requires.here c.stop_of-own_stop.result c.stop_of-own_stop.ensures c.requires.stands)
 
 pub stop_of-requires : goal.stop_of-requires
 stop_of-requires c =
-    part_inside c.args.scene.now c.stop_of-second_place.result
-    (second_stands c.args.scene.now c.calls_have_one_type.ensures.named c.args.place c.args.function c.requires.here c.stop_of-own_stop.result c.stop_of-own_stop.ensures c.requires.stands c.ends_once.ensures
+    part_inside c.args.context.now c.stop_of-second_place.result
+    (second_stands c.args.context.now c.calls_have_one_type.ensures.named c.args.place c.args.function c.requires.here c.stop_of-own_stop.result c.stop_of-own_stop.ensures c.requires.stands c.ends_once.ensures
     c.stop_of-second_place.result c.stop_of-second_place.ensures c.if-second_place-own_stop.false c.requires.first.0 c.requires.first.1)
 
 pub kept_text_at-requires : goal.kept_text_at-requires
 kept_text_at-requires c =
-    second_stands c.args.scene.now c.calls_have_one_type.ensures.named c.args.place c.args.function c.requires.here c.stop_of-own_stop.result c.stop_of-own_stop.ensures c.requires.stands c.ends_once.ensures
+    second_stands c.args.context.now c.calls_have_one_type.ensures.named c.args.place c.args.function c.requires.here c.stop_of-own_stop.result c.stop_of-own_stop.ensures c.requires.stands c.ends_once.ensures
     c.stop_of-second_place.result c.stop_of-second_place.ensures c.if-second_place-own_stop.false c.requires.first.0 c.requires.first.1
 
 pub returns : goal.returns
 returns c =
     some_weaker c.kept_text_at.result
     (λ last answers.
-    last_text c.args.scene.now c.calls_have_one_type.ensures.named c.args.place c.args.function c.requires.here c.stop_of-own_stop.result c.stop_of-own_stop.ensures c.requires.stands c.ends_once.ensures
+    last_text c.args.context.now c.calls_have_one_type.ensures.named c.args.place c.args.function c.requires.here c.stop_of-own_stop.result c.stop_of-own_stop.ensures c.requires.stands c.ends_once.ensures
     c.stop_of-second_place.result c.stop_of-second_place.ensures c.if-second_place-own_stop.false c.stop_of.result c.stop_of.ensures c.if-stop_of-own_stop.false last.now answers)
     c.kept_text_at.ensures

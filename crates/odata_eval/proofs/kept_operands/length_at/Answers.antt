@@ -11,8 +11,8 @@ use Rattle.odata_eval.proofs.kept_operands.length_at.Goals as goal
 pub returns-in-Ok : goal.returns-in-Ok
 returns-in-Ok c =
     let fits : SFits w64 c.in-Ok.count = search rules in
-    let counted : FunctionGives c.args.scene.now.moment c.args.function (text c.in-Some.text.now ∷ []) (gives (number_val (Some c.in-Ok.count))) =
-    subst (λ (f : Function). FunctionGives c.args.scene.now.moment f (text c.in-Some.text.now ∷ []) (gives (number_val (Some c.in-Ok.count)))) (sym c.in-Length.is)
+    let counted : FunctionGives c.args.context.now.moment c.args.function (text c.in-Some.text.now ∷ []) (gives (number_val (Some c.in-Ok.count))) =
+    subst (λ (f : Function). FunctionGives c.args.context.now.moment f (text c.in-Some.text.now ∷ []) (gives (number_val (Some c.in-Ok.count)))) (sym c.in-Length.is)
     (Ok (Some c.in-Ok.count), c.in-Ok.ensures, refl) in
-    subst (λ (n : ℤ). AnswersNumber c.args.scene.now c.args.place (Ok (Some n))) (sym (to_z-of_z w64 c.in-Ok.count fits))
+    subst (λ (n : ℤ). AnswersNumber c.args.context.now c.args.place (Ok (Some n))) (sym (to_z-of_z w64 c.in-Ok.count fits))
     (c.in-Some.ensures (gives (number_val (Some c.in-Ok.count))) counted)

@@ -5,21 +5,21 @@ use Rattle.odata_signatures.specs.declared.function.Function.{Function}
 use Rattle.odata_filter_operations.specs.FunctionGives.{FunctionGives}
 use Rattle.odata_filter_operations.specs.Outcome.{gives}
 use Rattle.odata_checked_filter.specs.declared.checked_node.NodeKind.{NodeKind}
-use Rattle.odata_eval.specs.declared.part.WalkClass.{WalkClass}
+use Rattle.odata_eval.specs.declared.walk_operand.WalkClass.{WalkClass}
 use Rattle.odata_eval.proofs.walking.Spines.{first_part, kind_walks}
 use Rattle.odata_eval.proofs.walking.Parts.{part_inside}
 use Rattle.odata_eval.proofs.kept_operands.lower_start_at.Goals as goal
 
 pub overflow_add-place : goal.overflow_add-place
 overflow_add-place c =
-    let within : c.args.place < length c.args.scene.now.list.nodes = part_inside c.args.scene.now c.args.place c.requires.stands in
+    let within : c.args.place < length c.args.context.now.list.nodes = part_inside c.args.context.now c.args.place c.requires.stands in
     let same = c.nodes-nodes.ensures in
     search rules
 
 pub lowered_text_at-requires : goal.lowered_text_at-requires
 lowered_text_at-requires c =
-    first_part c.args.scene.now c.args.place WalkClass.Eager (λ leaf. cc)
-    (kind_walks c.args.scene.now.list c.args.place (NodeKind.Call c.args.function) WalkClass.Eager refl c.requires.here) c.requires.stands
+    first_part c.args.context.now c.args.place WalkClass.Eager (λ leaf. cc)
+    (kind_walks c.args.context.now.list c.args.place (NodeKind.Call c.args.function) WalkClass.Eager refl c.requires.here) c.requires.stands
 
 pub last_text_at-requires : goal.last_text_at-requires
 last_text_at-requires c = record {
@@ -30,7 +30,7 @@ last_text_at-requires c = record {
 
 pub returns : goal.returns
 returns c =
-    let begins : FunctionGives c.args.scene.now.moment c.args.function (text (in_lower_case c.in-Some.text.now) ∷ text c.in-Some-last_text_at.part.now ∷ []) (gives (boolean c.lower_starts_with.result)) =
-    subst (λ (f : Function). FunctionGives c.args.scene.now.moment f (text (in_lower_case c.in-Some.text.now) ∷ text c.in-Some-last_text_at.part.now ∷ []) (gives (boolean c.lower_starts_with.result)))
+    let begins : FunctionGives c.args.context.now.moment c.args.function (text (in_lower_case c.in-Some.text.now) ∷ text c.in-Some-last_text_at.part.now ∷ []) (gives (boolean c.lower_starts_with.result)) =
+    subst (λ (f : Function). FunctionGives c.args.context.now.moment f (text (in_lower_case c.in-Some.text.now) ∷ text c.in-Some-last_text_at.part.now ∷ []) (gives (boolean c.lower_starts_with.result)))
     (sym c.in-StartsWith.is) c.lower_starts_with.ensures in
     c.in-Some-last_text_at.ensures (in_lower_case c.in-Some.text.now) (gives (boolean c.lower_starts_with.result)) c.in-Some.ensures begins

@@ -11,16 +11,16 @@ use Rattle.odata_eval.proofs.walking.Parts.{some_weaker, there_found}
 use Rattle.odata_eval.proofs.kept_operands.lowered_text_at.Goals as goal
 
 pub node-requires : goal.node-requires
-node-requires c = operand_inside c.args.scene.now c.args.place c.requires
+node-requires c = operand_inside c.args.context.now c.args.place c.requires
 
 pub only_text_at-requires : goal.only_text_at-requires
 only_text_at-requires c =
-    let here = there_found (λ (f : CheckedNode). f.kind ≡ NodeKind.Call c.in-Call.function) (slice_get c.args.scene.now.list.nodes c.args.place) c.node.result.now c.node.ensures c.in-Call.is in
-    record { stands = tree_of_kind c.args.scene.now c.args.place (NodeKind.Call c.in-Call.function) tt here c.requires; here = here }
+    let here = there_found (λ (f : CheckedNode). f.kind ≡ NodeKind.Call c.in-Call.function) (slice_get c.args.context.now.list.nodes c.args.place) c.node.result.now c.node.ensures c.in-Call.is in
+    record { stands = tree_of_kind c.args.context.now c.args.place (NodeKind.Call c.in-Call.function) tt here c.requires; here = here }
 
 pub returns-in-ToLower : goal.returns-in-ToLower
 returns-in-ToLower c =
     some_weaker c.only_text_at.result
     (λ given answers. answers (gives (text (in_lower_case given.now)))
-    (subst (λ (f : Function). FunctionGives c.args.scene.now.moment f (text given.now ∷ []) (gives (text (in_lower_case given.now)))) (sym c.in-ToLower.is) refl))
+    (subst (λ (f : Function). FunctionGives c.args.context.now.moment f (text given.now ∷ []) (gives (text (in_lower_case given.now)))) (sym c.in-ToLower.is) refl))
     c.only_text_at.ensures

@@ -3,7 +3,7 @@ use Rattle.odata_checked_filter.specs.declared.checked_node.CheckedNode.{Checked
 use Rattle.odata_checked_filter.specs.declared.checked_node.NodeKind.{NodeKind}
 use Rattle.odata_syntax.specs.declared.binary_operator.BinaryOperator.{BinaryOperator}
 use Rattle.odata_signatures.specs.ExprTypes.{IsBooleanOrNull}
-use Rattle.odata_eval.specs.declared.part.WalkClass.{WalkClass}
+use Rattle.odata_eval.specs.declared.walk_operand.WalkClass.{WalkClass}
 use Rattle.odata_eval.proofs.spending.Budgets.{takes_nothing}
 use Rattle.odata_eval.proofs.spending.Free.{leaf_free}
 use Rattle.odata_eval.proofs.spending.Rests.{free_spends}
@@ -17,43 +17,43 @@ use Rattle.odata_eval.proofs.walking.Operands.{tree_operand}
 use Rattle.odata_eval.proofs.kept_terms.kept_truth_at.Goals as goal
 
 pub node-requires : goal.node-requires
-node-requires c = part_inside c.args.scene.now c.args.place (typed_part c.args.scene.now c.args.place IsBooleanOrNull c.requires.stands)
+node-requires c = part_inside c.args.context.now c.args.place (typed_part c.args.context.now c.args.place IsBooleanOrNull c.requires.stands)
 
 pub property-requires : goal.property-requires
 property-requires c =
-    property_within c.args.scene.now c.args.place c.in-Property.slot
-    (there_found (λ (f : CheckedNode). f.kind ≡ NodeKind.Property c.in-Property.slot) (slice_get c.args.scene.now.list.nodes c.args.place) c.node.result.now c.node.ensures c.in-Property.is)
-    (tree_operand c.args.scene.now c.args.place (typed_part c.args.scene.now c.args.place IsBooleanOrNull c.requires.stands))
+    property_within c.args.context.now c.args.place c.in-Property.slot
+    (there_found (λ (f : CheckedNode). f.kind ≡ NodeKind.Property c.in-Property.slot) (slice_get c.args.context.now.list.nodes c.args.place) c.node.result.now c.node.ensures c.in-Property.is)
+    (tree_operand c.args.context.now c.args.place (typed_part c.args.context.now c.args.place IsBooleanOrNull c.requires.stands))
 
 pub kept_truth-requires : goal.kept_truth-requires
 kept_truth-requires c =
-    value_kept c.args.scene.now c.args.place c.property.result.now
-    (property_answers c.args.scene.now c.args.place c.in-Property.slot
-    (there_found (λ (f : CheckedNode). f.kind ≡ NodeKind.Property c.in-Property.slot) (slice_get c.args.scene.now.list.nodes c.args.place) c.node.result.now c.node.ensures c.in-Property.is)
+    value_kept c.args.context.now c.args.place c.property.result.now
+    (property_answers c.args.context.now c.args.place c.in-Property.slot
+    (there_found (λ (f : CheckedNode). f.kind ≡ NodeKind.Property c.in-Property.slot) (slice_get c.args.context.now.list.nodes c.args.place) c.node.result.now c.node.ensures c.in-Property.is)
     c.property.result.now c.property.ensures)
     truth_values c.ends_once.ensures c.requires.stands
 
 pub returns-in-Property-clause-answers : goal.returns-in-Property-clause-answers
 returns-in-Property-clause-answers c =
-    kept_answers c.args.scene.now c.args.place c.property.result.now
-    (property_answers c.args.scene.now c.args.place c.in-Property.slot
-    (there_found (λ (f : CheckedNode). f.kind ≡ NodeKind.Property c.in-Property.slot) (slice_get c.args.scene.now.list.nodes c.args.place) c.node.result.now c.node.ensures c.in-Property.is)
+    kept_answers c.args.context.now c.args.place c.property.result.now
+    (property_answers c.args.context.now c.args.place c.in-Property.slot
+    (there_found (λ (f : CheckedNode). f.kind ≡ NodeKind.Property c.in-Property.slot) (slice_get c.args.context.now.list.nodes c.args.place) c.node.result.now c.node.ensures c.in-Property.is)
     c.property.result.now c.property.ensures)
     c.kept_truth.result c.kept_truth.ensures
 
 pub returns-in-Property-clause-spent : goal.returns-in-Property-clause-spent
 returns-in-Property-clause-spent c = λ budget.
     some_always c.kept_truth.result
-    (free_spends c.args.scene.now c.args.place None budget
-    (leaf_free c.args.scene.now c.args.place
-    (kind_walks c.args.scene.now.list c.args.place (NodeKind.Property c.in-Property.slot) WalkClass.Leaf refl
-    (there_found (λ (f : CheckedNode). f.kind ≡ NodeKind.Property c.in-Property.slot) (slice_get c.args.scene.now.list.nodes c.args.place) c.node.result.now c.node.ensures c.in-Property.is)))
+    (free_spends c.args.context.now c.args.place None budget
+    (leaf_free c.args.context.now c.args.place
+    (kind_walks c.args.context.now.list c.args.place (NodeKind.Property c.in-Property.slot) WalkClass.Leaf refl
+    (there_found (λ (f : CheckedNode). f.kind ≡ NodeKind.Property c.in-Property.slot) (slice_get c.args.context.now.list.nodes c.args.place) c.node.result.now c.node.ensures c.in-Property.is)))
     (takes_nothing budget))
 
 pub compared_with_literal-requires : goal.compared_with_literal-requires
 compared_with_literal-requires c = record {
-  stands = typed_part c.args.scene.now c.args.place IsBooleanOrNull c.requires.stands;
-  here = there_found (λ (f : CheckedNode). f.kind ≡ NodeKind.Binary (BinaryOperator.Comparison c.in-Comparison.comparison)) (slice_get c.args.scene.now.list.nodes c.args.place) c.node.result.now c.node.ensures
+  stands = typed_part c.args.context.now c.args.place IsBooleanOrNull c.requires.stands;
+  here = there_found (λ (f : CheckedNode). f.kind ≡ NodeKind.Binary (BinaryOperator.Comparison c.in-Comparison.comparison)) (slice_get c.args.context.now.list.nodes c.args.place) c.node.result.now c.node.ensures
       (c.in-Binary.is ∙ ap NodeKind.Binary c.in-Comparison.is);
 }
 

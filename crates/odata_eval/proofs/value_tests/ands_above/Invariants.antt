@@ -1,5 +1,5 @@
 use Rattle.std.proofs.Common.{◌-◌, length}
-use Rattle.odata_eval.specs.private.ChainTerms.{AndsAbove}
+use Rattle.odata_eval.specs.private.ValueTests.{AndsAbove}
 use Rattle.odata_eval.proofs.value_tests.ands_above.Given as goal
 
 -- only `and`s stand before the place

@@ -4,7 +4,7 @@ use Rattle.std.proofs.lemmas.Option.{slice_get_read}
 use Rattle.std.proofs.lemmas.List.Elements.{All-push}
 use Rattle.odata_eval.specs.FalseWhere.{IsSieveOf}
 use Rattle.odata_checked_filter.specs.declared.checked_node.CheckedNode.{CheckedNode}
-use Rattle.odata_eval.specs.private.ChainTerms.{GoesUp}
+use Rattle.odata_eval.specs.private.ValueTests.{GoesUp}
 use Rattle.odata_eval.proofs.walking.Parts.{there_found}
 use Rattle.odata_eval.proofs.walking.FalseTerms.{ands_less, chain_sieve, next_up}
 use Rattle.odata_eval.proofs.value_tests.slot_sieves.Goals as goal

@@ -1,6 +1,6 @@
 use Rattle.std.specs.Prelude.{All}
 use Rattle.odata_eval.specs.FalseWhere.{IsSieveOf}
-use Rattle.odata_eval.specs.private.ChainTerms.{AndsAbove, GoesUp}
+use Rattle.odata_eval.specs.private.ValueTests.{AndsAbove, GoesUp}
 use Rattle.odata_eval.proofs.value_tests.slot_sieves.Given as goal
 
 -- the tests so far are the filter's; only `and`s stand above, and what holds of the term holds of the chain from there

@@ -10,5 +10,5 @@ use Rattle.odata_eval.proofs.walk.term_at.Goals as goal
 
 pub fault_of-requires : goal.fault_of-requires
 fault_of-requires c = λ same.
-    never_costly c.args.scene.now c.args.place (tree_operand c.args.scene.now c.args.place (typed_part c.args.scene.now c.args.place IsBooleanOrNull c.requires.stands)) c.costs_once.ensures Budget.Unbounded
-    (subst (λ (s : EvalStop). SpendsAt c.args.scene.now c.args.place Budget.Unbounded Budget.Unbounded (Some s)) same c.in-Err.ensures.spent)
+    never_costly c.args.context.now c.args.place (tree_operand c.args.context.now c.args.place (typed_part c.args.context.now c.args.place IsBooleanOrNull c.requires.stands)) c.costs_once.ensures Budget.Unbounded
+    (subst (λ (s : EvalStop). SpendsAt c.args.context.now c.args.place Budget.Unbounded Budget.Unbounded (Some s)) same c.in-Err.ensures.spent)

@@ -22,19 +22,19 @@ some_kept : (s : List ℕ) (empty : Bool) → empty ≡ nat_eq (length s) 0 → 
 some_kept [] empty is fails = absurd cc
 some_kept (letter ∷ letters) empty is fails = refl
 
-module _ {T : Type 0} (shown : T → List ℕ) (all : List T) (names : List (List ℕ)) (n : ℕ) (some : 0 < n) (told : map shown all ≡ names) where
+module _ {T : Type 0} (shown : T → List ℕ) (all : List T) (names : List (List ℕ)) (n : ℕ) (some : 0 < n) (reported : map shown all ≡ names) where
   -- what is found there is the name
   found : (name : T) → slice_get all (n - 1) ≡ Some name → unless_empty (shown name) ≡ name_at names n
   found name there =
       ap (option_and_then unless_empty)
-      (ap (option_map shown) (sym there) ∙ sym (slice_get-map shown all (n - 1)) ∙ ap (λ (xs : List (List ℕ)). slice_get xs (n - 1)) told)
+      (ap (option_map shown) (sym there) ∙ sym (slice_get-map shown all (n - 1)) ∙ ap (λ (xs : List (List ℕ)). slice_get xs (n - 1)) reported)
       ∙ sym (name_before names n some)
 
   -- and where nothing is found there is none
   lacking : slice_get all (n - 1) ≡ None → None ≡ name_at names n
   lacking none =
       ap (option_and_then unless_empty)
-      (ap (option_map shown) (sym none) ∙ sym (slice_get-map shown all (n - 1)) ∙ ap (λ (xs : List (List ℕ)). slice_get xs (n - 1)) told)
+      (ap (option_map shown) (sym none) ∙ sym (slice_get-map shown all (n - 1)) ∙ ap (λ (xs : List (List ℕ)). slice_get xs (n - 1)) reported)
       ∙ sym (name_before names n some)
 
 pub returns-then-is_empty : goal.returns-then-is_empty

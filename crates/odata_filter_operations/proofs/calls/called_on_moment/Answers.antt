@@ -7,7 +7,7 @@ use Rattle.edm_values.specs.Val.{date, moment}
 use Rattle.odata_functions.specs.DatumVal.{datum_val}
 use Rattle.odata_functions.specs.DateParts.{date_of, hour_of, minute_of, second_of}
 use Rattle.odata_signatures.specs.declared.function.Function.{Function}
-use Rattle.odata_filter_operations.specs.Arguments.{Applies}
+use Rattle.odata_filter_operations.specs.Calls.{Applies}
 use Rattle.odata_filter_operations.specs.FunctionGives.{FunctionGives}
 use Rattle.odata_filter_operations.specs.DatumView.{answer_outcome}
 use Rattle.odata_filter_operations.proofs.values.CallValues.{by_its_date, number_same, of_its_date}
@@ -45,7 +45,7 @@ called_on_date-requires c =
 
 pub returns-in_default : goal.returns-in_default
 returns-in_default c = λ now s.
-    let told = answer_outcome (datum_val s) c.called_on_date.result in
-    goes_there told (FunctionGives now c.args.function (date (date_of c.args.given.now) ∷ [])) (FunctionGives now c.args.function (moment c.args.given.now ∷ []))
+    let reported = answer_outcome (datum_val s) c.called_on_date.result in
+    goes_there reported (FunctionGives now c.args.function (date (date_of c.args.given.now) ∷ [])) (FunctionGives now c.args.function (moment c.args.given.now ∷ []))
     (by_its_date now c.args.function c.args.given.now c.requires c.in_default.not-Hour c.in_default.not-Minute c.in_default.not-Second c.in_default.not-TotalOffsetMinutes c.in_default.not-Date)
-    (subst (λ (d : Date). IsSomeAnd told (FunctionGives now c.args.function (date d ∷ []))) c.date_of-in_default.ensures (c.called_on_date.ensures now s))
+    (subst (λ (d : Date). IsSomeAnd reported (FunctionGives now c.args.function (date d ∷ []))) c.date_of-in_default.ensures (c.called_on_date.ensures now s))

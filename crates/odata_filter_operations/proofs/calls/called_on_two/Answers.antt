@@ -4,9 +4,9 @@ use Rattle.std.specs.Str.{chars}
 use Rattle.std.specs.Cow.{cow_str_bytes}
 use Rattle.odata_functions.specs.DatumVal.{datum_val}
 use Rattle.odata_functions.specs.Texts.{rest_from}
-use Rattle.odata_filter_operations.specs.Arguments.{MakesText}
+use Rattle.odata_filter_operations.specs.Calls.{MakesText}
 use Rattle.odata_filter_operations.specs.DatumView.{answer_outcome}
-use Rattle.odata_filter_operations.proofs.values.CallValues.{asked_substring, null_behind, null_gives, null_here, null_text, null_text_or_number, rest_gives, text_first, text_or_number, texts_apply, texts_tell}
+use Rattle.odata_filter_operations.proofs.values.CallValues.{asked_substring, null_behind, null_gives, null_here, null_text, null_text_or_number, rest_gives, text_first, text_or_number, texts_apply, texts_report}
 use Rattle.odata_filter_operations.proofs.values.OneReading.{one_reading}
 use Rattle.odata_filter_operations.proofs.calls.called_on_two.Goals as goal
 
@@ -17,7 +17,7 @@ called_on_texts-requires c =
 
 pub returns-in-Text-second : goal.returns-in-Text-second
 returns-in-Text-second c = λ now r s.
-    texts_tell now r c.args.function c.args.first c.args.second c.in-Text.text c.in-Text-second.part c.as_str.result.now c.as_str-in-Text-second.result.now (MakesText c.args.function)
+    texts_report now r c.args.function c.args.first c.args.second c.in-Text.text c.in-Text-second.part c.as_str.result.now c.as_str-in-Text-second.result.now (MakesText c.args.function)
     (answer_outcome (datum_val s) c.called_on_texts.result) c.in-Text.is c.in-Text-second.is c.as_str.ensures.value c.as_str-in-Text-second.ensures.value (c.called_on_texts.ensures now s)
 
 pub returns-in-Int : goal.returns-in-Int

@@ -6,7 +6,7 @@ use Rattle.odata_functions.specs.DatumVal.{datum_val}
 use Rattle.odata_filter_operations.specs.LambdaGives.{InGives}
 use Rattle.odata_filter_operations.specs.Outcome.{gives}
 use Rattle.odata_filter_operations.specs.DatumView.{reading_at}
-use Rattle.odata_filter_operations.specs.Members.{MayBeAmong, MayBeMember}
+use Rattle.odata_filter_operations.specs.Collections.{MayBeAmong, MayBeMember}
 use Rattle.odata_filter_operations.proofs.values.Members.{among_gives}
 use Rattle.odata_filter_operations.proofs.collections.among.Goals as goal
 

@@ -1,4 +1,4 @@
-use Rattle.odata_filter_operations.specs.Members.{DiffersBefore}
+use Rattle.odata_filter_operations.specs.Collections.{DiffersBefore}
 use Rattle.odata_filter_operations.proofs.collections.is_among.Given as goal
 
 -- none so far is equal

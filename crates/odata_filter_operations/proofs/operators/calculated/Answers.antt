@@ -5,7 +5,7 @@ use Rattle.odata_signatures.specs.TypeView.{expr_type}
 use Rattle.odata_signatures.specs.declared.edm_type.EdmType.{EdmType}
 use Rattle.edm_values.specs.Val.{whole}
 use Rattle.odata_filter_operations.specs.CalculationGives.{number_val}
-use Rattle.odata_filter_operations.specs.Operands.{AreNumbers}
+use Rattle.odata_filter_operations.specs.Operators.{AreNumbers}
 use Rattle.odata_filter_operations.proofs.values.OneReading.{calculation_null, kind_promoted, kind_within, left_in_type, one_schema, right_in_type}
 use Rattle.odata_filter_operations.proofs.operators.calculated.Goals as goal
 

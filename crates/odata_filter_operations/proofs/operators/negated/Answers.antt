@@ -4,7 +4,7 @@ use Rattle.edm_values.specs.NumberTypes.{IsNumberOf}
 use Rattle.odata_signatures.specs.TypeView.{expr_type}
 use Rattle.odata_signatures.specs.declared.edm_type.EdmType.{EdmType}
 use Rattle.odata_filter_operations.specs.CalculationGives.{number_val}
-use Rattle.odata_filter_operations.specs.Operands.{IsOneNumber}
+use Rattle.odata_filter_operations.specs.Operators.{IsOneNumber}
 use Rattle.odata_filter_operations.proofs.values.OneReading.{NumberIn, kind_promoted, kind_within, negation_null, number_in_type, one_schema}
 use Rattle.odata_filter_operations.proofs.operators.negated.Goals as goal
 

@@ -12,7 +12,7 @@ returns c =
     let of_b : FitsSigned w64 c.args.b = c.ranges.b in
     let other : c.args.b ≢ pos 0 = λ e. c.if-b-eq0.false (ap (of_z w64) e) in
     let some : IsNonZero w64 c.args.b = omega (arith, c.if-b-eq0.false) in
-    let told = simp to_z-of_z at c.checked_div.ensures in
-    let here = quotient_fits c.args.a c.args.b c.checked_div.result some told in
+    let reported = simp to_z-of_z at c.checked_div.ensures in
+    let here = quotient_fits c.args.a c.args.b c.checked_div.result some reported in
     number_gives Div c.args.kind c.args.a c.args.b (int_div c.args.a c.args.b) c.within.result
     (int_rem c.args.a c.args.b, division c.args.a c.args.b other) (c.within.ensures (int_div c.args.a c.args.b) here)

@@ -12,8 +12,8 @@ returns c =
     let of_a : FitsSigned w64 c.args.a = c.ranges.a in
     let of_b : FitsSigned w64 c.args.b = c.ranges.b in
     let other : c.args.b ≢ pos 0 = λ e. c.if-b-eq0.false (ap (of_z w64) e) in
-    let told = simp to_z-of_z at c.wrapping_rem.ensures in
+    let reported = simp to_z-of_z at c.wrapping_rem.ensures in
     let fits : FitsSigned w64 c.wrapping_rem.result = record { sfits = c.wrapping_rem.type_inv } in
-    let is = subst (λ (r : ℤ). IsDivision c.args.a c.args.b (int_div c.args.a c.args.b) r) (sym told) (division c.args.a c.args.b other) in
+    let is = subst (λ (r : ℤ). IsDivision c.args.a c.args.b (int_div c.args.a c.args.b) r) (sym reported) (division c.args.a c.args.b other) in
     number_gives Mod c.args.kind c.args.a c.args.b c.wrapping_rem.result c.within.result (int_div c.args.a c.args.b, is)
     (c.within.ensures c.wrapping_rem.result (fits, to_z-of_z w64 c.wrapping_rem.result fits))

@@ -1,16 +1,16 @@
 use Rattle.odata_functions.proofs.Numbers.{count_once, count_there}
-use Rattle.odata_functions.proofs.texts.Decisions.{end_told, one_place, part_told, place_there, start_told}
+use Rattle.odata_functions.proofs.texts.Decisions.{end_reported, one_place, part_reported, place_there, start_reported}
 use Rattle.odata_functions.proofs.texts.OneTrim.{one_trimmed, trimmed_there}
 use Rattle.odata_functions.proofs.function_laws.texts_have_one_answer.Goals as goal
 
 pub returns-clause-part : goal.returns-clause-part
-returns-clause-part c = part_told
+returns-clause-part c = part_reported
 
 pub returns-clause-start : goal.returns-clause-start
-returns-clause-start c = start_told
+returns-clause-start c = start_reported
 
 pub returns-clause-end : goal.returns-clause-end
-returns-clause-end c = end_told
+returns-clause-end c = end_reported
 
 pub returns-clause-place_there : goal.returns-clause-place_there
 returns-clause-place_there c = place_there

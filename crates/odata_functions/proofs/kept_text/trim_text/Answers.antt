@@ -28,6 +28,6 @@ returns-in-Owned c =
     let end = subst (λ (x : List ℕ). IsTrimEnd x c.trim_end-len.result.now) (c.as_str.ensures.value ∙ is_rest) c.trim_end-len.ensures.value in
     let is_part : string_bytes c.truncate.new.self ≡ c.trim_end-len.result.now =
     c.truncate.ensures.bytes ∙ ap (take (length c.trim_end-len.result.now)) is_rest ∙ to_end rest c.trim_end-len.result.now end in
-    let told = trimmed text rest c.trim_end-len.result.now (IsUtf8-string_bytes c.in-Owned.owned) c.trim_start.utf8 c.trim_end-len.utf8 start end in
+    let reported = trimmed text rest c.trim_end-len.result.now (IsUtf8-string_bytes c.in-Owned.owned) c.trim_start.utf8 c.trim_end-len.utf8 start end in
     subst (λ (x : List ℕ). IsTrimmed (chars x) (chars (string_bytes c.truncate.new.self))) (sym (ap cow_str_bytes c.in-Owned.is))
-    (subst (λ (x : List ℕ). IsTrimmed (chars text) (chars x)) (sym is_part) told)
+    (subst (λ (x : List ℕ). IsTrimmed (chars text) (chars x)) (sym is_part) reported)

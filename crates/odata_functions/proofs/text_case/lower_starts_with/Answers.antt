@@ -7,6 +7,6 @@ use Rattle.odata_functions.proofs.text_case.lower_starts_with.Goals as goal
 pub returns : goal.returns
 returns c =
     let of_part = subst (λ (t : List ℕ). IsTrue c.has_lower_front.result ↔ HasStart (map to_ascii_lowercase c.as_bytes.result.now) t) c.as_bytes-2.ensures.value c.has_lower_front.ensures in
-    let told = subst (λ (s : List ℕ). IsTrue c.has_lower_front.result ↔ HasStart (map to_ascii_lowercase s) c.args.part.now) c.as_bytes.ensures.value of_part in
+    let reported = subst (λ (s : List ℕ). IsTrue c.has_lower_front.result ↔ HasStart (map to_ascii_lowercase s) c.args.part.now) c.as_bytes.ensures.value of_part in
     let alike = lower_start c.args.text.now c.args.part.now c.utf8.text c.utf8.part in
-    (λ is. alike.0 (told.0 is), λ has. told.1 (alike.1 has))
+    (λ is. alike.0 (reported.0 is), λ has. reported.1 (alike.1 has))

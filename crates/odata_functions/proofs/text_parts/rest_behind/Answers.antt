@@ -1,6 +1,6 @@
 use Rattle.std.proofs.Common.{◌≡◌, ℕ, List, subst, sym, arith}
 use Rattle.odata_functions.proofs.texts.Offsets.{IsRead, all_read, next_read, none_read, nothing_left, read_rest}
-use Rattle.odata_functions.specs.private.Cuts.{IsRest}
+use Rattle.odata_functions.specs.private.Cuts.{IsRemaining}
 use Rattle.odata_functions.proofs.text_parts.rest_behind.Goals as goal
 
 pub loop-init : goal.loop-init
@@ -19,5 +19,5 @@ returns-then-is_none c =
 pub returns : goal.returns
 returns c =
     let all : c.loop.counter ≡ c.args.count = omega arith in
-    subst (λ (x : List ℕ). IsRest c.args.text.now x c.args.count) (sym c.as_str.ensures)
-    (subst (IsRest c.args.text.now c.loop.rest.rest.now) all (read_rest c.args.text.now c.utf8.text c.loop.rest.rest.now c.loop.counter c.loop.invariant))
+    subst (λ (x : List ℕ). IsRemaining c.args.text.now x c.args.count) (sym c.as_str.ensures)
+    (subst (IsRemaining c.args.text.now c.loop.rest.rest.now) all (read_rest c.args.text.now c.utf8.text c.loop.rest.rest.now c.loop.counter c.loop.invariant))

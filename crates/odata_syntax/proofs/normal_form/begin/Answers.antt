@@ -4,7 +4,7 @@ use Rattle.odata_syntax.specs.declared.node.Quantifier.{Quantifier}
 use Rattle.odata_syntax.specs.declared.normal_form.Task.TheVariants.{Items, Over}
 use Rattle.odata_syntax.specs.Tree.{any_item, binary, call, count, has, in_list, in_path, it, lambda, literal, logical_not, member, name, negation, node}
 use Rattle.odata_syntax.specs.TreeView.{tree_of, trees_of}
-use Rattle.odata_syntax.specs.private.Normals.{Wanted, all_wanted, items, over, whole}
+use Rattle.odata_syntax.specs.private.NormalForm.{Wanted, all_wanted, items, over, whole}
 use Rattle.odata_syntax.proofs.normal_forms.Making.{put_task}
 use Rattle.odata_syntax.proofs.printing.Appended.{on_ok}
 use Rattle.odata_syntax.proofs.normal_form.begin.Goals as goal

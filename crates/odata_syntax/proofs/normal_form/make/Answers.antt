@@ -2,7 +2,7 @@ use Rattle.std.proofs.Common.{arith, string_bytes}
 use Rattle.odata_syntax.specs.TreeView.{tree_of}
 use Rattle.odata_syntax.specs.declared.normal_form.Task.TheVariants.{Items}
 use Rattle.odata_syntax.specs.private.Forests.{forest_trees}
-use Rattle.odata_syntax.specs.private.Normals.{all_wanted}
+use Rattle.odata_syntax.specs.private.NormalForm.{all_wanted}
 use Rattle.odata_syntax.proofs.lists.Boxes.{trees_size}
 use Rattle.odata_syntax.proofs.normal_forms.Making.{fed, no_items_made, on_if, over_made, put_task, put_tree_over, some_items_made, whole_made}
 use Rattle.odata_syntax.proofs.printing.Appended.{on_ok}

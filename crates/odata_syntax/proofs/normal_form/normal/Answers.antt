@@ -4,7 +4,7 @@ use Rattle.odata_syntax.specs.declared.normal_form.Task.{Task}
 use Rattle.odata_syntax.specs.declared.normal_form.Task.TheVariants.{Whole}
 use Rattle.odata_syntax.specs.TreeView.{tree_of}
 use Rattle.odata_syntax.specs.private.Forests.{forest_trees}
-use Rattle.odata_syntax.specs.private.Normals.{all_wanted, wanted, whole, work}
+use Rattle.odata_syntax.specs.private.NormalForm.{all_wanted, wanted, whole, work}
 use Rattle.odata_syntax.proofs.lists.Boxes.{trees_size}
 use Rattle.odata_syntax.proofs.normal_forms.Making.{last_made, one_made, put_task, ready_first, ready_next, ready_last}
 use Rattle.odata_syntax.proofs.normal_forms.NormalDerived.{normal_expression}

@@ -1,6 +1,6 @@
 use Rattle.odata_syntax.specs.TreeView.{tree_of}
 use Rattle.odata_syntax.specs.private.Forests.{forest_trees}
-use Rattle.odata_syntax.specs.private.Normals.{IsReady, all_wanted, work}
+use Rattle.odata_syntax.specs.private.NormalForm.{IsReady, all_wanted, work}
 use Rattle.odata_syntax.proofs.normal_form.normal.Given as goal
 
 -- what waits ends in the normal form of the whole

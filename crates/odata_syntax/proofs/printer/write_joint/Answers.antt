@@ -6,7 +6,7 @@ use Rattle.odata_syntax.specs.Tree.{any_item, binary, call, count, has, in_list,
 use Rattle.odata_syntax.specs.TreeView.{tree_of, trees_of}
 use Rattle.odata_syntax.specs.declared.node.Node.{All, Any, Binary, Call, Count, Has, InList, InPath, It, Lit, Member, Name, Neg, Not, the_lemmas}
 use Rattle.odata_syntax.specs.declared.node.Quantifier.{Quantifier}
-use Rattle.odata_syntax.specs.private.Prints.{piece_of}
+use Rattle.odata_syntax.specs.private.Printer.{piece_of}
 use Rattle.odata_syntax.proofs.printing.Appended.{on_both, on_ok, pushed_ok}
 use Rattle.odata_syntax.proofs.printing.Forms.{after_binder, after_in, after_nothing, after_text, after_word}
 use Rattle.odata_syntax.proofs.printer.write_joint.Goals as goal

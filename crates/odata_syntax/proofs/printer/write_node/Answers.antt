@@ -4,7 +4,7 @@ use Rattle.odata_syntax.specs.Tree.{any_item, binary, call, count, has, in_list,
 use Rattle.odata_syntax.specs.TreeView.{tree_of, trees_of}
 use Rattle.odata_syntax.specs.declared.node.Node.{All, Any, Binary, Call, Count, Has, InList, InPath, It, Lit, Member, Name, Neg, Not, the_lemmas}
 use Rattle.odata_syntax.specs.declared.node.Quantifier.{Quantifier}
-use Rattle.odata_syntax.specs.private.Prints.{piece_of}
+use Rattle.odata_syntax.specs.private.Printer.{piece_of}
 use Rattle.odata_syntax.proofs.printing.Appended.{on_both, on_ok, pushed_ok}
 use Rattle.odata_syntax.proofs.printing.Forms.{any_item_joins, binary_joins, call_form, count_joins, group_weight-bound, has_joins, in_list_joins, in_path_joins, it_form, joint_form, lambda_joins, literal_form, member_joins, name_form, negation_form, not_form}
 use Rattle.odata_syntax.proofs.printer.write_node.Goals as goal

@@ -8,15 +8,15 @@ use Rattle.odata_typing.proofs.binary_node.checked_infix.Goals as goal
 
 pub returns-in-Neither : goal.returns-in-Neither
 returns-in-Neither c = λ l r over.
-    let setting = c.args.setting.now in
-    let schema = setting.schema.now in
+    let context = c.args.context.now in
+    let schema = context.schema.now in
     let judged = c.args.judged.now in
     let old = c.args.walk.now in
-    let two = two_children setting old judged l r over in
+    let two = two_children context old judged l r over in
     let middle = c.stop_at-right.ensures two.left.found two.left.at ∙ two.left.last in
     let at_right = ap (slice_get old.list.nodes) middle ∙ two.right.at in
     let quoted_right = c.quoted_at-2.ensures two.right.found at_right ∙ ap (λ (k : ℕ). quoted_in old.list k two.right.found) middle in
-    infix_unread c.laws_below.ensures setting judged old c.put_typed.new.self c.args.kind l r c.put_typed.result c.requires.kind c.requires.ready two (record { left = c.type_at.result.now; right = c.type_at-2.result.now; left_quoted = c.quoted_at.result; right_quoted = c.quoted_at-2.result })
+    infix_unread c.laws_below.ensures context judged old c.put_typed.new.self c.args.kind l r c.put_typed.result c.requires.kind c.requires.ready two (record { left = c.type_at.result.now; right = c.type_at-2.result.now; left_quoted = c.quoted_at.result; right_quoted = c.quoted_at-2.result })
     (c.type_at.ensures two.left.found two.left.at) (c.type_at-2.ensures two.right.found at_right)
     (c.quoted_at.ensures two.left.found two.left.at) quoted_right
     c.infix_type-edm_type.result c.reason_of-code.result
@@ -27,10 +27,10 @@ returns-in-Neither c = λ l r over.
 pub put_read-requires : goal.put_read-requires
 put_read-requires c =
     let given = c.requires.operands in
-    let setting = c.args.setting.now in
+    let context = c.args.context.now in
     let judged = c.args.judged.now in
     let old = c.args.walk.now in
-    let two = two_children setting old judged given.0 given.1 given.2 in
+    let two = two_children context old judged given.0 given.1 given.2 in
     let order = c.requires.ready.order in
     let inside = c.requires.ready.inside in
     record {
@@ -41,15 +41,15 @@ put_read-requires c =
 pub returns-in-Left : goal.returns-in-Left
 returns-in-Left c = λ l r over.
     let fits : SFits w64 c.in-Left.number = search rules in
-    let setting = c.args.setting.now in
-    let schema = setting.schema.now in
+    let context = c.args.context.now in
+    let schema = context.schema.now in
     let judged = c.args.judged.now in
     let old = c.args.walk.now in
-    let two = two_children setting old judged l r over in
+    let two = two_children context old judged l r over in
     let middle = c.stop_at-right.ensures two.left.found two.left.at ∙ two.left.last in
     let at_right = ap (slice_get old.list.nodes) middle ∙ two.right.at in
     let quoted_right = c.quoted_at-2.ensures two.right.found at_right ∙ ap (λ (k : ℕ). quoted_in old.list k two.right.found) middle in
-    infix_left c.laws_below.ensures setting judged old c.put_read.new.walk c.args.kind l r c.put_read.result c.requires.kind c.requires.ready two (record { left = c.type_at.result.now; right = c.type_at-2.result.now; left_quoted = c.quoted_at.result; right_quoted = c.quoted_at-2.result })
+    infix_left c.laws_below.ensures context judged old c.put_read.new.walk c.args.kind l r c.put_read.result c.requires.kind c.requires.ready two (record { left = c.type_at.result.now; right = c.type_at-2.result.now; left_quoted = c.quoted_at.result; right_quoted = c.quoted_at-2.result })
     (c.type_at.ensures two.left.found two.left.at) (c.type_at-2.ensures two.right.found at_right)
     (c.quoted_at.ensures two.left.found two.left.at) quoted_right
     c.in-Left.number (rw c.in-Left.is at c.operand_read-read.ensures)
@@ -58,10 +58,10 @@ returns-in-Left c = λ l r over.
 pub put_read-requires-in-Right : goal.put_read-requires-in-Right
 put_read-requires-in-Right c =
     let given = c.requires.operands in
-    let setting = c.args.setting.now in
+    let context = c.args.context.now in
     let judged = c.args.judged.now in
     let old = c.args.walk.now in
-    let two = two_children setting old judged given.0 given.1 given.2 in
+    let two = two_children context old judged given.0 given.1 given.2 in
     let order = c.requires.ready.order in
     let inside = c.requires.ready.inside in
     let middle = c.stop_at-right.ensures two.left.found two.left.at ∙ two.left.last in
@@ -73,15 +73,15 @@ put_read-requires-in-Right c =
 pub returns-in-Right : goal.returns-in-Right
 returns-in-Right c = λ l r over.
     let fits : SFits w64 c.in-Right.number = search rules in
-    let setting = c.args.setting.now in
-    let schema = setting.schema.now in
+    let context = c.args.context.now in
+    let schema = context.schema.now in
     let judged = c.args.judged.now in
     let old = c.args.walk.now in
-    let two = two_children setting old judged l r over in
+    let two = two_children context old judged l r over in
     let middle = c.stop_at-right.ensures two.left.found two.left.at ∙ two.left.last in
     let at_right = ap (slice_get old.list.nodes) middle ∙ two.right.at in
     let quoted_right = c.quoted_at-2.ensures two.right.found at_right ∙ ap (λ (k : ℕ). quoted_in old.list k two.right.found) middle in
-    infix_right c.laws_below.ensures setting judged old c.put_read-in-Right.new.walk c.args.kind l r c.put_read-in-Right.result c.requires.kind c.requires.ready two (record { left = c.type_at.result.now; right = c.type_at-2.result.now; left_quoted = c.quoted_at.result; right_quoted = c.quoted_at-2.result })
+    infix_right c.laws_below.ensures context judged old c.put_read-in-Right.new.walk c.args.kind l r c.put_read-in-Right.result c.requires.kind c.requires.ready two (record { left = c.type_at.result.now; right = c.type_at-2.result.now; left_quoted = c.quoted_at.result; right_quoted = c.quoted_at-2.result })
     (c.type_at.ensures two.left.found two.left.at) (c.type_at-2.ensures two.right.found at_right)
     (c.quoted_at.ensures two.left.found two.left.at) quoted_right
     c.stop_at-right.result c.in-Right.number middle (rw c.in-Right.is at c.operand_read-read.ensures)
@@ -89,15 +89,15 @@ returns-in-Right c = λ l r over.
 
 pub returns-in-Unknown : goal.returns-in-Unknown
 returns-in-Unknown c = λ l r over.
-    let setting = c.args.setting.now in
-    let schema = setting.schema.now in
+    let context = c.args.context.now in
+    let schema = context.schema.now in
     let judged = c.args.judged.now in
     let old = c.args.walk.now in
-    let two = two_children setting old judged l r over in
+    let two = two_children context old judged l r over in
     let middle = c.stop_at-right.ensures two.left.found two.left.at ∙ two.left.last in
     let at_right = ap (slice_get old.list.nodes) middle ∙ two.right.at in
     let quoted_right = c.quoted_at-2.ensures two.right.found at_right ∙ ap (λ (k : ℕ). quoted_in old.list k two.right.found) middle in
-    infix_unknown c.laws_below.ensures setting judged old c.refuse.new.self c.args.kind l r c.refuse.result c.requires.kind c.requires.ready two (record { left = c.type_at.result.now; right = c.type_at-2.result.now; left_quoted = c.quoted_at.result; right_quoted = c.quoted_at-2.result })
+    infix_unknown c.laws_below.ensures context judged old c.refuse.new.self c.args.kind l r c.refuse.result c.requires.kind c.requires.ready two (record { left = c.type_at.result.now; right = c.type_at-2.result.now; left_quoted = c.quoted_at.result; right_quoted = c.quoted_at-2.result })
     (c.type_at.ensures two.left.found two.left.at) (c.type_at-2.ensures two.right.found at_right)
     (c.quoted_at.ensures two.left.found two.left.at) quoted_right
     (rw c.in-Unknown.is at c.operand_read-read.ensures) c.refuse.ensures.stops c.refuse.ensures.fault

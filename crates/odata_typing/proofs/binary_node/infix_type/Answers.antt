@@ -10,13 +10,13 @@ use Rattle.odata_typing.proofs.binary_node.infix_type.Goals as goal
 
 pub returns-in-Binary-clause-typed : goal.returns-in-Binary-clause-typed
 returns-in-Binary-clause-typed c =
-    subst (λ (f : NodeKind). IfSome c.made_type.result (λ t. InfixByTypes f (expr_type c.args.schema.now c.args.types.now.left) (expr_type c.args.schema.now c.args.types.now.right) (expr_type c.args.schema.now t)))
-    (sym c.in-Binary.is) c.made_type.ensures.typed
+    subst (λ (f : NodeKind). IfSome c.binary_type.result (λ t. InfixByTypes f (expr_type c.args.schema.now c.args.types.now.left) (expr_type c.args.schema.now c.args.types.now.right) (expr_type c.args.schema.now t)))
+    (sym c.in-Binary.is) c.binary_type.ensures.typed
 
 pub returns-in-Binary-clause-none : goal.returns-in-Binary-clause-none
 returns-in-Binary-clause-none c =
-    subst (λ (f : NodeKind). IfNone c.made_type.result ((type : ExprType) → ¬ InfixByTypes f (expr_type c.args.schema.now c.args.types.now.left) (expr_type c.args.schema.now c.args.types.now.right) type))
-    (sym c.in-Binary.is) c.made_type.ensures.none
+    subst (λ (f : NodeKind). IfNone c.binary_type.result ((type : ExprType) → ¬ InfixByTypes f (expr_type c.args.schema.now c.args.types.now.left) (expr_type c.args.schema.now c.args.types.now.right) type))
+    (sym c.in-Binary.is) c.binary_type.ensures.none
 
 pub returns-in-Has-clause-typed : goal.returns-in-Has-clause-typed
 returns-in-Has-clause-typed c =

@@ -13,8 +13,8 @@ returns-in-Err-clause-refused c = rw c.refusal_of.ensures (record {
   none = refusal_none (slots_of c.args.schema.now) (type_name_at c.args.schema.now c.args.filtered_type) c.args.text.now c.in-Err.fault c.in-Err.ensures.none;
 })
 
-pub judge_nodes-requires-clause-setting : goal.judge_nodes-requires-clause-setting
-judge_nodes-requires-clause-setting c =
+pub judge_nodes-requires-clause-context : goal.judge_nodes-requires-clause-context
+judge_nodes-requires-clause-context c =
     let tree = c.in-Ok.ensures.tree in
     record {
       whole = rw c.nodes-nodes.ensures.nodes c.in-Ok.ensures.whole;

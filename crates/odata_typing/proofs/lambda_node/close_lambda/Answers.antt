@@ -15,13 +15,13 @@ pub returns-then-is_truth : goal.returns-then-is_truth
 returns-then-is_truth c = λ quantifier base body is over.
     let form : SyntaxKind.Lambda c.in-Lambda.quantifier ≡ SyntaxKind.Lambda quantifier = sym c.in-Lambda.is ∙ is in
     let same : c.in-Lambda.quantifier ≡ quantifier = cc in
-    let setting = c.args.setting.now in
-    let schema = setting.schema.now in
+    let context = c.args.context.now in
+    let schema = context.schema.now in
     let judged = c.args.judged.now in
     let old = c.args.walk.now in
     let type : c.type_at.result.now ≡ over.body_stands.found.edm_type =
-    body_type setting judged old base body over c.stop_at-body.result c.type_at.result.now (c.stop_at-body.ensures over.base_stands.found over.base_stands.at) c.type_at.ensures in
-    lambda_put c.laws_below.ensures setting judged old c.put.new.self quantifier base body c.put.result c.requires.ready over _
+    body_type context judged old base body over c.stop_at-body.result c.type_at.result.now (c.stop_at-body.ensures over.base_stands.found over.base_stands.at) c.type_at.ensures in
+    lambda_put c.laws_below.ensures context judged old c.put.new.self quantifier base body c.put.result c.requires.ready over _
     (subst (λ (t : EdmType). IsBooleanOrNull (expr_type schema t)) type ((c.is_truth.ensures schema).0 c.if-is_truth.true))
     c.put.ensures.goes_on
     (ap (λ (source : List ℕ). text_in source judged.node.now.text) c.requires.ready.ready.source)
@@ -29,13 +29,13 @@ returns-then-is_truth c = λ quantifier base body is over.
 
 pub returns-else-is_truth : goal.returns-else-is_truth
 returns-else-is_truth c = λ quantifier base body is over.
-    let setting = c.args.setting.now in
-    let schema = setting.schema.now in
+    let context = c.args.context.now in
+    let schema = context.schema.now in
     let judged = c.args.judged.now in
     let old = c.args.walk.now in
     let type : c.type_at.result.now ≡ over.body_stands.found.edm_type =
-    body_type setting judged old base body over c.stop_at-body.result c.type_at.result.now (c.stop_at-body.ensures over.base_stands.found over.base_stands.at) c.type_at.ensures in
-    lambda_refused c.laws_below.ensures setting judged old c.refuse.new.self quantifier base body c.refuse.result c.requires.ready over
+    body_type context judged old base body over c.stop_at-body.result c.type_at.result.now (c.stop_at-body.ensures over.base_stands.found over.base_stands.at) c.type_at.ensures in
+    lambda_refused c.laws_below.ensures context judged old c.refuse.new.self quantifier base body c.refuse.result c.requires.ready over
     (subst (λ (t : EdmType). ¬ IsBooleanOrNull (expr_type schema t)) type (not_truth schema c.type_at.result.now c.is_truth.result (c.is_truth.ensures schema) c.if-is_truth.false))
     c.refuse.ensures.stops c.refuse.ensures.fault
 

@@ -7,11 +7,11 @@ use Rattle.odata_typing.proofs.literal_node.put_literal.Goals as goal
 
 pub returns : goal.returns
 returns c =
-    let setting = c.args.setting.now in
-    let schema = setting.schema.now in
+    let context = c.args.context.now in
+    let schema = context.schema.now in
     let judged = c.args.judged.now in
     let old = c.args.walk.now in
-    literal_put c.laws_below.ensures setting judged old c.put.new.self c.put.result c.requires.ready
+    literal_put c.laws_below.ensures context judged old c.put.new.self c.put.result c.requires.ready
     c.push_value.new.self c.args.kind c.args.reading.value c.args.reading.edm_type (length c.values-value.result.now) _ c.requires.leaf
     c.requires.right c.requires.there
     (ap (λ (values : List Value). length values) c.values-value.ensures)

@@ -11,7 +11,7 @@ use Rattle.odata_typing.proofs.property_node.put_property.Goals as goal
 
 pub returns-in-Some-property_edm_type-clause-typed : goal.returns-in-Some-property_edm_type-clause-typed
 returns-in-Some-property_edm_type-clause-typed c =
-    let schema = c.args.setting.now.schema.now in
+    let schema = c.args.context.now.schema.now in
     let properties = properties_at schema c.args.owner in
     let type = expr_type schema c.in-Some-property_edm_type.edm_type in
     subst (λ (asked : List ℕ). PropertyTyped properties asked type) c.text_in.ensures
@@ -21,20 +21,20 @@ returns-in-Some-property_edm_type-clause-typed c =
 
 pub returns-in-Some-property_edm_type-clause-there : goal.returns-in-Some-property_edm_type-clause-there
 returns-in-Some-property_edm_type-clause-there c =
-    let schema = c.args.setting.now.schema.now in
+    let schema = c.args.context.now.schema.now in
     c.in-Some-property_edm_type.ensures.there schema
     (points_within schema (properties_at schema c.args.owner) c.text_in.result.now c.in-Some.slot c.property-property.result.now (sym c.in-Some.ensures) c.property-property.ensures)
 
 pub returns-in-Some-property_edm_type-clause-idle : goal.returns-in-Some-property_edm_type-clause-idle
 returns-in-Some-property_edm_type-clause-idle c = λ idle.
-    let schema = c.args.setting.now.schema.now in
+    let schema = c.args.context.now.schema.now in
     let properties = properties_at schema c.args.owner in
     subst (λ (asked : List ℕ). ¬ Navigates properties asked) c.text_in.ensures
     (idle_at schema properties c.text_in.result.now c.in-Some.slot c.property-property.result.now (sym c.in-Some.ensures) c.property-property.ensures (c.go_over.ensures.target idle))
 
 pub returns-in-None-property_edm_type-clause-reason : goal.returns-in-None-property_edm_type-clause-reason
 returns-in-None-property_edm_type-clause-reason c =
-    let schema = c.args.setting.now.schema.now in
+    let schema = c.args.context.now.schema.now in
     let properties = properties_at schema c.args.owner in
     rw c.refuse.ensures.fault
     (subst (λ (asked : List ℕ). NameReason properties asked TypeFaultCode.TypeLeftOut) c.text_in.ensures
@@ -44,7 +44,7 @@ returns-in-None-property_edm_type-clause-reason c =
 
 pub returns-in-None-property_edm_type-clause-untyped : goal.returns-in-None-property_edm_type-clause-untyped
 returns-in-None-property_edm_type-clause-untyped c = λ type.
-    let schema = c.args.setting.now.schema.now in
+    let schema = c.args.context.now.schema.now in
     let properties = properties_at schema c.args.owner in
     subst (λ (asked : List ℕ). ¬ PropertyTyped properties asked type) c.text_in.ensures
     (refused_untyped properties c.text_in.result.now c.in-Some.slot (property_type schema c.property-property.result.now) TypeFaultCode.TypeLeftOut type (sym c.in-Some.ensures)
@@ -53,13 +53,13 @@ returns-in-None-property_edm_type-clause-untyped c = λ type.
 
 pub returns-in-None-clause-reason : goal.returns-in-None-clause-reason
 returns-in-None-clause-reason c =
-    let properties = properties_at c.args.setting.now.schema.now c.args.owner in
+    let properties = properties_at c.args.context.now.schema.now c.args.owner in
     rw c.refuse-in-None.ensures.fault
     (subst (λ (asked : List ℕ). NameReason properties asked TypeFaultCode.UnknownProperty) c.text_in.ensures
     (unknown_reason properties c.text_in.result.now (sym c.in-None.ensures)))
 
 pub returns-in-None-clause-untyped : goal.returns-in-None-clause-untyped
 returns-in-None-clause-untyped c = λ type.
-    let properties = properties_at c.args.setting.now.schema.now c.args.owner in
+    let properties = properties_at c.args.context.now.schema.now c.args.owner in
     subst (λ (asked : List ℕ). ¬ PropertyTyped properties asked type) c.text_in.ensures
     (unknown_untyped properties c.text_in.result.now type (sym c.in-None.ensures))

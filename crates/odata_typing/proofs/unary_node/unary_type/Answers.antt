@@ -7,10 +7,10 @@ pub returns-in-Negation-clause-none : goal.returns-in-Negation-clause-none
 returns-in-Negation-clause-none c = λ schema. rw c.in-Negation.is (c.negated_type.ensures.none schema)
 
 pub returns-in-Not-clause-typed : goal.returns-in-Not-clause-typed
-returns-in-Not-clause-typed c = λ schema. rw c.in-Not.is (c.opposite_type.ensures.typed schema)
+returns-in-Not-clause-typed c = λ schema. rw c.in-Not.is (c.not_type.ensures.typed schema)
 
 pub returns-in-Not-clause-none : goal.returns-in-Not-clause-none
-returns-in-Not-clause-none c = λ schema. rw c.in-Not.is (c.opposite_type.ensures.none schema)
+returns-in-Not-clause-none c = λ schema. rw c.in-Not.is (c.not_type.ensures.none schema)
 
 pub returns-in-Count-clause-typed : goal.returns-in-Count-clause-typed
 returns-in-Count-clause-typed c = λ schema. rw c.in-Count.is (c.count_type.ensures.typed schema)

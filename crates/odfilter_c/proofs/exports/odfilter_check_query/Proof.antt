@@ -3,7 +3,7 @@ use Rattle.odfilter_c.proofs.Steps.{◌≡◌, ℕ, ◌<◌, ◌^◌, List, [], 
 use Rattle.odfilter_c.proofs.Types.{Global, GlobalRow, global_val, global_lowers, global_laws, Bytes, BytesRow, bytes_val, bytes_lowers, bytes_laws, Room, RoomRow, room_val, room_lowers, room_laws, Handle, HandleRow, Owned, OwnedRow, Answer, AnswerRow}
 use Rattle.odfilter_c.specs.Loans.{Loan, lent_fault, lent_handle, lent_judge, lent_bytes, lent_room, lent_made, lent_answer, left_judge, left_room, left_made, left_answer, unless_null, holds, of_optional, of_bytes}
 use Rattle.odfilter_c.specs.Exports.{lent_to_check_query, left_by_check_query}
-use Rattle.odfilter_c.specs.Tells.{ChecksQuery}
+use Rattle.odfilter_c.specs.Reports.{ChecksQuery}
 use Rattle.odfilter_c.specs.contracts.handle_calls.check_query as g
 use Rattle.odfilter_c.proofs.handle_calls.check_query.Symbol.{name as #call}
 use Rattle.odfilter_c.proofs.handle_calls.check_query.Met.{met as met}
@@ -97,13 +97,13 @@ module _ {M : Type 1} {𝓤 : Ura M} (𝓛 : Logic 𝓤) (at_mem : Memory → SP
       calls_at_last ! fm G-1 known-1 z (and_then ! (get ! refl) (and_then ! (get ! refl) (and_then ! (get_in ! (fld ! refl (stop !)) (sub ! 1 refl (whole !))) (and_then ! (get ! refl) (and_then ! (get ! refl) (no_more !)))))) (λ v.
       use1 𝓛 (later (some (λ (x : ℕ). ((‵ (flft κ l.share) ⊛ ‵ ftrue) ⊛ ‵ (u32.own_val x (v ∷ []))) ⊛
       some (λ (ws : Unit {0} × (Unit {0} × (Unit {0} × (Owned × (Answer × (Unit {0})))))). ‵ (lasts g-1.ended (κ, tt) z.0.3 ws) ⊛ raw (fact 𝓤 (of_bytes null_ptr query-length l.bytes ((ws.1.1.1.0 ≡ l.made) × ((ws.1.1.1.1.0 ≡ l.answer) × (x ≡ 1))) (λ bytes. ChecksQuery l.handle bytes ws.1.1.1.0 ws.1.1.1.1.0 x))))))) (id⊢ 𝓤 _) $
-      await ! tt $ pick ! (λ x. split ! $ move ! (1 ∷ []) $ pick ! (λ ws. split ! $ move ! (1 ∷ []) $ heard ! _ (λ tells.
+      await ! tt $ pick ! (λ x. split ! $ move ! (1 ∷ []) $ pick ! (λ ws. split ! $ move ! (1 ∷ []) $ heard ! _ (λ reports.
       fsplit ! $ drop ! $ fsplit ! $ drop ! $ fsplit ! $ drop ! $ fsplit ! $ move ! (1 ∷ []) $ fsplit ! $ move ! (1 ∷ []) $ drop ! $ move ! (2 ∷ []) $ split ! $ split ! $ move ! (2 ∷ []) $ peeks ! u32 (Is u32) (shows 𝓛 u32) x (v ∷ []) (λ is.
       let fine = ((uint_Lawful 𝓛 w32).typed x _ is).0 in
       lands_last ! refl fine $ exec ! C Λ (env (code.function).locals c) (assign (place 7 []) (rv_opd (copy (place 8 [])))) (any_q (after_seq 𝓤 H (Wp 𝓤 H C Λ (env (code.function).locals c) code.Mir.t-9 (post 𝓤 H (at_ret (env (code.function).locals c) (Post alloc (block_ptr b0 o0) (record { at = null_ptr; length = query-length }) (block_ptr b2 o2) (block_ptr b3 o3))))) (post 𝓤 H (at_ret (env (code.function).locals c) (Post alloc (block_ptr b0 o0) (record { at = null_ptr; length = query-length }) (block_ptr b2 o2) (block_ptr b3 o3)))))) $ sets_last ! (of_opd ! (get ! refl)) refl fine $
       exec ! C Λ (env (code.function).locals c) code.Mir.t-9 (at_ret (env (code.function).locals c) (Post alloc (block_ptr b0 o0) (record { at = null_ptr; length = query-length }) (block_ptr b2 o2) (block_ptr b3 o3))) $
       sets ! (of_opd ! (get ! refl)) refl fine $ returns ! (look_at ! 0 refl) $ free_all ! refl $ keep ! (3 ∷ 4 ∷ 0 ∷ 1 ∷ []) $
-      nothing ! $ fpack ! (of_bytes null_ptr query-length l.bytes ((ws.1.1.1.0 ≡ l.made) × ((ws.1.1.1.1.0 ≡ l.answer) × (x ≡ 1))) (λ bytes. ChecksQuery l.handle bytes ws.1.1.1.0 ws.1.1.1.1.0 x)) (λ _. ftrue) tells $ move ! (1 ∷ 0 ∷ []) $ fjoin ! $ move ! (1 ∷ 0 ∷ []) $ fjoin ! $
+      nothing ! $ fpack ! (of_bytes null_ptr query-length l.bytes ((ws.1.1.1.0 ≡ l.made) × ((ws.1.1.1.1.0 ≡ l.answer) × (x ≡ 1))) (λ bytes. ChecksQuery l.handle bytes ws.1.1.1.0 ws.1.1.1.1.0 x)) (λ _. ftrue) reports $ move ! (1 ∷ 0 ∷ []) $ fjoin ! $ move ! (1 ∷ 0 ∷ []) $ fjoin ! $
       fpack ! Answer (λ answer'. fsep (left_made l (block_ptr b2 o2) ws.1.1.1.0) (fsep (left_answer l (block_ptr b3 o3) answer') (holds (of_bytes null_ptr query-length l.bytes ((ws.1.1.1.0 ≡ l.made) × ((answer' ≡ l.answer) × (x ≡ 1))) (λ bytes. ChecksQuery l.handle bytes ws.1.1.1.0 answer' x))))) ws.1.1.1.1.0 $
       fpack ! Owned (λ made'. fex Answer (λ answer'. fsep (left_made l (block_ptr b2 o2) made') (fsep (left_answer l (block_ptr b3 o3) answer') (holds (of_bytes null_ptr query-length l.bytes ((made' ≡ l.made) × ((answer' ≡ l.answer) × (x ≡ 1))) (λ bytes. ChecksQuery l.handle bytes made' answer' x)))))) ws.1.1.1.0 $
       move ! (2 ∷ 0 ∷ []) $ join ! $ move ! (1 ∷ 0 ∷ []) $ nothing ! $ nothing ! $ fjoin ! $ nothing ! $ fjoin ! $ nothing ! $ fjoin ! $ nothing ! $ fjoin ! $ nothing ! $ fjoin ! $ nothing ! $
@@ -132,13 +132,13 @@ module _ {M : Type 1} {𝓤 : Ura M} (𝓛 : Logic 𝓤) (at_mem : Memory → SP
       calls_at_last ! fm G known z (and_then ! (get ! refl) (and_then ! (get ! refl) (and_then ! (get ! refl) (and_then ! (get ! refl) (and_then ! (get ! refl) (no_more !)))))) (λ v.
       use1 𝓛 (later (some (λ (x : ℕ). ((‵ (flft κ l.share) ⊛ ‵ ftrue) ⊛ ‵ (u32.own_val x (v ∷ []))) ⊛
       some (λ (ws : Unit {0} × (Unit {0} × (Unit {0} × (Owned × (Answer × (Unit {0})))))). ‵ (lasts g.ended (κ, tt) z.0.3 ws) ⊛ raw (fact 𝓤 (of_bytes (block_ptr b1 o1) query-length l.bytes ((ws.1.1.1.0 ≡ l.made) × ((ws.1.1.1.1.0 ≡ l.answer) × (x ≡ 1))) (λ bytes. ChecksQuery l.handle bytes ws.1.1.1.0 ws.1.1.1.1.0 x))))))) (id⊢ 𝓤 _) $
-      await ! tt $ pick ! (λ x. split ! $ move ! (1 ∷ []) $ pick ! (λ ws. split ! $ move ! (1 ∷ []) $ heard ! _ (λ tells.
+      await ! tt $ pick ! (λ x. split ! $ move ! (1 ∷ []) $ pick ! (λ ws. split ! $ move ! (1 ∷ []) $ heard ! _ (λ reports.
       fsplit ! $ drop ! $ fsplit ! $ drop ! $ fsplit ! $ drop ! $ fsplit ! $ move ! (1 ∷ []) $ fsplit ! $ move ! (1 ∷ []) $ drop ! $ move ! (2 ∷ []) $ split ! $ split ! $ move ! (2 ∷ []) $ peeks ! u32 (Is u32) (shows 𝓛 u32) x (v ∷ []) (λ is.
       let fine = ((uint_Lawful 𝓛 w32).typed x _ is).0 in
       lands_last ! refl fine $ exec ! C Λ (env (code.function).locals c) (assign (place 7 []) (rv_opd (copy (place 13 [])))) (any_q (after_seq 𝓤 H (Wp 𝓤 H C Λ (env (code.function).locals c) code.Mir.t-9 (post 𝓤 H (at_ret (env (code.function).locals c) (Post alloc (block_ptr b0 o0) (record { at = (block_ptr b1 o1); length = query-length }) (block_ptr b2 o2) (block_ptr b3 o3))))) (post 𝓤 H (at_ret (env (code.function).locals c) (Post alloc (block_ptr b0 o0) (record { at = (block_ptr b1 o1); length = query-length }) (block_ptr b2 o2) (block_ptr b3 o3)))))) $ sets_last ! (of_opd ! (get ! refl)) refl fine $
       exec ! C Λ (env (code.function).locals c) code.Mir.t-9 (at_ret (env (code.function).locals c) (Post alloc (block_ptr b0 o0) (record { at = (block_ptr b1 o1); length = query-length }) (block_ptr b2 o2) (block_ptr b3 o3))) $
       sets ! (of_opd ! (get ! refl)) refl fine $ returns ! (look_at ! 0 refl) $ free_all ! refl $ keep ! (3 ∷ 4 ∷ 0 ∷ 1 ∷ []) $
-      nothing ! $ fpack ! (of_bytes (block_ptr b1 o1) query-length l.bytes ((ws.1.1.1.0 ≡ l.made) × ((ws.1.1.1.1.0 ≡ l.answer) × (x ≡ 1))) (λ bytes. ChecksQuery l.handle bytes ws.1.1.1.0 ws.1.1.1.1.0 x)) (λ _. ftrue) tells $ move ! (1 ∷ 0 ∷ []) $ fjoin ! $ move ! (1 ∷ 0 ∷ []) $ fjoin ! $
+      nothing ! $ fpack ! (of_bytes (block_ptr b1 o1) query-length l.bytes ((ws.1.1.1.0 ≡ l.made) × ((ws.1.1.1.1.0 ≡ l.answer) × (x ≡ 1))) (λ bytes. ChecksQuery l.handle bytes ws.1.1.1.0 ws.1.1.1.1.0 x)) (λ _. ftrue) reports $ move ! (1 ∷ 0 ∷ []) $ fjoin ! $ move ! (1 ∷ 0 ∷ []) $ fjoin ! $
       fpack ! Answer (λ answer'. fsep (left_made l (block_ptr b2 o2) ws.1.1.1.0) (fsep (left_answer l (block_ptr b3 o3) answer') (holds (of_bytes (block_ptr b1 o1) query-length l.bytes ((ws.1.1.1.0 ≡ l.made) × ((answer' ≡ l.answer) × (x ≡ 1))) (λ bytes. ChecksQuery l.handle bytes ws.1.1.1.0 answer' x))))) ws.1.1.1.1.0 $
       fpack ! Owned (λ made'. fex Answer (λ answer'. fsep (left_made l (block_ptr b2 o2) made') (fsep (left_answer l (block_ptr b3 o3) answer') (holds (of_bytes (block_ptr b1 o1) query-length l.bytes ((made' ≡ l.made) × ((answer' ≡ l.answer) × (x ≡ 1))) (λ bytes. ChecksQuery l.handle bytes made' answer' x)))))) ws.1.1.1.0 $
       move ! (2 ∷ 0 ∷ []) $ join ! $ move ! (1 ∷ 0 ∷ []) $ nothing ! $ nothing ! $ fjoin ! $ nothing ! $ fjoin ! $ nothing ! $ fjoin ! $ nothing ! $ fjoin ! $ nothing ! $ fjoin ! $ nothing ! $

@@ -3,7 +3,7 @@ use Rattle.odfilter_c.proofs.Steps.{◌≡◌, ℕ, ◌<◌, ◌^◌, List, [], 
 use Rattle.odfilter_c.proofs.Types.{Global, GlobalRow, global_val, global_lowers, global_laws, Bytes, BytesRow, bytes_val, bytes_lowers, bytes_laws, Room, RoomRow, room_val, room_lowers, room_laws, Handle, HandleRow, Owned, OwnedRow, Answer, AnswerRow}
 use Rattle.odfilter_c.specs.Loans.{Loan, lent_fault, lent_handle, lent_judge, lent_bytes, lent_room, lent_made, lent_answer, left_judge, left_room, left_made, left_answer, unless_null, holds, of_optional, of_bytes}
 use Rattle.odfilter_c.specs.Exports.{lent_to_fault_name, left_by_fault_name}
-use Rattle.odfilter_c.specs.Tells.{TellsFault}
+use Rattle.odfilter_c.specs.Reports.{ReportsFault}
 use Rattle.odfilter_c.specs.contracts.handle_calls.fault_name as g
 use Rattle.odfilter_c.proofs.handle_calls.fault_name.Symbol.{name as #call}
 use Rattle.odfilter_c.proofs.handle_calls.fault_name.Met.{met as met}
@@ -76,15 +76,15 @@ module _ {M : Type 1} {𝓤 : Ura M} (𝓛 : Logic 𝓤) (at_mem : Memory → SP
       use2 𝓛 (raw (G.pre z)) (id⊢ 𝓤 _) $
       calls_at_last ! fm G known z (and_then ! (get ! refl) (and_then ! (get ! refl) (and_then ! (get ! refl) (and_then ! (get ! refl) (no_more !))))) (λ v.
       use1 𝓛 (later (some (λ (x : ℕ). ((‵ (flft κ l.share) ⊛ ‵ ftrue) ⊛ ‵ (u32.own_val x (v ∷ []))) ⊛
-      some (λ (ws : Unit {0} × (Unit {0} × ((List ℕ) × (Answer × (Unit {0}))))). ‵ (lasts g.ended (κ, tt) z.0.3 ws) ⊛ raw (fact 𝓤 (TellsFault status fault l.room ws.1.1.0 ws.1.1.1.0 x)))))) (id⊢ 𝓤 _) $
-      await ! tt $ pick ! (λ x. split ! $ move ! (1 ∷ []) $ pick ! (λ ws. split ! $ move ! (1 ∷ []) $ heard ! _ (λ tells.
+      some (λ (ws : Unit {0} × (Unit {0} × ((List ℕ) × (Answer × (Unit {0}))))). ‵ (lasts g.ended (κ, tt) z.0.3 ws) ⊛ raw (fact 𝓤 (ReportsFault status fault l.room ws.1.1.0 ws.1.1.1.0 x)))))) (id⊢ 𝓤 _) $
+      await ! tt $ pick ! (λ x. split ! $ move ! (1 ∷ []) $ pick ! (λ ws. split ! $ move ! (1 ∷ []) $ heard ! _ (λ reports.
       fsplit ! $ drop ! $ fsplit ! $ drop ! $ fsplit ! $ move ! (1 ∷ []) $ fsplit ! $ move ! (1 ∷ []) $ drop ! $ move ! (2 ∷ []) $ split ! $ split ! $ move ! (2 ∷ []) $ peeks ! u32 (Is u32) (shows 𝓛 u32) x (v ∷ []) (λ is.
       let fine = ((uint_Lawful 𝓛 w32).typed x _ is).0 in
       lands_last ! refl fine $ exec ! C Λ (env (code.function).locals c) code.Mir.t-6 (at_ret (env (code.function).locals c) (Post status fault (record { at = (block_ptr b0 o0); length = text-length }) (block_ptr b1 o1))) $
       sets ! (of_opd ! (get ! refl)) refl fine $ returns ! (look_at ! 0 refl) $ free_all ! refl $ keep ! (3 ∷ 4 ∷ 0 ∷ 1 ∷ []) $
-      nothing ! $ fpack ! (TellsFault status fault l.room ws.1.1.0 ws.1.1.1.0 x) (λ _. ftrue) tells $ move ! (1 ∷ 0 ∷ []) $ fjoin ! $ move ! (1 ∷ 0 ∷ []) $ fjoin ! $
-      fpack ! Answer (λ answer'. fsep (left_room l (record { at = (block_ptr b0 o0); length = text-length }) ws.1.1.0) (fsep (left_answer l (block_ptr b1 o1) answer') (holds (TellsFault status fault l.room ws.1.1.0 answer' x)))) ws.1.1.1.0 $
-      fpack ! (List ℕ) (λ text'. fex Answer (λ answer'. fsep (left_room l (record { at = (block_ptr b0 o0); length = text-length }) text') (fsep (left_answer l (block_ptr b1 o1) answer') (holds (TellsFault status fault l.room text' answer' x))))) ws.1.1.0 $
+      nothing ! $ fpack ! (ReportsFault status fault l.room ws.1.1.0 ws.1.1.1.0 x) (λ _. ftrue) reports $ move ! (1 ∷ 0 ∷ []) $ fjoin ! $ move ! (1 ∷ 0 ∷ []) $ fjoin ! $
+      fpack ! Answer (λ answer'. fsep (left_room l (record { at = (block_ptr b0 o0); length = text-length }) ws.1.1.0) (fsep (left_answer l (block_ptr b1 o1) answer') (holds (ReportsFault status fault l.room ws.1.1.0 answer' x)))) ws.1.1.1.0 $
+      fpack ! (List ℕ) (λ text'. fex Answer (λ answer'. fsep (left_room l (record { at = (block_ptr b0 o0); length = text-length }) text') (fsep (left_answer l (block_ptr b1 o1) answer') (holds (ReportsFault status fault l.room text' answer' x))))) ws.1.1.0 $
       move ! (2 ∷ 0 ∷ []) $ join ! $ move ! (1 ∷ 0 ∷ []) $ nothing ! $ nothing ! $ fjoin ! $ nothing ! $ fjoin ! $ nothing ! $ fjoin ! $ nothing ! $ fjoin ! $ nothing ! $
       by ! (leaves 𝓛 f.ended stayed (f.clauses 𝓛 at_mem run) (bound status fault (record { at = (block_ptr b0 o0); length = text-length }) (block_ptr b1 o1)) v x (tt, (tt, (tt, (tt, tt)))) (tt, (tt, (tt, (tt, tt)))))))))))))
 

@@ -7,5 +7,5 @@ pub returns-in-Ok-Some : goal.returns-in-Ok-Some
 returns-in-Ok-Some c =
     let held = c.in-Type.held in let result = c.filter_of_text.result in
     let filter = rw c.in-Ok-Some.field-0-is at c.in-Ok-Some.ensures.filter in
-    let told = subst (λ text. MatchResult result (IsFilterMade held text) (IsNotMade held text)) c.deref.ensures c.filter_of_text.ensures in
-    of_query c.args.handle.now held c.args.query.now (string_bytes c.in-Ok-Some.text) result c.in-Type.is filter told
+    let reported = subst (λ text. MatchResult result (IsFilterMade held text) (IsNotMade held text)) c.deref.ensures c.filter_of_text.ensures in
+    of_query c.args.handle.now held c.args.query.now (string_bytes c.in-Ok-Some.text) result c.in-Type.is filter reported

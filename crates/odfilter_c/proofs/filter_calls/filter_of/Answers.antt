@@ -6,5 +6,5 @@ use Rattle.odfilter_c.proofs.filter_calls.filter_of.Goals as goal
 pub returns-in-Ok : goal.returns-in-Ok
 returns-in-Ok c =
     let held = c.in-Type.held in let result = c.filter_of_text.result in
-    let told = subst (λ text. MatchResult result (IsFilterMade held text) (IsNotMade held text)) c.in-Ok.ensures.cases.0 c.filter_of_text.ensures in
-    of_text c.args.handle.now held c.args.text.now result c.in-Type.is told
+    let reported = subst (λ text. MatchResult result (IsFilterMade held text) (IsNotMade held text)) c.in-Ok.ensures.cases.0 c.filter_of_text.ensures in
+    of_text c.args.handle.now held c.args.text.now result c.in-Type.is reported

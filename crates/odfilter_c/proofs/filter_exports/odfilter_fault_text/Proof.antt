@@ -111,13 +111,13 @@ module _ {M : Type 1} {𝓤 : Ura M} (𝓛 : Logic 𝓤) (at_mem : Memory → SP
       calls_at_last ! fm G-3 known-3 z (and_then ! (get ! refl) (and_then ! (get ! refl) (and_then ! (get_in ! (fld ! refl (stop !)) (sub ! 1 refl (whole !))) (and_then ! (get ! refl) (and_then ! (get ! refl) (and_then ! (get ! refl) (no_more !))))))) (λ v.
       use1 𝓛 (later (some (λ (x : ℕ). ((‵ (flft κ l.share) ⊛ ‵ ftrue) ⊛ ‵ (u32.own_val x (v ∷ []))) ⊛
       some (λ (ws : Unit {0} × (Unit {0} × (Unit {0} × ((List ℕ) × (Unit {0} × (Answer × (Unit {0}))))))). ‵ (lasts g-3.ended (κ, tt) z.0.3 ws) ⊛ raw (fact 𝓤 (of_optional null_ptr (of_bytes null_ptr text-length l.bytes ((ws.1.1.1.0 ≡ l.room) × ((ws.1.1.1.1.1.0 ≡ l.answer) × (x ≡ 1))) (λ bytes. ReportsSentence status bytes l.room ws.1.1.1.0 l.fault ws.1.1.1.1.1.0 x)) (of_bytes null_ptr text-length l.bytes ((ws.1.1.1.0 ≡ l.room) × ((ws.1.1.1.1.1.0 ≡ l.answer) × (x ≡ 1))) (λ bytes. ReportsSentenceFor l.handle status bytes l.room ws.1.1.1.0 l.fault ws.1.1.1.1.1.0 x)))))))) (id⊢ 𝓤 _) $
-      await ! tt $ pick ! (λ x. split ! $ move ! (1 ∷ []) $ pick ! (λ ws. split ! $ move ! (1 ∷ []) $ heard ! _ (λ tells.
+      await ! tt $ pick ! (λ x. split ! $ move ! (1 ∷ []) $ pick ! (λ ws. split ! $ move ! (1 ∷ []) $ heard ! _ (λ reports.
       fsplit ! $ drop ! $ fsplit ! $ drop ! $ fsplit ! $ drop ! $ fsplit ! $ move ! (1 ∷ []) $ fsplit ! $ drop ! $ fsplit ! $ move ! (1 ∷ []) $ drop ! $ move ! (2 ∷ []) $ split ! $ split ! $ move ! (2 ∷ []) $ peeks ! u32 (Is u32) (shows 𝓛 u32) x (v ∷ []) (λ is.
       let fine = ((uint_Lawful 𝓛 w32).typed x _ is).0 in
       lands_last ! refl fine $ exec ! C Λ (env (code.function).locals c) (assign (place 11 []) (rv_opd (copy (place 12 [])))) (any_q (after_seq 𝓤 H (Wp 𝓤 H C Λ (env (code.function).locals c) (assign (place 9 []) (rv_opd (copy (place 11 [])))) (post 𝓤 H (any_q (after_seq 𝓤 H (Wp 𝓤 H C Λ (env (code.function).locals c) code.Mir.t-9 (post 𝓤 H (at_ret (env (code.function).locals c) (Post alloc null_ptr status (record { at = null_ptr; length = text-length }) (record { at = (block_ptr b2 o2); length = sentence-length }) (block_ptr b3 o3) (block_ptr b4 o4))))) (post 𝓤 H (at_ret (env (code.function).locals c) (Post alloc null_ptr status (record { at = null_ptr; length = text-length }) (record { at = (block_ptr b2 o2); length = sentence-length }) (block_ptr b3 o3) (block_ptr b4 o4)))))))) (post 𝓤 H (any_q (after_seq 𝓤 H (Wp 𝓤 H C Λ (env (code.function).locals c) code.Mir.t-9 (post 𝓤 H (at_ret (env (code.function).locals c) (Post alloc null_ptr status (record { at = null_ptr; length = text-length }) (record { at = (block_ptr b2 o2); length = sentence-length }) (block_ptr b3 o3) (block_ptr b4 o4))))) (post 𝓤 H (at_ret (env (code.function).locals c) (Post alloc null_ptr status (record { at = null_ptr; length = text-length }) (record { at = (block_ptr b2 o2); length = sentence-length }) (block_ptr b3 o3) (block_ptr b4 o4))))))))) $ sets_last ! (of_opd ! (get ! refl)) refl fine $ exec ! C Λ (env (code.function).locals c) (assign (place 9 []) (rv_opd (copy (place 11 [])))) (any_q (after_seq 𝓤 H (Wp 𝓤 H C Λ (env (code.function).locals c) code.Mir.t-9 (post 𝓤 H (at_ret (env (code.function).locals c) (Post alloc null_ptr status (record { at = null_ptr; length = text-length }) (record { at = (block_ptr b2 o2); length = sentence-length }) (block_ptr b3 o3) (block_ptr b4 o4))))) (post 𝓤 H (at_ret (env (code.function).locals c) (Post alloc null_ptr status (record { at = null_ptr; length = text-length }) (record { at = (block_ptr b2 o2); length = sentence-length }) (block_ptr b3 o3) (block_ptr b4 o4)))))) $ sets_last ! (of_opd ! (get ! refl)) refl fine $
       exec ! C Λ (env (code.function).locals c) code.Mir.t-9 (at_ret (env (code.function).locals c) (Post alloc null_ptr status (record { at = null_ptr; length = text-length }) (record { at = (block_ptr b2 o2); length = sentence-length }) (block_ptr b3 o3) (block_ptr b4 o4))) $
       sets ! (of_opd ! (get ! refl)) refl fine $ returns ! (look_at ! 0 refl) $ free_all ! refl $ keep ! (3 ∷ 4 ∷ 0 ∷ 1 ∷ []) $
-      nothing ! $ fpack ! (of_optional null_ptr (of_bytes null_ptr text-length l.bytes ((ws.1.1.1.0 ≡ l.room) × ((ws.1.1.1.1.1.0 ≡ l.answer) × (x ≡ 1))) (λ bytes. ReportsSentence status bytes l.room ws.1.1.1.0 l.fault ws.1.1.1.1.1.0 x)) (of_bytes null_ptr text-length l.bytes ((ws.1.1.1.0 ≡ l.room) × ((ws.1.1.1.1.1.0 ≡ l.answer) × (x ≡ 1))) (λ bytes. ReportsSentenceFor l.handle status bytes l.room ws.1.1.1.0 l.fault ws.1.1.1.1.1.0 x))) (λ _. ftrue) tells $ move ! (1 ∷ 0 ∷ []) $ fjoin ! $ move ! (1 ∷ 0 ∷ []) $ fjoin ! $
+      nothing ! $ fpack ! (of_optional null_ptr (of_bytes null_ptr text-length l.bytes ((ws.1.1.1.0 ≡ l.room) × ((ws.1.1.1.1.1.0 ≡ l.answer) × (x ≡ 1))) (λ bytes. ReportsSentence status bytes l.room ws.1.1.1.0 l.fault ws.1.1.1.1.1.0 x)) (of_bytes null_ptr text-length l.bytes ((ws.1.1.1.0 ≡ l.room) × ((ws.1.1.1.1.1.0 ≡ l.answer) × (x ≡ 1))) (λ bytes. ReportsSentenceFor l.handle status bytes l.room ws.1.1.1.0 l.fault ws.1.1.1.1.1.0 x))) (λ _. ftrue) reports $ move ! (1 ∷ 0 ∷ []) $ fjoin ! $ move ! (1 ∷ 0 ∷ []) $ fjoin ! $
       fpack ! Answer (λ answer'. fsep (left_room l (record { at = (block_ptr b2 o2); length = sentence-length }) ws.1.1.1.0) (fsep (left_answer l (block_ptr b4 o4) answer') (holds (of_optional null_ptr (of_bytes null_ptr text-length l.bytes ((ws.1.1.1.0 ≡ l.room) × ((answer' ≡ l.answer) × (x ≡ 1))) (λ bytes. ReportsSentence status bytes l.room ws.1.1.1.0 l.fault answer' x)) (of_bytes null_ptr text-length l.bytes ((ws.1.1.1.0 ≡ l.room) × ((answer' ≡ l.answer) × (x ≡ 1))) (λ bytes. ReportsSentenceFor l.handle status bytes l.room ws.1.1.1.0 l.fault answer' x)))))) ws.1.1.1.1.1.0 $
       fpack ! (List ℕ) (λ sentence'. fex Answer (λ answer'. fsep (left_room l (record { at = (block_ptr b2 o2); length = sentence-length }) sentence') (fsep (left_answer l (block_ptr b4 o4) answer') (holds (of_optional null_ptr (of_bytes null_ptr text-length l.bytes ((sentence' ≡ l.room) × ((answer' ≡ l.answer) × (x ≡ 1))) (λ bytes. ReportsSentence status bytes l.room sentence' l.fault answer' x)) (of_bytes null_ptr text-length l.bytes ((sentence' ≡ l.room) × ((answer' ≡ l.answer) × (x ≡ 1))) (λ bytes. ReportsSentenceFor l.handle status bytes l.room sentence' l.fault answer' x))))))) ws.1.1.1.0 $
       move ! (2 ∷ 0 ∷ []) $ join ! $ move ! (1 ∷ 0 ∷ []) $ nothing ! $ nothing ! $ fjoin ! $ nothing ! $ fjoin ! $ nothing ! $ fjoin ! $ nothing ! $ fjoin ! $ nothing ! $ fjoin ! $ nothing ! $ fjoin ! $ nothing ! $ fjoin ! $ nothing ! $
@@ -148,13 +148,13 @@ module _ {M : Type 1} {𝓤 : Ura M} (𝓛 : Logic 𝓤) (at_mem : Memory → SP
       calls_at_last ! fm G-2 known-2 z (and_then ! (get ! refl) (and_then ! (get ! refl) (and_then ! (get ! refl) (and_then ! (get ! refl) (and_then ! (get ! refl) (and_then ! (get ! refl) (no_more !))))))) (λ v.
       use1 𝓛 (later (some (λ (x : ℕ). ((‵ (flft κ l.share) ⊛ ‵ ftrue) ⊛ ‵ (u32.own_val x (v ∷ []))) ⊛
       some (λ (ws : Unit {0} × (Unit {0} × (Unit {0} × ((List ℕ) × (Unit {0} × (Answer × (Unit {0}))))))). ‵ (lasts g-2.ended (κ, tt) z.0.3 ws) ⊛ raw (fact 𝓤 (of_optional null_ptr (of_bytes (block_ptr b1 o1) text-length l.bytes ((ws.1.1.1.0 ≡ l.room) × ((ws.1.1.1.1.1.0 ≡ l.answer) × (x ≡ 1))) (λ bytes. ReportsSentence status bytes l.room ws.1.1.1.0 l.fault ws.1.1.1.1.1.0 x)) (of_bytes (block_ptr b1 o1) text-length l.bytes ((ws.1.1.1.0 ≡ l.room) × ((ws.1.1.1.1.1.0 ≡ l.answer) × (x ≡ 1))) (λ bytes. ReportsSentenceFor l.handle status bytes l.room ws.1.1.1.0 l.fault ws.1.1.1.1.1.0 x)))))))) (id⊢ 𝓤 _) $
-      await ! tt $ pick ! (λ x. split ! $ move ! (1 ∷ []) $ pick ! (λ ws. split ! $ move ! (1 ∷ []) $ heard ! _ (λ tells.
+      await ! tt $ pick ! (λ x. split ! $ move ! (1 ∷ []) $ pick ! (λ ws. split ! $ move ! (1 ∷ []) $ heard ! _ (λ reports.
       fsplit ! $ drop ! $ fsplit ! $ drop ! $ fsplit ! $ drop ! $ fsplit ! $ move ! (1 ∷ []) $ fsplit ! $ drop ! $ fsplit ! $ move ! (1 ∷ []) $ drop ! $ move ! (2 ∷ []) $ split ! $ split ! $ move ! (2 ∷ []) $ peeks ! u32 (Is u32) (shows 𝓛 u32) x (v ∷ []) (λ is.
       let fine = ((uint_Lawful 𝓛 w32).typed x _ is).0 in
       lands_last ! refl fine $ exec ! C Λ (env (code.function).locals c) (assign (place 11 []) (rv_opd (copy (place 16 [])))) (any_q (after_seq 𝓤 H (Wp 𝓤 H C Λ (env (code.function).locals c) (assign (place 9 []) (rv_opd (copy (place 11 [])))) (post 𝓤 H (any_q (after_seq 𝓤 H (Wp 𝓤 H C Λ (env (code.function).locals c) code.Mir.t-9 (post 𝓤 H (at_ret (env (code.function).locals c) (Post alloc null_ptr status (record { at = (block_ptr b1 o1); length = text-length }) (record { at = (block_ptr b2 o2); length = sentence-length }) (block_ptr b3 o3) (block_ptr b4 o4))))) (post 𝓤 H (at_ret (env (code.function).locals c) (Post alloc null_ptr status (record { at = (block_ptr b1 o1); length = text-length }) (record { at = (block_ptr b2 o2); length = sentence-length }) (block_ptr b3 o3) (block_ptr b4 o4)))))))) (post 𝓤 H (any_q (after_seq 𝓤 H (Wp 𝓤 H C Λ (env (code.function).locals c) code.Mir.t-9 (post 𝓤 H (at_ret (env (code.function).locals c) (Post alloc null_ptr status (record { at = (block_ptr b1 o1); length = text-length }) (record { at = (block_ptr b2 o2); length = sentence-length }) (block_ptr b3 o3) (block_ptr b4 o4))))) (post 𝓤 H (at_ret (env (code.function).locals c) (Post alloc null_ptr status (record { at = (block_ptr b1 o1); length = text-length }) (record { at = (block_ptr b2 o2); length = sentence-length }) (block_ptr b3 o3) (block_ptr b4 o4))))))))) $ sets_last ! (of_opd ! (get ! refl)) refl fine $ exec ! C Λ (env (code.function).locals c) (assign (place 9 []) (rv_opd (copy (place 11 [])))) (any_q (after_seq 𝓤 H (Wp 𝓤 H C Λ (env (code.function).locals c) code.Mir.t-9 (post 𝓤 H (at_ret (env (code.function).locals c) (Post alloc null_ptr status (record { at = (block_ptr b1 o1); length = text-length }) (record { at = (block_ptr b2 o2); length = sentence-length }) (block_ptr b3 o3) (block_ptr b4 o4))))) (post 𝓤 H (at_ret (env (code.function).locals c) (Post alloc null_ptr status (record { at = (block_ptr b1 o1); length = text-length }) (record { at = (block_ptr b2 o2); length = sentence-length }) (block_ptr b3 o3) (block_ptr b4 o4)))))) $ sets_last ! (of_opd ! (get ! refl)) refl fine $
       exec ! C Λ (env (code.function).locals c) code.Mir.t-9 (at_ret (env (code.function).locals c) (Post alloc null_ptr status (record { at = (block_ptr b1 o1); length = text-length }) (record { at = (block_ptr b2 o2); length = sentence-length }) (block_ptr b3 o3) (block_ptr b4 o4))) $
       sets ! (of_opd ! (get ! refl)) refl fine $ returns ! (look_at ! 0 refl) $ free_all ! refl $ keep ! (3 ∷ 4 ∷ 0 ∷ 1 ∷ []) $
-      nothing ! $ fpack ! (of_optional null_ptr (of_bytes (block_ptr b1 o1) text-length l.bytes ((ws.1.1.1.0 ≡ l.room) × ((ws.1.1.1.1.1.0 ≡ l.answer) × (x ≡ 1))) (λ bytes. ReportsSentence status bytes l.room ws.1.1.1.0 l.fault ws.1.1.1.1.1.0 x)) (of_bytes (block_ptr b1 o1) text-length l.bytes ((ws.1.1.1.0 ≡ l.room) × ((ws.1.1.1.1.1.0 ≡ l.answer) × (x ≡ 1))) (λ bytes. ReportsSentenceFor l.handle status bytes l.room ws.1.1.1.0 l.fault ws.1.1.1.1.1.0 x))) (λ _. ftrue) tells $ move ! (1 ∷ 0 ∷ []) $ fjoin ! $ move ! (1 ∷ 0 ∷ []) $ fjoin ! $
+      nothing ! $ fpack ! (of_optional null_ptr (of_bytes (block_ptr b1 o1) text-length l.bytes ((ws.1.1.1.0 ≡ l.room) × ((ws.1.1.1.1.1.0 ≡ l.answer) × (x ≡ 1))) (λ bytes. ReportsSentence status bytes l.room ws.1.1.1.0 l.fault ws.1.1.1.1.1.0 x)) (of_bytes (block_ptr b1 o1) text-length l.bytes ((ws.1.1.1.0 ≡ l.room) × ((ws.1.1.1.1.1.0 ≡ l.answer) × (x ≡ 1))) (λ bytes. ReportsSentenceFor l.handle status bytes l.room ws.1.1.1.0 l.fault ws.1.1.1.1.1.0 x))) (λ _. ftrue) reports $ move ! (1 ∷ 0 ∷ []) $ fjoin ! $ move ! (1 ∷ 0 ∷ []) $ fjoin ! $
       fpack ! Answer (λ answer'. fsep (left_room l (record { at = (block_ptr b2 o2); length = sentence-length }) ws.1.1.1.0) (fsep (left_answer l (block_ptr b4 o4) answer') (holds (of_optional null_ptr (of_bytes (block_ptr b1 o1) text-length l.bytes ((ws.1.1.1.0 ≡ l.room) × ((answer' ≡ l.answer) × (x ≡ 1))) (λ bytes. ReportsSentence status bytes l.room ws.1.1.1.0 l.fault answer' x)) (of_bytes (block_ptr b1 o1) text-length l.bytes ((ws.1.1.1.0 ≡ l.room) × ((answer' ≡ l.answer) × (x ≡ 1))) (λ bytes. ReportsSentenceFor l.handle status bytes l.room ws.1.1.1.0 l.fault answer' x)))))) ws.1.1.1.1.1.0 $
       fpack ! (List ℕ) (λ sentence'. fex Answer (λ answer'. fsep (left_room l (record { at = (block_ptr b2 o2); length = sentence-length }) sentence') (fsep (left_answer l (block_ptr b4 o4) answer') (holds (of_optional null_ptr (of_bytes (block_ptr b1 o1) text-length l.bytes ((sentence' ≡ l.room) × ((answer' ≡ l.answer) × (x ≡ 1))) (λ bytes. ReportsSentence status bytes l.room sentence' l.fault answer' x)) (of_bytes (block_ptr b1 o1) text-length l.bytes ((sentence' ≡ l.room) × ((answer' ≡ l.answer) × (x ≡ 1))) (λ bytes. ReportsSentenceFor l.handle status bytes l.room sentence' l.fault answer' x))))))) ws.1.1.1.0 $
       move ! (2 ∷ 0 ∷ []) $ join ! $ move ! (1 ∷ 0 ∷ []) $ nothing ! $ nothing ! $ fjoin ! $ nothing ! $ fjoin ! $ nothing ! $ fjoin ! $ nothing ! $ fjoin ! $ nothing ! $ fjoin ! $ nothing ! $ fjoin ! $ nothing ! $ fjoin ! $ nothing ! $
@@ -185,13 +185,13 @@ module _ {M : Type 1} {𝓤 : Ura M} (𝓛 : Logic 𝓤) (at_mem : Memory → SP
       calls_at_last ! fm G-1 known-1 z (and_then ! (get ! refl) (and_then ! (get ! refl) (and_then ! (get ! refl) (and_then ! (get_in ! (fld ! refl (stop !)) (sub ! 1 refl (whole !))) (and_then ! (get ! refl) (and_then ! (get ! refl) (and_then ! (get ! refl) (no_more !)))))))) (λ v.
       use1 𝓛 (later (some (λ (x : ℕ). ((‵ (flft κ l.share) ⊛ ‵ ftrue) ⊛ ‵ (u32.own_val x (v ∷ []))) ⊛
       some (λ (ws : Unit {0} × (Unit {0} × (Unit {0} × (Unit {0} × ((List ℕ) × (Unit {0} × (Answer × (Unit {0})))))))). ‵ (lasts g-1.ended (κ, tt) z.0.3 ws) ⊛ raw (fact 𝓤 (of_optional (block_ptr b0 o0) (of_bytes null_ptr text-length l.bytes ((ws.1.1.1.1.0 ≡ l.room) × ((ws.1.1.1.1.1.1.0 ≡ l.answer) × (x ≡ 1))) (λ bytes. ReportsSentence status bytes l.room ws.1.1.1.1.0 l.fault ws.1.1.1.1.1.1.0 x)) (of_bytes null_ptr text-length l.bytes ((ws.1.1.1.1.0 ≡ l.room) × ((ws.1.1.1.1.1.1.0 ≡ l.answer) × (x ≡ 1))) (λ bytes. ReportsSentenceFor l.handle status bytes l.room ws.1.1.1.1.0 l.fault ws.1.1.1.1.1.1.0 x)))))))) (id⊢ 𝓤 _) $
-      await ! tt $ pick ! (λ x. split ! $ move ! (1 ∷ []) $ pick ! (λ ws. split ! $ move ! (1 ∷ []) $ heard ! _ (λ tells.
+      await ! tt $ pick ! (λ x. split ! $ move ! (1 ∷ []) $ pick ! (λ ws. split ! $ move ! (1 ∷ []) $ heard ! _ (λ reports.
       fsplit ! $ drop ! $ fsplit ! $ drop ! $ fsplit ! $ drop ! $ fsplit ! $ drop ! $ fsplit ! $ move ! (1 ∷ []) $ fsplit ! $ drop ! $ fsplit ! $ move ! (1 ∷ []) $ drop ! $ move ! (2 ∷ []) $ split ! $ split ! $ move ! (2 ∷ []) $ peeks ! u32 (Is u32) (shows 𝓛 u32) x (v ∷ []) (λ is.
       let fine = ((uint_Lawful 𝓛 w32).typed x _ is).0 in
       lands_last ! refl fine $ exec ! C Λ (env (code.function).locals c) (assign (place 22 []) (rv_opd (copy (place 23 [])))) (any_q (after_seq 𝓤 H (Wp 𝓤 H C Λ (env (code.function).locals c) (assign (place 9 []) (rv_opd (copy (place 22 [])))) (post 𝓤 H (any_q (after_seq 𝓤 H (Wp 𝓤 H C Λ (env (code.function).locals c) code.Mir.t-9 (post 𝓤 H (at_ret (env (code.function).locals c) (Post alloc (block_ptr b0 o0) status (record { at = null_ptr; length = text-length }) (record { at = (block_ptr b2 o2); length = sentence-length }) (block_ptr b3 o3) (block_ptr b4 o4))))) (post 𝓤 H (at_ret (env (code.function).locals c) (Post alloc (block_ptr b0 o0) status (record { at = null_ptr; length = text-length }) (record { at = (block_ptr b2 o2); length = sentence-length }) (block_ptr b3 o3) (block_ptr b4 o4)))))))) (post 𝓤 H (any_q (after_seq 𝓤 H (Wp 𝓤 H C Λ (env (code.function).locals c) code.Mir.t-9 (post 𝓤 H (at_ret (env (code.function).locals c) (Post alloc (block_ptr b0 o0) status (record { at = null_ptr; length = text-length }) (record { at = (block_ptr b2 o2); length = sentence-length }) (block_ptr b3 o3) (block_ptr b4 o4))))) (post 𝓤 H (at_ret (env (code.function).locals c) (Post alloc (block_ptr b0 o0) status (record { at = null_ptr; length = text-length }) (record { at = (block_ptr b2 o2); length = sentence-length }) (block_ptr b3 o3) (block_ptr b4 o4))))))))) $ sets_last ! (of_opd ! (get ! refl)) refl fine $ exec ! C Λ (env (code.function).locals c) (assign (place 9 []) (rv_opd (copy (place 22 [])))) (any_q (after_seq 𝓤 H (Wp 𝓤 H C Λ (env (code.function).locals c) code.Mir.t-9 (post 𝓤 H (at_ret (env (code.function).locals c) (Post alloc (block_ptr b0 o0) status (record { at = null_ptr; length = text-length }) (record { at = (block_ptr b2 o2); length = sentence-length }) (block_ptr b3 o3) (block_ptr b4 o4))))) (post 𝓤 H (at_ret (env (code.function).locals c) (Post alloc (block_ptr b0 o0) status (record { at = null_ptr; length = text-length }) (record { at = (block_ptr b2 o2); length = sentence-length }) (block_ptr b3 o3) (block_ptr b4 o4)))))) $ sets_last ! (of_opd ! (get ! refl)) refl fine $
       exec ! C Λ (env (code.function).locals c) code.Mir.t-9 (at_ret (env (code.function).locals c) (Post alloc (block_ptr b0 o0) status (record { at = null_ptr; length = text-length }) (record { at = (block_ptr b2 o2); length = sentence-length }) (block_ptr b3 o3) (block_ptr b4 o4))) $
       sets ! (of_opd ! (get ! refl)) refl fine $ returns ! (look_at ! 0 refl) $ free_all ! refl $ keep ! (3 ∷ 4 ∷ 0 ∷ 1 ∷ []) $
-      nothing ! $ fpack ! (of_optional (block_ptr b0 o0) (of_bytes null_ptr text-length l.bytes ((ws.1.1.1.1.0 ≡ l.room) × ((ws.1.1.1.1.1.1.0 ≡ l.answer) × (x ≡ 1))) (λ bytes. ReportsSentence status bytes l.room ws.1.1.1.1.0 l.fault ws.1.1.1.1.1.1.0 x)) (of_bytes null_ptr text-length l.bytes ((ws.1.1.1.1.0 ≡ l.room) × ((ws.1.1.1.1.1.1.0 ≡ l.answer) × (x ≡ 1))) (λ bytes. ReportsSentenceFor l.handle status bytes l.room ws.1.1.1.1.0 l.fault ws.1.1.1.1.1.1.0 x))) (λ _. ftrue) tells $ move ! (1 ∷ 0 ∷ []) $ fjoin ! $ move ! (1 ∷ 0 ∷ []) $ fjoin ! $
+      nothing ! $ fpack ! (of_optional (block_ptr b0 o0) (of_bytes null_ptr text-length l.bytes ((ws.1.1.1.1.0 ≡ l.room) × ((ws.1.1.1.1.1.1.0 ≡ l.answer) × (x ≡ 1))) (λ bytes. ReportsSentence status bytes l.room ws.1.1.1.1.0 l.fault ws.1.1.1.1.1.1.0 x)) (of_bytes null_ptr text-length l.bytes ((ws.1.1.1.1.0 ≡ l.room) × ((ws.1.1.1.1.1.1.0 ≡ l.answer) × (x ≡ 1))) (λ bytes. ReportsSentenceFor l.handle status bytes l.room ws.1.1.1.1.0 l.fault ws.1.1.1.1.1.1.0 x))) (λ _. ftrue) reports $ move ! (1 ∷ 0 ∷ []) $ fjoin ! $ move ! (1 ∷ 0 ∷ []) $ fjoin ! $
       fpack ! Answer (λ answer'. fsep (left_room l (record { at = (block_ptr b2 o2); length = sentence-length }) ws.1.1.1.1.0) (fsep (left_answer l (block_ptr b4 o4) answer') (holds (of_optional (block_ptr b0 o0) (of_bytes null_ptr text-length l.bytes ((ws.1.1.1.1.0 ≡ l.room) × ((answer' ≡ l.answer) × (x ≡ 1))) (λ bytes. ReportsSentence status bytes l.room ws.1.1.1.1.0 l.fault answer' x)) (of_bytes null_ptr text-length l.bytes ((ws.1.1.1.1.0 ≡ l.room) × ((answer' ≡ l.answer) × (x ≡ 1))) (λ bytes. ReportsSentenceFor l.handle status bytes l.room ws.1.1.1.1.0 l.fault answer' x)))))) ws.1.1.1.1.1.1.0 $
       fpack ! (List ℕ) (λ sentence'. fex Answer (λ answer'. fsep (left_room l (record { at = (block_ptr b2 o2); length = sentence-length }) sentence') (fsep (left_answer l (block_ptr b4 o4) answer') (holds (of_optional (block_ptr b0 o0) (of_bytes null_ptr text-length l.bytes ((sentence' ≡ l.room) × ((answer' ≡ l.answer) × (x ≡ 1))) (λ bytes. ReportsSentence status bytes l.room sentence' l.fault answer' x)) (of_bytes null_ptr text-length l.bytes ((sentence' ≡ l.room) × ((answer' ≡ l.answer) × (x ≡ 1))) (λ bytes. ReportsSentenceFor l.handle status bytes l.room sentence' l.fault answer' x))))))) ws.1.1.1.1.0 $
       move ! (2 ∷ 0 ∷ []) $ join ! $ move ! (1 ∷ 0 ∷ []) $ nothing ! $ nothing ! $ fjoin ! $ nothing ! $ fjoin ! $ nothing ! $ fjoin ! $ nothing ! $ fjoin ! $ nothing ! $ fjoin ! $ nothing ! $ fjoin ! $ nothing ! $ fjoin ! $ nothing ! $
@@ -224,13 +224,13 @@ module _ {M : Type 1} {𝓤 : Ura M} (𝓛 : Logic 𝓤) (at_mem : Memory → SP
       calls_at_last ! fm G known z (and_then ! (get ! refl) (and_then ! (get ! refl) (and_then ! (get ! refl) (and_then ! (get ! refl) (and_then ! (get ! refl) (and_then ! (get ! refl) (and_then ! (get ! refl) (no_more !)))))))) (λ v.
       use1 𝓛 (later (some (λ (x : ℕ). ((‵ (flft κ l.share) ⊛ ‵ ftrue) ⊛ ‵ (u32.own_val x (v ∷ []))) ⊛
       some (λ (ws : Unit {0} × (Unit {0} × (Unit {0} × (Unit {0} × ((List ℕ) × (Unit {0} × (Answer × (Unit {0})))))))). ‵ (lasts g.ended (κ, tt) z.0.3 ws) ⊛ raw (fact 𝓤 (of_optional (block_ptr b0 o0) (of_bytes (block_ptr b1 o1) text-length l.bytes ((ws.1.1.1.1.0 ≡ l.room) × ((ws.1.1.1.1.1.1.0 ≡ l.answer) × (x ≡ 1))) (λ bytes. ReportsSentence status bytes l.room ws.1.1.1.1.0 l.fault ws.1.1.1.1.1.1.0 x)) (of_bytes (block_ptr b1 o1) text-length l.bytes ((ws.1.1.1.1.0 ≡ l.room) × ((ws.1.1.1.1.1.1.0 ≡ l.answer) × (x ≡ 1))) (λ bytes. ReportsSentenceFor l.handle status bytes l.room ws.1.1.1.1.0 l.fault ws.1.1.1.1.1.1.0 x)))))))) (id⊢ 𝓤 _) $
-      await ! tt $ pick ! (λ x. split ! $ move ! (1 ∷ []) $ pick ! (λ ws. split ! $ move ! (1 ∷ []) $ heard ! _ (λ tells.
+      await ! tt $ pick ! (λ x. split ! $ move ! (1 ∷ []) $ pick ! (λ ws. split ! $ move ! (1 ∷ []) $ heard ! _ (λ reports.
       fsplit ! $ drop ! $ fsplit ! $ drop ! $ fsplit ! $ drop ! $ fsplit ! $ drop ! $ fsplit ! $ move ! (1 ∷ []) $ fsplit ! $ drop ! $ fsplit ! $ move ! (1 ∷ []) $ drop ! $ move ! (2 ∷ []) $ split ! $ split ! $ move ! (2 ∷ []) $ peeks ! u32 (Is u32) (shows 𝓛 u32) x (v ∷ []) (λ is.
       let fine = ((uint_Lawful 𝓛 w32).typed x _ is).0 in
       lands_last ! refl fine $ exec ! C Λ (env (code.function).locals c) (assign (place 22 []) (rv_opd (copy (place 29 [])))) (any_q (after_seq 𝓤 H (Wp 𝓤 H C Λ (env (code.function).locals c) (assign (place 9 []) (rv_opd (copy (place 22 [])))) (post 𝓤 H (any_q (after_seq 𝓤 H (Wp 𝓤 H C Λ (env (code.function).locals c) code.Mir.t-9 (post 𝓤 H (at_ret (env (code.function).locals c) (Post alloc (block_ptr b0 o0) status (record { at = (block_ptr b1 o1); length = text-length }) (record { at = (block_ptr b2 o2); length = sentence-length }) (block_ptr b3 o3) (block_ptr b4 o4))))) (post 𝓤 H (at_ret (env (code.function).locals c) (Post alloc (block_ptr b0 o0) status (record { at = (block_ptr b1 o1); length = text-length }) (record { at = (block_ptr b2 o2); length = sentence-length }) (block_ptr b3 o3) (block_ptr b4 o4)))))))) (post 𝓤 H (any_q (after_seq 𝓤 H (Wp 𝓤 H C Λ (env (code.function).locals c) code.Mir.t-9 (post 𝓤 H (at_ret (env (code.function).locals c) (Post alloc (block_ptr b0 o0) status (record { at = (block_ptr b1 o1); length = text-length }) (record { at = (block_ptr b2 o2); length = sentence-length }) (block_ptr b3 o3) (block_ptr b4 o4))))) (post 𝓤 H (at_ret (env (code.function).locals c) (Post alloc (block_ptr b0 o0) status (record { at = (block_ptr b1 o1); length = text-length }) (record { at = (block_ptr b2 o2); length = sentence-length }) (block_ptr b3 o3) (block_ptr b4 o4))))))))) $ sets_last ! (of_opd ! (get ! refl)) refl fine $ exec ! C Λ (env (code.function).locals c) (assign (place 9 []) (rv_opd (copy (place 22 [])))) (any_q (after_seq 𝓤 H (Wp 𝓤 H C Λ (env (code.function).locals c) code.Mir.t-9 (post 𝓤 H (at_ret (env (code.function).locals c) (Post alloc (block_ptr b0 o0) status (record { at = (block_ptr b1 o1); length = text-length }) (record { at = (block_ptr b2 o2); length = sentence-length }) (block_ptr b3 o3) (block_ptr b4 o4))))) (post 𝓤 H (at_ret (env (code.function).locals c) (Post alloc (block_ptr b0 o0) status (record { at = (block_ptr b1 o1); length = text-length }) (record { at = (block_ptr b2 o2); length = sentence-length }) (block_ptr b3 o3) (block_ptr b4 o4)))))) $ sets_last ! (of_opd ! (get ! refl)) refl fine $
       exec ! C Λ (env (code.function).locals c) code.Mir.t-9 (at_ret (env (code.function).locals c) (Post alloc (block_ptr b0 o0) status (record { at = (block_ptr b1 o1); length = text-length }) (record { at = (block_ptr b2 o2); length = sentence-length }) (block_ptr b3 o3) (block_ptr b4 o4))) $
       sets ! (of_opd ! (get ! refl)) refl fine $ returns ! (look_at ! 0 refl) $ free_all ! refl $ keep ! (3 ∷ 4 ∷ 0 ∷ 1 ∷ []) $
-      nothing ! $ fpack ! (of_optional (block_ptr b0 o0) (of_bytes (block_ptr b1 o1) text-length l.bytes ((ws.1.1.1.1.0 ≡ l.room) × ((ws.1.1.1.1.1.1.0 ≡ l.answer) × (x ≡ 1))) (λ bytes. ReportsSentence status bytes l.room ws.1.1.1.1.0 l.fault ws.1.1.1.1.1.1.0 x)) (of_bytes (block_ptr b1 o1) text-length l.bytes ((ws.1.1.1.1.0 ≡ l.room) × ((ws.1.1.1.1.1.1.0 ≡ l.answer) × (x ≡ 1))) (λ bytes. ReportsSentenceFor l.handle status bytes l.room ws.1.1.1.1.0 l.fault ws.1.1.1.1.1.1.0 x))) (λ _. ftrue) tells $ move ! (1 ∷ 0 ∷ []) $ fjoin ! $ move ! (1 ∷ 0 ∷ []) $ fjoin ! $
+      nothing ! $ fpack ! (of_optional (block_ptr b0 o0) (of_bytes (block_ptr b1 o1) text-length l.bytes ((ws.1.1.1.1.0 ≡ l.room) × ((ws.1.1.1.1.1.1.0 ≡ l.answer) × (x ≡ 1))) (λ bytes. ReportsSentence status bytes l.room ws.1.1.1.1.0 l.fault ws.1.1.1.1.1.1.0 x)) (of_bytes (block_ptr b1 o1) text-length l.bytes ((ws.1.1.1.1.0 ≡ l.room) × ((ws.1.1.1.1.1.1.0 ≡ l.answer) × (x ≡ 1))) (λ bytes. ReportsSentenceFor l.handle status bytes l.room ws.1.1.1.1.0 l.fault ws.1.1.1.1.1.1.0 x))) (λ _. ftrue) reports $ move ! (1 ∷ 0 ∷ []) $ fjoin ! $ move ! (1 ∷ 0 ∷ []) $ fjoin ! $
       fpack ! Answer (λ answer'. fsep (left_room l (record { at = (block_ptr b2 o2); length = sentence-length }) ws.1.1.1.1.0) (fsep (left_answer l (block_ptr b4 o4) answer') (holds (of_optional (block_ptr b0 o0) (of_bytes (block_ptr b1 o1) text-length l.bytes ((ws.1.1.1.1.0 ≡ l.room) × ((answer' ≡ l.answer) × (x ≡ 1))) (λ bytes. ReportsSentence status bytes l.room ws.1.1.1.1.0 l.fault answer' x)) (of_bytes (block_ptr b1 o1) text-length l.bytes ((ws.1.1.1.1.0 ≡ l.room) × ((answer' ≡ l.answer) × (x ≡ 1))) (λ bytes. ReportsSentenceFor l.handle status bytes l.room ws.1.1.1.1.0 l.fault answer' x)))))) ws.1.1.1.1.1.1.0 $
       fpack ! (List ℕ) (λ sentence'. fex Answer (λ answer'. fsep (left_room l (record { at = (block_ptr b2 o2); length = sentence-length }) sentence') (fsep (left_answer l (block_ptr b4 o4) answer') (holds (of_optional (block_ptr b0 o0) (of_bytes (block_ptr b1 o1) text-length l.bytes ((sentence' ≡ l.room) × ((answer' ≡ l.answer) × (x ≡ 1))) (λ bytes. ReportsSentence status bytes l.room sentence' l.fault answer' x)) (of_bytes (block_ptr b1 o1) text-length l.bytes ((sentence' ≡ l.room) × ((answer' ≡ l.answer) × (x ≡ 1))) (λ bytes. ReportsSentenceFor l.handle status bytes l.room sentence' l.fault answer' x))))))) ws.1.1.1.1.0 $
       move ! (2 ∷ 0 ∷ []) $ join ! $ move ! (1 ∷ 0 ∷ []) $ nothing ! $ nothing ! $ fjoin ! $ nothing ! $ fjoin ! $ nothing ! $ fjoin ! $ nothing ! $ fjoin ! $ nothing ! $ fjoin ! $ nothing ! $ fjoin ! $ nothing ! $ fjoin ! $ nothing ! $

@@ -90,12 +90,12 @@ module _ {M : Type 1} {𝓤 : Ura M} (𝓛 : Logic 𝓤) (at_mem : Memory → SP
       calls_at_last ! fm G known z (and_then ! (get ! refl) (and_then ! (get ! refl) (and_then ! (get ! refl) (and_then ! (get ! refl) (no_more !))))) (λ v.
       use1 𝓛 (later (some (λ (x : ℕ). ((‵ (flft κ l.share) ⊛ ‵ ftrue) ⊛ ‵ (u32.own_val x (v ∷ []))) ⊛
       some (λ (ws : Unit {0} × (Unit {0} × ((List ℕ) × (Answer × (Unit {0}))))). ‵ (lasts g.ended (κ, tt) z.0.3 ws) ⊛ raw (fact 𝓤 (ReportsPaths l.handle l.room ws.1.1.0 ws.1.1.1.0 x)))))) (id⊢ 𝓤 _) $
-      await ! tt $ pick ! (λ x. split ! $ move ! (1 ∷ []) $ pick ! (λ ws. split ! $ move ! (1 ∷ []) $ heard ! _ (λ tells.
+      await ! tt $ pick ! (λ x. split ! $ move ! (1 ∷ []) $ pick ! (λ ws. split ! $ move ! (1 ∷ []) $ heard ! _ (λ reports.
       fsplit ! $ drop ! $ fsplit ! $ drop ! $ fsplit ! $ move ! (1 ∷ []) $ fsplit ! $ move ! (1 ∷ []) $ drop ! $ move ! (2 ∷ []) $ split ! $ split ! $ move ! (2 ∷ []) $ peeks ! u32 (Is u32) (shows 𝓛 u32) x (v ∷ []) (λ is.
       let fine = ((uint_Lawful 𝓛 w32).typed x _ is).0 in
       lands_last ! refl fine $ exec ! C Λ (env (code.function).locals c) code.Mir.t-8 (at_ret (env (code.function).locals c) (Post alloc (block_ptr b0 o0) (record { at = (block_ptr b1 o1); length = paths-length }) (block_ptr b2 o2))) $
       sets ! (of_opd ! (get ! refl)) refl fine $ returns ! (look_at ! 0 refl) $ free_all ! refl $ keep ! (3 ∷ 4 ∷ 0 ∷ 1 ∷ []) $
-      nothing ! $ fpack ! (ReportsPaths l.handle l.room ws.1.1.0 ws.1.1.1.0 x) (λ _. ftrue) tells $ move ! (1 ∷ 0 ∷ []) $ fjoin ! $ move ! (1 ∷ 0 ∷ []) $ fjoin ! $
+      nothing ! $ fpack ! (ReportsPaths l.handle l.room ws.1.1.0 ws.1.1.1.0 x) (λ _. ftrue) reports $ move ! (1 ∷ 0 ∷ []) $ fjoin ! $ move ! (1 ∷ 0 ∷ []) $ fjoin ! $
       fpack ! Answer (λ answer'. fsep (left_room l (record { at = (block_ptr b1 o1); length = paths-length }) ws.1.1.0) (fsep (left_answer l (block_ptr b2 o2) answer') (holds (ReportsPaths l.handle l.room ws.1.1.0 answer' x)))) ws.1.1.1.0 $
       fpack ! (List ℕ) (λ paths'. fex Answer (λ answer'. fsep (left_room l (record { at = (block_ptr b1 o1); length = paths-length }) paths') (fsep (left_answer l (block_ptr b2 o2) answer') (holds (ReportsPaths l.handle l.room paths' answer' x))))) ws.1.1.0 $
       move ! (2 ∷ 0 ∷ []) $ join ! $ move ! (1 ∷ 0 ∷ []) $ nothing ! $ nothing ! $ fjoin ! $ nothing ! $ fjoin ! $ nothing ! $ fjoin ! $ nothing ! $ fjoin ! $ nothing ! $

@@ -6,8 +6,8 @@ pub returns-in-Ok : goal.returns-in-Ok
 returns-in-Ok c = record {
   outcome = Ok c.as_bytes.result.now;
   right = subst (IsCanonicalOf c.args.filter.now) (sym c.as_bytes.ensures.value) c.in-Ok.ensures;
-  writes = c.tell_bytes.ensures;
+  writes = c.report_bytes.ensures;
 }
 
 pub returns-in-Err : goal.returns-in-Err
-returns-in-Err c = record { outcome = Err c.in-Err.fault; right = c.in-Err.ensures; writes = (refl, c.tell_fault.ensures) }
+returns-in-Err c = record { outcome = Err c.in-Err.fault; right = c.in-Err.ensures; writes = (refl, c.report_fault.ensures) }

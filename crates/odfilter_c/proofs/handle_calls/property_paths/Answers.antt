@@ -12,4 +12,4 @@ returns-in-Ok c =
     }
 
 pub returns-in-Err : goal.returns-in-Err
-returns-in-Err c = record { outcome = Err c.in-Err.fault; right = c.in-Err.ensures; reports = (refl, c.tell_fault.ensures) }
+returns-in-Err c = record { outcome = Err c.in-Err.fault; right = c.in-Err.ensures; reports = (refl, c.report_fault.ensures) }

@@ -7,16 +7,16 @@ use Rattle.odfilter_c.proofs.RowSteps.{bounded_row}
 use Rattle.odfilter_c.proofs.judge_calls.bounded_outcome.Goals as goal
 
 pub returns-in-Some : goal.returns-in-Some
-returns-in-Some c filter now row most told =
+returns-in-Some c filter now row most reported =
     subst (λ (found : Option Verdict). ReportsRowWithin filter now row most (Ok found)) c.in-Some.is
-    (subst (ReportsRowWithin filter now row most) c.in-Ok.is told)
+    (subst (ReportsRowWithin filter now row most) c.in-Ok.is reported)
 
 pub returns-in-None : goal.returns-in-None
-returns-in-None c filter now row most told =
+returns-in-None c filter now row most reported =
     subst (λ (found : Option Verdict). ReportsRowWithin filter now row most (Ok found)) c.in-None.is
-    (subst (ReportsRowWithin filter now row most) c.in-Ok.is told)
+    (subst (ReportsRowWithin filter now row most) c.in-Ok.is reported)
 
 pub returns-in-Err : goal.returns-in-Err
-returns-in-Err c filter now row most told =
+returns-in-Err c filter now row most reported =
     subst (λ (fault : Fault). IsOutcomeAt filter now (Some most) row (Err fault)) (sym c.row_fault.ensures)
-    (bounded_row filter now row most c.in-Err.why (subst (ReportsRowWithin filter now row most) c.in-Err.is told))
+    (bounded_row filter now row most c.in-Err.why (subst (ReportsRowWithin filter now row most) c.in-Err.is reported))

@@ -1,14 +1,14 @@
 use Rattle.std.proofs.Common.{Err, None, sym, subst}
-use Rattle.odata_filter.specs.RowAnswer.{TellsRow}
+use Rattle.odata_filter.specs.RowAnswer.{ReportsRow}
 use Rattle.odfilter_c.specs.RowCalls.{IsOutcomeAt}
 use Rattle.odfilter_c.specs.declared.call_fault.Fault.{Fault}
 use Rattle.odfilter_c.proofs.RowSteps.{plain_row}
 use Rattle.odfilter_c.proofs.judge_calls.plain_outcome.Goals as goal
 
 pub returns-in-Ok : goal.returns-in-Ok
-returns-in-Ok c filter now row told = (subst (TellsRow filter now row) c.in-Ok.is told, tt)
+returns-in-Ok c filter now row reported = (subst (ReportsRow filter now row) c.in-Ok.is reported, tt)
 
 pub returns-in-Err : goal.returns-in-Err
-returns-in-Err c filter now row told =
+returns-in-Err c filter now row reported =
     subst (λ (fault : Fault). IsOutcomeAt filter now None row (Err fault)) (sym c.row_fault.ensures)
-    (plain_row filter now row c.in-Err.why (subst (TellsRow filter now row) c.in-Err.is told))
+    (plain_row filter now row c.in-Err.why (subst (ReportsRow filter now row) c.in-Err.is reported))

@@ -21,4 +21,4 @@ returns-clause-outcome c =
     (at_moment (λ filter now. IsOutcomeAt filter now c.args.judge.now.bound row result)
     checked c.args.held.now given c.in_ok-now.now c.checked-checked.ensures c.in_ok-now.ensures.moment
     (subst (λ (bound : Option ℕ). IsOutcomeAt checked c.in_ok-now.now bound row result) (sym c.in-None.is)
-    (c.plain_outcome.ensures checked c.in_ok-now.now row c.judge_row-told.ensures)))
+    (c.plain_outcome.ensures checked c.in_ok-now.now row c.judge_row-reported.ensures)))

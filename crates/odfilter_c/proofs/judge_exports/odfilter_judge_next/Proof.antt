@@ -3,7 +3,7 @@ use Rattle.odfilter_c.proofs.Steps.{◌≡◌, ℕ, ◌<◌, ◌^◌, List, [], 
 use Rattle.odfilter_c.proofs.Types.{Global, GlobalRow, global_val, global_lowers, global_laws, Bytes, BytesRow, bytes_val, bytes_lowers, bytes_laws, Room, RoomRow, room_val, room_lowers, room_laws, Handle, HandleRow, Owned, OwnedRow, Answer, AnswerRow}
 use Rattle.odfilter_c.specs.Loans.{Loan, lent_fault, lent_handle, lent_judge, lent_bytes, lent_room, lent_made, lent_answer, left_judge, left_room, left_made, left_answer, unless_null, holds, of_optional, of_bytes}
 use Rattle.odfilter_c.specs.JudgeExports.{lent_to_judge_next, left_by_judge_next}
-use Rattle.odfilter_c.specs.RowTells.{JudgesNext}
+use Rattle.odfilter_c.specs.RowReports.{JudgesNext}
 use Rattle.odfilter_c.specs.contracts.handle_calls.judge_next as g
 use Rattle.odfilter_c.proofs.handle_calls.judge_next.Symbol.{name as #call}
 use Rattle.odfilter_c.proofs.handle_calls.judge_next.Met.{met as met}
@@ -84,13 +84,13 @@ module _ {M : Type 1} {𝓤 : Ura M} (𝓛 : Logic 𝓤) (at_mem : Memory → SP
       calls_at_last ! fm G-1 known-1 z (and_then ! (get ! refl) (and_then ! (get_in ! (fld ! refl (stop !)) (sub ! 1 refl (whole !))) (and_then ! (get ! refl) (no_more !)))) (λ v.
       use1 𝓛 (later (some (λ (x : ℕ). ((‵ (flft κ l.share) ⊛ ‵ ftrue) ⊛ ‵ (u32.own_val x (v ∷ []))) ⊛
       some (λ (ws : Handle × (Unit {0} × (Answer × (Unit {0})))). ‵ (lasts g-1.ended (κ, tt) z.0.3 ws) ⊛ raw (fact 𝓤 (of_bytes null_ptr row-length l.bytes ((ws.0 ≡ l.judge) × ((ws.1.1.0 ≡ l.answer) × (x ≡ 1))) (λ bytes. JudgesNext l.judge ws.0 bytes ws.1.1.0 x))))))) (id⊢ 𝓤 _) $
-      await ! tt $ pick ! (λ x. split ! $ move ! (1 ∷ []) $ pick ! (λ ws. split ! $ move ! (1 ∷ []) $ heard ! _ (λ tells.
+      await ! tt $ pick ! (λ x. split ! $ move ! (1 ∷ []) $ pick ! (λ ws. split ! $ move ! (1 ∷ []) $ heard ! _ (λ reports.
       fsplit ! $ move ! (1 ∷ []) $ fsplit ! $ drop ! $ fsplit ! $ move ! (1 ∷ []) $ drop ! $ move ! (2 ∷ []) $ split ! $ split ! $ move ! (2 ∷ []) $ peeks ! u32 (Is u32) (shows 𝓛 u32) x (v ∷ []) (λ is.
       let fine = ((uint_Lawful 𝓛 w32).typed x _ is).0 in
       lands_last ! refl fine $ exec ! C Λ (env (code.function).locals c) (assign (place 5 []) (rv_opd (copy (place 6 [])))) (any_q (after_seq 𝓤 H (Wp 𝓤 H C Λ (env (code.function).locals c) code.Mir.t-7 (post 𝓤 H (at_ret (env (code.function).locals c) (Post (block_ptr b0 o0) (record { at = null_ptr; length = row-length }) (block_ptr b2 o2))))) (post 𝓤 H (at_ret (env (code.function).locals c) (Post (block_ptr b0 o0) (record { at = null_ptr; length = row-length }) (block_ptr b2 o2)))))) $ sets_last ! (of_opd ! (get ! refl)) refl fine $
       exec ! C Λ (env (code.function).locals c) code.Mir.t-7 (at_ret (env (code.function).locals c) (Post (block_ptr b0 o0) (record { at = null_ptr; length = row-length }) (block_ptr b2 o2))) $
       sets ! (of_opd ! (get ! refl)) refl fine $ returns ! (look_at ! 0 refl) $ free_all ! refl $ keep ! (3 ∷ 4 ∷ 0 ∷ 1 ∷ []) $
-      nothing ! $ fpack ! (of_bytes null_ptr row-length l.bytes ((ws.0 ≡ l.judge) × ((ws.1.1.0 ≡ l.answer) × (x ≡ 1))) (λ bytes. JudgesNext l.judge ws.0 bytes ws.1.1.0 x)) (λ _. ftrue) tells $ move ! (1 ∷ 0 ∷ []) $ fjoin ! $ move ! (1 ∷ 0 ∷ []) $ fjoin ! $
+      nothing ! $ fpack ! (of_bytes null_ptr row-length l.bytes ((ws.0 ≡ l.judge) × ((ws.1.1.0 ≡ l.answer) × (x ≡ 1))) (λ bytes. JudgesNext l.judge ws.0 bytes ws.1.1.0 x)) (λ _. ftrue) reports $ move ! (1 ∷ 0 ∷ []) $ fjoin ! $ move ! (1 ∷ 0 ∷ []) $ fjoin ! $
       fpack ! Answer (λ answer'. fsep (left_judge l (block_ptr b0 o0) ws.0) (fsep (left_answer l (block_ptr b2 o2) answer') (holds (of_bytes null_ptr row-length l.bytes ((ws.0 ≡ l.judge) × ((answer' ≡ l.answer) × (x ≡ 1))) (λ bytes. JudgesNext l.judge ws.0 bytes answer' x))))) ws.1.1.0 $
       fpack ! Handle (λ judge'. fex Answer (λ answer'. fsep (left_judge l (block_ptr b0 o0) judge') (fsep (left_answer l (block_ptr b2 o2) answer') (holds (of_bytes null_ptr row-length l.bytes ((judge' ≡ l.judge) × ((answer' ≡ l.answer) × (x ≡ 1))) (λ bytes. JudgesNext l.judge judge' bytes answer' x)))))) ws.0 $
       move ! (2 ∷ 0 ∷ []) $ join ! $ move ! (1 ∷ 0 ∷ []) $ nothing ! $ nothing ! $ fjoin ! $ nothing ! $ fjoin ! $ nothing ! $ fjoin ! $ nothing ! $
@@ -115,13 +115,13 @@ module _ {M : Type 1} {𝓤 : Ura M} (𝓛 : Logic 𝓤) (at_mem : Memory → SP
       calls_at_last ! fm G known z (and_then ! (get ! refl) (and_then ! (get ! refl) (and_then ! (get ! refl) (no_more !)))) (λ v.
       use1 𝓛 (later (some (λ (x : ℕ). ((‵ (flft κ l.share) ⊛ ‵ ftrue) ⊛ ‵ (u32.own_val x (v ∷ []))) ⊛
       some (λ (ws : Handle × (Unit {0} × (Answer × (Unit {0})))). ‵ (lasts g.ended (κ, tt) z.0.3 ws) ⊛ raw (fact 𝓤 (of_bytes (block_ptr b1 o1) row-length l.bytes ((ws.0 ≡ l.judge) × ((ws.1.1.0 ≡ l.answer) × (x ≡ 1))) (λ bytes. JudgesNext l.judge ws.0 bytes ws.1.1.0 x))))))) (id⊢ 𝓤 _) $
-      await ! tt $ pick ! (λ x. split ! $ move ! (1 ∷ []) $ pick ! (λ ws. split ! $ move ! (1 ∷ []) $ heard ! _ (λ tells.
+      await ! tt $ pick ! (λ x. split ! $ move ! (1 ∷ []) $ pick ! (λ ws. split ! $ move ! (1 ∷ []) $ heard ! _ (λ reports.
       fsplit ! $ move ! (1 ∷ []) $ fsplit ! $ drop ! $ fsplit ! $ move ! (1 ∷ []) $ drop ! $ move ! (2 ∷ []) $ split ! $ split ! $ move ! (2 ∷ []) $ peeks ! u32 (Is u32) (shows 𝓛 u32) x (v ∷ []) (λ is.
       let fine = ((uint_Lawful 𝓛 w32).typed x _ is).0 in
       lands_last ! refl fine $ exec ! C Λ (env (code.function).locals c) (assign (place 5 []) (rv_opd (copy (place 10 [])))) (any_q (after_seq 𝓤 H (Wp 𝓤 H C Λ (env (code.function).locals c) code.Mir.t-7 (post 𝓤 H (at_ret (env (code.function).locals c) (Post (block_ptr b0 o0) (record { at = (block_ptr b1 o1); length = row-length }) (block_ptr b2 o2))))) (post 𝓤 H (at_ret (env (code.function).locals c) (Post (block_ptr b0 o0) (record { at = (block_ptr b1 o1); length = row-length }) (block_ptr b2 o2)))))) $ sets_last ! (of_opd ! (get ! refl)) refl fine $
       exec ! C Λ (env (code.function).locals c) code.Mir.t-7 (at_ret (env (code.function).locals c) (Post (block_ptr b0 o0) (record { at = (block_ptr b1 o1); length = row-length }) (block_ptr b2 o2))) $
       sets ! (of_opd ! (get ! refl)) refl fine $ returns ! (look_at ! 0 refl) $ free_all ! refl $ keep ! (3 ∷ 4 ∷ 0 ∷ 1 ∷ []) $
-      nothing ! $ fpack ! (of_bytes (block_ptr b1 o1) row-length l.bytes ((ws.0 ≡ l.judge) × ((ws.1.1.0 ≡ l.answer) × (x ≡ 1))) (λ bytes. JudgesNext l.judge ws.0 bytes ws.1.1.0 x)) (λ _. ftrue) tells $ move ! (1 ∷ 0 ∷ []) $ fjoin ! $ move ! (1 ∷ 0 ∷ []) $ fjoin ! $
+      nothing ! $ fpack ! (of_bytes (block_ptr b1 o1) row-length l.bytes ((ws.0 ≡ l.judge) × ((ws.1.1.0 ≡ l.answer) × (x ≡ 1))) (λ bytes. JudgesNext l.judge ws.0 bytes ws.1.1.0 x)) (λ _. ftrue) reports $ move ! (1 ∷ 0 ∷ []) $ fjoin ! $ move ! (1 ∷ 0 ∷ []) $ fjoin ! $
       fpack ! Answer (λ answer'. fsep (left_judge l (block_ptr b0 o0) ws.0) (fsep (left_answer l (block_ptr b2 o2) answer') (holds (of_bytes (block_ptr b1 o1) row-length l.bytes ((ws.0 ≡ l.judge) × ((answer' ≡ l.answer) × (x ≡ 1))) (λ bytes. JudgesNext l.judge ws.0 bytes answer' x))))) ws.1.1.0 $
       fpack ! Handle (λ judge'. fex Answer (λ answer'. fsep (left_judge l (block_ptr b0 o0) judge') (fsep (left_answer l (block_ptr b2 o2) answer') (holds (of_bytes (block_ptr b1 o1) row-length l.bytes ((judge' ≡ l.judge) × ((answer' ≡ l.answer) × (x ≡ 1))) (λ bytes. JudgesNext l.judge judge' bytes answer' x)))))) ws.0 $
       move ! (2 ∷ 0 ∷ []) $ join ! $ move ! (1 ∷ 0 ∷ []) $ nothing ! $ nothing ! $ fjoin ! $ nothing ! $ fjoin ! $ nothing ! $ fjoin ! $ nothing ! $

@@ -1,7 +1,7 @@
 use Rattle.std.proofs.Common.{◌≡◌, ℕ, ◌+◌, get_or, refl, subst, arith}
 use Rattle.edm_values.specs.Civil.{Date}
 use Rattle.edm_values.specs.DateLiteral.{DateValue}
-use Rattle.room_literals.specs.LiteralsAt.{IsLiteralAt}
+use Rattle.room_literals.specs.SureTexts.{IsLiteralAt}
 use Rattle.room_literals.proofs.LiteralsStand.{day_stands}
 use Rattle.room_literals.proofs.sure_texts.day_end.Goals as goal
 

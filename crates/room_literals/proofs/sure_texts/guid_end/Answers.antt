@@ -1,6 +1,6 @@
 use Rattle.std.proofs.Common.{◌≡◌, ℕ, ◌+◌, List, get_or, refl, subst, arith}
 use Rattle.edm_values.specs.GuidLiteral.{GuidValue}
-use Rattle.room_literals.specs.LiteralsAt.{IsLiteralAt}
+use Rattle.room_literals.specs.SureTexts.{IsLiteralAt}
 use Rattle.room_literals.proofs.LiteralsStand.{guid_stands}
 use Rattle.room_literals.proofs.sure_texts.guid_end.Goals as goal
 

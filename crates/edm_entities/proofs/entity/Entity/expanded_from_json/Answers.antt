@@ -7,7 +7,7 @@ use Rattle.edm_entities.specs.Row.{Row, expanded_by, row_of, value_of}
 use Rattle.edm_entities.specs.private.Walk.{FitSlots}
 use Rattle.edm_entities.proofs.FitLemmas.RowFaultRefuses.{fault_refuses}
 use Rattle.edm_entities.proofs.SlotLemmas.ReadEntities.{entity_fits, is_entity}
-use Rattle.edm_entities.proofs.SlotLemmas.RowTold.{row_told}
+use Rattle.edm_entities.proofs.SlotLemmas.RowReported.{row_reported}
 use Rattle.edm_entities.proofs.entity.Entity.expanded_from_json.Goals as goal
 
 pub of_row-requires : goal.of_row-requires
@@ -32,9 +32,9 @@ returns-in-Err-clause-none_fits c some =
     let slots = expanded_by c.args.schema.now c.args.expansion.now in
     let name = type_name_at c.args.schema.now c.args.type_id in
     fault_refuses slots name (view c.args.row.now) c.row_fault.result
-    (row_told slots name (view c.args.row.now) c.in-Err.fault c.row_fault.result c.row_fault.ensures c.in-Err.ensures.fault some)
+    (row_reported slots name (view c.args.row.now) c.in-Err.fault c.row_fault.result c.row_fault.ensures c.in-Err.ensures.fault some)
 
 pub returns-in-Err-clause-first_fault : goal.returns-in-Err-clause-first_fault
 returns-in-Err-clause-first_fault c some =
-    row_told (expanded_by c.args.schema.now c.args.expansion.now) (type_name_at c.args.schema.now c.args.type_id) (view c.args.row.now) c.in-Err.fault c.row_fault.result
+    row_reported (expanded_by c.args.schema.now c.args.expansion.now) (type_name_at c.args.schema.now c.args.type_id) (view c.args.row.now) c.in-Err.fault c.row_fault.result
     c.row_fault.ensures c.in-Err.ensures.fault some

@@ -1,5 +1,5 @@
 use Rattle.serde_json.specs.Data.{Data}
-use Rattle.edm_entities.specs.private.Members.{IsWalkOf, members_left}
+use Rattle.edm_entities.specs.private.MemberWalk.{IsWalkOf, members_left}
 use Rattle.edm_entities.proofs.member_walk.MemberWalk.pass_before.Given as goal
 
 -- it stays a walk over the same object

@@ -8,7 +8,7 @@ use Rattle.std.specs.List.{AllByRecursion}
 use Rattle.std.proofs.lemmas.Int.{to_z-of_z}
 use Rattle.edm_values.specs.NumberTypes.{IsNumberOf}
 use Rattle.edm_enumerations.specs.EnumerationModel.{EnumerationModel, MemberModel, number_in}
-use Rattle.edm_enumerations.specs.private.EnumerationView.{member_model}
+use Rattle.edm_enumerations.specs.private.Enumeration.{member_model}
 use Rattle.edm_enumerations.proofs.Members.{each_pushed, map-pushed, not_some, number_in-entries, pushed_member, with_member-there, with_member-new}
 use Rattle.edm_enumerations.proofs.enumeration.Enumeration.add_member.Goals as goal
 

@@ -2,7 +2,7 @@ use Rattle.std.proofs.Common.{◌≡◌, ◌+◌, ◌≤◌, List, ℕ, length, 
 use Rattle.json.specs.Written.{PlainBetween}
 use Rattle.json_tokens.specs.Keys.{quoted_name}
 use Rattle.json_tokens.specs.private.Lexemes.{BeginsKey, PassesSpaces, StandsAt}
-use Rattle.json_room.specs.private.WordBytes.{StandsByte}
+use Rattle.json_room.specs.private.SpelledKey.{StandsByte}
 use Rattle.json_room.proofs.KeysStand.{quoted_feeds_not, stands_by_bytes}
 use Rattle.json_room.proofs.RoomLemmas.{other_default}
 use Rattle.json_room.proofs.Standing.{spaced_key_stands}

@@ -9,8 +9,8 @@ returns-clause-first c = λ is k small.
     ∙ first_mark c.self.inside.words k (omega (arith, bits.0)) (omega (arith, c.self.told))
     ∙ bits.1 k (omega (arith, bits.0)) ∙ lt-ltb k c.args.count small
 
-pub returns-clause-told : goal.returns-clause-told
-returns-clause-told c = λ few marks. c.has_just_lowest.ensures.1 (
+pub returns-clause-reported : goal.returns-clause-reported
+returns-clause-reported c = λ few marks. c.has_just_lowest.ensures.1 (
   few,
   λ k small. sym (first_mark c.self.inside.words k small (omega (arith, c.self.told)))
       ∙ ap (λ marks. get_or marks k false) c.self.view_is ∙ marks k small,

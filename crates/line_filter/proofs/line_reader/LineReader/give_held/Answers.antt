@@ -5,7 +5,7 @@ use Rattle.line_filter.specs.private.Waits.{Waits}
 use Rattle.line_filter.specs.declared.line_reader.Course.{Course}
 use Rattle.line_filter.specs.private.Giving.{IsGoing, IsLongBy}
 use Rattle.line_filter.proofs.ReaderLaws.FirstLine.{long_by}
-use Rattle.line_filter.proofs.ReaderLaws.Giving.{given_by_feed, fault_told}
+use Rattle.line_filter.proofs.ReaderLaws.Giving.{given_by_feed, fault_reported}
 use Rattle.line_filter.proofs.line_reader.LineReader.give_held.Goals as goal
 
 pub invariant_of-self-in-None : goal.invariant_of-self-in-None
@@ -31,7 +31,7 @@ returns-in-None-clause-given g c =
     let same : c.find_line_feed.new.self.waiting ≡ ws = ap (λ (w : Waits). w.waiting) c.find_line_feed.ensures.same in
     let waits : ws ≡ c.args.self.now.waiting = ap (λ (s : LineSource g.row.R.Denot). s.waiting) c.self.view_is in
     let long : IsLongBy ws = long_by ws (length ws) (le_refl (length ws)) (omega (arith, c.waiting.ensures, ap length same)) c.in-None.ensures.found in
-    (fault_told g.R.Read.remaining c.args.self.now _ (ap (λ (s : LineSource g.row.R.Denot). s.reader) c.self.view_is) _ (same ∙ waits) refl (λ is. subst IsLongBy waits long) (λ not. absurd (not refl)), λ is. cc)
+    (fault_reported g.R.Read.remaining c.args.self.now _ (ap (λ (s : LineSource g.row.R.Denot). s.reader) c.self.view_is) _ (same ∙ waits) refl (λ is. subst IsLongBy waits long) (λ not. absurd (not refl)), λ is. cc)
 
 pub returns-then-length-gt-LONGEST_LINE-clause-given :
     goal.returns-then-length-gt-LONGEST_LINE-clause-given
@@ -42,7 +42,7 @@ returns-then-length-gt-LONGEST_LINE-clause-given g c =
     let found = c.in-Some.ensures.found in
     let high = found.0.high in
     let long : IsLongBy ws = long_by ws c.in-Some.length (omega arith) (omega arith) found.0.before in
-    (fault_told g.R.Read.remaining c.args.self.now _ (ap (λ (s : LineSource g.row.R.Denot). s.reader) c.self.view_is) _ (same ∙ waits) refl (λ is. subst IsLongBy waits long) (λ not. absurd (not refl)), λ is. cc)
+    (fault_reported g.R.Read.remaining c.args.self.now _ (ap (λ (s : LineSource g.row.R.Denot). s.reader) c.self.view_is) _ (same ∙ waits) refl (λ is. subst IsLongBy waits long) (λ not. absurd (not refl)), λ is. cc)
 
 pub returns-clause-given : goal.returns-clause-given
 returns-clause-given g c =

@@ -1,6 +1,6 @@
 use Rattle.std.proofs.Common.{[], length, subst, sym}
 use Rattle.odata_checked_filter.specs.FlatTree.{FlatTree, tree_of_nodes}
-use Rattle.odata_checked_filter.specs.private.CanonicalWalk.{StandsThere}
+use Rattle.odata_checked_filter.specs.private.CanonicalText.{StandsThere}
 use Rattle.odata_checked_filter.proofs.flat.Lying.{filter_lies}
 use Rattle.odata_checked_filter.proofs.checked.Checked.canonical.Goals as goal
 

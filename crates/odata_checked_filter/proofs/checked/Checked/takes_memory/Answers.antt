@@ -1,15 +1,15 @@
 use Rattle.std.proofs.Common.{◌≡◌, ◌∙◌, List, ap, sym}
 use Rattle.std.specs.List.{list_any}
 use Rattle.odata_checked_filter.specs.declared.checked_node.CheckedNode.{CheckedNode}
-use Rattle.odata_checked_filter.specs.private.CalledKinds.{kind_makes_text}
-use Rattle.odata_checked_filter.proofs.pre_orders.Calls.{makers_told}
+use Rattle.odata_checked_filter.specs.private.Called.{kind_makes_text}
+use Rattle.odata_checked_filter.proofs.pre_orders.Calls.{makers_reported}
 use Rattle.odata_checked_filter.proofs.checked.Checked.takes_memory.Goals as goal
 
 pub returns : goal.returns
 returns c =
-    let told = makers_told c.calls_have_one_type.ensures.named c.args.self.now c.nodes.ensures.right in
+    let reported = makers_reported c.calls_have_one_type.ensures.named c.args.self.now c.nodes.ensures.right in
     let by_nodes : c.any_maker.result ≡ list_any (λ (n : CheckedNode). kind_makes_text n.kind) c.args.self.now.list.nodes =
     c.any_maker.ensures ∙ ap (λ (ns : List CheckedNode). list_any (λ (n : CheckedNode). kind_makes_text n.kind) ns) c.nodes.ensures.same in (
-      λ answer. told.0 (sym by_nodes ∙ answer),
-      λ needs. by_nodes ∙ told.1 needs,
+      λ answer. reported.0 (sym by_nodes ∙ answer),
+      λ needs. by_nodes ∙ reported.1 needs,
     )

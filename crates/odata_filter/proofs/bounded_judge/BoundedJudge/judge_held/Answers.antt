@@ -4,7 +4,7 @@ use Rattle.edm_entities.specs.Row.{Row}
 use Rattle.odata_checked_filter.specs.Filter.{tree_of_filter}
 use Rattle.odata_eval.specs.CostsOn.{KeepsBound}
 use Rattle.odata_eval.specs.MeansOn.{IsTheOutcome}
-use Rattle.odata_eval.specs.VerdictView.{outcome_told}
+use Rattle.odata_eval.specs.VerdictView.{outcome_reported}
 use Rattle.odata_filter.specs.RowCosts.{ReportsRowWithin}
 use Rattle.odata_filter.proofs.RowLemmas.RowsInPlace.{held_within}
 use Rattle.odata_filter.proofs.bounded_judge.BoundedJudge.judge_held.Goals as goal
@@ -27,5 +27,5 @@ returns c line read =
     let is = c.entity-entity.ensures in
     subst (ReportsRowWithin filter now line most) (sym c.reported.ensures)
     (held_within filter now c.args.rows.now c.requires.rows c.requires.whole line most answer read
-    (subst (λ (r : Row). IfSome (outcome_told answer) (IsTheOutcome r now (tree_of_filter filter))) is c.judge_entity.ensures.outcome)
+    (subst (λ (r : Row). IfSome (outcome_reported answer) (IsTheOutcome r now (tree_of_filter filter))) is c.judge_entity.ensures.outcome)
     (subst (λ (r : Row). KeepsBound r now (tree_of_filter filter) most answer) is c.judge_entity.ensures.bound))

@@ -4,7 +4,7 @@ use Rattle.csdl_schema.specs.PathSet.{PropertyPath}
 use Rattle.edm_row_plans.specs.Plans.{IsPlanOf}
 use Rattle.edm_row_plans.specs.PassedNames.{names_passed}
 use Rattle.odata_filter.specs.RowAnswer.{PassesNone}
-use Rattle.odata_filter.specs.private.ValueCosts.{stop_reported}
+use Rattle.odata_filter.specs.private.BoundedJudge.{stop_reported}
 use Rattle.odata_filter.proofs.RowLemmas.CostsBut.{kept_costs}
 use Rattle.odata_filter.proofs.RowLemmas.RowBounds.{answer_within_row, row_within}
 use Rattle.odata_filter.proofs.bounded_judge.BoundedJudge.judge_read.Goals as goal

@@ -1,7 +1,7 @@
 use Rattle.std.proofs.Common.{List, sym, ap, subst, ◌∙◌}
 use Rattle.csdl_schema.specs.ExpansionView.{StepModel, paths_in}
 use Rattle.serde_json.specs.View.{view}
-use Rattle.odata_filter.specs.private.ValueCosts.{ReportsValueWithin}
+use Rattle.odata_filter.specs.private.BoundedJudge.{ReportsValueWithin}
 use Rattle.odata_filter.proofs.RowLemmas.CostsBut.{whole_costs}
 use Rattle.odata_filter.proofs.RowLemmas.RowBounds.{answer_within_row}
 use Rattle.odata_filter.proofs.RowLemmas.RowJudges.{fits_of_row, row_of_filter}

@@ -2,7 +2,7 @@ use Rattle.std.proofs.Common.{◌∙◌, ap, codes, true, false}
 use Rattle.std.proofs.lemmas.Result.{IfOk-weaker}
 use Rattle.clap.specs.Words.{new_app}
 use Rattle.odata_filter.specs.CommandLine.{text_rule}
-use Rattle.odata_filter.specs.private.PlanSteps.{IsApp}
+use Rattle.odata_filter.specs.private.Planner.{IsApp}
 use Rattle.odata_filter.proofs.LineLemmas.PlanLemmas.{app_about, app_after_help, app_arg, required_rule}
 use Rattle.odata_filter.proofs.command.planner.verb_command.Goals as goal
 

@@ -16,26 +16,26 @@ returns-in-Filter-clause-begins g c document is_filter =
 
 pub returns-in-Check-clause-says : goal.returns-in-Check-clause-says
 returns-in-Check-clause-says g c document is_filter =
-    let written = streams (option_map (λ r. g.R.Read.remaining r) c.args.rows) (g.W.Write.contents c.args.out.now) (g.W.Write.contents c.tell_filter.new.out) in
-    says_as c.tell_filter.result Verb.Check c.args.asked.now.plan.now document written
+    let written = streams (option_map (λ r. g.R.Read.remaining r) c.args.rows) (g.W.Write.contents c.args.out.now) (g.W.Write.contents c.report_filter.new.out) in
+    says_as c.report_filter.result Verb.Check c.args.asked.now.plan.now document written
     c.in-Check.is (accepted_says c.args.asked.now.plan.now document written
-    c.args.asked.now.checked.now c.tell_filter.result is_filter c.tell_filter.ensures.told c.tell_filter.ensures.unwritten)
+    c.args.asked.now.checked.now c.report_filter.result is_filter c.report_filter.ensures.reported c.report_filter.ensures.unwritten)
 
 pub returns-in-Check-clause-begins : goal.returns-in-Check-clause-begins
 returns-in-Check-clause-begins g c document is_filter =
-    let written = streams (option_map (λ r. g.R.Read.remaining r) c.args.rows) (g.W.Write.contents c.args.out.now) (g.W.Write.contents c.tell_filter.new.out) in
+    let written = streams (option_map (λ r. g.R.Read.remaining r) c.args.rows) (g.W.Write.contents c.args.out.now) (g.W.Write.contents c.report_filter.new.out) in
     begins_as Verb.Check c.args.asked.now.plan.now document written c.in-Check.is
-    (accepted_begins c.args.asked.now.plan.now document written c.args.asked.now.checked.now is_filter c.tell_filter.ensures.begins)
+    (accepted_begins c.args.asked.now.plan.now document written c.args.asked.now.checked.now is_filter c.report_filter.ensures.begins)
 
 pub returns-in-Explain-clause-says : goal.returns-in-Explain-clause-says
 returns-in-Explain-clause-says g c document is_filter =
-    let written = streams (option_map (λ r. g.R.Read.remaining r) c.args.rows) (g.W.Write.contents c.args.out.now) (g.W.Write.contents c.tell_nodes.new.out) in
-    says_as c.tell_nodes.result Verb.Explain c.args.asked.now.plan.now document written
+    let written = streams (option_map (λ r. g.R.Read.remaining r) c.args.rows) (g.W.Write.contents c.args.out.now) (g.W.Write.contents c.report_nodes.new.out) in
+    says_as c.report_nodes.result Verb.Explain c.args.asked.now.plan.now document written
     c.in-Explain.is (explained_says c.args.asked.now.plan.now document written
-    c.args.asked.now.checked.now c.tell_nodes.result is_filter c.tell_nodes.ensures.told c.tell_nodes.ensures.unwritten)
+    c.args.asked.now.checked.now c.report_nodes.result is_filter c.report_nodes.ensures.reported c.report_nodes.ensures.unwritten)
 
 pub returns-in-Explain-clause-begins : goal.returns-in-Explain-clause-begins
 returns-in-Explain-clause-begins g c document is_filter =
-    let written = streams (option_map (λ r. g.R.Read.remaining r) c.args.rows) (g.W.Write.contents c.args.out.now) (g.W.Write.contents c.tell_nodes.new.out) in
+    let written = streams (option_map (λ r. g.R.Read.remaining r) c.args.rows) (g.W.Write.contents c.args.out.now) (g.W.Write.contents c.report_nodes.new.out) in
     begins_as Verb.Explain c.args.asked.now.plan.now document written c.in-Explain.is
-    (explained_begins c.args.asked.now.plan.now document written c.args.asked.now.checked.now is_filter c.tell_nodes.ensures.begins)
+    (explained_begins c.args.asked.now.plan.now document written c.args.asked.now.checked.now is_filter c.report_nodes.ensures.begins)

@@ -3,9 +3,9 @@ use Rattle.csdl_schema.specs.ExpansionView.{StepModel, paths_in}
 use Rattle.edm_entities.specs.Row.{Row}
 use Rattle.odata_checked_filter.specs.Filter.{tree_of_filter}
 use Rattle.odata_eval.specs.MeansOn.{IsTheOutcome}
-use Rattle.odata_eval.specs.VerdictView.{told_outcome}
-use Rattle.odata_filter.specs.RowAnswer.{TellsRow}
-use Rattle.odata_filter.proofs.RowLemmas.RowsInPlace.{held_told}
+use Rattle.odata_eval.specs.VerdictView.{reported_outcome}
+use Rattle.odata_filter.specs.RowAnswer.{ReportsRow}
+use Rattle.odata_filter.proofs.RowLemmas.RowsInPlace.{held_reported}
 use Rattle.odata_filter.proofs.row_judge.RowJudge.judge_held.Goals as goal
 
 pub judge_entity-requires : goal.judge_entity-requires
@@ -22,6 +22,6 @@ returns c line read =
     let filter = c.args.self.now.checked.now in
     let now = c.args.self.now.moment.now in
     let answer = c.judge_entity.result in
-    subst (TellsRow filter now line) (sym c.told.ensures)
-    (held_told filter now c.args.rows.now c.requires.rows c.requires.whole line answer read
-    (subst (λ (r : Row). IfSome (told_outcome answer) (IsTheOutcome r now (tree_of_filter filter))) c.entity-entity.ensures c.judge_entity.ensures.outcome))
+    subst (ReportsRow filter now line) (sym c.reported.ensures)
+    (held_reported filter now c.args.rows.now c.requires.rows c.requires.whole line answer read
+    (subst (λ (r : Row). IfSome (reported_outcome answer) (IsTheOutcome r now (tree_of_filter filter))) c.entity-entity.ensures c.judge_entity.ensures.outcome))

@@ -1,7 +1,7 @@
 use Rattle.std.proofs.Common.{List, sym, ap, subst, ◌∙◌}
 use Rattle.csdl_schema.specs.ExpansionView.{StepModel, paths_in}
 use Rattle.serde_json.specs.View.{view}
-use Rattle.odata_filter.specs.private.ValueAnswer.{TellsValue}
+use Rattle.odata_filter.specs.private.ValueAnswer.{ReportsValue}
 use Rattle.odata_filter.proofs.RowLemmas.RowJudges.{fits_of_row}
 use Rattle.odata_filter.proofs.row_judge.RowJudge.judge_value.Goals as goal
 
@@ -14,7 +14,7 @@ judge_entity-requires c = record {
 
 pub returns-in-Ok : goal.returns-in-Ok
 returns-in-Ok c =
-    subst (TellsValue c.args.self.now.checked.now c.args.self.now.moment.now (view c.args.json.now)) (sym c.told.ensures)
-    (c.judge_entity.ensures.told (view c.args.json.now)
+    subst (ReportsValue c.args.self.now.checked.now c.args.self.now.moment.now (view c.args.json.now)) (sym c.reported.ensures)
+    (c.judge_entity.ensures.reported (view c.args.json.now)
     (fits_of_row (view c.args.json.now) c.in-Ok.entity c.schema-schema.result.now c.filtered_type-type_id.result c.expansion.result.now c.in-Ok.ensures.of_type.0 c.in-Ok.ensures.of_type.1 c.in-Ok.ensures.expansion
     c.in-Ok.ensures.fits))

@@ -3,7 +3,7 @@ use Rattle.csdl_schema.specs.ExpansionView.{StepModel, paths_in}
 use Rattle.edm_entities.specs.Row.{Row}
 use Rattle.odata_checked_filter.specs.Filter.{tree_of_filter}
 use Rattle.odata_eval.specs.MeansOn.{IsTheOutcome}
-use Rattle.odata_eval.specs.VerdictView.{told_outcome, verdict_val}
+use Rattle.odata_eval.specs.VerdictView.{reported_outcome, verdict_val}
 use Rattle.odata_filter_operations.specs.Outcome.{gives}
 use Rattle.odata_filter.proofs.RowLemmas.RowsInPlace.{held_said}
 use Rattle.odata_filter.proofs.row_judge.RowJudge.keeps_held.Goals as goal
@@ -23,6 +23,6 @@ returns-in-Ok c line read =
     let now = c.args.self.now.moment.now in
     let held = c.entity-entity.result in
     let verdict = c.in-Ok.verdict in
-    let told = subst (λ o. IfSome (told_outcome o) (IsTheOutcome held now (tree_of_filter filter))) c.in-Ok.is c.judge_entity.ensures.outcome in
+    let reported = subst (λ o. IfSome (reported_outcome o) (IsTheOutcome held now (tree_of_filter filter))) c.in-Ok.is c.judge_entity.ensures.outcome in
     held_said filter now c.args.rows.now c.requires.rows.names c.requires.whole line verdict c.is_kept.result read
-    (subst (λ (r : Row). IsTheOutcome r now (tree_of_filter filter) (gives (verdict_val verdict))) c.entity-entity.ensures told) c.is_kept.ensures
+    (subst (λ (r : Row). IsTheOutcome r now (tree_of_filter filter) (gives (verdict_val verdict))) c.entity-entity.ensures reported) c.is_kept.ensures

@@ -3,12 +3,12 @@ use Rattle.std.specs.declared.alloc.AllocError.{AllocError}
 use Rattle.line_filter.specs.declared.judge.Judgment.{Judgment}
 use Rattle.odata_filter_operations.specs.declared.fault.EvalFault.{EvalFault}
 use Rattle.odata_eval.specs.declared.verdict.Verdict.{Verdict}
-use Rattle.odata_filter.specs.RowAnswer.{TellsRow}
+use Rattle.odata_filter.specs.RowAnswer.{ReportsRow}
 use Rattle.odata_filter.specs.RowJudgment.{JudgesRow}
 use Rattle.odata_filter.specs.declared.bad_row.BadRow.{BadRow}
 use Rattle.odata_filter.specs.declared.no_verdict.NoVerdict.{NoVerdict}
-use Rattle.odata_filter.specs.private.FilterNow.{FilterNow}
-use Rattle.odata_filter.specs.private.ValueAnswer.{answer_told}
+use Rattle.odata_filter.specs.private.RowLineJudge.{FilterNow}
+use Rattle.odata_filter.specs.private.ValueAnswer.{answer_reported}
 use Rattle.odata_filter.proofs.RowLemmas.RowJudges.{line_judged}
 use Rattle.odata_filter.proofs.RowLemmas.RowsInPlace.{rows_again}
 use Rattle.odata_filter.proofs.row_line_judge.RowLineJudgeJudge.judge.Goals.{in-Some-Ok, in-Some-Err, in-None}
@@ -29,17 +29,17 @@ returns-clause-said c =
     let now = c.self.inside.rows.moment.now in
     let line = c.args.line.now in
     let Right : (Result (Judgment BadRow) AllocError → Type 0) = λ r. IfOk r (JudgesRow filter now line) in
-    let Told : (Result Verdict EvalFault → Type 0) = λ answer. TellsRow filter now line (answer_told answer) in
-    let Read : (Option (Result Verdict EvalFault) → Type 0) = λ o. IfSome o Told in
+    let Reported : (Result Verdict EvalFault → Type 0) = λ answer. ReportsRow filter now line (answer_reported answer) in
+    let Read : (Option (Result Verdict EvalFault) → Type 0) = λ o. IfSome o Reported in
     let right : Right c.match-judge_read.judged =
     elim c.match-judge_read.branch [
       | in-Some-Ok w ↦
           let said : Result (Judgment BadRow) AllocError = Ok w.judged_by.result in
-          subst Right (sym w.judged-is) (line_judged filter now line (Ok w.in-Some-Ok.verdict) said (subst Told w.in-Some-Ok.field-0-is (subst Read w.in-Some-Ok.is c.judge_read.ensures)) w.judged_by.ensures)
+          subst Right (sym w.judged-is) (line_judged filter now line (Ok w.in-Some-Ok.verdict) said (subst Reported w.in-Some-Ok.field-0-is (subst Read w.in-Some-Ok.is c.judge_read.ensures)) w.judged_by.ensures)
       | in-Some-Err w ↦
           subst Right (sym w.judged-is)
-          (line_judged filter now line (Err w.told_fault.result) w.judgment_of-judged.result
-          (subst (λ (n : NoVerdict). TellsRow filter now line (Err n)) (sym w.told_fault.ensures) (subst Told w.in-Some-Err.field-0-is (subst Read w.in-Some-Err.is c.judge_read.ensures))) w.judgment_of-judged.ensures)
+          (line_judged filter now line (Err w.reported_fault.result) w.judgment_of-judged.result
+          (subst (λ (n : NoVerdict). ReportsRow filter now line (Err n)) (sym w.reported_fault.ensures) (subst Reported w.in-Some-Err.field-0-is (subst Read w.in-Some-Err.is c.judge_read.ensures))) w.judgment_of-judged.ensures)
       | in-None w ↦ subst Right (sym w.judged-is) (line_judged filter now line w.judge_by_tree-in-None.result w.judgment_of-judged-in-None.result w.judge_by_tree-in-None.ensures w.judgment_of-judged-in-None.ensures)
     ] in
     subst (λ (f : FilterNow). IfOk c.match-judge_read.judged (JudgesRow f.filter f.moment line)) c.self.view_is right
@@ -52,9 +52,9 @@ returns-then-reads_copy-clause-said c =
     let filter = c.self.inside.rows.checked.now in
     let now = c.self.inside.rows.moment.now in
     let line = c.args.line.now in
-    let told : TellsRow filter now line c.judge_held.result = c.judge_held.ensures line (search rules) in
+    let reported : ReportsRow filter now line c.judge_held.result = c.judge_held.ensures line (search rules) in
     subst (λ (f : FilterNow). IfOk c.judgment_of.result (JudgesRow f.filter f.moment line)) c.self.view_is
-    (line_judged filter now line c.judge_held.result c.judgment_of.result told c.judgment_of.ensures)
+    (line_judged filter now line c.judge_held.result c.judgment_of.result reported c.judgment_of.ensures)
 
 pub returns-then-self-clause-said : goal.returns-then-self-clause-said
 returns-then-self-clause-said c =

@@ -2,7 +2,7 @@ use Rattle.std.proofs.Common.{Err, ap, ◌∙◌, ℕ, List, subst, sym}
 use Rattle.std.proofs.lemmas.Result.{err_from_is_err_and}
 use Rattle.odata_syntax.specs.TextTree.{HasTree, text_in}
 use Rattle.odata_syntax.specs.Tree.{Tree}
-use Rattle.odata_syntax.specs.private.TextRun.{StopsText, TakesText}
+use Rattle.odata_syntax.specs.private.TextParser.{StopsText, TakesText}
 use Rattle.odata_syntax.proofs.numbering.Nodes.{ranges_still, tree_still, whole_still}
 use Rattle.odata_syntax.proofs.text_trees.Parsed.{IsOneReading, IsTaken, parsed_only, parsed_ranges, parsed_tree, stops_fault, stops_none, unended_no_tree, unended_text}
 use Rattle.odata_syntax.proofs.parser.text_parser.parse_text.Goals as goal

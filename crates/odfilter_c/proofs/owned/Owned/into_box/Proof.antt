@@ -36,7 +36,7 @@ use Rattle.std.proofs.impls.GlobalAllocator.TheImpl.Met.{passed}
 use Rattle.std.proofs.GlobalToken.{dealloc_token-Testable}
 use Rattle.std.proofs.option.Made.{Some-of, none_of}
 use Rattle.odfilter_c.proofs.OwnedSteps.{and_tt}
-use Rattle.odfilter_c.specs.Ownership.{owned_or_null}
+use Rattle.odfilter_c.specs.Owned.{owned_or_null}
 use Rattle.odfilter_c.specs.contracts.owned.Owned.{the_row as OwnedRow}
 use Rattle.odfilter_c.proofs.owned.Owned.TheLaws.{lowers as owned_lowers, lowered}
 use Rattle.odfilter_c.specs.contracts.owned.Owned.into_box as f

@@ -1,9 +1,0 @@
-use Rattle.std.proofs.Common.{◌≡◌, map, drop, option_map}
-use Rattle.csdl_schema.specs.private.Placed.{first_told, lesser_of}
-use Rattle.csdl_schema.proofs.property_names.first_told.Given as goal
-
--- the first so far, and that of the rest
-abbrev pub invariant-loop-place : goal.invariant-loop-place
-invariant-loop-place l =
-    lesser_of (option_map (λ s. s.now) l.first) (first_told (map (option_map (λ s. s.now)) l.firsts) (drop l.place-index l.places))
-    ≡ first_told (map (option_map (λ s. s.now)) l.firsts) l.places

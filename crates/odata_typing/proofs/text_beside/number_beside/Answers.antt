@@ -1,4 +1,0 @@
-use Rattle.odata_typing.proofs.text_beside.number_beside.Goals as goal
-
-pub returns-in-Single : goal.returns-in-Single
-returns-in-Single c = rw c.in-Single.is c.beside_value.ensures

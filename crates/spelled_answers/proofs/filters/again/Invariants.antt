@@ -1,6 +1,0 @@
-use Rattle.odata_filter.specs.FilterRows.{AreRowsOfFilter}
-use Rattle.spelled_answers.proofs.filters.again.Given as goal
-
--- what is kept from row to row stays the filter's
-abbrev pub invariant-loop : goal.invariant-loop
-invariant-loop l = AreRowsOfFilter l.checked l.rows

@@ -1,0 +1,131 @@
+//! The nodes of a checked filter: where they stand, their types and slots.
+use crate::trouble::Trouble;
+use csdl_schema::{EnumId, Property, PropertyKind, Schema, TypeId};
+use edm_values::Prim;
+use odata_typing::{Checked, EdmType, ValueType};
+use std::alloc::Global;
+
+pub fn prim_name(prim: Prim) -> &'static str {
+    match prim {
+        Prim::Bool => "Edm.Boolean",
+        Prim::Byte => "Edm.Byte",
+        Prim::SByte => "Edm.SByte",
+        Prim::Int16 => "Edm.Int16",
+        Prim::Int32 => "Edm.Int32",
+        Prim::Int64 => "Edm.Int64",
+        Prim::String => "Edm.String",
+        Prim::Date => "Edm.Date",
+        Prim::DateTimeOffset => "Edm.DateTimeOffset",
+        Prim::Guid => "Edm.Guid",
+    }
+}
+
+pub fn enumeration_name(schema: &Schema, id: EnumId) -> &str {
+    schema.enum_name(id).unwrap_or("no enumeration")
+}
+
+pub fn structured_name(schema: &Schema, id: TypeId) -> &str {
+    schema.type_name(id).unwrap_or("no type")
+}
+
+fn value_type_name(schema: &Schema, value_type: ValueType) -> &str {
+    match value_type {
+        ValueType::Prim(prim) => prim_name(prim),
+        ValueType::Enum(id) => enumeration_name(schema, id),
+        ValueType::Structured(id) => structured_name(schema, id),
+    }
+}
+
+/// Appends the name of a type, as `Edm.Int32` or `Collection(Shop.Part)`.
+fn push_type(text: &mut String, schema: &Schema, found: Option<EdmType>) -> Result<(), Trouble> {
+    match found {
+        Some(EdmType::Null) => text.push_str("Null")?,
+        Some(EdmType::Single(one)) => text.push_str(value_type_name(schema, one))?,
+        Some(EdmType::Collection(one)) => {
+            write!(text, "Collection({})", value_type_name(schema, one))?
+        }
+        None => text.push_str("no type")?,
+    }
+    Ok(())
+}
+
+/// Appends a word and a number, if there is one.
+fn push_number(text: &mut String, word: &str, number: Option<usize>) -> Result<(), Trouble> {
+    match number {
+        Some(number) => Ok(write!(text, " {word} {number}")?),
+        None => Ok(()),
+    }
+}
+
+fn push_node(text: &mut String, checked: &Checked<'_>, node: usize) -> Result<(), Trouble> {
+    match checked.span_of(node) {
+        Some(span) => write!(text, "{span} ")?,
+        None => text.push_str("no node ")?,
+    }
+    push_type(text, checked.schema(), checked.type_of(node))?;
+    push_number(text, "slot", checked.slot_of(node))?;
+    push_number(text, "level", checked.level_of(node))
+}
+
+/// Whether the look-ups find nothing at an index past the nodes.
+fn has_none_past(checked: &Checked<'_>, place: usize) -> bool {
+    checked.span_of(place).is_none()
+        && checked.type_of(place).is_none()
+        && checked.slot_of(place).is_none()
+        && checked.level_of(place).is_none()
+        && checked.slot_of(usize::MAX).is_none()
+        && checked.level_of(usize::MAX).is_none()
+}
+
+/// The nodes in pre-order, as `0..7 Edm.Boolean, 0..2 Edm.Int32 slot 1, 6..7 Edm.Int32`.
+pub fn reported_nodes(alloc: Global, checked: &Checked<'_>) -> Result<String, Trouble> {
+    let mut text = String::new(alloc);
+    for node in 0..checked.node_count() {
+        if node > 0 {
+            text.push_str(", ")?;
+        }
+        push_node(&mut text, checked, node)?;
+    }
+    if !has_none_past(checked, checked.node_count()) {
+        text.push_str(", and more past the last one")?;
+    }
+    Ok(text)
+}
+
+/// The name of the second node's type.
+pub fn second_type(alloc: Global, checked: &Checked<'_>) -> Result<String, Trouble> {
+    let mut text = String::new(alloc);
+    push_type(&mut text, checked.schema(), checked.type_of(1))?;
+    Ok(text)
+}
+
+fn kind_name(schema: &Schema, kind: PropertyKind) -> &str {
+    match kind {
+        PropertyKind::Prim(prim) => prim_name(prim),
+        PropertyKind::Enum(id) => enumeration_name(schema, id),
+        PropertyKind::Complex(id) => structured_name(schema, id),
+        PropertyKind::Opaque => "opaque",
+        PropertyKind::Navigation => "navigation",
+    }
+}
+
+/// A property's kind, of a navigation property with its target, if it has one; then `?` if it is nullable, and `*` if
+/// there are many.
+pub fn push_property(
+    text: &mut String,
+    schema: &Schema,
+    property: &Property,
+) -> Result<(), Trouble> {
+    text.push_str(kind_name(schema, property.kind))?;
+    if let Some(target) = property.target() {
+        text.push_str(" ")?;
+        text.push_str(structured_name(schema, target))?;
+    }
+    if property.nullable {
+        text.push_str("?")?;
+    }
+    if property.many {
+        text.push_str("*")?;
+    }
+    Ok(())
+}

@@ -1,0 +1,50 @@
+//! The values of an entity, in one line.
+use crate::spelled_literals::push_date;
+use crate::trouble::Trouble;
+use edm_values::{Value, write_guid, write_int, write_moment, write_string};
+
+/// Appends a value in its canonical spelling; a record stands in braces, a list in brackets, an enumeration value is
+/// its number.
+#[cycle(push)]
+fn push_value(text: &mut String, value: &Value) -> Result<(), Trouble> {
+    match value {
+        Value::Null => Ok(text.push_str("null")?),
+        Value::Bool(truth) => Ok(write!(text, "{truth}")?),
+        Value::Int(number) => Ok(write_int(text, *number)?),
+        Value::Text(content) => Ok(write_string(text, content.as_str())?),
+        Value::Date(date) => push_date(text, *date),
+        Value::Moment(moment) => Ok(write_moment(text, moment)?),
+        Value::Guid(guid) => Ok(write_guid(text, *guid)?),
+        Value::Enum(number) => Ok(write_int(text, *number)?),
+        Value::Record(items) => push_values(text, "{", items.as_slice(), "}"),
+        Value::List(items) => push_values(text, "[", items.as_slice(), "]"),
+    }
+}
+
+#[cycle(push)]
+fn push_values(
+    text: &mut String,
+    before: &str,
+    values: &[Value],
+    behind: &str,
+) -> Result<(), Trouble> {
+    text.push_str(before)?;
+    let mut is_first = true;
+    for value in values {
+        if !is_first {
+            text.push_str(", ")?;
+        }
+        push_value(text, value)?;
+        is_first = false;
+    }
+    text.push_str(behind)?;
+    Ok(())
+}
+
+/// Appends the values of a record in slot order.
+pub fn push_slots(text: &mut String, value: &Value) -> Result<(), Trouble> {
+    match value {
+        Value::Record(items) => push_values(text, "", items.as_slice(), ""),
+        _ => Err(Trouble::NoRecord),
+    }
+}
