@@ -28,10 +28,10 @@
  * is an empty text, at any address, NULL too. NULL with another length is ODFILTER_NULL, and so is any other address
  * that is NULL: then nothing is looked at and nothing written. A length is less than 2^63.
  *
- * A ROOM is the caller's buffer, into which a call writes a text without a NUL after it. A text is written whole or
- * not at all: where it has more bytes than the buffer, the status is ODFILTER_TOO_SMALL, `length` of the answer is
- * how many are needed, and the buffer is unchanged. A buffer of length 0 at any address that is not NULL asks for
- * the length.
+ * BUFFERS, each an odfilter_room, are the caller's: a call writes a text into one, without a NUL after it. A text is
+ * written whole or not at all: where it has more bytes than the buffer, the status is ODFILTER_TOO_SMALL, `length` of
+ * the answer is how many are needed, and the buffer is unchanged. A buffer of length 0 at any address that is not NULL
+ * asks for the length.
  *
  * HANDLES are made by calls that take an `odfilter_handle **`: where they return ODFILTER_OK it points to the new
  * handle, and else, but for ODFILTER_NULL, to NULL. What stood there before is overwritten, and not freed: let it
@@ -271,9 +271,9 @@ uint32_t odfilter_property_paths(const odfilter_handle *filter, odfilter_room pa
  * ODFILTER_OK: `judge` is a judge. ODFILTER_NULL: it is. ODFILTER_MEMORY. */
 uint32_t odfilter_new_judge(odfilter_handle **judge);
 
-/* Makes a judge of a filter, which it owns with all that it needs. It is a judge as any other, for any filter too; beside
- * that odfilter_judge_next judges rows by its own one, which is quicker than odfilter_judge, since the judge stores how
- * such rows are read. It has no moment and no bound yet.
+/* Makes a judge of a filter, which it owns with all that it needs. As any other judge it takes any filter too. In
+ * addition odfilter_judge_next judges rows by its own filter; this is quicker than odfilter_judge, since the judge
+ * stores how such rows are read. It has no moment and no bound yet.
  *
  * ODFILTER_OK: `judge` is a judge. ODFILTER_NULL: any of the two is. ODFILTER_OTHER_KIND: `filter` is not a filter.
  * ODFILTER_MEMORY. */
@@ -329,7 +329,7 @@ uint32_t odfilter_path(const odfilter_handle *judge, odfilter_room path, odfilte
 
 /* ---- All handles */
 
-/* Frees a handle, with all that belongs to it, and writes NULL in its place: a second call for the same variable
+/* Frees a handle, with all that belongs to it, and writes NULL to its variable: a second call for the same variable
  * is ODFILTER_NULL.
  *
  * ODFILTER_OK. ODFILTER_NULL: `handle` is, or what it points to. */

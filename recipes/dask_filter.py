@@ -78,7 +78,7 @@ class Filtering(WorkerPlugin):
         try:
             return self.judge().filter_lines(rows).text, rows.count(b"\n"), None
         except odfilter.RowFault as fault:
-            return fault.kept, fault.line, fault.told
+            return fault.kept, fault.line, fault.reported
 
 
 def answer_of(name, path, start, stop):

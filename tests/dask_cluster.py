@@ -17,10 +17,10 @@ class Cluster:
         self.room, self.threads, self.workers = room, threads, []
         os.makedirs(f"{room}/config")
         self.env = {**os.environ, "PYTHONPATH": MODULE, "PYTHONDONTWRITEBYTECODE": "1", "DASK_CONFIG": f"{room}/config"}
-        self.told = f"{room}/scheduler.json"
+        self.scheduler = f"{room}/scheduler.json"
         self.scheduler = self.started("scheduler", "dask_scheduler", "--port", "0")
         try:
-            self.address = self.wait_for(self.address_told)
+            self.address = self.wait_for(self.address_known)
             for _ in range(workers):
                 self.add_worker()
         except BaseException:
@@ -30,7 +30,7 @@ class Cluster:
     def started(self, name, module, *words):
         line = [PYTHON, "-m", f"distributed.cli.{module}", "--host", "127.0.0.1", "--no-dashboard", *words]
         with open(f"{self.room}/{name}", "wb") as said:
-            to_file = ["--scheduler-file", self.told]
+            to_file = ["--scheduler-file", self.scheduler]
             streams = {"stdin": subprocess.DEVNULL, "stdout": said, "stderr": said}
             return subprocess.Popen([*line, *to_file], env=self.env, cwd=self.room, **streams)
 
@@ -45,10 +45,10 @@ class Cluster:
         with open(f"{self.room}/worker{number}", encoding="utf-8", errors="replace") as said:
             return said.read()
 
-    def address_told(self):
+    def address_known(self):
         try:
-            with open(self.told, encoding="utf-8") as told:
-                return json.load(told)["address"]
+            with open(self.scheduler, encoding="utf-8") as file:
+                return json.load(file)["address"]
         except (OSError, ValueError):
             return None
 

@@ -94,7 +94,7 @@ class Questions:
         self.hold_type(url_cases.document_of(case), case["type"])
         self.held.pop("filter", None)
         asked = self.ask("url", case["query"])
-        return Later(lambda told: told[asked])
+        return Later(lambda got: got[asked])
 
     def now(self):
         return self.case.get("now", "").encode()
@@ -106,15 +106,15 @@ class Questions:
 
     def outcome(self, text, row):
         held, asked = self.hold_filter(bytes_of(text)), self.ask("row", row, self.now())
-        return Later(lambda told: unless_refused(told[held], lambda: OUTCOMES.get(told[asked], told[asked])))
+        return Later(lambda got: unless_refused(got[held], lambda: OUTCOMES.get(got[asked], got[asked])))
 
     def refusal(self, text):
         held = self.hold_filter(bytes_of(text))
-        return Later(lambda told: None if told[held] == "accepted" else told[held].removeprefix("refused "))
+        return Later(lambda got: None if got[held] == "accepted" else got[held].removeprefix("refused "))
 
     def by_word(self, held, word):
         asked = self.ask(word)
-        return Later(lambda told: unless_refused(told[held], lambda: told[asked]))
+        return Later(lambda got: unless_refused(got[held], lambda: got[asked]))
 
     def checked(self, text):
         return self.by_word(self.hold_filter(bytes_of(text)), "canonical")
@@ -128,15 +128,15 @@ class Questions:
     def fits(self, row, named=None):
         self.hold_filter(b"true", named=named)
         asked = self.ask("row", row, b"")
-        return Later(lambda told: told[asked] == "true" or told[asked])
+        return Later(lambda got: got[asked] == "true" or got[asked])
 
     def fault(self, document):
         held = self.hold("schema", document_of(document))
-        return Later(lambda told: told[held])
+        return Later(lambda got: got[held])
 
     def is_entity(self, document, name):
         asked = self.hold_type(document_of(document), name)
-        return Later(lambda told: told[asked] == "found")
+        return Later(lambda got: got[asked] == "found")
 
     def of_words(self, case):
         """A run over lines: what is written and what is reported, by a filter's lines in memory."""
@@ -147,7 +147,7 @@ class Questions:
         held = self.hold_filter(words[f"--{kind}"], kind)
         rows = file_of(case, words["--rows"]) if "--rows" in words else bytes_of(case.get("input", ""))
         asked = self.ask("lines", rows, self.now())
-        said = Later(lambda told: run_of(told[held], told[asked]))
+        said = Later(lambda got: run_of(got[held], got[asked]))
         yield "run", tuple(bytes_of(case.get(name, "")) for name in ("output", "errors")), said
 
 
@@ -214,12 +214,12 @@ class Suite:
 
     def compared(self, wire):
         """Each case with its differences from what a client answered."""
-        told = [text.decode("utf-8", "surrogateescape") for text in netstrings(wire)]
+        reported = [text.decode("utf-8", "surrogateescape") for text in netstrings(wire)]
         found = {name: [] for name, _, _, _ in self.wanted}
-        if len(told) != self.questions.count:
-            return {"answers": [f"{len(told)} answers to {self.questions.count} questions"]}
+        if len(reported) != self.questions.count:
+            return {"answers": [f"{len(reported)} answers to {self.questions.count} questions"]}
         for name, at, wanted, got in self.wanted:
-            wanted, got = (it.read(told) if isinstance(it, Later) else it for it in (wanted, got))
+            wanted, got = (it.read(reported) if isinstance(it, Later) else it for it in (wanted, got))
             if differs(wanted, got):
                 found[name].append(f"wanted {wanted!r}, got {got!r}, at {at!r}"[:400])
         return found

@@ -99,7 +99,7 @@ static void *client(void *unused)
         }
         __atomic_fetch_add(status == kind->status ? &answered : &wrong, 1, __ATOMIC_RELAXED);
         if (status != kind->status)
-            fprintf(stderr, "%d in place of %d: %.100s\n", status, kind->status, kind->request);
+            fprintf(stderr, "%d instead of %d: %.100s\n", status, kind->status, kind->request);
         if (is_last || status < 0) {
             close(connection);
             connection = opened();

@@ -28,7 +28,7 @@ class Backend(BaseHTTPRequestHandler):
     def do_GET(self):  # pylint: disable=invalid-name
         self.asked.append(self.path)
         body = f"asked {self.path}".encode()
-        head = f"HTTP/1.1 {404 if self.path.startswith('/Missing') else 200} told\r\nContent-Type: text/x-asked\r\n"
+        head = f"HTTP/1.1 {404 if self.path.startswith('/Missing') else 200} reported\r\nContent-Type: text/x-asked\r\n"
         self.wfile.write(f"{head}Content-Length: {len(body)}\r\n\r\n".encode() + body)
 
     def log_message(self, *_):  # pylint: disable=arguments-differ
@@ -98,9 +98,9 @@ def is_as_the_case(case, path, said, seen):
     if "canonical" not in case:
         return len(seen) == 1 and is_passed(said, seen, f"{path}?{query}" if seen[0] != path or query else path)
     start, stop = case["value"]
-    behind = query[stop:]
-    if len(seen) != 1 or not seen[0].startswith(f"{path}?{query[:start]}") or not seen[0].endswith(behind):
+    after = query[stop:]
+    if len(seen) != 1 or not seen[0].startswith(f"{path}?{query[:start]}") or not seen[0].endswith(after):
         return False
-    value = seen[0][len(path) + 1 + start : len(seen[0]) - len(behind)]
+    value = seen[0][len(path) + 1 + start : len(seen[0]) - len(after)]
     is_escaped = all(it.isalnum() or it in "-_.~%/!*'()" for it in value)
     return is_passed(said, seen, seen[0]) and is_escaped and unquote_to_bytes(value).decode() == case["canonical"]

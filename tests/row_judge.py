@@ -65,7 +65,7 @@ class Fault(Exception):
 
     def __init__(self, reason, path):
         super().__init__(reason, path)
-        self.told = f"{reason} {path}"
+        self.reported = f"{reason} {path}"
 
 
 def number(text):
@@ -230,7 +230,7 @@ def entity_of(kind, tree, named=NOTHING):
     try:
         return record_of(kind, tree, Place("", (), named)), None
     except Fault as fault:
-        return None, fault.told
+        return None, fault.reported
 
 
 def of_line(kind, line, named=NOTHING):

@@ -169,6 +169,6 @@ class Types:
             if record.base:
                 inner[record.name]["$BaseType"] = f"N.{record.base.name}"
             for one in record.own:
-                told = {**one.declared, "$Collection": one.many, "$Nullable": one.nullable}
-                inner[record.name][one.name] = {name: said for name, said in told.items() if said is not False}
+                reported = {**one.declared, "$Collection": one.many, "$Nullable": one.nullable}
+                inner[record.name][one.name] = {name: said for name, said in reported.items() if said is not False}
         return json.dumps({"$Version": "4.01", "N": inner})

@@ -115,10 +115,10 @@ def of_one_filter(asked, case, text):
 
 def at_places(asked, case):
     for text, reason in case["untypable"]:
-        for before, behind in case["places"]:
+        for before, after in case["places"]:
             start = len(before.encode())
             wanted = f"{reason} {start}..{start + len(text.encode())}"
-            yield before + text + behind, wanted, asked.refusal(before + text + behind)
+            yield before + text + after, wanted, asked.refusal(before + text + after)
 
 
 def of_matrix(asked, case):

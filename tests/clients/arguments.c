@@ -22,7 +22,7 @@ static odfilter_handle **place(void)
     return &at;
 }
 
-static odfilter_answer *told(void)
+static odfilter_answer *fresh(void)
 {
     answer = unwritten();
     return &answer;
@@ -40,21 +40,21 @@ static void nulls_that_make_handles(void)
 {
     odfilter_bytes document = bytes_of(DOCUMENT), name = bytes_of("Mini.Item"), text = bytes_of(FILTER);
     odfilter_handle **at = place();
-    is_null("read_schema: no document of a length", odfilter_read_schema(no_bytes_of_length, room, at, told()), 1, at);
+    is_null("read_schema: no document of a length", odfilter_read_schema(no_bytes_of_length, room, at, fresh()), 1, at);
     at = place();
-    is_null("read_schema: no room", odfilter_read_schema(document, no_room, at, told()), 1, at);
-    is_null("read_schema: no place", odfilter_read_schema(document, room, NULL, told()), 1, NULL);
+    is_null("read_schema: no buffer", odfilter_read_schema(document, no_room, at, fresh()), 1, at);
+    is_null("read_schema: no handle variable", odfilter_read_schema(document, room, NULL, fresh()), 1, NULL);
     at = place();
     is_null("read_schema: no answer", odfilter_read_schema(document, room, at, NULL), 0, at);
     at = place();
     is_null("find_type: no schema", odfilter_find_type(NULL, name, at), 0, at);
     at = place();
     is_null("find_type: no name", odfilter_find_type(handles[SCHEMA], no_bytes_of_length, at), 0, at);
-    is_null("find_type: no place", odfilter_find_type(handles[SCHEMA], name, NULL), 0, NULL);
-    is_null("new_judge: no place", odfilter_new_judge(NULL), 0, NULL);
+    is_null("find_type: no handle variable", odfilter_find_type(handles[SCHEMA], name, NULL), 0, NULL);
+    is_null("new_judge: no handle variable", odfilter_new_judge(NULL), 0, NULL);
     at = place();
     is_null("new_judge_of: no filter", odfilter_new_judge_of(NULL, at), 0, at);
-    is_null("new_judge_of: no place", odfilter_new_judge_of(handles[FILTER_KIND], NULL), 0, NULL);
+    is_null("new_judge_of: no handle variable", odfilter_new_judge_of(handles[FILTER_KIND], NULL), 0, NULL);
     drop(document);
     drop(name);
     drop(text);
@@ -69,10 +69,10 @@ static void nulls_of_checks(void)
     size_t number;
     for (number = 0; number < 2; number++) {
         at = place();
-        is_null("check: no type", calls[number](NULL, text, at, told()), 1, at);
+        is_null("check: no type", calls[number](NULL, text, at, fresh()), 1, at);
         at = place();
-        is_null("check: no text of a length", calls[number](handles[TYPE], no_bytes_of_length, at, told()), 1, at);
-        is_null("check: no place", calls[number](handles[TYPE], text, NULL, told()), 1, NULL);
+        is_null("check: no text of a length", calls[number](handles[TYPE], no_bytes_of_length, at, fresh()), 1, at);
+        is_null("check: no handle variable", calls[number](handles[TYPE], text, NULL, fresh()), 1, NULL);
         at = place();
         is_null("check: no answer", calls[number](handles[TYPE], text, at, NULL), 0, at);
     }
@@ -87,22 +87,22 @@ static void nulls_of_texts(void)
     size_t number;
     for (number = 0; number < 4; number++) {
         odfilter_handle *handle = handles[number == 2 ? JUDGE : FILTER_KIND];
-        is_null("text: no handle", calls[number](NULL, room, told()), 1, NULL);
-        is_null("text: no room", calls[number](handle, no_room, told()), 1, NULL);
-        is_null("text: no room of a length", calls[number](handle, no_room_of_length, told()), 1, NULL);
+        is_null("text: no handle", calls[number](NULL, room, fresh()), 1, NULL);
+        is_null("text: no buffer", calls[number](handle, no_room, fresh()), 1, NULL);
+        is_null("text: no buffer of a length", calls[number](handle, no_room_of_length, fresh()), 1, NULL);
         is_null("text: no answer", calls[number](handle, room, NULL), 0, NULL);
     }
-    is_null("version: no room", odfilter_version(no_room, told()), 1, NULL);
+    is_null("version: no buffer", odfilter_version(no_room, fresh()), 1, NULL);
     is_null("version: no answer", odfilter_version(room, NULL), 0, NULL);
-    is_null("status_name: no room", odfilter_status_name(1, no_room, told()), 1, NULL);
+    is_null("status_name: no buffer", odfilter_status_name(1, no_room, fresh()), 1, NULL);
     is_null("status_name: no answer", odfilter_status_name(1, room, NULL), 0, NULL);
-    is_null("fault_name: no room", odfilter_fault_name(ODFILTER_EVAL_FAULT, 1, no_room, told()), 1, NULL);
+    is_null("fault_name: no buffer", odfilter_fault_name(ODFILTER_EVAL_FAULT, 1, no_room, fresh()), 1, NULL);
     is_null("fault_name: no answer", odfilter_fault_name(ODFILTER_EVAL_FAULT, 1, room, NULL), 0, NULL);
-    is_null("node_count: no filter", odfilter_node_count(NULL, told()), 1, NULL);
+    is_null("node_count: no filter", odfilter_node_count(NULL, fresh()), 1, NULL);
     is_null("node_count: no answer", odfilter_node_count(handles[FILTER_KIND], NULL), 0, NULL);
-    is_null("lambda_depth: no filter", odfilter_lambda_depth(NULL, told()), 1, NULL);
+    is_null("lambda_depth: no filter", odfilter_lambda_depth(NULL, fresh()), 1, NULL);
     is_null("lambda_depth: no answer", odfilter_lambda_depth(handles[FILTER_KIND], NULL), 0, NULL);
-    is_null("needs_moment: no filter", odfilter_needs_moment(NULL, told()), 1, NULL);
+    is_null("needs_moment: no filter", odfilter_needs_moment(NULL, fresh()), 1, NULL);
     is_null("needs_moment: no answer", odfilter_needs_moment(handles[FILTER_KIND], NULL), 0, NULL);
 }
 
@@ -111,21 +111,21 @@ static void nulls_of_urls(void)
     odfilter_bytes query = bytes_of("$filter=true");
     odfilter_answer fault = {0};
     odfilter_handle **at = place();
-    is_null("check_url: no type", odfilter_check_url(NULL, query, room, at, told()), 1, at);
+    is_null("check_url: no type", odfilter_check_url(NULL, query, room, at, fresh()), 1, at);
     at = place();
-    is_null("check_url: no query of a length", odfilter_check_url(handles[TYPE], no_bytes_of_length, room, at, told()),
+    is_null("check_url: no query of a length", odfilter_check_url(handles[TYPE], no_bytes_of_length, room, at, fresh()),
             1, at);
     at = place();
-    is_null("check_url: no room", odfilter_check_url(handles[TYPE], query, no_room, at, told()), 1, at);
-    is_null("check_url: no place", odfilter_check_url(handles[TYPE], query, room, NULL, told()), 1, NULL);
+    is_null("check_url: no buffer", odfilter_check_url(handles[TYPE], query, no_room, at, fresh()), 1, at);
+    is_null("check_url: no handle variable", odfilter_check_url(handles[TYPE], query, room, NULL, fresh()), 1, NULL);
     at = place();
     is_null("check_url: no answer", odfilter_check_url(handles[TYPE], query, room, at, NULL), 0, at);
-    is_null("fault_text: no fault", odfilter_fault_text(handles[TYPE], 19, query, room, NULL, told()), 1, NULL);
+    is_null("fault_text: no fault", odfilter_fault_text(handles[TYPE], 19, query, room, NULL, fresh()), 1, NULL);
     is_null("fault_text: no text of a length",
-            odfilter_fault_text(handles[TYPE], 19, no_bytes_of_length, room, &fault, told()), 1, NULL);
+            odfilter_fault_text(handles[TYPE], 19, no_bytes_of_length, room, &fault, fresh()), 1, NULL);
     is_null("fault_text: no text of a length, no type",
-            odfilter_fault_text(NULL, 19, no_bytes_of_length, room, &fault, told()), 1, NULL);
-    is_null("fault_text: no room", odfilter_fault_text(NULL, 19, query, no_room, &fault, told()), 1, NULL);
+            odfilter_fault_text(NULL, 19, no_bytes_of_length, room, &fault, fresh()), 1, NULL);
+    is_null("fault_text: no buffer", odfilter_fault_text(NULL, 19, query, no_room, &fault, fresh()), 1, NULL);
     is_null("fault_text: no answer", odfilter_fault_text(NULL, 19, query, room, &fault, NULL), 0, NULL);
     drop(query);
 }
@@ -135,23 +135,23 @@ static void nulls_of_rows(void)
     odfilter_bytes row = bytes_of(ROW);
     odfilter_handle *filter = handles[FILTER_KIND], *judge = handles[JUDGE], *own = new_judge_of(filter);
     odfilter_room kept = {block(row.length + 1), row.length + 1};
-    is_null("judge: no filter", odfilter_judge(NULL, judge, row, told()), 1, NULL);
-    is_null("judge: no judge", odfilter_judge(filter, NULL, row, told()), 1, NULL);
-    is_null("judge: no row", odfilter_judge(filter, judge, no_bytes_of_length, told()), 1, NULL);
-    is_null("judge: no row of a length", odfilter_judge(filter, judge, no_bytes_of_length, told()), 1, NULL);
+    is_null("judge: no filter", odfilter_judge(NULL, judge, row, fresh()), 1, NULL);
+    is_null("judge: no judge", odfilter_judge(filter, NULL, row, fresh()), 1, NULL);
+    is_null("judge: no row", odfilter_judge(filter, judge, no_bytes_of_length, fresh()), 1, NULL);
+    is_null("judge: no row of a length", odfilter_judge(filter, judge, no_bytes_of_length, fresh()), 1, NULL);
     is_null("judge: no answer", odfilter_judge(filter, judge, row, NULL), 0, NULL);
-    is_null("judge_next: no judge", odfilter_judge_next(NULL, row, told()), 1, NULL);
-    is_null("judge_next: no row of a length", odfilter_judge_next(own, no_bytes_of_length, told()), 1, NULL);
+    is_null("judge_next: no judge", odfilter_judge_next(NULL, row, fresh()), 1, NULL);
+    is_null("judge_next: no row of a length", odfilter_judge_next(own, no_bytes_of_length, fresh()), 1, NULL);
     is_null("judge_next: no answer", odfilter_judge_next(own, row, NULL), 0, NULL);
-    is_null("filter_lines: no filter", odfilter_filter_lines(NULL, judge, row, kept, told()), 1, NULL);
-    is_null("filter_lines: no judge", odfilter_filter_lines(filter, NULL, row, kept, told()), 1, NULL);
-    is_null("filter_lines: no rows", odfilter_filter_lines(filter, judge, no_bytes_of_length, kept, told()), 1, NULL);
-    is_null("filter_lines: no room", odfilter_filter_lines(filter, judge, row, no_room_of_length, told()), 1, NULL);
+    is_null("filter_lines: no filter", odfilter_filter_lines(NULL, judge, row, kept, fresh()), 1, NULL);
+    is_null("filter_lines: no judge", odfilter_filter_lines(filter, NULL, row, kept, fresh()), 1, NULL);
+    is_null("filter_lines: no rows", odfilter_filter_lines(filter, judge, no_bytes_of_length, kept, fresh()), 1, NULL);
+    is_null("filter_lines: no buffer", odfilter_filter_lines(filter, judge, row, no_room_of_length, fresh()), 1, NULL);
     is_null("filter_lines: no answer", odfilter_filter_lines(filter, judge, row, kept, NULL), 0, NULL);
     is_null("set_moment: no judge", odfilter_set_moment(NULL, row), 0, NULL);
     is_null("set_moment: no moment", odfilter_set_moment(judge, no_bytes_of_length), 0, NULL);
     is_null("set_bound: no judge", odfilter_set_bound(NULL, 0), 0, NULL);
-    is_null("free: no place", odfilter_free(NULL), 0, NULL);
+    is_null("free: no handle variable", odfilter_free(NULL), 0, NULL);
     check("a judge of the filter is as it was", is_next_kept(own, ROW));
     odfilter_free(&own);
     drop(row);
@@ -173,35 +173,35 @@ static void other_kinds(void)
         at = place();
         check("find_type: no schema", kind == SCHEMA || (odfilter_find_type(other, text, at) == status && !*at));
         at = place();
-        check("check: no type", kind == TYPE || (odfilter_check(other, text, at, told()) == status && !*at));
+        check("check: no type", kind == TYPE || (odfilter_check(other, text, at, fresh()) == status && !*at));
         at = place();
         check("check_query: no type",
-              kind == TYPE || (odfilter_check_query(other, text, at, told()) == status && !*at));
+              kind == TYPE || (odfilter_check_query(other, text, at, fresh()) == status && !*at));
         at = place();
         check("check_url: no type",
-              kind == TYPE || (odfilter_check_url(other, text, room, at, told()) == status && !*at));
+              kind == TYPE || (odfilter_check_url(other, text, room, at, fresh()) == status && !*at));
         check("fault_text: no type",
-              kind == TYPE || odfilter_fault_text(other, 18, text, room, &syntax, told()) == status);
-        check("node_count: no filter", kind == FILTER_KIND || odfilter_node_count(other, told()) == status);
-        check("lambda_depth: no filter", kind == FILTER_KIND || odfilter_lambda_depth(other, told()) == status);
+              kind == TYPE || odfilter_fault_text(other, 18, text, room, &syntax, fresh()) == status);
+        check("node_count: no filter", kind == FILTER_KIND || odfilter_node_count(other, fresh()) == status);
+        check("lambda_depth: no filter", kind == FILTER_KIND || odfilter_lambda_depth(other, fresh()) == status);
         check("property_paths: no filter",
-              kind == FILTER_KIND || odfilter_property_paths(other, room, told()) == status);
-        check("canonical: no filter", kind == FILTER_KIND || odfilter_canonical(other, room, told()) == status);
-        check("explain: no filter", kind == FILTER_KIND || odfilter_explain(other, room, told()) == status);
-        check("needs_moment: no filter", kind == FILTER_KIND || odfilter_needs_moment(other, told()) == status);
-        check("judge: no filter", kind == FILTER_KIND || odfilter_judge(other, judge, row, told()) == status);
+              kind == FILTER_KIND || odfilter_property_paths(other, room, fresh()) == status);
+        check("canonical: no filter", kind == FILTER_KIND || odfilter_canonical(other, room, fresh()) == status);
+        check("explain: no filter", kind == FILTER_KIND || odfilter_explain(other, room, fresh()) == status);
+        check("needs_moment: no filter", kind == FILTER_KIND || odfilter_needs_moment(other, fresh()) == status);
+        check("judge: no filter", kind == FILTER_KIND || odfilter_judge(other, judge, row, fresh()) == status);
         check("judge: its answer is written", kind == FILTER_KIND || is_answer(answer, nothing));
-        check("judge: no judge", kind == JUDGE || odfilter_judge(filter, other, row, told()) == status);
+        check("judge: no judge", kind == JUDGE || odfilter_judge(filter, other, row, fresh()) == status);
         at = place();
         check("new_judge_of: no filter",
               kind == FILTER_KIND || (odfilter_new_judge_of(other, at) == status && !*at));
-        check("judge_next: no judge of a filter", odfilter_judge_next(other, row, told()) == status);
+        check("judge_next: no judge of a filter", odfilter_judge_next(other, row, fresh()) == status);
         check("judge_next: its answer is written", is_answer(answer, nothing));
         check("lines: no filter",
-              kind == FILTER_KIND || odfilter_filter_lines(other, judge, row, kept, told()) == status);
-        check("lines: no judge", kind == JUDGE || odfilter_filter_lines(filter, other, row, kept, told()) == status);
+              kind == FILTER_KIND || odfilter_filter_lines(other, judge, row, kept, fresh()) == status);
+        check("lines: no judge", kind == JUDGE || odfilter_filter_lines(filter, other, row, kept, fresh()) == status);
         check("lines: its answer is written", kind == JUDGE || is_answer(answer, nothing));
-        check("path: no judge", kind == JUDGE || odfilter_path(other, room, told()) == status);
+        check("path: no judge", kind == JUDGE || odfilter_path(other, room, fresh()) == status);
         check("set_moment: no judge", kind == JUDGE || odfilter_set_moment(other, text) == status);
         check("set_bound: no judge", kind == JUDGE || odfilter_set_bound(other, 0) == status);
     }
@@ -216,33 +216,33 @@ static void empty_texts(odfilter_bytes empty)
     odfilter_room kept = {block(1), 1};
     odfilter_handle **at = place(), *own = new_judge_of(handles[FILTER_KIND]);
     odfilter_answer wanted = nothing;
-    check("an empty document", odfilter_read_schema(empty, room, at, told()) == ODFILTER_SCHEMA_FAULT && !*at);
+    check("an empty document", odfilter_read_schema(empty, room, at, fresh()) == ODFILTER_SCHEMA_FAULT && !*at);
     wanted.fault = ODFILTER_SCHEMA_NOT_JSON;
     check("an empty document is no JSON", is_answer(answer, wanted));
     at = place();
     check("an empty name", odfilter_find_type(handles[SCHEMA], empty, at) == ODFILTER_UNKNOWN_TYPE && !*at);
     at = place();
-    check("an empty filter", odfilter_check(handles[TYPE], empty, at, told()) == ODFILTER_SYNTAX_FAULT && !*at);
+    check("an empty filter", odfilter_check(handles[TYPE], empty, at, fresh()) == ODFILTER_SYNTAX_FAULT && !*at);
     wanted.fault = ODFILTER_SYNTAX_UNEXPECTED;
     check("an empty filter ends too early, at 0", is_answer(answer, wanted));
     at = place();
-    check("an empty query", odfilter_check_query(handles[TYPE], empty, at, told()) == ODFILTER_NO_FILTER && !*at);
-    check("of an empty query nothing is told", is_answer(answer, nothing));
-    check("an empty row", odfilter_judge(handles[FILTER_KIND], handles[JUDGE], empty, told()) == ODFILTER_JSON_FAULT);
-    check("of an empty row nothing is told", is_answer(answer, nothing));
-    check("an empty row of a filter's judge", odfilter_judge_next(own, empty, told()) == ODFILTER_JSON_FAULT);
-    check("of it nothing is told", is_answer(answer, nothing));
-    check("no lines", odfilter_filter_lines(handles[FILTER_KIND], handles[JUDGE], empty, kept, told()) == ODFILTER_OK);
-    check("of no lines nothing is told", is_answer(answer, nothing));
+    check("an empty query", odfilter_check_query(handles[TYPE], empty, at, fresh()) == ODFILTER_NO_FILTER && !*at);
+    check("of an empty query nothing is reported", is_answer(answer, nothing));
+    check("an empty row", odfilter_judge(handles[FILTER_KIND], handles[JUDGE], empty, fresh()) == ODFILTER_JSON_FAULT);
+    check("of an empty row nothing is reported", is_answer(answer, nothing));
+    check("an empty row of a filter's judge", odfilter_judge_next(own, empty, fresh()) == ODFILTER_JSON_FAULT);
+    check("of it nothing is reported", is_answer(answer, nothing));
+    check("no lines", odfilter_filter_lines(handles[FILTER_KIND], handles[JUDGE], empty, kept, fresh()) == ODFILTER_OK);
+    check("of no lines nothing is reported", is_answer(answer, nothing));
     check("an empty moment", odfilter_set_moment(handles[JUDGE], empty) == ODFILTER_NOT_A_MOMENT);
     at = place();
     check("an empty whole query",
-          odfilter_check_url(handles[TYPE], empty, room, at, told()) == ODFILTER_NO_FILTER && !*at);
-    check("of an empty whole query nothing is told", is_answer(answer, nothing));
+          odfilter_check_url(handles[TYPE], empty, room, at, fresh()) == ODFILTER_NO_FILTER && !*at);
+    check("of an empty whole query nothing is reported", is_answer(answer, nothing));
     wanted = nothing;
     wanted.fault = ODFILTER_EVAL_OVERFLOW;
     check("a sentence about an empty text",
-          odfilter_fault_text(handles[TYPE], ODFILTER_EVAL_FAULT, empty, room, &wanted, told()) == ODFILTER_OK);
+          odfilter_fault_text(handles[TYPE], ODFILTER_EVAL_FAULT, empty, room, &wanted, fresh()) == ODFILTER_OK);
     odfilter_free(&own);
     free(kept.at);
 }
@@ -252,21 +252,21 @@ static void bytes_that_are_no_utf8(void)
     odfilter_bytes text = bytes_of("ID eq 1 or Name eq '\xc3'"), query = bytes_of("x=1&filter=\xff");
     odfilter_handle **at = place();
     odfilter_answer wanted = nothing;
-    check("a document that is no UTF-8", odfilter_read_schema(text, room, at, told()) == ODFILTER_SCHEMA_FAULT && !*at);
+    check("a document that is no UTF-8", odfilter_read_schema(text, room, at, fresh()) == ODFILTER_SCHEMA_FAULT && !*at);
     check("it is no JSON", answer.fault == ODFILTER_SCHEMA_NOT_JSON);
     at = place();
     check("a name that is no UTF-8", odfilter_find_type(handles[SCHEMA], text, at) == ODFILTER_NOT_UTF8 && !*at);
     at = place();
-    check("a filter that is no UTF-8", odfilter_check(handles[TYPE], text, at, told()) == ODFILTER_NOT_UTF8 && !*at);
-    check("of it nothing is told", is_answer(answer, nothing));
+    check("a filter that is no UTF-8", odfilter_check(handles[TYPE], text, at, fresh()) == ODFILTER_NOT_UTF8 && !*at);
+    check("of it nothing is reported", is_answer(answer, nothing));
     at = place();
     check("a query that is no UTF-8",
-          odfilter_check_query(handles[TYPE], query, at, told()) == ODFILTER_QUERY_FAULT && !*at);
+          odfilter_check_query(handles[TYPE], query, at, fresh()) == ODFILTER_QUERY_FAULT && !*at);
     wanted.fault = ODFILTER_QUERY_NOT_UTF8;
     wanted.number = 1;
-    check("its option is told", is_answer(answer, wanted));
+    check("its option is reported", is_answer(answer, wanted));
     check("a row that is no UTF-8",
-          odfilter_judge(handles[FILTER_KIND], handles[JUDGE], text, told()) == ODFILTER_JSON_FAULT);
+          odfilter_judge(handles[FILTER_KIND], handles[JUDGE], text, fresh()) == ODFILTER_JSON_FAULT);
     check("a moment that is no UTF-8", odfilter_set_moment(handles[JUDGE], text) == ODFILTER_NOT_UTF8);
     drop(text);
     drop(query);
@@ -294,7 +294,7 @@ int main(void)
     check("and keep no other row", !is_kept(handles[FILTER_KIND], handles[JUDGE], OTHER_ROW));
     for (kind = 0; kind < KINDS; kind++) {
         check("a handle is freed", odfilter_free(&handles[kind]) == ODFILTER_OK && !handles[kind]);
-        check("a second time it is told", odfilter_free(&handles[kind]) == ODFILTER_NULL);
+        check("a second time it is reported", odfilter_free(&handles[kind]) == ODFILTER_NULL);
     }
     return end();
 }

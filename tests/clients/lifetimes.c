@@ -57,7 +57,7 @@ static void free_in_order(const int *order)
     for (number = 0; number < KINDS; number++) {
         odfilter_handle **handle = &handles[order[number]];
         check("a handle is freed", odfilter_free(handle) == ODFILTER_OK && !*handle);
-        check("it was freed is told", odfilter_free(handle) == ODFILTER_NULL && !*handle);
+        check("it was freed is reported", odfilter_free(handle) == ODFILTER_NULL && !*handle);
         use(handles);
     }
 }

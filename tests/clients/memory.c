@@ -203,14 +203,14 @@ static uint32_t refuse_one(const char *call_name, uint32_t (*call)(void), int (*
 /* refuses one allocation after another until none was, and reports how often that was reported */
 static unsigned long refuse_in_turn(const char *call_name, uint32_t (*call)(void), int (*is_whole)(void))
 {
-    unsigned long told = 0;
+    unsigned long reported = 0;
     refused_one = 0;
     do {
         refused_one++;
-        told += refuse_one(call_name, call, is_whole) == ODFILTER_MEMORY;
+        reported += refuse_one(call_name, call, is_whole) == ODFILTER_MEMORY;
     } while (asked >= refused_one && refused_one < 100000);
     check(call_name, refused_one < 100000);
-    return told;
+    return reported;
 }
 
 /* without one allocation a call may do its work by another way, but not without all */

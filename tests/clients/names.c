@@ -97,13 +97,13 @@ static const char *const fault_names[][14] = {
 #define FAULTS (sizeof *fault_names / sizeof **fault_names)
 
 /* whether a call wrote that name, or none where there is none */
-static int is_named(uint32_t told, const char *room, odfilter_answer answer, const char *name)
+static int is_named(uint32_t returned, const char *room, odfilter_answer answer, const char *name)
 {
     odfilter_answer wanted = {0};
     wanted.length = name ? strlen(name) : 0;
     if (!is_answer(answer, wanted))
         return 0;
-    return name ? told == ODFILTER_OK && !memcmp(room, name, strlen(name)) : told == ODFILTER_UNKNOWN_NUMBER;
+    return name ? returned == ODFILTER_OK && !memcmp(room, name, strlen(name)) : returned == ODFILTER_UNKNOWN_NUMBER;
 }
 
 static void status_at(uint32_t status)
@@ -111,8 +111,8 @@ static void status_at(uint32_t status)
     char at[32];
     odfilter_room room = {at, sizeof at};
     odfilter_answer answer = unwritten();
-    uint32_t told = odfilter_status_name(status, room, &answer);
-    check("the name of a status", is_named(told, at, answer, status < STATUSES ? status_names[status] : NULL));
+    uint32_t returned = odfilter_status_name(status, room, &answer);
+    check("the name of a status", is_named(returned, at, answer, status < STATUSES ? status_names[status] : NULL));
 }
 
 static void fault_at(uint32_t status, uint32_t fault)
@@ -120,9 +120,9 @@ static void fault_at(uint32_t status, uint32_t fault)
     char at[32];
     odfilter_room room = {at, sizeof at};
     odfilter_answer answer = unwritten();
-    uint32_t told = odfilter_fault_name(status, fault, room, &answer);
+    uint32_t returned = odfilter_fault_name(status, fault, room, &answer);
     int is_known = status < sizeof fault_names / sizeof *fault_names && fault < FAULTS;
-    check("the name of a fault", is_named(told, at, answer, is_known ? fault_names[status][fault] : NULL));
+    check("the name of a fault", is_named(returned, at, answer, is_known ? fault_names[status][fault] : NULL));
 }
 
 /* a sentence about a fault, with a type and without, and in a buffer that is a byte too small */
@@ -133,20 +133,20 @@ static void sentence_at(const odfilter_handle *type, uint32_t status, uint32_t f
     odfilter_answer about = {0}, answer = unwritten(), none = {0}, wanted = {0};
     odfilter_bytes text = bytes_of("Foo eq 1");
     int is_known = status < sizeof fault_names / sizeof *fault_names && fault < FAULTS && fault_names[status][fault];
-    uint32_t told;
+    uint32_t returned;
     about.fault = fault;
     about.stop = 3;
     is_known |= !fault && (status == ODFILTER_JSON_FAULT || status == ODFILTER_LINE_TOO_LONG ||
                            (status >= ODFILTER_UNKNOWN_TYPE && status <= ODFILTER_NOT_A_MOMENT));
-    told = odfilter_fault_text(type, status, text, room, &about, &answer);
-    check("a sentence", told == (is_known ? ODFILTER_OK : ODFILTER_UNKNOWN_NUMBER));
+    returned = odfilter_fault_text(type, status, text, room, &about, &answer);
+    check("a sentence", returned == (is_known ? ODFILTER_OK : ODFILTER_UNKNOWN_NUMBER));
     wanted.length = answer.length;
     check("a sentence's answer", is_answer(answer, is_known ? wanted : none));
     check("a sentence ends", !is_known || (answer.length && answer.length <= sizeof at));
     if (is_known) {
         room.length = answer.length - 1;
-        told = odfilter_fault_text(type, status, text, room, &about, &answer);
-        check("a sentence in a small buffer", told == ODFILTER_TOO_SMALL && is_answer(answer, wanted));
+        returned = odfilter_fault_text(type, status, text, room, &about, &answer);
+        check("a sentence in a small buffer", returned == ODFILTER_TOO_SMALL && is_answer(answer, wanted));
     }
     drop(text);
 }

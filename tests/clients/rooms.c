@@ -43,12 +43,12 @@ static void at_length(const char *name, uint32_t (*call)(odfilter_room, odfilter
                       size_t length)
 {
     odfilter_room room = {block(length), length};
-    odfilter_answer answer = unwritten(), told = {0};
+    odfilter_answer answer = unwritten(), reported = {0};
     uint32_t status = call(room, &answer);
     int is_whole = length >= strlen(wanted);
-    told.length = strlen(wanted);
+    reported.length = strlen(wanted);
     check(name, status == (is_whole ? ODFILTER_OK : ODFILTER_TOO_SMALL));
-    check(name, is_answer(answer, told));
+    check(name, is_answer(answer, reported));
     check(name, !is_whole || !memcmp(room.at, wanted, strlen(wanted)));
     check(name, is_untouched(room, is_whole ? strlen(wanted) : 0));
     free(room.at);
@@ -70,14 +70,14 @@ static void names_of_a_fault(void)
     size_t length;
     for (length = 0; length <= strlen(names) + 1; length++) {
         odfilter_room room = {block(length), length};
-        odfilter_answer answer = unwritten(), told = {0};
+        odfilter_answer answer = unwritten(), reported = {0};
         odfilter_handle *made = filter;
         int is_whole = length >= strlen(names);
-        told.fault = ODFILTER_SCHEMA_BAD_PROPERTY;
-        told.length = strlen(names);
-        told.first = strlen("Mini.Item");
+        reported.fault = ODFILTER_SCHEMA_BAD_PROPERTY;
+        reported.length = strlen(names);
+        reported.first = strlen("Mini.Item");
         check("names", odfilter_read_schema(document, room, &made, &answer) == ODFILTER_SCHEMA_FAULT && !made);
-        check("names: what is told", is_answer(answer, told));
+        check("names: what is reported", is_answer(answer, reported));
         check("names: written whole or not at all", !is_whole || !memcmp(room.at, names, strlen(names)));
         check("names: no byte more", is_untouched(room, is_whole ? strlen(names) : 0));
         free(room.at);
@@ -86,23 +86,23 @@ static void names_of_a_fault(void)
 }
 
 /* kept lines, with a line at fault after them or none: the status stays that of the fault */
-static void kept_lines(const char *behind, uint32_t end, odfilter_answer told)
+static void kept_lines(const char *after, uint32_t end, odfilter_answer reported)
 {
     const char *kept = ROW "\n" ROW "\n";
     char lines[512];
     odfilter_bytes rows;
     size_t length;
-    snprintf(lines, sizeof lines, "%s%s", ROW "\n" OTHER_ROW "\n" ROW, behind);
+    snprintf(lines, sizeof lines, "%s%s", ROW "\n" OTHER_ROW "\n" ROW, after);
     rows = bytes_of(lines);
-    told.length = strlen(kept);
+    reported.length = strlen(kept);
     for (length = 0; length <= strlen(kept) + 1; length++) {
         odfilter_room room = {block(length), length};
         odfilter_answer answer = unwritten(), small = {0};
         uint32_t status = odfilter_filter_lines(filter, judge, rows, room, &answer);
         int is_whole = length >= strlen(kept), is_small = !is_whole && end == ODFILTER_OK;
-        small.length = told.length;
+        small.length = reported.length;
         check("lines", status == (is_small ? ODFILTER_TOO_SMALL : end));
-        check("lines: what is told", is_answer(answer, is_small ? small : told));
+        check("lines: what is reported", is_answer(answer, is_small ? small : reported));
         check("lines: written whole or not at all", !is_whole || !memcmp(room.at, kept, strlen(kept)));
         check("lines: no byte more", is_untouched(room, is_whole ? strlen(kept) : 0));
         free(room.at);

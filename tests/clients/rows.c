@@ -1,4 +1,4 @@
-/* What is reported of rows: verdicts, faults with their paths, lines, moments; and the places of refused filters. */
+/* What is reported of rows: verdicts, faults with their paths, lines, moments; and the spans of refused filters. */
 #include "checks.h"
 
 static odfilter_handle *schema, *type, *judge;
@@ -178,7 +178,7 @@ static void lines_without_moment(const odfilter_handle *filter)
     odfilter_bytes rows = bytes_of(ROW "\n{\n");
     odfilter_answer answer = unwritten(), wanted = {0};
     check("lines, and no moment", odfilter_filter_lines(filter, judge, rows, room, &answer) == ODFILTER_MOMENT_NEEDED);
-    check("of them nothing is told", is_answer(answer, wanted) && at[0] == 0x5a);
+    check("of them nothing is reported", is_answer(answer, wanted) && at[0] == 0x5a);
     drop(rows);
 }
 
@@ -186,25 +186,25 @@ static void moments(void)
 {
     odfilter_handle *filter = filter_of(type, "now() lt 2027-01-01T00:00:00Z"), *plain = filter_of(type, "true");
     odfilter_answer answer = unwritten(), wanted = {0};
-    uint32_t told;
+    uint32_t returned;
     check("a filter that calls no now",
           odfilter_needs_moment(plain, &answer) == ODFILTER_OK && is_answer(answer, wanted));
     wanted.number = 1;
     answer = unwritten();
     check("a filter that calls now",
           odfilter_needs_moment(filter, &answer) == ODFILTER_OK && is_answer(answer, wanted));
-    check("no moment", judged(filter, judge, ROW, &told) == ODFILTER_MOMENT_NEEDED);
-    check("no moment, and a row at fault", judged(filter, judge, "{", &told) == ODFILTER_MOMENT_NEEDED);
+    check("no moment", judged(filter, judge, ROW, &returned) == ODFILTER_MOMENT_NEEDED);
+    check("no moment, and a row at fault", judged(filter, judge, "{", &returned) == ODFILTER_MOMENT_NEEDED);
     lines_without_moment(filter);
     check("none is needed", is_kept(plain, judge, ROW));
     check("a text that is none", sets(judge, "2027-02-29T00:00:00Z", ODFILTER_NOT_A_MOMENT));
-    check("it has set none", judged(filter, judge, ROW, &told) == ODFILTER_MOMENT_NEEDED);
+    check("it has set none", judged(filter, judge, ROW, &returned) == ODFILTER_MOMENT_NEEDED);
     check("a moment", sets(judge, "2026-11-25T09:00:00+01:00", ODFILTER_OK));
     check("before", is_kept(filter, judge, ROW));
     check("a text that is none, again", sets(judge, "tomorrow", ODFILTER_NOT_A_MOMENT));
     check("the moment is as it was", is_kept(filter, judge, ROW));
     check("a later moment", sets(judge, "2027-01-01T00:00:00Z", ODFILTER_OK));
-    check("no more", judged(filter, judge, ROW, &told) == ODFILTER_OK && told == ODFILTER_FALSE);
+    check("no more", judged(filter, judge, ROW, &returned) == ODFILTER_OK && returned == ODFILTER_FALSE);
     odfilter_free(&filter);
     odfilter_free(&plain);
 }
@@ -214,14 +214,14 @@ static void moments_of_a_filter(void)
 {
     odfilter_handle *filter = filter_of(type, "now() lt 2027-01-01T00:00:00Z"), *own = new_judge_of(filter);
     odfilter_handle *plain = filter_of(type, FILTER);
-    uint32_t told;
-    check("a judge of a filter has no moment", judged_next(own, ROW, &told) == ODFILTER_MOMENT_NEEDED);
-    check("no moment, and a row at fault", judged_next(own, "{", &told) == ODFILTER_MOMENT_NEEDED);
+    uint32_t returned;
+    check("a judge of a filter has no moment", judged_next(own, ROW, &returned) == ODFILTER_MOMENT_NEEDED);
+    check("no moment, and a row at fault", judged_next(own, "{", &returned) == ODFILTER_MOMENT_NEEDED);
     check("another filter needs none", is_kept(plain, own, ROW));
     check("a moment of its own", sets(own, "2026-11-25T09:00:00+01:00", ODFILTER_OK) && is_next_kept(own, ROW));
     check("by the call of any judge", is_kept(filter, own, ROW));
     check("a later moment", sets(own, "2027-01-01T00:00:00Z", ODFILTER_OK));
-    check("no more", judged_next(own, ROW, &told) == ODFILTER_OK && told == ODFILTER_FALSE);
+    check("no more", judged_next(own, ROW, &returned) == ODFILTER_OK && returned == ODFILTER_FALSE);
     odfilter_free(&plain);
     odfilter_free(&own);
     odfilter_free(&filter);
@@ -231,15 +231,15 @@ static void moments_of_a_filter(void)
 static void any_filter(void)
 {
     odfilter_handle *first = filter_of(type, FILTER), *second = filter_of(type, "not Active"), *own = new_judge_of(first);
-    uint32_t told;
+    uint32_t returned;
     int times;
     for (times = 0; times < 3; times++) {
         check("by its own filter", is_next_kept(own, ROW) && !is_next_kept(own, OTHER_ROW));
         check("by another", is_kept(second, own, OTHER_ROW) && !is_kept(second, own, ROW));
-        check("a fault by another", judged(second, own, BAD_ROW, &told) == ODFILTER_ROW_FAULT);
+        check("a fault by another", judged(second, own, BAD_ROW, &returned) == ODFILTER_ROW_FAULT);
         check("its path", is_path(own, "Part/Size"));
         check("no fault by its own", is_next_kept(own, ROW) && is_path(own, ""));
-        check("a fault by its own", judged_next(own, BAD_ROW, &told) == ODFILTER_ROW_FAULT && is_path(own, "Part/Size"));
+        check("a fault by its own", judged_next(own, BAD_ROW, &returned) == ODFILTER_ROW_FAULT && is_path(own, "Part/Size"));
     }
     odfilter_free(&first);
     odfilter_free(&second);
@@ -282,7 +282,7 @@ static void bounds(void)
     odfilter_handle *bounded = new_judge(), *filter = filter_of(tags, "Tags/any(t:t eq 'c')");
     odfilter_handle *own = new_judge_of(filter);
     odfilter_handle *plain = filter_of(tags, "'c' in Tags");
-    uint32_t told;
+    uint32_t returned;
     check("no bound", is_kept(filter, bounded, TAGS_ROW));
     check("a bound of none", comes_to(filter, bounded, 0, ODFILTER_TOO_COSTLY));
     check("a bound of one less", comes_to(filter, bounded, 2, ODFILTER_TOO_COSTLY));
@@ -290,7 +290,7 @@ static void bounds(void)
     check("the next row has the whole bound", is_kept(filter, bounded, TAGS_ROW));
     check("the greatest bound", comes_to(filter, bounded, UINT64_MAX, ODFILTER_OK));
     check("no lambda operator", comes_to(plain, bounded, 0, ODFILTER_OK));
-    check("no row", judged(filter, bounded, "{}", &told) == ODFILTER_ROW_FAULT);
+    check("no row", judged(filter, bounded, "{}", &returned) == ODFILTER_ROW_FAULT);
     check("too costly after a row at fault", comes_to(filter, bounded, 0, ODFILTER_TOO_COSTLY));
     check("no bound of a judge of the filter", is_next_kept(own, TAGS_ROW));
     check("a bound of none of it", next_comes_to(own, 0, ODFILTER_TOO_COSTLY));
@@ -312,8 +312,8 @@ static void refused(const char *text, int is_query, uint32_t status, odfilter_an
     odfilter_handle *filter = type;
     odfilter_answer answer = unwritten();
     odfilter_bytes bytes = bytes_of(text);
-    uint32_t told = (is_query ? odfilter_check_query : odfilter_check)(type, bytes, &filter, &answer);
-    check(text, told == status && !filter);
+    uint32_t returned = (is_query ? odfilter_check_query : odfilter_check)(type, bytes, &filter, &answer);
+    check(text, returned == status && !filter);
     check(text, is_answer(answer, wanted));
     drop(bytes);
 }

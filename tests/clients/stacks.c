@@ -94,14 +94,14 @@ static void begin(const char *start)
 }
 
 /* puts a piece before and one after, of so many tokens and parentheses, if the limits let it */
-static int put_around(const char *before, const char *behind, size_t tokens, size_t open)
+static int put_around(const char *before, const char *after, size_t tokens, size_t open)
 {
-    size_t front = strlen(before), back = strlen(behind);
+    size_t front = strlen(before), back = strlen(after);
     if (text.length + front + back > limit || text.tokens + tokens > TOKENS || text.open + open > OPEN)
         return 0;
     memmove(text.at + front, text.at, text.length);
     memcpy(text.at, before, front);
-    memcpy(text.at + front + text.length, behind, back + 1);
+    memcpy(text.at + front + text.length, after, back + 1);
     text.length += front + back;
     text.tokens += tokens;
     text.open += open;
@@ -109,15 +109,15 @@ static int put_around(const char *before, const char *behind, size_t tokens, siz
 }
 
 /* so many times, or as often as the limits let it */
-static void put_often(const char *before, const char *behind, size_t tokens, size_t open, size_t times)
+static void put_often(const char *before, const char *after, size_t tokens, size_t open, size_t times)
 {
-    while (times-- && put_around(before, behind, tokens, open))
+    while (times-- && put_around(before, after, tokens, open))
         continue;
 }
 
 /* a long chain around a start, what follows it in parentheses, and what follows these */
 struct chain {
-    const char *start, *before, *behind, *inner, *outer;
+    const char *start, *before, *after, *inner, *outer;
     size_t tokens, times;
     uint32_t status;
 };
@@ -146,12 +146,12 @@ static void chain_of(const struct chain *chain, size_t groups)
     limit -= 2 * groups + strlen(chain->inner) + strlen(chain->outer);
     begin(chain->start);
     text.tokens += 2 * groups;
-    put_often(chain->before, chain->behind, chain->tokens, 0, chain->times);
+    put_often(chain->before, chain->after, chain->tokens, 0, chain->times);
     limit = kept;
     put_around("", chain->inner, 0, 0);
     put_often("(", ")", 0, 1, groups);
     put_around("", chain->outer, 0, 0);
-    is_answered(chain->before[0] ? chain->before : chain->behind, chain->status);
+    is_answered(chain->before[0] ? chain->before : chain->after, chain->status);
 }
 
 /* as many as the limits let in, each in the one before: groups with up to five levels between them, and calls */
@@ -177,13 +177,13 @@ static void nested(void)
 }
 
 /* lambda operators in one another, each after this */
-static void lambdas(const char *behind)
+static void lambdas(const char *after)
 {
     size_t number;
     char before[64];
     begin("true");
     for (number = 0; number < OPEN; number++) {
-        snprintf(before, sizeof before, "%sTags/any(v%d:", behind, (int)number);
+        snprintf(before, sizeof before, "%sTags/any(v%d:", after, (int)number);
         put_around(before, ")", 14, 1);
     }
     is_answered("lambda operators", ODFILTER_OK);
@@ -199,7 +199,7 @@ static size_t draw(size_t below)
 
 /* what may stand around a truth value */
 struct around {
-    const char *before, *behind;
+    const char *before, *after;
     size_t tokens, open;
 };
 
@@ -218,7 +218,7 @@ static void draw_around(void)
     size_t times = 1 + draw(draw(4) ? 4 : 400);
     char lambda[32];
     if (draw(12)) {
-        put_often(wrap->before, wrap->behind, wrap->tokens, wrap->open, wrap->open ? 1 : times);
+        put_often(wrap->before, wrap->after, wrap->tokens, wrap->open, wrap->open ? 1 : times);
         return;
     }
     snprintf(lambda, sizeof lambda, "Tags/any(v%d:", (int)text.open);

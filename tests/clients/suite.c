@@ -67,9 +67,9 @@ static void add_fault(struct text *to, uint32_t status, uint32_t fault)
     char name[64];
     odfilter_room room = {name, sizeof name};
     odfilter_answer answer;
-    uint32_t told = odfilter_fault_name(status, fault, room, &answer);
-    if (told != ODFILTER_OK)
-        give_up("a fault without a name", told);
+    uint32_t returned = odfilter_fault_name(status, fault, room, &answer);
+    if (returned != ODFILTER_OK)
+        give_up("a fault without a name", returned);
     add(to, name, answer.length);
 }
 
@@ -306,9 +306,9 @@ static int is_line(odfilter_bytes row)
 }
 
 /* whether a run over the row twice, a blank line between, reports what was reported of the row by itself */
-static int is_same_in_lines(struct held *held, odfilter_bytes row, uint32_t status, odfilter_answer told)
+static int is_same_in_lines(struct held *held, odfilter_bytes row, uint32_t status, odfilter_answer reported)
 {
-    size_t length = 2 * row.length + 2, kept = status == ODFILTER_OK && told.verdict == ODFILTER_TRUE ? 2 : 0;
+    size_t length = 2 * row.length + 2, kept = status == ODFILTER_OK && reported.verdict == ODFILTER_TRUE ? 2 : 0;
     char *lines = block(length);
     odfilter_bytes rows = {lines, length};
     odfilter_room room = {block(length + 1), length + 1};
@@ -318,7 +318,7 @@ static int is_same_in_lines(struct held *held, odfilter_bytes row, uint32_t stat
     memcpy(lines + row.length, "\n\n", 2);
     memcpy(lines + row.length + 2, row.at, row.length);
     is_same = odfilter_filter_lines(held->filter, held->judge, rows, room, &answer) == status &&
-              answer.fault == told.fault && answer.number == (status != ODFILTER_OK) && answer.kept == kept &&
+              answer.fault == reported.fault && answer.number == (status != ODFILTER_OK) && answer.kept == kept &&
               answer.rows == (status == ODFILTER_OK ? 2 : 0) && answer.length == kept * (row.length + 1);
     is_same = is_same && (!kept || (!memcmp(room.at, row.at, row.length) && room.at[row.length] == '\n' &&
                                     !memcmp(room.at + row.length + 1, row.at, row.length)));
@@ -328,7 +328,7 @@ static int is_same_in_lines(struct held *held, odfilter_bytes row, uint32_t stat
 }
 
 /* whether a judge of the filter reports the same of the row, in whichever way it reads it */
-static int is_same_next(struct held *held, const odfilter_bytes *given, uint32_t status, odfilter_answer told)
+static int is_same_next(struct held *held, const odfilter_bytes *given, uint32_t status, odfilter_answer reported)
 {
     odfilter_answer answer;
     int times, is_same = 1;
@@ -343,8 +343,8 @@ static int is_same_next(struct held *held, const odfilter_bytes *given, uint32_t
         give_up("no judge of the filter", made);
     held->own_has_moment = given[1].length != 0;
     for (times = 0; times < 3; times++)
-        is_same &= odfilter_judge_next(held->own, given[0], &answer) == status && answer.fault == told.fault &&
-                   answer.verdict == told.verdict && answer.length == told.length;
+        is_same &= odfilter_judge_next(held->own, given[0], &answer) == status && answer.fault == reported.fault &&
+                   answer.verdict == reported.verdict && answer.length == reported.length;
     return is_same;
 }
 

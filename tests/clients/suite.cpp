@@ -98,7 +98,7 @@ template <typename Call> std::string written(Call call)
 std::string fault_name(uint32_t status, uint32_t fault)
 {
     return written(
-        [=](odfilter_room room, odfilter_answer *told) { return odfilter_fault_name(status, fault, room, told); });
+        [=](odfilter_room room, odfilter_answer *to) { return odfilter_fault_name(status, fault, room, to); });
 }
 
 /* the answers to questions, by what is held from one to the next */
@@ -134,7 +134,7 @@ class client
 
     static std::string text_of(writer call, const handle &of)
     {
-        return written([&](odfilter_room room, odfilter_answer *told) { return call(of.get(), room, told); });
+        return written([&](odfilter_room room, odfilter_answer *to) { return call(of.get(), room, to); });
     }
 
     /* how many names a schema's fault carries, each of which may be empty */
@@ -150,22 +150,22 @@ class client
 
     std::string schema_of(odfilter_bytes document)
     {
-        odfilter_answer told;
+        odfilter_answer reported;
         char none;
         filter = handle();
         type = handle();
-        uint32_t status = odfilter_read_schema(document, {&none, 0}, schema.place(), &told);
+        uint32_t status = odfilter_read_schema(document, {&none, 0}, schema.place(), &reported);
         if (status == ODFILTER_OK)
             return "accepted";
-        std::unique_ptr<char[]> names(new char[told.length]);
+        std::unique_ptr<char[]> names(new char[reported.length]);
         if (status != ODFILTER_SCHEMA_FAULT ||
-            odfilter_read_schema(document, {names.get(), told.length}, schema.place(), &told) != status)
+            odfilter_read_schema(document, {names.get(), reported.length}, schema.place(), &reported) != status)
             throw unexpected("a schema", status);
-        std::string said = fault_name(status, told.fault);
-        if (names_of(told.fault) > 0)
-            said += " " + std::string(names.get(), told.first);
-        if (names_of(told.fault) > 1)
-            said += " " + std::string(names.get() + told.first, told.length - told.first);
+        std::string said = fault_name(status, reported.fault);
+        if (names_of(reported.fault) > 0)
+            said += " " + std::string(names.get(), reported.first);
+        if (names_of(reported.fault) > 1)
+            said += " " + std::string(names.get() + reported.first, reported.length - reported.first);
         return said;
     }
 
@@ -187,27 +187,27 @@ class client
     /* the filter of a whole query, where its option and its value stand, and its text, for which there is just room */
     std::string found_in(odfilter_bytes query)
     {
-        odfilter_answer told{};
+        odfilter_answer reported{};
         char none;
-        odfilter_check_url(type.get(), query, {&none, 0}, filter.place(), &told);
-        std::string text(told.length, '?');
-        uint32_t status = odfilter_check_url(type.get(), query, {text.data(), text.size()}, filter.place(), &told);
-        std::string said = outcome(status, told);
-        if (told.piece_stop == 0)
+        odfilter_check_url(type.get(), query, {&none, 0}, filter.place(), &reported);
+        std::string text(reported.length, '?');
+        uint32_t status = odfilter_check_url(type.get(), query, {text.data(), text.size()}, filter.place(), &reported);
+        std::string said = outcome(status, reported);
+        if (reported.piece_stop == 0)
             return said;
-        said += '\n' + std::to_string(told.piece_start) + ' ' + std::to_string(told.piece_stop);
-        said += ' ' + std::to_string(told.value_start) + ' ' + std::to_string(told.value_stop);
+        said += '\n' + std::to_string(reported.piece_start) + ' ' + std::to_string(reported.piece_stop);
+        said += ' ' + std::to_string(reported.value_start) + ' ' + std::to_string(reported.value_stop);
         return said + '\n' + text;
     }
 
     std::string checked(checker call, odfilter_bytes text)
     {
-        odfilter_answer told;
-        uint32_t status = call(type.get(), text, filter.place(), &told);
-        return outcome(status, told);
+        odfilter_answer reported;
+        uint32_t status = call(type.get(), text, filter.place(), &reported);
+        return outcome(status, reported);
     }
 
-    static std::string outcome(uint32_t status, const odfilter_answer &told)
+    static std::string outcome(uint32_t status, const odfilter_answer &reported)
     {
         switch (status) {
         case ODFILTER_OK:
@@ -217,12 +217,12 @@ class client
         case ODFILTER_NO_FILTER:
             return "no filter";
         case ODFILTER_QUERY_FAULT:
-            return "refused query " + fault_name(status, told.fault) + " " + std::to_string(told.number);
+            return "refused query " + fault_name(status, reported.fault) + " " + std::to_string(reported.number);
         case ODFILTER_TEXT_FAULT:
         case ODFILTER_SYNTAX_FAULT:
         case ODFILTER_TYPE_FAULT:
-            return "refused " + fault_name(status, told.fault) + " " + std::to_string(told.start) + ".." +
-                   std::to_string(told.stop);
+            return "refused " + fault_name(status, reported.fault) + " " + std::to_string(reported.start) + ".." +
+                   std::to_string(reported.stop);
         default:
             throw unexpected("a filter", status);
         }
@@ -242,7 +242,7 @@ class client
     }
 
     /* why a row has no verdict */
-    std::string row_fault(uint32_t status, const odfilter_answer &told) const
+    std::string row_fault(uint32_t status, const odfilter_answer &reported) const
     {
         if (status == ODFILTER_JSON_FAULT)
             return "Json";
@@ -251,32 +251,32 @@ class client
         if (status != ODFILTER_ROW_FAULT && status != ODFILTER_EVAL_FAULT)
             throw unexpected("a row", status);
         std::string path = status == ODFILTER_ROW_FAULT ? text_of(odfilter_path, judge) : "";
-        return fault_name(status, told.fault) + (path.empty() ? "" : " " + path);
+        return fault_name(status, reported.fault) + (path.empty() ? "" : " " + path);
     }
 
     std::string verdict_of(odfilter_bytes row, odfilter_bytes moment)
     {
         static const std::map<uint32_t, std::string> verdicts = {
             {ODFILTER_TRUE, "true"}, {ODFILTER_FALSE, "false"}, {ODFILTER_NO_TRUTH_VALUE, "null"}};
-        odfilter_answer told;
-        uint32_t status = odfilter_judge(filter.get(), judge_at(moment).get(), row, &told);
+        odfilter_answer reported;
+        uint32_t status = odfilter_judge(filter.get(), judge_at(moment).get(), row, &reported);
         if (status == ODFILTER_NULL)
             return "nothing";
-        return status == ODFILTER_OK ? verdicts.at(told.verdict) : row_fault(status, told);
+        return status == ODFILTER_OK ? verdicts.at(reported.verdict) : row_fault(status, reported);
     }
 
     std::string lines_of(odfilter_bytes rows, odfilter_bytes moment)
     {
-        odfilter_answer told;
+        odfilter_answer reported;
         std::unique_ptr<char[]> kept(new char[rows.length + 1]);
         odfilter_room room = {kept.get(), rows.length + 1};
-        uint32_t status = odfilter_filter_lines(filter.get(), judge_at(moment).get(), rows, room, &told);
+        uint32_t status = odfilter_filter_lines(filter.get(), judge_at(moment).get(), rows, room, &reported);
         if (status == ODFILTER_NULL)
             return "nothing";
         std::string said;
         if (status != ODFILTER_OK)
-            said = "row " + std::to_string(told.number) + " " + row_fault(status, told);
-        return said + "\n" + std::string(kept.get(), told.length);
+            said = "row " + std::to_string(reported.number) + " " + row_fault(status, reported);
+        return said + "\n" + std::string(kept.get(), reported.length);
     }
 
     handle schema, type, filter, judge;

@@ -98,7 +98,7 @@ class Client:
         try:
             return VERDICTS[self.judge(moment).verdict(row)]
         except odfilter.RowFault as fault:
-            return fault.told
+            return fault.reported
 
     def lines(self, rows, moment):
         try:

@@ -18,7 +18,7 @@ struct work {
     unsigned long wrong;
 };
 
-static odfilter_bytes lent(const char *text)
+static odfilter_bytes borrowed(const char *text)
 {
     odfilter_bytes bytes = {text, strlen(text)};
     return bytes;
@@ -27,18 +27,18 @@ static odfilter_bytes lent(const char *text)
 static int keeps(const odfilter_handle *by, odfilter_handle *judge, const char *row, uint32_t verdict)
 {
     odfilter_answer answer;
-    return odfilter_judge(by, judge, lent(row), &answer) == ODFILTER_OK && answer.verdict == verdict;
+    return odfilter_judge(by, judge, borrowed(row), &answer) == ODFILTER_OK && answer.verdict == verdict;
 }
 
 /* the same by the filter of the judge, which is the one that all read */
 static int keeps_next(odfilter_handle *judge, const char *row, uint32_t verdict)
 {
     odfilter_answer answer;
-    return odfilter_judge_next(judge, lent(row), &answer) == ODFILTER_OK && answer.verdict == verdict;
+    return odfilter_judge_next(judge, borrowed(row), &answer) == ODFILTER_OK && answer.verdict == verdict;
 }
 
 /* the texts of the filter that all read */
-static int is_told(uint32_t (*call)(const odfilter_handle *, odfilter_room, odfilter_answer *), const char *wanted)
+static int is_reported(uint32_t (*call)(const odfilter_handle *, odfilter_room, odfilter_answer *), const char *wanted)
 {
     char text[256];
     odfilter_room room = {text, sizeof text};
@@ -51,10 +51,10 @@ static int is_checked(odfilter_handle *judge)
 {
     odfilter_handle *found = NULL, *checked = NULL, *again = NULL;
     odfilter_answer answer;
-    int is_well = odfilter_find_type(schema, lent("Mini.Item"), &found) == ODFILTER_OK &&
-                  odfilter_check(found, lent("Name eq 'a'"), &checked, &answer) == ODFILTER_OK &&
-                  odfilter_check(type, lent("Foo"), &again, &answer) == ODFILTER_TYPE_FAULT &&
-                  odfilter_check_query(type, lent("filter=ID%20eq%201"), &again, &answer) == ODFILTER_OK;
+    int is_well = odfilter_find_type(schema, borrowed("Mini.Item"), &found) == ODFILTER_OK &&
+                  odfilter_check(found, borrowed("Name eq 'a'"), &checked, &answer) == ODFILTER_OK &&
+                  odfilter_check(type, borrowed("Foo"), &again, &answer) == ODFILTER_TYPE_FAULT &&
+                  odfilter_check_query(type, borrowed("filter=ID%20eq%201"), &again, &answer) == ODFILTER_OK;
     odfilter_free(&found);
     is_well &= keeps(checked, judge, OTHER_ROW, ODFILTER_TRUE) && keeps(again, judge, OTHER_ROW, ODFILTER_FALSE);
     odfilter_free(&again);
@@ -72,18 +72,18 @@ static void *work_of(void *given)
     work->wrong += odfilter_new_judge_of(filter, &own) != ODFILTER_OK;
     for (number = 0; number < times; number++) {
         work->wrong += !keeps(filter, judge, ROW, ODFILTER_TRUE) || !keeps(filter, judge, OTHER_ROW, ODFILTER_FALSE);
-        work->wrong += odfilter_judge(filter, judge, lent(BAD_ROW), &answer) != ODFILTER_ROW_FAULT;
+        work->wrong += odfilter_judge(filter, judge, borrowed(BAD_ROW), &answer) != ODFILTER_ROW_FAULT;
         work->wrong += !keeps_next(own, ROW, ODFILTER_TRUE) || !keeps_next(own, OTHER_ROW, ODFILTER_FALSE);
         if (number % 16 == 0)
-            work->wrong +=
-                !is_checked(judge) || !is_told(odfilter_canonical, FILTER) || !is_told(odfilter_explain, "0..18 and");
+            work->wrong += !is_checked(judge) || !is_reported(odfilter_canonical, FILTER) ||
+                           !is_reported(odfilter_explain, "0..18 and");
         if (number == times / 2) {
             work->wrong += !keeps(work->own_filter, judge, ROW, ODFILTER_TRUE);
             work->wrong +=
                 odfilter_free(&work->own_type) != ODFILTER_OK || odfilter_free(&work->own_filter) != ODFILTER_OK;
         }
     }
-    work->wrong += odfilter_check(type, lent(FILTER), &work->made, &answer) != ODFILTER_OK;
+    work->wrong += odfilter_check(type, borrowed(FILTER), &work->made, &answer) != ODFILTER_OK;
     work->wrong += odfilter_free(&judge) != ODFILTER_OK || odfilter_free(&own) != ODFILTER_OK;
     return NULL;
 }

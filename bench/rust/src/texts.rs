@@ -129,14 +129,14 @@ fn seconds(bytes: &[u8]) -> Option<(u32, u32)> {
 impl Spelled for Moment {
     fn read(text: &str) -> Option<Moment> {
         let bytes = text.as_bytes();
-        let (date, behind) = (bytes.get(..10)?, bytes.get(11..)?);
+        let (date, after) = (bytes.get(..10)?, bytes.get(11..)?);
         if bytes[10] | 32 != b't' {
             return None;
         }
-        let (rest, offset) = match behind.strip_suffix(b"Z").or(behind.strip_suffix(b"z")) {
+        let (rest, offset) = match after.strip_suffix(b"Z").or(after.strip_suffix(b"z")) {
             Some(rest) => (rest, 0),
             None => {
-                let (rest, zone) = behind.split_at_checked(behind.len().checked_sub(6)?)?;
+                let (rest, zone) = after.split_at_checked(after.len().checked_sub(6)?)?;
                 let minutes = clock(&zone[1..])? as i32;
                 match zone[0] {
                     b'+' => (rest, minutes),

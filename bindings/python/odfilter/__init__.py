@@ -100,7 +100,7 @@ class _BufferBytes(_Bytes):
 
 
 class _Room(ctypes.Structure):
-    """Room that a call writes a text into."""
+    """A buffer that a call writes a text into."""
 
     _fields_ = [("at", ctypes.c_void_p), ("length", ctypes.c_size_t)]
 
@@ -192,8 +192,8 @@ class Library:
         """The text that a call writes; `about` is what it is given after the buffer."""
         size = 256
         while True:
-            (room, lent), answer = _room_of(size), _Answer()
-            if self._call(name, *given, lent, *about, ctypes.byref(answer)) != TOO_SMALL:
+            (room, borrowed), answer = _room_of(size), _Answer()
+            if self._call(name, *given, borrowed, *about, ctypes.byref(answer)) != TOO_SMALL:
                 return room[: answer.length].decode()
             size = answer.length
 
@@ -204,8 +204,8 @@ class Library:
 
     def _worded(self, error: _AnError, status: int, answer: _Answer, about: BytesOrText, of: Any = None) -> _AnError:
         """An error with its sentence: `about` is the text at fault, `of` the handle of the type, where there is one."""
-        lent = _lent(about, "a text")
-        error.sentence = self._text("fault_text", of, status, lent, about=(ctypes.byref(answer),))
+        borrowed = _borrowed(about, "a text")
+        error.sentence = self._text("fault_text", of, status, borrowed, about=(ctypes.byref(answer),))
         return error
 
 
@@ -274,10 +274,10 @@ class Schema(_Held):
     def __init__(self, document: BytesOrText, library: Optional[Library] = None) -> None:
         """Raises SchemaFault."""
         library, answer = library or _found(), _Answer()
-        lent, size = _lent(document, "a document"), 256
+        borrowed, size = _borrowed(document, "a document"), 256
         while True:
             room, names = _room_of(size)
-            self._owned = _Owned(library, "read_schema", (lent, names), ctypes.byref(answer))
+            self._owned = _Owned(library, "read_schema", (borrowed, names), ctypes.byref(answer))
             if self._owned.status == OK:
                 break
             if answer.length <= size:
@@ -295,29 +295,29 @@ class Type(_Held):
 
     def __init__(self, schema: Schema, name: str) -> None:
         owner = schema._open()
-        self._owned = _Owned(owner.library, "find_type", (owner.handle, _lent_text(name, "a type's name")))
+        self._owned = _Owned(owner.library, "find_type", (owner.handle, _borrowed_text(name, "a type's name")))
         if self._owned.status == UNKNOWN_TYPE:
             raise owner.library._worded(UnknownType(name), UNKNOWN_TYPE, _Answer(), name)
 
     def check(self, text: str) -> Filter:
         """The filter of that text. Raises Refused."""
-        return Filter(self, "check", text, (_lent_text(text, "a filter"),), lambda _: text)
+        return Filter(self, "check", text, (_borrowed_text(text, "a filter"),), lambda _: text)
 
     def check_query(self, query: BytesOrText) -> Filter:
         """The filter of a query string, as it stands in a URL after the `?`, with no other option of the standard's.
 
         Raises Refused, QueryRefused, NoFilter.
         """
-        return Filter(self, "check_query", query, (_lent(query, "a query"),), lambda _: _filter_text(query))
+        return Filter(self, "check_query", query, (_borrowed(query, "a query"),), lambda _: _filter_text(query))
 
     def check_url(self, query: BytesOrText) -> Filter:
         """The filter of a whole query string, as it stands in a URL after the `?`, among any other options.
 
         Raises Refused, QueryRefused, NoFilter.
         """
-        lent = _lent(query, "a query")
-        room, text = _room_of(lent.length)
-        return Filter(self, "check_url", query, (lent, text), lambda answer: room[: answer.length].decode())
+        borrowed = _borrowed(query, "a query")
+        room, text = _room_of(borrowed.length)
+        return Filter(self, "check_url", query, (borrowed, text), lambda answer: room[: answer.length].decode())
 
 
 def _place_in_query(found: Union[Filter, Refused], call: str, answer: _Answer) -> None:
@@ -338,10 +338,10 @@ class Filter(_Held):
     value: Optional[range] = None
 
     def __init__(
-        self, of_type: Type, call: str, given: BytesOrText, lent: tuple[Any, ...], text: Callable[[_Answer], str]
+        self, of_type: Type, call: str, given: BytesOrText, borrowed: tuple[Any, ...], text: Callable[[_Answer], str]
     ) -> None:
         owner, answer = of_type._open(), _Answer()
-        self._owned = _Owned(owner.library, call, (owner.handle, *lent), ctypes.byref(answer))
+        self._owned = _Owned(owner.library, call, (owner.handle, *borrowed), ctypes.byref(answer))
         library, status = owner.library, self._owned.status
         if status == NO_FILTER:
             raise library._worded(NoFilter(), status, answer, given)
@@ -363,7 +363,7 @@ class Filter(_Held):
 
     @property
     def explanation(self) -> str:
-        """A line for each node: its place, what it is, and its type."""
+        """A line for each node: its span, what it is, and its type."""
         owned = self._open()
         return owned.library._text("explain", owned.handle)
 
@@ -407,7 +407,7 @@ class Judge(_Held):
         self._filter, self._one_call = by_filter._open(), threading.Lock()
         library = self._filter.library
         owned = _Owned(library, "new_judge_of", (self._filter.handle,))
-        if now is not None and library._call("set_moment", owned.handle, _lent_text(now, "a moment")) != OK:
+        if now is not None and library._call("set_moment", owned.handle, _borrowed_text(now, "a moment")) != OK:
             raise library._worded(NotAMoment(), NOT_A_MOMENT, _Answer(), now)
         if bound is not None:
             library._call("set_bound", owned.handle, _bound_of(bound))
@@ -418,9 +418,9 @@ class Judge(_Held):
 
         Raises RowFault, MomentNeeded, TooCostly.
         """
-        owned, answer, lent = self._open(), _Answer(), _lent(row, "a row")
+        owned, answer, borrowed = self._open(), _Answer(), _borrowed(row, "a row")
         with self._one_call:
-            status = owned.library._call("judge_next", owned.handle, lent, ctypes.byref(answer))
+            status = owned.library._call("judge_next", owned.handle, borrowed, ctypes.byref(answer))
             if status != OK:
                 raise self._fault(owned, status, answer)
         return _VERDICTS[answer.verdict]
@@ -447,11 +447,11 @@ class Judge(_Held):
         Blank lines are passed over. The first line at fault raises RowFault, which has what is kept before it; also
         raises MomentNeeded.
         """
-        owned, answer, lent = self._open(), _Answer(), _lent(rows, "rows")
-        room, kept = _room_of(lent.length + 1)
+        owned, answer, borrowed = self._open(), _Answer(), _borrowed(rows, "rows")
+        room, kept = _room_of(borrowed.length + 1)
         with self._one_call:
             handles = (self._filter.handle, owned.handle)
-            status = owned.library._call("filter_lines", *handles, lent, kept, ctypes.byref(answer))
+            status = owned.library._call("filter_lines", *handles, borrowed, kept, ctypes.byref(answer))
             text = bytes(memoryview(room)[: answer.length])
             if status != OK:
                 raise self._fault(owned, status, answer, answer.number, text)
@@ -490,7 +490,7 @@ def _names_in(room: bytearray, answer: _Answer) -> tuple[str, ...]:
     return names[: _NAMES_OF[answer.fault]]
 
 
-def _lent(given: BytesOrText, what: str) -> _Bytes:
+def _borrowed(given: BytesOrText, what: str) -> _Bytes:
     """Bytes as a call borrows them; a str stands for its UTF-8."""
     if isinstance(given, str):
         given = given.encode("utf-8", "surrogatepass")
@@ -503,7 +503,7 @@ def _lent(given: BytesOrText, what: str) -> _Bytes:
     raise TypeError(f"{what} is bytes or a str, not {type(given).__name__}")
 
 
-def _lent_text(given: str, what: str) -> _Bytes:
+def _borrowed_text(given: str, what: str) -> _Bytes:
     if not isinstance(given, str):
         raise TypeError(f"{what} is a str, not {type(given).__name__}")
-    return _lent(given, what)
+    return _borrowed(given, what)

@@ -66,7 +66,7 @@ class UnknownType(Error):
 class Refused(Error):
     """A filter is refused.
 
-    `kind` is "text", "syntax" or "type", by what it has not; `name` is the fault's; `start` and `stop` are its place in
+    `kind` is "text", "syntax" or "type", by what it has not; `name` is the fault's; `start` and `stop` are its span in
     the UTF-8 of the filter's `text`: its first byte, from 0, and the one after its last. Of `check_url`, `piece` and
     `value` are as those of a `Filter`.
     """
@@ -83,7 +83,7 @@ class Refused(Error):
         return f"refused {self.name} {self.start}..{self.stop}"
 
     def pointed(self) -> str:
-        """The text of the filter, and below it a caret under each character of the place, one at least.
+        """The text of the filter, and below it a caret under each character of the span, one at least.
 
         What is not printable, as a line feed, stands there as U+FFFD.
         """
@@ -152,13 +152,13 @@ class RowFault(Error):
         self.name, self.path, self.line, self.kept = name, path, line, kept
 
     @property
-    def told(self) -> str:
+    def reported(self) -> str:
         """The name, and the path where there is one."""
         return f"{self.name} {self.path}" if self.path else self.name
 
     @property
     def program_line(self) -> str:
-        return f"row {self.line} {self.told}"
+        return f"row {self.line} {self.reported}"
 
 
 # They are the module's own: so are they shown, and sent to other processes.

@@ -64,7 +64,7 @@ pub(crate) enum Shape {
     Whole,
 }
 
-/// What a form asks, where it has it, the members that it needs, and those that it may have beside these.
+/// What a form asks, where it has it, the members that it needs, and those that it may have in addition.
 type Form = (
     Asked,
     Shape,

@@ -16,7 +16,7 @@ pub(crate) fn row_given(case: &Case<'_>, row: &Value) -> Result<Value, Trouble> 
     }
 }
 
-/// Puts members instead of those of a row, or beside them.
+/// Puts members instead of those of a row, or after them.
 pub(crate) fn put_all(alloc: Global, row: &mut Value, with: &Value) -> Result<(), Trouble> {
     let Value::Object(with) = with else {
         return Err(Trouble::NoObject);

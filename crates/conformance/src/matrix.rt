@@ -163,7 +163,7 @@ pub(crate) fn compare_types(case: &Case<'_>, report: &mut Report) -> Result<(), 
     compare_all(case, &cells, case.items("types")?, report)
 }
 
-/// Compares the refusal of a text that has no type in one place.
+/// Compares the refusal of a text that has no type between one pair of pieces.
 fn compare_place(
     case: &Case<'_>,
     text: &str,
@@ -197,7 +197,7 @@ fn compare_each_place(
     Ok(())
 }
 
-/// Compares the refusal of each text that has no type in each place.
+/// Compares the refusal of each text that has no type between each pair of pieces.
 pub(crate) fn compare_places(case: &Case<'_>, report: &mut Report) -> Result<(), Trouble> {
     for pair in case.items("untypable")? {
         let (text, reason) = pair_of(pair)?;

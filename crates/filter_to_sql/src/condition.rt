@@ -11,8 +11,8 @@ use odata_syntax::Quantifier::Any;
 use odata_typing::{Checked, NodeKind};
 use std::alloc::{AllocError, Global};
 
-/// What a filter asks of the row `r`, where the column of a property is `c` with the number of its slot, a collection
-/// is an array, and a range variable goes by its name. Other forms than these are left out: null, truth values, whole
+/// A filter as a condition on the row `r`. The column of a property is `c` with the number of its slot, a collection is
+/// an array, and a range variable goes by its name. Other forms than these are left out: null, truth values, whole
 /// numbers, texts, properties, members, variables, `not`, `and`, `or`, `eq`, `ne`, `gt`, `lt` and `any`; and none that
 /// leads over navigation properties, whose entities are rows of other tables. Texts are in OData's order where columns
 /// have the collation "C". A text that stands for a value of an enumeration is left out.
@@ -52,7 +52,7 @@ fn stands_for_member(filter: &Checked<'_>, kind: NodeKind) -> bool {
 }
 
 /// A node's SQL, made of its children's results; `None` where it is left out. `eq` and `ne` take null for a value, `gt`
-/// and `lt` are false beside it, and `any` over null is null.
+/// and `lt` are false where one side is null, and `any` over null is null.
 fn part_of(
     alloc: Global,
     kind: NodeKind,

@@ -18,7 +18,7 @@ use Rattle.odata_filter.specs.RowsOnce.{AreSameJudgment}
 use Rattle.odata_filter.specs.declared.bad_row.BadRow.{BadRow}
 use Rattle.odata_filter.specs.declared.no_verdict.NoVerdict.{NoVerdict}
 
--- the filter's list has none of these names beside a node; where there are some, nothing stands for the whole row
+-- the filter's list has none of these names at a node; where there are some, nothing stands for the whole row
 pub record PassesNone (filter : Filter) (Passed : Names) : Type 0 where
   pub unnamed :
       (place : ℕ) → place < length filter.list.nodes → ¬ Passed (unwrap_or (slice_get filter.list.texts place) [])

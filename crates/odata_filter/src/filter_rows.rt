@@ -85,7 +85,7 @@ impl<'s> FilterRows<'s> {
         answer
     }
 
-    /// Judges a row as [`BoundedJudge::judge`] does, within a bound on what it costs: `None` if that is not enough. The
+    /// Judges a row within a bound on what it costs, as [`BoundedJudge::judge`] does. `None` if that is not enough. The
     /// filter is that for which this was made.
     pub fn judge_within(
         &mut self,

@@ -115,7 +115,7 @@ pub(crate) fn copy_with_room(line: &[u8], room: &mut Vec<u8>) -> bool
     true
 }
 
-/// Writes a line and a line feed over the front of a room.
+/// Writes a line and a line feed over the front of a buffer.
 #[inline(always)]
 fn write_line(room: &mut [u8], line: &[u8])
     requires { length line.now < length room.old }
@@ -127,7 +127,7 @@ fn write_line(room: &mut [u8], line: &[u8])
     rest[0] = b'\n';
 }
 
-/// The same in a room that is made for it.
+/// The same in a buffer that is made for it.
 #[inline(never)]
 fn take_room(line: &[u8], room: &mut Vec<u8>) -> bool
     ensures within { IsTrue result → length line.now ≤ length room.new.items }

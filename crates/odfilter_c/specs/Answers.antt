@@ -102,7 +102,7 @@ fault_status (Fault.Evaluation line fault) = 23
 fault_status (Fault.LineTooLong line) = 24
 fault_status Fault.TooCostly = 25
 
--- and what is reported beside it
+-- and what is reported in addition
 abbrev pub fault_answer : Fault → Answer
 fault_answer Fault.OtherKind = empty_answer
 fault_answer Fault.NotUtf8 = empty_answer

@@ -1,4 +1,4 @@
--- What the handle of a filter keeps together.
+-- What the handle of a filter owns.
 use Rattle.edm_row_plans.specs.declared.row_plan.RowPlan.{RowPlan}
 use Rattle.odata_checked_filter.specs.Filter.{Filter, IsFilter}
 use Rattle.odata_filter.specs.RowAnswer.{IsPlanOfFilter}

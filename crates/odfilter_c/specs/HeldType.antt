@@ -1,4 +1,4 @@
--- What the handle of a type keeps together.
+-- What the handle of a type owns.
 use Rattle.std.specs.Prelude.{◌≡◌, ℕ, List}
 use Rattle.csdl_schema.specs.SchemaModel.{SchemaModel, HoldsType, IsEntityAt}
 use Rattle.edm_row_plans.specs.PassedNames.{names_passed}

@@ -75,7 +75,7 @@ left_room l s xs = fsep
     (fsep (finally u8 l.room_name xs) (feq ℕ (length xs) (length l.room)))
     (fbor l.lifetime (Held u8 (length l.room) (block_of s.at) (count_of s.at) l.room_name))
 
--- the place of a handle that is made
+-- the variable of a handle that is made
 abbrev pub lent_made : Loan → Ptr → Fml
 lent_made l p = lent_place OwnedRow l.lifetime l.made_name p l.made
 

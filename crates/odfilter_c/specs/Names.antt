@@ -4,7 +4,7 @@ use Rattle.odata_filter.specs.FaultNumbers.{name_at, names_of}
 use Rattle.odata_filter.specs.declared.fault_number.FaultKind.{FaultKind}
 use Rattle.odfilter_c.specs.declared.call_fault.Fault.{Fault}
 
--- what stands beside a number in a list
+-- what a list has for a number
 abbrev pub beside : {X : Type 0} → List (ℕ × X) → ℕ → Option X
 beside [] number = None
 beside (row ∷ rows) number = cond (eqb number row.0) (Some row.1) (beside rows number)

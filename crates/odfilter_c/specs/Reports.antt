@@ -31,7 +31,7 @@ pub record ReadsSchema (document names names' : List ℕ) (schema : Owned) (answ
   pub right : MatchResult outcome (IsSchemaOf document) (IsNoSchema document)
   pub gives : GivesSchema outcome names names' schema.value answer status
 
--- class a type, which has no answer of its own
+-- finding a type, which has no answer of its own
 pub record FindsType (schema : Handle) (name : List ℕ) (made : Owned) (status : ℕ) : Type 0 where
   pub answer : Answer
   pub makes : Makes (IsTypeOf schema name) (IsNoType schema name) made.value answer status

@@ -108,17 +108,17 @@ IsRunOver filter given rows (Err Fault.MomentNeeded) text = (text ≡ []) × Lac
 IsRunOver filter given rows outcome text =
     (now : MomentParts) × (IsMomentFor filter given now × IsRunAt filter now rows outcome text)
 
--- what the judge keeps for its path: a row's fault; where no row was judged, what it kept
+-- what the judge stores for its path: a row's fault; where no row was judged, what it had
 abbrev pub last_after : Option RowFault → Fault → Option RowFault
 last_after last (Fault.Row line fault) = Some fault
 last_after last Fault.MomentNeeded = last
 last_after last fault = None
 
--- the judge keeps that, and has the moment and the bound that it had
+-- the judge stores that, and has the moment and the bound that it had
 abbrev pub Keeps : JudgeHandle → JudgeHandle → Option RowFault → Type 0
 Keeps old new last = new ≡ record old { last = last }
 
--- the path that it keeps
+-- the path that it stores
 abbrev pub path_kept : Option RowFault → List ℕ
 path_kept (Some fault) = path_bytes fault
 path_kept None = []

@@ -111,7 +111,7 @@ abbrev pub ReportsRun : Result Tally Fault → List ℕ → List ℕ → List �
 ReportsRun (Ok tally) text old new answer status = ReportsTally tally text old new answer status
 ReportsRun (Err fault) text old new answer status = ReportsStop fault text old new answer status
 
--- what the judge keeps after a run
+-- what the judge stores after a run
 abbrev pub last_of_run : Option RowFault → Result Tally Fault → Option RowFault
 last_of_run last (Ok tally) = None
 last_of_run last (Err fault) = last_after last fault

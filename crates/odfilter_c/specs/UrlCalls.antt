@@ -36,7 +36,7 @@ pub record ReportsFound (found : FoundModel) (old new : List ℕ) (plain answer 
     value_stop = found.value.stop;
   }
 
--- the filter that was found is checked, and reported beside what becomes of that
+-- the filter that was found is checked, and reported with what becomes of that
 pub record ChecksFound
     (given : Handle) (found : FoundModel) (old new : List ℕ) (made : Option Handle) (answer : Answer) (status : ℕ)
     : Type 0 where

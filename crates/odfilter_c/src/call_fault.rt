@@ -180,7 +180,7 @@ impl Fault {
         }
     }
 
-    /// What is reported beside the status.
+    /// What is reported besides the status.
     pub(crate) fn answer(&self) -> Answer
         ensures { result ≡ fault_answer self.now }
     {

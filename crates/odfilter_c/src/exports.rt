@@ -369,7 +369,7 @@ pub unsafe extern "C" fn odfilter_filter_lines(
     }
 }
 
-/// Writes the path of the fault that a judge keeps.
+/// Writes the path of the fault that a judge stores.
 #[unsafe(no_mangle)]
 pub unsafe extern "C" fn odfilter_path(judge: *const u8, path: Room, answer: *mut Answer) -> u32
     ghost loan: { Loan }

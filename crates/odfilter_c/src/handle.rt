@@ -19,12 +19,13 @@ pub enum Handle {
     Judge(Box<JudgeHandle>),
 }
 
+/// A schema, which handles of types and filters share.
 #[derive(Drop)]
 pub struct SchemaHandle {
     pub(crate) schema: Arc<Schema>,
 }
 
-/// An entity type, with its schema, and what rows of it are read by where nothing is expanded, which its filters share.
+/// An entity type with its schema, and the plan of its rows where nothing is expanded. Filters share that plan.
 #[derive(Drop)]
 pub struct TypeHandle {
     pub(crate) schema: Arc<Schema>,
@@ -44,8 +45,8 @@ impl Model for TypeHandle {
     ghost invariant = { λ held. IsHeldType (record { schema = held.schema.value; id = held.id }) held.plan.value };
 }
 
-/// A filter, with the schema that it was checked by, and what rows are read by: its type's plan, or one of its own
-/// where it navigates.
+/// A filter with the schema that it was checked by, and the plan of its rows. That is its type's plan, or one of its
+/// own where it navigates.
 #[derive(Drop)]
 pub struct FilterHandle {
     pub(crate) schema: Arc<Schema>,
@@ -82,7 +83,7 @@ impl FilterHandle {
     }
 }
 
-/// A filter, and what is kept from row to row by it.
+/// A filter, and what is stored from row to row for it.
 #[derive(Drop)]
 pub struct OwnFilter {
     pub(crate) held: FilterHandle,

@@ -188,7 +188,7 @@ fn verdict_on(held: &FilterHandle, judge: &mut JudgeHandle, row: &[u8]) -> Resul
     }
 }
 
-/// The verdict on a row at a moment by what is kept of the filter's rows, within a bound if there is one.
+/// The verdict on a row at a moment by what is stored of the filter's rows, within a bound if there is one.
 fn own_outcome(
     rows: &mut FilterRows<'static>,
     checked: &Checked<'_>,
@@ -231,7 +231,7 @@ fn verdict_number(verdict: Verdict) -> u32
     }
 }
 
-/// Has the judge keep a fault for its path.
+/// Stores a fault in the judge for its path.
 pub(crate) fn keep_fault(fault: Fault, judge: &mut JudgeHandle)
     ensures { Keeps judge.old judge.new (last_after judge.old.last fault) }
 {
@@ -318,7 +318,7 @@ pub(crate) fn report_next(handle: &mut Handle, row: &[u8], answer: &mut Answer) 
     }
 }
 
-/// The path of the fault that the judge keeps, or no text.
+/// The path of the fault that the judge stores, or no text.
 pub(crate) fn last_path(judge: &JudgeHandle) -> &str
     ensures { result.now ≡ path_kept judge.now.last }
 {

@@ -2,7 +2,7 @@
 //! tokens and trees. Texts are given as cases give them.
 //!
 //! ```rust
-//! use suite_driver::literals;
+//! use suite_driver::spelled_literals;
 //!
 //! let answer = spelled_literals::value_of(alloc, "Int", "-5")?;
 //! println!(rt; "{answer}")?;

@@ -5,6 +5,7 @@ use edm_values::Prim;
 use odata_typing::{Checked, EdmType, ValueType};
 use std::alloc::Global;
 
+/// The name of a primitive type, as `Edm.Int32`.
 pub fn prim_name(prim: Prim) -> &'static str {
     match prim {
         Prim::Bool => "Edm.Boolean",
@@ -20,10 +21,12 @@ pub fn prim_name(prim: Prim) -> &'static str {
     }
 }
 
+/// The name of an enumeration, with its namespace.
 pub fn enumeration_name(schema: &Schema, id: EnumId) -> &str {
     schema.enum_name(id).unwrap_or("no enumeration")
 }
 
+/// The name of an entity or complex type, with its namespace.
 pub fn structured_name(schema: &Schema, id: TypeId) -> &str {
     schema.type_name(id).unwrap_or("no type")
 }
@@ -109,8 +112,8 @@ fn kind_name(schema: &Schema, kind: PropertyKind) -> &str {
     }
 }
 
-/// A property's kind, of a navigation property with its target, if it has one; then `?` if it is nullable, and `*` if
-/// there are many.
+/// Appends a property's kind, and of a navigation property its target, if it has one. `?` follows if it is nullable,
+/// and `*` if there are many.
 pub fn push_property(
     text: &mut String,
     schema: &Schema,

@@ -43,7 +43,7 @@ fn reported(alloc: Global, out: &[u8], err: &[u8], status: u8) -> Result<String,
     Ok(format!(in alloc; "{out}{err}status {status}")?)
 }
 
-/// What a run says, into room that is there before it begins.
+/// What a run says, into buffers that are allocated before it begins.
 fn said(alloc: Global, plan: &Plan<'_>, document: &[u8], rows: &[u8]) -> Result<String, Trouble> {
     let mut out = Vec::with_capacity(alloc, 1_024)?;
     let mut err = Vec::with_capacity(alloc, 1_024)?;

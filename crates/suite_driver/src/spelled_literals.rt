@@ -76,7 +76,7 @@ pub fn value_of(alloc: Global, kind: &str, text: &str) -> Result<String, Trouble
     Ok(out)
 }
 
-/// Returns the same after a text, which a failed write has to leave as it was: otherwise, what it left.
+/// Returns the same, appended to a text. A failed write has to leave that text unchanged; else this is what it left.
 pub fn value_behind(alloc: Global, front: &str, kind: &str, text: &str) -> Result<String, Trouble> {
     let mut out = String::from_str(alloc, front)?;
     match push_literal(alloc, &mut out, kind, text) {

@@ -1,4 +1,4 @@
-//! Faults as they are shown, where their numbers, names and places say the same.
+//! Faults as they are shown, where their numbers, names and spans say the same.
 use crate::trouble::Trouble;
 use edm_entities::RowFault;
 use odata_filter::{FaultKind, Numbered, fault_name, refusal_span, row_fault_path};

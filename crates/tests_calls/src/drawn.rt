@@ -96,7 +96,7 @@ fn type_of(kind: Drawn) -> TypeOf<'static> {
     }
 }
 
-/// Puts another byte at a place of a line, both by a number.
+/// Puts another byte at an offset of a line, both by a number.
 fn change(line: &mut Vec<u8>, number: u64) {
     let place = ((number >> 33) % (line.len() as u64).max(1)) as usize;
     if let Some(byte) = line.get_mut(place) {

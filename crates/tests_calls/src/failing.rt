@@ -51,7 +51,7 @@ fn each_read_fails(alloc: Global, piece: usize) -> Result<(), Fail> {
     keeps(alloc, rows, "3 rows, 2 kept", A_TWICE)
 }
 
-/// From one byte a call on up to all of them: so rows are cut at any place, and the second read fails after each byte.
+/// From one byte a call on up to all of them: so rows are cut at any offset, and the second read fails after each byte.
 #[test]
 fn reads_of_each_length(rt: HostRuntime) -> Result<(), Fail> {
     for piece in 1..ROWS.len().saturating_add(1) {

@@ -1,7 +1,9 @@
 //! A type of items, their first filter, and rows of it.
+/// Their schema.
 pub const SCHEMA: &str =
     "{\"$Version\":\"4.01\",\"Mini\":{\"Item\":{\"$Kind\":\"EntityType\",\"ID\":{\"$Type\":\"Edm.Int32\"},\"Name\":{},\"Active\":{\"$Type\":\"Edm.Boolean\"}}}}";
 
+/// The filter.
 pub const FIRST: &str = "Active and ID eq 1 and Name eq 'a'";
 
 /// A row that is kept, and its line feed.

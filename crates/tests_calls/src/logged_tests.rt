@@ -1,4 +1,4 @@
-//! Devices that keep what became of their calls, through the engine.
+//! Devices that log what became of their calls, through the engine.
 use crate::answers::{first_moment, is_reported};
 use crate::devices::{Giving, NEVER, Taking, stumbling, taker};
 use crate::items::{A, FIRST, SCHEMA};

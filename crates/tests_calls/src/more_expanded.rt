@@ -73,7 +73,7 @@ fn verdict_with(
     }
 }
 
-/// Fails if the filter reports entities with what it needs from those with a path more.
+/// Fails if the filter tells entities with what it needs apart from those with a path more.
 fn reports_the_same(alloc: Global, checked: &Checked<'_>, case: &Further) -> Result<(), Fail> {
     let needed = checked.expansion();
     let mut more = needed.copy(alloc)?;

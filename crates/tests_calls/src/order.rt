@@ -1,4 +1,4 @@
-//! Standard output beside standard error: which of them is called first, and that no interrupted call is tried again.
+//! Standard output and standard error: which of them is called first, and that no interrupted call is tried again.
 use crate::items::{A, FIRST, SCHEMA};
 use crate::run_tests::plan_of;
 use odata_filter::command_line::Verb;

@@ -1,4 +1,4 @@
-//! A piece of a text at each place of a short one, and of a name.
+//! A piece of a text at each offset of a short one, and of a name.
 use crate::both_ways::is_entity;
 use crate::shop::ITEMS;
 use std::alloc::Global;
@@ -44,7 +44,7 @@ fn entities_behind(alloc: Global, count: usize) -> Result<u64, Fail> {
     Ok(entities)
 }
 
-/// Forty places: more than twice as many as are looked at at once.
+/// Forty offsets: more than twice as many as are looked at at once.
 #[test]
 fn pieces_at_each_place(rt: HostRuntime) -> Result<(), Fail> {
     for count in 0..40 {

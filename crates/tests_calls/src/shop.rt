@@ -35,4 +35,5 @@ pub const ITEMS: &str =
 pub const LINKS: &str =
     "{\"$Version\":\"4.01\",\"N\":{\"A\":{\"$Kind\":\"EntityType\",\"ID\":{\"$Type\":\"Edm.Int32\"},\"To\":{\"$Kind\":\"NavigationProperty\",\"$Type\":\"N.A\",\"$Nullable\":true},\"Many\":{\"$Kind\":\"NavigationProperty\",\"$Type\":\"N.A\",\"$Collection\":true}}}}";
 
+/// An entity with links to others.
 pub const LINKED: &str = "{\"ID\":1,\"To\":{\"ID\":4},\"Many\":[{\"ID\":2,\"To\":{\"ID\":3}}]}";

@@ -113,7 +113,7 @@ abbrev pub BeginsText : (List ℕ → Type 0) → Option (List ℕ) → Option (
 BeginsText P old new = Keeps old new ⊎ ((text : List ℕ) × P text × WritesFront old new text)
 
 -- A refusal was an answer, and the program ends with this number: standard output took its line; or it did not, or
--- memory for the line was refused.
+-- an allocation for the line failed.
 abbrev pub IsAnswered : ℕ → Option (List ℕ) → Option (List ℕ) → Type 0
 IsAnswered number old new =
     ((number ≡ 1) × Writes old new IsRefusedLine)

@@ -31,7 +31,7 @@ pub enum PlanFault {
     /// Not exactly one of filter and query is given.
     #[error("give one of filter and query")]
     OneOf,
-    /// A growth was refused.
+    /// An allocation failed.
     #[error("memory")]
     Memory,
 }

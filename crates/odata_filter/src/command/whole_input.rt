@@ -17,7 +17,7 @@ pub enum ReadAllError {
     Memory,
 }
 
-/// How many bytes are asked for at a time: few, since the room for them is zeroed first, and most schemas are short.
+/// How many bytes are asked for at a time: few, since the buffer for them is zeroed first, and most schemas are short.
 const ONE_READ: usize = 8_192;
 
 /// Reads as [`read_whole`] does, by how the reader's reads are reported. It reports that a read failed only where one
