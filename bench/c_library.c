@@ -49,7 +49,7 @@ struct work {
 
 static odfilter_handle *schema, *type, *filter;
 static odfilter_bytes text, rows;
-static odfilter_room kept;
+static odfilter_buffer kept;
 
 static void give_up(const char *why)
 {
@@ -160,7 +160,7 @@ static void take_handles(char **words)
     odfilter_answer answer;
     odfilter_bytes document = file_of(words[2]), name = {words[3], strlen(words[3])};
     char names[256];
-    odfilter_room room = {names, sizeof names};
+    odfilter_buffer room = {names, sizeof names};
     text.at = words[4];
     text.length = strlen(words[4]);
     if (odfilter_read_schema(document, room, &schema, &answer) != ODFILTER_OK)

@@ -6,8 +6,8 @@
  *     odfilter_answer answer;
  *     char names[256];
  *     odfilter_bytes name = {"Shop.Product", 12};
- *     odfilter_room room = {names, sizeof names};
- *     odfilter_read_schema(document, room, &schema, &answer);
+ *     odfilter_buffer buffer = {names, sizeof names};
+ *     odfilter_read_schema(document, buffer, &schema, &answer);
  *     odfilter_find_type(schema, name, &type);
  *     if (odfilter_check(type, text, &filter, &answer) == ODFILTER_OK) ...
  *     odfilter_free(&filter);
@@ -15,7 +15,7 @@
  * The filter of a URL, and a caret under its fault:
  *
  *     char decoded[4096];
- *     odfilter_room into = {decoded, sizeof decoded};
+ *     odfilter_buffer into = {decoded, sizeof decoded};
  *     uint32_t status = odfilter_check_url(type, query, into, &filter, &answer);
  *     if (status >= ODFILTER_TEXT_FAULT && status <= ODFILTER_TYPE_FAULT && answer.length <= sizeof decoded)
  *         printf("%.*s\n%*s^\n", (int)answer.length, decoded, (int)answer.start, "");
@@ -28,7 +28,7 @@
  * is an empty text, at any address, NULL too. NULL with another length is ODFILTER_NULL, and so is any other address
  * that is NULL: then nothing is looked at and nothing written. A length is less than 2^63.
  *
- * BUFFERS, each an odfilter_room, are the caller's: a call writes a text into one, without a NUL after it. A text is
+ * BUFFERS, each an odfilter_buffer, are the caller's: a call writes a text into one, without a NUL after it. A text is
  * written whole or not at all: where it has more bytes than the buffer, the status is ODFILTER_TOO_SMALL, `length` of
  * the answer is how many are needed, and the buffer is unchanged. A buffer of length 0 at any address that is not NULL
  * asks for the length.
@@ -164,10 +164,10 @@ typedef struct odfilter_bytes {
 } odfilter_bytes;
 
 /* A buffer for a text. */
-typedef struct odfilter_room {
+typedef struct odfilter_buffer {
     char *at;
     size_t length;
-} odfilter_room;
+} odfilter_buffer;
 
 /* What a call reports besides its status. A call writes all of it, whatever the status (but for ODFILTER_NULL): what
  * the call does not report is 0. */
@@ -197,7 +197,7 @@ typedef struct odfilter_answer {
  * Where the buffer is smaller than `length`, none was written (the status stays ODFILTER_SCHEMA_FAULT). Bytes that
  * are not UTF-8 are not JSON: ODFILTER_SCHEMA_NOT_JSON.
  * ODFILTER_NULL: any of the four is. ODFILTER_MEMORY. */
-uint32_t odfilter_read_schema(odfilter_bytes document, odfilter_room names, odfilter_handle **schema,
+uint32_t odfilter_read_schema(odfilter_bytes document, odfilter_buffer names, odfilter_handle **schema,
                               odfilter_answer *answer);
 
 /* Finds the entity type of that name, with its namespace or the alias of that.
@@ -233,15 +233,15 @@ uint32_t odfilter_check_query(const odfilter_handle *type, odfilter_bytes query,
  * ODFILTER_QUERY_FAULT: `fault` and `number`; nothing is written. ODFILTER_NO_FILTER. ODFILTER_NULL: any of the five
  * is. ODFILTER_OTHER_KIND: `type` is not a type. ODFILTER_MEMORY: where the filter was found before, its text and
  * where it stands are reported as above. Never ODFILTER_NOT_UTF8 or ODFILTER_TOO_SMALL. */
-uint32_t odfilter_check_url(const odfilter_handle *type, odfilter_bytes query, odfilter_room text,
+uint32_t odfilter_check_url(const odfilter_handle *type, odfilter_bytes query, odfilter_buffer text,
                             odfilter_handle **filter, odfilter_answer *answer);
 
 /* Writes the filter's canonical text; and what each of its nodes is, a line a node (docs/CLI.md, "explain").
  *
  * ODFILTER_OK: `length` bytes have been written. ODFILTER_TOO_SMALL: `length` are needed. ODFILTER_NULL: any of
  * the three is. ODFILTER_OTHER_KIND: `filter` is not a filter. ODFILTER_MEMORY. */
-uint32_t odfilter_canonical(const odfilter_handle *filter, odfilter_room text, odfilter_answer *answer);
-uint32_t odfilter_explain(const odfilter_handle *filter, odfilter_room text, odfilter_answer *answer);
+uint32_t odfilter_canonical(const odfilter_handle *filter, odfilter_buffer text, odfilter_answer *answer);
+uint32_t odfilter_explain(const odfilter_handle *filter, odfilter_buffer text, odfilter_answer *answer);
 
 /* Reports whether the filter calls now(), so that a judge needs a moment for it.
  *
@@ -261,7 +261,7 @@ uint32_t odfilter_lambda_depth(const odfilter_handle *filter, odfilter_answer *a
  *
  * ODFILTER_OK: `number` paths have been written, `length` bytes. ODFILTER_TOO_SMALL: `length` are needed.
  * ODFILTER_NULL: any of the three is. ODFILTER_OTHER_KIND: `filter` is not a filter. ODFILTER_MEMORY. */
-uint32_t odfilter_property_paths(const odfilter_handle *filter, odfilter_room paths, odfilter_answer *answer);
+uint32_t odfilter_property_paths(const odfilter_handle *filter, odfilter_buffer paths, odfilter_answer *answer);
 
 /* ---- Rows */
 
@@ -318,14 +318,14 @@ uint32_t odfilter_judge_next(odfilter_handle *judge, odfilter_bytes row, odfilte
  * buffer is smaller than that. ODFILTER_MEMORY, ODFILTER_MOMENT_NEEDED: none was. ODFILTER_NULL: any of the five is.
  * ODFILTER_OTHER_KIND. */
 uint32_t odfilter_filter_lines(const odfilter_handle *filter, odfilter_handle *judge, odfilter_bytes rows,
-                               odfilter_room kept, odfilter_answer *answer);
+                               odfilter_buffer kept, odfilter_answer *answer);
 
 /* Writes the path of the value at fault, from the row, as Parts/0/Qty, of the last ODFILTER_ROW_FAULT that this
  * judge reported; no bytes where the last row had no such fault or one without a path.
  *
  * ODFILTER_OK: `length` bytes have been written. ODFILTER_TOO_SMALL. ODFILTER_NULL: any of the three is.
  * ODFILTER_OTHER_KIND: `judge` is not a judge. */
-uint32_t odfilter_path(const odfilter_handle *judge, odfilter_room path, odfilter_answer *answer);
+uint32_t odfilter_path(const odfilter_handle *judge, odfilter_buffer path, odfilter_answer *answer);
 
 /* ---- All handles */
 
@@ -341,9 +341,9 @@ uint32_t odfilter_free(odfilter_handle **handle);
  *
  * ODFILTER_OK: `length` bytes have been written. ODFILTER_TOO_SMALL. ODFILTER_UNKNOWN_NUMBER: there is no such
  * status, or it has no such fault. ODFILTER_NULL: any of the two is. */
-uint32_t odfilter_version(odfilter_room text, odfilter_answer *answer);
-uint32_t odfilter_status_name(uint32_t status, odfilter_room text, odfilter_answer *answer);
-uint32_t odfilter_fault_name(uint32_t status, uint32_t fault, odfilter_room text, odfilter_answer *answer);
+uint32_t odfilter_version(odfilter_buffer text, odfilter_answer *answer);
+uint32_t odfilter_status_name(uint32_t status, odfilter_buffer text, odfilter_answer *answer);
+uint32_t odfilter_fault_name(uint32_t status, uint32_t fault, odfilter_buffer text, odfilter_answer *answer);
 
 /* Writes a sentence for people about a fault: `status` and `fault` are what a call returned and the answer that it
  * wrote, and `text` is what the fault is about: the filter's text (of odfilter_check_url, as that wrote it), the query,
@@ -355,8 +355,8 @@ uint32_t odfilter_fault_name(uint32_t status, uint32_t fault, odfilter_room text
  * ODFILTER_OK: `length` bytes have been written. ODFILTER_TOO_SMALL: `length` are needed. ODFILTER_UNKNOWN_NUMBER:
  * there is no such fault. ODFILTER_NULL: an address other than `type` is. ODFILTER_OTHER_KIND: `type` is not a type.
  * ODFILTER_NOT_UTF8: `text` is none, and the fault is not of a query. ODFILTER_MEMORY. */
-uint32_t odfilter_fault_text(const odfilter_handle *type, uint32_t status, odfilter_bytes text, odfilter_room sentence,
-                             const odfilter_answer *fault, odfilter_answer *answer);
+uint32_t odfilter_fault_text(const odfilter_handle *type, uint32_t status, odfilter_bytes text,
+                             odfilter_buffer sentence, const odfilter_answer *fault, odfilter_answer *answer);
 
 #ifdef __cplusplus
 }

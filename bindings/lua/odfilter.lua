@@ -13,19 +13,19 @@ local ffi = require "ffi"
 ffi.cdef [[
 typedef struct odfilter_handle odfilter_handle;
 typedef struct odfilter_bytes { const char *at; size_t length; } odfilter_bytes;
-typedef struct odfilter_room { char *at; size_t length; } odfilter_room;
+typedef struct odfilter_buffer { char *at; size_t length; } odfilter_buffer;
 typedef struct odfilter_answer {
   uint32_t fault, verdict; size_t start, stop; uint64_t number; size_t length, first; uint64_t rows, kept;
   size_t piece_start, piece_stop, value_start, value_stop;
 } odfilter_answer;
-uint32_t odfilter_read_schema(odfilter_bytes, odfilter_room, odfilter_handle **, odfilter_answer *);
+uint32_t odfilter_read_schema(odfilter_bytes, odfilter_buffer, odfilter_handle **, odfilter_answer *);
 uint32_t odfilter_find_type(const odfilter_handle *, odfilter_bytes, odfilter_handle **);
-uint32_t odfilter_check_url(const odfilter_handle *, odfilter_bytes, odfilter_room, odfilter_handle **,
+uint32_t odfilter_check_url(const odfilter_handle *, odfilter_bytes, odfilter_buffer, odfilter_handle **,
                             odfilter_answer *);
-uint32_t odfilter_canonical(const odfilter_handle *, odfilter_room, odfilter_answer *);
-uint32_t odfilter_fault_name(uint32_t, uint32_t, odfilter_room, odfilter_answer *);
-uint32_t odfilter_fault_text(const odfilter_handle *, uint32_t, odfilter_bytes, odfilter_room, const odfilter_answer *,
-                             odfilter_answer *);
+uint32_t odfilter_canonical(const odfilter_handle *, odfilter_buffer, odfilter_answer *);
+uint32_t odfilter_fault_name(uint32_t, uint32_t, odfilter_buffer, odfilter_answer *);
+uint32_t odfilter_fault_text(const odfilter_handle *, uint32_t, odfilter_bytes, odfilter_buffer,
+                             const odfilter_answer *, odfilter_answer *);
 uint32_t odfilter_free(odfilter_handle **);
 ]]
 
@@ -45,7 +45,7 @@ local function room(least)
   if least > size then
     buffer, size = ffi.new("char[?]", least), least
   end
-  return ffi.new("odfilter_room", buffer, size)
+  return ffi.new("odfilter_buffer", buffer, size)
 end
 
 -- the text that a call writes into the buffer that it is given

@@ -4,13 +4,13 @@
 
 static const odfilter_answer nothing;
 static const odfilter_bytes no_bytes = {NULL, 0}, no_bytes_of_length = {NULL, 5};
-static const odfilter_room no_room = {NULL, 0}, no_room_of_length = {NULL, 64};
+static const odfilter_buffer no_room = {NULL, 0}, no_room_of_length = {NULL, 64};
 
 /* a handle of each kind, in this order */
 enum kind { SCHEMA, TYPE, FILTER_KIND, JUDGE, KINDS };
 static odfilter_handle *handles[KINDS];
 static char names[512];
-static const odfilter_room room = {names, sizeof names};
+static const odfilter_buffer room = {names, sizeof names};
 static odfilter_answer answer;
 
 /* a place where another handle stood: it is written over, and not freed */
@@ -81,7 +81,7 @@ static void nulls_of_checks(void)
 
 static void nulls_of_texts(void)
 {
-    uint32_t (*const calls[])(const odfilter_handle *, odfilter_room,
+    uint32_t (*const calls[])(const odfilter_handle *, odfilter_buffer,
                               odfilter_answer *) = {odfilter_canonical, odfilter_explain, odfilter_path,
                                                     odfilter_property_paths};
     size_t number;
@@ -134,7 +134,7 @@ static void nulls_of_rows(void)
 {
     odfilter_bytes row = bytes_of(ROW);
     odfilter_handle *filter = handles[FILTER_KIND], *judge = handles[JUDGE], *own = new_judge_of(filter);
-    odfilter_room kept = {block(row.length + 1), row.length + 1};
+    odfilter_buffer kept = {block(row.length + 1), row.length + 1};
     is_null("judge: no filter", odfilter_judge(NULL, judge, row, fresh()), 1, NULL);
     is_null("judge: no judge", odfilter_judge(filter, NULL, row, fresh()), 1, NULL);
     is_null("judge: no row", odfilter_judge(filter, judge, no_bytes_of_length, fresh()), 1, NULL);
@@ -162,7 +162,7 @@ static void nulls_of_rows(void)
 static void other_kinds(void)
 {
     odfilter_bytes text = bytes_of("true"), row = bytes_of(ROW);
-    odfilter_room kept = {block(row.length + 1), row.length + 1};
+    odfilter_buffer kept = {block(row.length + 1), row.length + 1};
     odfilter_handle **at, *filter = handles[FILTER_KIND], *judge = handles[JUDGE];
     odfilter_answer syntax = {0};
     int kind;
@@ -213,7 +213,7 @@ static void other_kinds(void)
 /* an empty text, at an address or at none */
 static void empty_texts(odfilter_bytes empty)
 {
-    odfilter_room kept = {block(1), 1};
+    odfilter_buffer kept = {block(1), 1};
     odfilter_handle **at = place(), *own = new_judge_of(handles[FILTER_KIND]);
     odfilter_answer wanted = nothing;
     check("an empty document", odfilter_read_schema(empty, room, at, fresh()) == ODFILTER_SCHEMA_FAULT && !*at);

@@ -80,7 +80,7 @@ static inline odfilter_handle *schema_of(const char *document)
     odfilter_handle *schema = NULL;
     odfilter_bytes bytes = bytes_of(document);
     char names[8];
-    odfilter_room room = {names, sizeof names};
+    odfilter_buffer room = {names, sizeof names};
     check("the schema is read", odfilter_read_schema(bytes, room, &schema, &answer) == ODFILTER_OK);
     drop(bytes);
     return schema;

@@ -28,7 +28,7 @@ static const struct asked cases[] = {
 
 static void paths_at(const odfilter_handle *filter, const struct asked *asked, size_t length)
 {
-    odfilter_room paths = {block(length), length};
+    odfilter_buffer paths = {block(length), length};
     odfilter_answer answer = unwritten(), wanted = {0};
     int is_whole = strlen(asked->paths) <= length;
     wanted.length = strlen(asked->paths);

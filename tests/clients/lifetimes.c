@@ -14,7 +14,7 @@ static void use_type(const odfilter_handle *type)
 static void use_filter(const odfilter_handle *filter)
 {
     char text[32];
-    odfilter_room room = {text, sizeof text};
+    odfilter_buffer room = {text, sizeof text};
     odfilter_answer answer;
     check("the canonical text of a filter whose type may be gone",
           odfilter_canonical(filter, room, &answer) == ODFILTER_OK);

@@ -32,7 +32,7 @@ void *__wrap_realloc(void *at, size_t size)
 
 static odfilter_handle *schema, *type, *filter, *judge, *own, *made;
 static odfilter_bytes document, name, text, query, rows, row;
-static odfilter_room room, names;
+static odfilter_buffer room, names;
 static odfilter_answer answer;
 
 static uint32_t call_read_schema(void)
@@ -127,7 +127,7 @@ static uint32_t judge_next(void)
     return status;
 }
 
-/* the first row of a judge of the filter, and the second, to which the first one's memory is refused or not */
+/* the first row of a judge of the filter, and the second, after an allocation for the first failed or not */
 static uint32_t call_judge_first(void)
 {
     renew_judges();

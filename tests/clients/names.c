@@ -109,7 +109,7 @@ static int is_named(uint32_t returned, const char *room, odfilter_answer answer,
 static void status_at(uint32_t status)
 {
     char at[32];
-    odfilter_room room = {at, sizeof at};
+    odfilter_buffer room = {at, sizeof at};
     odfilter_answer answer = unwritten();
     uint32_t returned = odfilter_status_name(status, room, &answer);
     check("the name of a status", is_named(returned, at, answer, status < STATUSES ? status_names[status] : NULL));
@@ -118,7 +118,7 @@ static void status_at(uint32_t status)
 static void fault_at(uint32_t status, uint32_t fault)
 {
     char at[32];
-    odfilter_room room = {at, sizeof at};
+    odfilter_buffer room = {at, sizeof at};
     odfilter_answer answer = unwritten();
     uint32_t returned = odfilter_fault_name(status, fault, room, &answer);
     int is_known = status < sizeof fault_names / sizeof *fault_names && fault < FAULTS;
@@ -129,7 +129,7 @@ static void fault_at(uint32_t status, uint32_t fault)
 static void sentence_at(const odfilter_handle *type, uint32_t status, uint32_t fault)
 {
     char at[2048];
-    odfilter_room room = {at, sizeof at};
+    odfilter_buffer room = {at, sizeof at};
     odfilter_answer about = {0}, answer = unwritten(), none = {0}, wanted = {0};
     odfilter_bytes text = bytes_of("Foo eq 1");
     int is_known = status < sizeof fault_names / sizeof *fault_names && fault < FAULTS && fault_names[status][fault];
@@ -155,7 +155,7 @@ static void sentence_at(const odfilter_handle *type, uint32_t status, uint32_t f
 static void sentence_of_a_filter(const odfilter_handle *type)
 {
     char at[2048];
-    odfilter_room room = {at, sizeof at - 1};
+    odfilter_buffer room = {at, sizeof at - 1};
     odfilter_answer refusal, answer;
     odfilter_handle *filter = NULL;
     odfilter_bytes text = bytes_of("Foo eq 1");
@@ -170,7 +170,7 @@ static void sentence_of_a_filter(const odfilter_handle *type)
 static void texts_that_are_no_utf8(const odfilter_handle *type)
 {
     char at[2048];
-    odfilter_room room = {at, sizeof at};
+    odfilter_buffer room = {at, sizeof at};
     odfilter_answer about = {0}, answer, none = {0};
     odfilter_bytes text = bytes_of("\xff");
     about.fault = 1;

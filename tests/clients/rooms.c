@@ -4,33 +4,33 @@
 static odfilter_handle *schema, *type, *filter, *judge;
 
 /* the calls that write a text, each with the same arguments */
-static uint32_t canonical(odfilter_room room, odfilter_answer *answer)
+static uint32_t canonical(odfilter_buffer room, odfilter_answer *answer)
 {
     return odfilter_canonical(filter, room, answer);
 }
 
-static uint32_t explain(odfilter_room room, odfilter_answer *answer)
+static uint32_t explain(odfilter_buffer room, odfilter_answer *answer)
 {
     return odfilter_explain(filter, room, answer);
 }
 
-static uint32_t path(odfilter_room room, odfilter_answer *answer)
+static uint32_t path(odfilter_buffer room, odfilter_answer *answer)
 {
     return odfilter_path(judge, room, answer);
 }
 
-static uint32_t status_name(odfilter_room room, odfilter_answer *answer)
+static uint32_t status_name(odfilter_buffer room, odfilter_answer *answer)
 {
     return odfilter_status_name(ODFILTER_SCHEMA_FAULT, room, answer);
 }
 
-static uint32_t fault_name(odfilter_room room, odfilter_answer *answer)
+static uint32_t fault_name(odfilter_buffer room, odfilter_answer *answer)
 {
     return odfilter_fault_name(ODFILTER_ROW_FAULT, ODFILTER_ROW_NULL_NOT_ALLOWED, room, answer);
 }
 
 /* whether room is as `block` made it, from a byte on */
-static int is_untouched(odfilter_room room, size_t from)
+static int is_untouched(odfilter_buffer room, size_t from)
 {
     for (; from < room.length; from++)
         if (room.at[from] != 0x5a)
@@ -39,10 +39,10 @@ static int is_untouched(odfilter_room room, size_t from)
 }
 
 /* a call with room of one length, of a text that is wanted */
-static void at_length(const char *name, uint32_t (*call)(odfilter_room, odfilter_answer *), const char *wanted,
+static void at_length(const char *name, uint32_t (*call)(odfilter_buffer, odfilter_answer *), const char *wanted,
                       size_t length)
 {
-    odfilter_room room = {block(length), length};
+    odfilter_buffer room = {block(length), length};
     odfilter_answer answer = unwritten(), reported = {0};
     uint32_t status = call(room, &answer);
     int is_whole = length >= strlen(wanted);
@@ -54,7 +54,7 @@ static void at_length(const char *name, uint32_t (*call)(odfilter_room, odfilter
     free(room.at);
 }
 
-static void each_length(const char *name, uint32_t (*call)(odfilter_room, odfilter_answer *), const char *wanted)
+static void each_length(const char *name, uint32_t (*call)(odfilter_buffer, odfilter_answer *), const char *wanted)
 {
     size_t length;
     for (length = 0; length <= strlen(wanted) + 1; length++)
@@ -69,7 +69,7 @@ static void names_of_a_fault(void)
     odfilter_bytes document = bytes_of(bad);
     size_t length;
     for (length = 0; length <= strlen(names) + 1; length++) {
-        odfilter_room room = {block(length), length};
+        odfilter_buffer room = {block(length), length};
         odfilter_answer answer = unwritten(), reported = {0};
         odfilter_handle *made = filter;
         int is_whole = length >= strlen(names);
@@ -96,7 +96,7 @@ static void kept_lines(const char *after, uint32_t end, odfilter_answer reported
     rows = bytes_of(lines);
     reported.length = strlen(kept);
     for (length = 0; length <= strlen(kept) + 1; length++) {
-        odfilter_room room = {block(length), length};
+        odfilter_buffer room = {block(length), length};
         odfilter_answer answer = unwritten(), small = {0};
         uint32_t status = odfilter_filter_lines(filter, judge, rows, room, &answer);
         int is_whole = length >= strlen(kept), is_small = !is_whole && end == ODFILTER_OK;

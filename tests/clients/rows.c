@@ -7,7 +7,7 @@ static odfilter_handle *schema, *type, *judge;
 static int is_path(const odfilter_handle *of, const char *path)
 {
     char at[64];
-    odfilter_room room = {at, sizeof at};
+    odfilter_buffer room = {at, sizeof at};
     odfilter_answer answer;
     return odfilter_path(of, room, &answer) == ODFILTER_OK && answer.length == strlen(path) &&
            !memcmp(at, path, answer.length);
@@ -100,10 +100,10 @@ static void beginnings(void)
 static void lines_are(const char *rows, uint32_t status, odfilter_answer wanted, const char *kept, const char *path)
 {
     char at[64];
-    odfilter_room of_path = {at, sizeof at};
+    odfilter_buffer of_path = {at, sizeof at};
     odfilter_handle *filter = filter_of(type, "Active or 1 div ID eq 1");
     odfilter_bytes bytes = bytes_of(rows);
-    odfilter_room room = {block(bytes.length + 1), bytes.length + 1};
+    odfilter_buffer room = {block(bytes.length + 1), bytes.length + 1};
     odfilter_answer answer = unwritten();
     wanted.length = strlen(kept);
     check(rows, odfilter_filter_lines(filter, judge, bytes, room, &answer) == status);
@@ -142,7 +142,7 @@ static void long_lines(void)
     odfilter_handle *filter = filter_of(type, FILTER), *own = new_judge_of(filter);
     for (length = limit; length <= limit + 1; length++) {
         odfilter_bytes row = {memset(block(length), ' ', length), length};
-        odfilter_room room = {block(length + 1), length + 1};
+        odfilter_buffer room = {block(length + 1), length + 1};
         odfilter_answer answer = unwritten(), wanted = at_line(0, 1);
         uint32_t status, of_row;
         memcpy((char *)row.at, ROW, strlen(ROW));
@@ -174,7 +174,7 @@ static int sets(odfilter_handle *of, const char *moment, uint32_t status)
 static void lines_without_moment(const odfilter_handle *filter)
 {
     char at[256];
-    odfilter_room room = {memset(at, 0x5a, sizeof at), sizeof at};
+    odfilter_buffer room = {memset(at, 0x5a, sizeof at), sizeof at};
     odfilter_bytes rows = bytes_of(ROW "\n{\n");
     odfilter_answer answer = unwritten(), wanted = {0};
     check("lines, and no moment", odfilter_filter_lines(filter, judge, rows, room, &answer) == ODFILTER_MOMENT_NEEDED);

@@ -30,7 +30,7 @@ static size_t stack_kib;
 static char row[512];
 static struct text text;
 static odfilter_handle *filter;
-static odfilter_room room;
+static odfilter_buffer room;
 static uint32_t wanted;
 
 static void on_thread(void *(*work)(void *))

@@ -24,7 +24,7 @@ struct held {
     int own_has_moment;
 };
 
-typedef uint32_t (*writer)(const odfilter_handle *, odfilter_room, odfilter_answer *);
+typedef uint32_t (*writer)(const odfilter_handle *, odfilter_buffer, odfilter_answer *);
 
 static void give_up(const char *why, uint32_t status)
 {
@@ -65,7 +65,7 @@ static void add_number(struct text *to, uint64_t number)
 static void add_fault(struct text *to, uint32_t status, uint32_t fault)
 {
     char name[64];
-    odfilter_room room = {name, sizeof name};
+    odfilter_buffer room = {name, sizeof name};
     odfilter_answer answer;
     uint32_t returned = odfilter_fault_name(status, fault, room, &answer);
     if (returned != ODFILTER_OK)
@@ -77,7 +77,7 @@ static void add_fault(struct text *to, uint32_t status, uint32_t fault)
 static void add_written(struct text *to, writer write, const odfilter_handle *handle)
 {
     odfilter_answer answer = {0}, again;
-    odfilter_room room = {block(0), 0};
+    odfilter_buffer room = {block(0), 0};
     uint32_t status = write(handle, room, &answer);
     free(room.at);
     room.at = block(answer.length);
@@ -120,7 +120,7 @@ static void free_filter(struct held *held)
 static void answer_schema(struct held *held, const odfilter_bytes *given, struct text *to)
 {
     odfilter_answer answer;
-    odfilter_room names = {block(0), 0};
+    odfilter_buffer names = {block(0), 0};
     uint32_t status;
     /* what was made of the last schema goes after it: handles may be freed in any order */
     odfilter_free(&held->schema);
@@ -210,7 +210,7 @@ static void answer_query(struct held *held, const odfilter_bytes *given, struct 
 }
 
 /* where the filter's option and its value stand in a whole query, and the filter's text, each on a line */
-static void add_found(struct text *to, const odfilter_answer *answer, odfilter_room text)
+static void add_found(struct text *to, const odfilter_answer *answer, odfilter_buffer text)
 {
     const size_t places[] = {answer->piece_start, answer->piece_stop, answer->value_start, answer->value_stop};
     size_t number;
@@ -225,7 +225,7 @@ static void add_found(struct text *to, const odfilter_answer *answer, odfilter_r
 static void answer_url(struct held *held, const odfilter_bytes *given, struct text *to)
 {
     odfilter_answer answer = {0};
-    odfilter_room text = {block(0), 0};
+    odfilter_buffer text = {block(0), 0};
     uint32_t status;
     free_filter(held);
     odfilter_check_url(held->type, given[0], text, &held->filter, &answer);
@@ -311,7 +311,7 @@ static int is_same_in_lines(struct held *held, odfilter_bytes row, uint32_t stat
     size_t length = 2 * row.length + 2, kept = status == ODFILTER_OK && reported.verdict == ODFILTER_TRUE ? 2 : 0;
     char *lines = block(length);
     odfilter_bytes rows = {lines, length};
-    odfilter_room room = {block(length + 1), length + 1};
+    odfilter_buffer room = {block(length + 1), length + 1};
     odfilter_answer answer;
     int is_same;
     memcpy(lines, row.at, row.length);
@@ -370,7 +370,7 @@ static void answer_lines(struct held *held, const odfilter_bytes *given, struct 
 {
     odfilter_answer answer;
     odfilter_handle *judge = judge_at(held, given[1]);
-    odfilter_room kept = {block(given[0].length + 1), given[0].length + 1};
+    odfilter_buffer kept = {block(given[0].length + 1), given[0].length + 1};
     uint32_t status = odfilter_filter_lines(held->filter, judge, given[0], kept, &answer);
     if (status == ODFILTER_NULL) {
         add_word(to, "nothing");

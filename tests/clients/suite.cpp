@@ -83,13 +83,13 @@ template <typename Call> std::string written(Call call)
 {
     odfilter_answer answer;
     std::unique_ptr<char[]> none(new char[0]);
-    uint32_t status = call(odfilter_room{none.get(), 0}, &answer);
+    uint32_t status = call(odfilter_buffer{none.get(), 0}, &answer);
     if (status == ODFILTER_NULL)
         return "nothing";
     std::unique_ptr<char[]> room(new char[answer.length]);
     std::size_t length = answer.length;
     if (status == ODFILTER_TOO_SMALL)
-        status = call(odfilter_room{room.get(), length}, &answer);
+        status = call(odfilter_buffer{room.get(), length}, &answer);
     if (status != ODFILTER_OK || answer.length != length)
         throw unexpected("a text", status);
     return std::string(room.get(), length);
@@ -98,7 +98,7 @@ template <typename Call> std::string written(Call call)
 std::string fault_name(uint32_t status, uint32_t fault)
 {
     return written(
-        [=](odfilter_room room, odfilter_answer *to) { return odfilter_fault_name(status, fault, room, to); });
+        [=](odfilter_buffer room, odfilter_answer *to) { return odfilter_fault_name(status, fault, room, to); });
 }
 
 /* the answers to questions, by what is held from one to the next */
@@ -129,12 +129,12 @@ class client
     }
 
   private:
-    using writer = uint32_t (*)(const odfilter_handle *, odfilter_room, odfilter_answer *);
+    using writer = uint32_t (*)(const odfilter_handle *, odfilter_buffer, odfilter_answer *);
     using checker = uint32_t (*)(const odfilter_handle *, odfilter_bytes, odfilter_handle **, odfilter_answer *);
 
     static std::string text_of(writer call, const handle &of)
     {
-        return written([&](odfilter_room room, odfilter_answer *to) { return call(of.get(), room, to); });
+        return written([&](odfilter_buffer room, odfilter_answer *to) { return call(of.get(), room, to); });
     }
 
     /* how many names a schema's fault carries, each of which may be empty */
@@ -269,7 +269,7 @@ class client
     {
         odfilter_answer reported;
         std::unique_ptr<char[]> kept(new char[rows.length + 1]);
-        odfilter_room room = {kept.get(), rows.length + 1};
+        odfilter_buffer room = {kept.get(), rows.length + 1};
         uint32_t status = odfilter_filter_lines(filter.get(), judge_at(moment).get(), rows, room, &reported);
         if (status == ODFILTER_NULL)
             return "nothing";

@@ -38,10 +38,11 @@ static int keeps_next(odfilter_handle *judge, const char *row, uint32_t verdict)
 }
 
 /* the texts of the filter that all read */
-static int is_reported(uint32_t (*call)(const odfilter_handle *, odfilter_room, odfilter_answer *), const char *wanted)
+static int is_reported(uint32_t (*call)(const odfilter_handle *, odfilter_buffer, odfilter_answer *),
+                       const char *wanted)
 {
     char text[256];
-    odfilter_room room = {text, sizeof text};
+    odfilter_buffer room = {text, sizeof text};
     odfilter_answer answer;
     return call(filter, room, &answer) == ODFILTER_OK && !memcmp(text, wanted, strlen(wanted));
 }

@@ -52,7 +52,7 @@ static odfilter_answer wanted_of(const struct asked *asked)
 }
 
 /* whether the text stands at the front of a buffer, and what follows is as `block` made it */
-static int is_written(odfilter_room buffer, const char *text)
+static int is_written(odfilter_buffer buffer, const char *text)
 {
     size_t length = strlen(text);
     if (memcmp(buffer.at, text, length))
@@ -65,7 +65,7 @@ static int is_written(odfilter_room buffer, const char *text)
 
 static void at_length(const struct asked *asked, odfilter_bytes query, size_t length)
 {
-    odfilter_room buffer = {block(length), length};
+    odfilter_buffer buffer = {block(length), length};
     odfilter_answer answer = unwritten();
     odfilter_handle *filter = type;
     int is_whole = asked->text && strlen(asked->text) <= length;
@@ -81,7 +81,7 @@ static void at_length(const struct asked *asked, odfilter_bytes query, size_t le
 static void same_as_its_text(const struct asked *asked, odfilter_bytes query)
 {
     char text[64], by_url[64], by_text[64];
-    odfilter_room buffer = {text, sizeof text}, first = {by_url, sizeof by_url}, second = {by_text, sizeof by_text};
+    odfilter_buffer buffer = {text, sizeof text}, first = {by_url, sizeof by_url}, second = {by_text, sizeof by_text};
     odfilter_answer answer, one, other;
     odfilter_handle *filter = NULL, *plain;
     check(asked->query, odfilter_check_url(type, query, buffer, &filter, &answer) == ODFILTER_OK);

@@ -79,7 +79,7 @@ class _Bytes(ctypes.Structure):
     _fields_ = [("at", ctypes.c_char_p), ("length", ctypes.c_size_t)]
 
 
-class _Buffer(ctypes.Structure):
+class _PyBuffer(ctypes.Structure):
     """Where the bytes of a Python object are: the interpreter's own Py_buffer."""
 
     _fields_ = [("at", ctypes.c_void_p), ("owner", ctypes.c_void_p), ("length", ctypes.c_ssize_t)]
@@ -91,7 +91,7 @@ class _BufferBytes(_Bytes):
     """The bytes of a bytearray, a memoryview or an mmap, which stay where they are as long as this is held."""
 
     def __init__(self, given: Any) -> None:
-        self._buffer = _Buffer()
+        self._buffer = _PyBuffer()
         ctypes.pythonapi.PyObject_GetBuffer(ctypes.py_object(given), ctypes.byref(self._buffer), 0)
         super().__init__(ctypes.c_char_p(self._buffer.at), self._buffer.length)
 
@@ -99,7 +99,7 @@ class _BufferBytes(_Bytes):
         release(byref(self._buffer))
 
 
-class _Room(ctypes.Structure):
+class _Buffer(ctypes.Structure):
     """A buffer that a call writes a text into."""
 
     _fields_ = [("at", ctypes.c_void_p), ("length", ctypes.c_size_t)]
@@ -121,30 +121,30 @@ _NUMBER = ctypes.c_uint32
 _COUNT = ctypes.c_uint64
 # the calls of odfilter.h, without odfilter_: what each is given
 _CALLS: dict[str, list[Any]] = {
-    "read_schema": [_Bytes, _Room, _PLACE, _ANSWER],
+    "read_schema": [_Bytes, _Buffer, _PLACE, _ANSWER],
     "find_type": [_HANDLE, _Bytes, _PLACE],
     "check": [_HANDLE, _Bytes, _PLACE, _ANSWER],
     "check_query": [_HANDLE, _Bytes, _PLACE, _ANSWER],
-    "check_url": [_HANDLE, _Bytes, _Room, _PLACE, _ANSWER],
-    "canonical": [_HANDLE, _Room, _ANSWER],
-    "explain": [_HANDLE, _Room, _ANSWER],
+    "check_url": [_HANDLE, _Bytes, _Buffer, _PLACE, _ANSWER],
+    "canonical": [_HANDLE, _Buffer, _ANSWER],
+    "explain": [_HANDLE, _Buffer, _ANSWER],
     "needs_moment": [_HANDLE, _ANSWER],
     "lambda_depth": [_HANDLE, _ANSWER],
     "node_count": [_HANDLE, _ANSWER],
-    "property_paths": [_HANDLE, _Room, _ANSWER],
+    "property_paths": [_HANDLE, _Buffer, _ANSWER],
     "new_judge": [_PLACE],
     "new_judge_of": [_HANDLE, _PLACE],
     "set_moment": [_HANDLE, _Bytes],
     "set_bound": [_HANDLE, _COUNT],
     "judge": [_HANDLE, _HANDLE, _Bytes, _ANSWER],
     "judge_next": [_HANDLE, _Bytes, _ANSWER],
-    "filter_lines": [_HANDLE, _HANDLE, _Bytes, _Room, _ANSWER],
-    "path": [_HANDLE, _Room, _ANSWER],
+    "filter_lines": [_HANDLE, _HANDLE, _Bytes, _Buffer, _ANSWER],
+    "path": [_HANDLE, _Buffer, _ANSWER],
     "free": [_PLACE],
-    "version": [_Room, _ANSWER],
-    "status_name": [_NUMBER, _Room, _ANSWER],
-    "fault_name": [_NUMBER, _NUMBER, _Room, _ANSWER],
-    "fault_text": [_HANDLE, _NUMBER, _Bytes, _Room, _ANSWER, _ANSWER],
+    "version": [_Buffer, _ANSWER],
+    "status_name": [_NUMBER, _Buffer, _ANSWER],
+    "fault_name": [_NUMBER, _NUMBER, _Buffer, _ANSWER],
+    "fault_text": [_HANDLE, _NUMBER, _Bytes, _Buffer, _ANSWER, _ANSWER],
 }
 
 
@@ -192,7 +192,7 @@ class Library:
         """The text that a call writes; `about` is what it is given after the buffer."""
         size = 256
         while True:
-            (room, borrowed), answer = _room_of(size), _Answer()
+            (room, borrowed), answer = _buffer_of(size), _Answer()
             if self._call(name, *given, borrowed, *about, ctypes.byref(answer)) != TOO_SMALL:
                 return room[: answer.length].decode()
             size = answer.length
@@ -209,10 +209,10 @@ class Library:
         return error
 
 
-def _room_of(size: int) -> tuple[bytearray, _Room]:
+def _buffer_of(size: int) -> tuple[bytearray, _Buffer]:
     """A buffer of our own, and as the argument of a call, which must not outlive it."""
     room = bytearray(max(size, 1))
-    return room, _Room(ctypes.addressof(ctypes.c_char.from_buffer(room)), size)
+    return room, _Buffer(ctypes.addressof(ctypes.c_char.from_buffer(room)), size)
 
 
 def _beside() -> str:
@@ -276,7 +276,7 @@ class Schema(_Held):
         library, answer = library or _found(), _Answer()
         borrowed, size = _borrowed(document, "a document"), 256
         while True:
-            room, names = _room_of(size)
+            room, names = _buffer_of(size)
             self._owned = _Owned(library, "read_schema", (borrowed, names), ctypes.byref(answer))
             if self._owned.status == OK:
                 break
@@ -316,7 +316,7 @@ class Type(_Held):
         Raises Refused, QueryRefused, NoFilter.
         """
         borrowed = _borrowed(query, "a query")
-        room, text = _room_of(borrowed.length)
+        room, text = _buffer_of(borrowed.length)
         return Filter(self, "check_url", query, (borrowed, text), lambda answer: room[: answer.length].decode())
 
 
@@ -448,7 +448,7 @@ class Judge(_Held):
         raises MomentNeeded.
         """
         owned, answer, borrowed = self._open(), _Answer(), _borrowed(rows, "rows")
-        room, kept = _room_of(borrowed.length + 1)
+        room, kept = _buffer_of(borrowed.length + 1)
         with self._one_call:
             handles = (self._filter.handle, owned.handle)
             status = owned.library._call("filter_lines", *handles, borrowed, kept, ctypes.byref(answer))

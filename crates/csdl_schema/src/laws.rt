@@ -43,7 +43,7 @@ pub fn bases_end()
         → IsBaseChain types t us → IsBaseChain types t vs → us ≡ vs }
 {}
 
-/// `BaseCycle` by a count: a type has as many bases as there are types exactly if no list is its chain.
+/// `BaseCycle` by a count. A type has as many bases as there are types exactly if no list is its chain.
 pub fn cycles_have_no_chain()
     ensures cycle { (types : List DeclaredType) (n : ℕ) (t : DeclaredType) (bases : List DeclaredType)
         → slice_get types n ≡ Some t → length types ≤ length (bases_of types t) → IsBaseChain types t bases → ⊥ }

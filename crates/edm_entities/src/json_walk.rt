@@ -1,4 +1,4 @@
-//! The walk over a JSON tree beside the slots of a type. The first fault in the order of the slots ends it.
+//! The walk over a JSON tree along the slots of a type. The first fault in the order of the slots ends it.
 ghost use Rattle.std.specs.Prelude.{◌≡◌, [], Bool, false, Some, IsSome, option_map, IfOk, IfErr};
 ghost use Rattle.serde_json.specs.Data.{array};
 ghost use Rattle.serde_json.specs.Find.{as_object};

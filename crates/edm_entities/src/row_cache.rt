@@ -10,12 +10,12 @@ use std::mem;
 /// How deep values are gone through for their memory.
 const DEPTH: usize = 127;
 
-/// How many texts are cached, and for how many bytes each may have room.
+/// How many texts are cached, and the greatest capacity of each, in bytes.
 const TEXTS: usize = 1024;
 
 pub(crate) const TEXT_ROOM: usize = 4096;
 
-/// How many lists are cached, and for how many values each may have room.
+/// How many lists are cached, and the greatest capacity of each, in values.
 const LISTS: usize = 64;
 
 const LIST_ROOM: usize = 1024;
@@ -73,7 +73,7 @@ impl RowCache {
         }
     }
 
-    /// Makes sure that a record stands in a place. What else stood there is let go.
+    /// Makes sure that a slot holds a record. Any other value is dropped.
     #[inline(always)]
     pub(crate) fn begin_record(&mut self, place: &mut Value) {
         if let Value::Record(_) = place {
@@ -83,7 +83,7 @@ impl RowCache {
         *place = Value::Record(self.list());
     }
 
-    /// Makes sure that a list stands in a place, and that it has not much room. What else stood there is let go.
+    /// Makes sure that a slot holds a list of small capacity. Any other value is dropped.
     #[inline(always)]
     pub(crate) fn begin_list(&mut self, place: &mut Value) {
         if let Value::List(old) = place {

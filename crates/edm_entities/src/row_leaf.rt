@@ -1,5 +1,5 @@
 //! Values without parts, from a row's bytes, each read as its type requires. Where a text, a number or a truth value
-//! stood, one is written over it, so that nothing is let go.
+//! stood, one is written over it, so that nothing is dropped.
 ghost use Rattle.std.specs.Prelude.{◌≡◌, ◌≢◌, ◌↔◌, Ok, IsTrue};
 ghost use Rattle.serde_json.specs.Data.{Data, string};
 ghost use Rattle.csdl_schema.specs.ExprType.{ExprType, enumeration, primitive, single};
@@ -22,7 +22,7 @@ use json_tokens::{Scratch, TokenReader};
 /// What became of a single value. What most are is looked for first, and a null where something else came.
 #[derive(Clone, Copy, Drop)]
 pub(crate) enum Leaf {
-    /// It was read, and stands in its place.
+    /// It was read, and stands in its slot.
     Read,
     /// What came is of another kind, and was not read.
     Other,
@@ -30,7 +30,7 @@ pub(crate) enum Leaf {
     Refused,
 }
 
-/// What became of a value that was read, and that was put into its place or not.
+/// What became of a value that was read, and that was put into its slot or not.
 #[inline(always)]
 pub(crate) fn leaf_put(put: bool) -> Leaf
     ensures read { result ≡ Leaf.Read → IsTrue put }
@@ -39,7 +39,7 @@ pub(crate) fn leaf_put(put: bool) -> Leaf
     if put { Leaf::Read } else { Leaf::Refused }
 }
 
-/// Puts a value of a primitive type into its place. What most are, a text, is looked for first.
+/// Puts a value of a primitive type into its slot. What most are, a text, is looked for first.
 #[inline(always)]
 pub(crate) fn take_primitive(
     cache: &mut RowCache,
@@ -137,7 +137,7 @@ fn take_literal(
     leaf_put(put_read(read_text(cache.alloc, wanted, text), place))
 }
 
-/// Puts a value of an enumeration into its place.
+/// Puts a value of an enumeration into its slot.
 #[inline(never)]
 pub(crate) fn take_enumeration(
     scratch: &mut Scratch,

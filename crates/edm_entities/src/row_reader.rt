@@ -113,7 +113,7 @@ impl RowReader {
     }
 }
 
-/// Puts the value of a whole text into its place.
+/// Puts the value of a whole text into its slot.
 fn take_row(
     cache: &mut RowCache,
     context: &ReadContext<'_>,

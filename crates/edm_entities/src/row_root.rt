@@ -152,8 +152,7 @@ fn slot_at<'w>(context: &ReadContext<'_>, plan: &'w TypePlan, slot: usize) -> Ro
     }
 }
 
-/// Puts the value of a slot into its place. A collection that is passed is held to its type, and an empty one stands in
-/// its place.
+/// Puts a value into its slot. Of a collection that is passed, which is held to its type, the slot gets an empty one.
 #[inline(always)]
 fn take_slot(
     cache: &mut RowCache,
@@ -186,7 +185,7 @@ fn empty(cache: &mut RowCache, values: &mut Vec<Value>)
     cache.cut(values, 0);
 }
 
-/// Passes the value of a collection, and puts an empty one into its place. One that is not looked at is held as null.
+/// Passes the value of a collection, and puts an empty one into its slot. One that is not looked at is held as null.
 #[inline(never)]
 fn pass_collection(
     cache: &mut RowCache,

@@ -161,7 +161,7 @@ fn take_named_member(
     }
 }
 
-/// Puts the value of a property into its place. What most are, a single value of a primitive type, is looked for first:
+/// Puts the value of a property into its slot. What most are, a single value of a primitive type, is looked for first:
 /// that saves eight instructions a value.
 #[inline(always)]
 #[cycle(row)]
@@ -234,7 +234,7 @@ fn take_other_property(
     take_single(cache, context, &one, reader, place)
 }
 
-/// Puts a single value, or an item, into its place; null, if it may be, which is looked for last: that saves twenty
+/// Puts a single value, or an item, into its slot; null, if it may be, which is looked for last: that saves twenty
 /// instructions or more an object.
 #[inline(always)]
 #[cycle(row)]
@@ -314,7 +314,7 @@ fn take_null_instead(
     nullable
 }
 
-/// Puts a value of a complex type into its place.
+/// Puts a value of a complex type into its slot.
 #[inline(never)]
 #[cycle(row)]
 fn take_record(
@@ -353,7 +353,7 @@ fn take_record(
     }
 }
 
-/// The values of the record that stands in a place, to be filled there.
+/// The values of the record in a slot, to be filled there.
 #[inline(always)]
 pub(crate) fn record_in(place: &mut Value) -> Option<&mut Vec<Value>>
     ensures* { sem 𝓛 (LendsIf the_row list_row place.entry result Record place.old) }
@@ -365,7 +365,7 @@ pub(crate) fn record_in(place: &mut Value) -> Option<&mut Vec<Value>>
     }
 }
 
-/// Puts the value of an array into its place.
+/// Puts the value of an array into its slot.
 #[inline(never)]
 #[cycle(row)]
 fn take_array(
@@ -399,7 +399,7 @@ fn take_array(
     }
 }
 
-/// The values of the array that stands in a place, to be filled there: to move them out and back took 27 instructions
+/// The values of the array in a slot, to be filled there: to move them out and back took 27 instructions
 /// more an array.
 #[inline(always)]
 pub(crate) fn list_in(place: &mut Value) -> Option<&mut Vec<Value>>
@@ -412,7 +412,7 @@ pub(crate) fn list_in(place: &mut Value) -> Option<&mut Vec<Value>>
     }
 }
 
-/// Whether there is room for a value after so many.
+/// Whether a value may be added after so many.
 #[inline(always)]
 fn has_place(values: &mut Vec<Value>, count: usize) -> bool
     requires { count ≤ length values.old.items }
@@ -422,7 +422,7 @@ fn has_place(values: &mut Vec<Value>, count: usize) -> bool
     count < values.len() || values.push(Value::Null).is_ok()
 }
 
-/// Puts the values of an array's items, in order, into their places.
+/// Puts the values of an array's items, in order, into a list.
 #[cycle(row)]
 fn take_items(
     cache: &mut RowCache,

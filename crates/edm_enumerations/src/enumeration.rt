@@ -42,7 +42,7 @@ impl Enumeration {
         }
     }
 
-    /// Creates an enumeration without members, with room for so many.
+    /// Creates an enumeration without members, with capacity for so many.
     pub fn with_capacity(
         alloc: Global,
         underlying: Prim,

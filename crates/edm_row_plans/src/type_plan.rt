@@ -199,8 +199,8 @@ fn type_plan(
     }
 }
 
-/// The plans of a type and of those that its properties need, the type's own first; fewer where they are too many, or
-/// where an allocation failed.
+/// The plans of a type and of those that its properties need, the type's own first. They are fewer where they are too
+/// many, or where an allocation failed.
 pub fn type_plans(
     alloc: Global,
     schema: &Schema,

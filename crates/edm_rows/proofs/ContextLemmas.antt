@@ -26,7 +26,7 @@ use Rattle.edm_rows.proofs.Places.{ItemsUpTo, array_to, item_and_bracket, item_a
 use Rattle.edm_rows.proofs.RowTypes.{of_single}
 use Rattle.edm_rows.proofs.SeenMembers.{SeenRead, SeenUpTo, seen_brace, seen_comma, seen_empty, seen_none, seen_other, seen_slot}
 
--- the type at the place of a slot's records is that of the plan there
+-- the type at the index of a slot's records is that of the plan there
 pub record IsTypeThere (schema : SchemaModel) (steps : List StepModel) (plans : List TypePlan) (slot : RowSlot) (type : RowType) : Type 0 where
   pub plan : TypePlan
   pub is : IsRowType schema steps plans plan type
@@ -91,7 +91,7 @@ no_items_held context slot depth from bracket within is passed =
 
 -- ---- items one after another
 
--- the items before a place where one may begin are held to the type of a slot's items
+-- the items before an offset where one may begin are held to the type of a slot's items
 abbrev pub HeldUpTo : ReadContext → RowSlot → ℕ → ℕ → ℕ → Type 0
 HeldUpTo context slot depth from place =
     ItemsUpTo depth context.line from place (FitSomeItems (slots_behind_node context slot.node) slot.is_nullable (type_of (kinds_of context.schema.now context.plan.now.plans.items slot) slot.item))
@@ -126,7 +126,7 @@ pub value_behind : (context : ReadContext) (slot : RowSlot) (task : Task) (depth
 value_behind context slot task depth from place to passed value =
     reads_behind depth context.line from place to (IsHeldTo (slots_behind_node context slot.node) (kinds_of context.schema.now context.plan.now.plans.items slot) slot.is_nullable slot.item task) passed value
 
--- the members before a place, of which these slots were seen; the same up to where the value of one ends
+-- the members before an offset, of which these slots were seen; the same up to where the value of one ends
 abbrev pub ContextUpTo : ReadContext → RowType → ℕ → ℕ → ℕ → ℕ → Type 0
 ContextUpTo context type depth from place seen = SeenUpTo (slots_behind_node context type.node) (properties_at context.schema.now type.type_id) depth context.line from place seen
 

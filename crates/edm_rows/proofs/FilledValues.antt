@@ -1,4 +1,4 @@
--- Values that are filled where they are, by the places where their JSON stands.
+-- Values that are filled where they are, by the offsets where their JSON stands.
 use Rattle.std.proofs.Common.{◌≡◌, ℕ, ◌+◌, ◌-◌, ◌<◌, List, [], ◌∷◌, ◌++◌, length, take, slice_set, get_or, Bool, false, true, Option, None, Some, IfSome, Vec, Global, refl, sym, ap, ◌∙◌, subst, arith}
 use Rattle.serde_json.specs.Data.{Data, Items as Jsons, array, no_items, item, null as json_null, object}
 use Rattle.serde_json.specs.Find.{get}
@@ -185,7 +185,7 @@ module _ (context : ReadContext) (slot : RowSlot) where
       let is = of_filled node_slots (kinds_of context.schema.now context.plan.now.plans.items slot) slot.is_nullable slot.item slot.item v json some here in
       (fit_push node_slots slot.is_nullable item_type found items json v fits.0 is.0, holds_push node_slots item_type items v fits.1 is.1)
 
-  -- the first items before a place are those that were read
+  -- the first items before an offset are those that were read
   abbrev pub ListUpTo : ℕ → ℕ → ℕ → List Value → Type 0
   ListUpTo depth from place items = ItemsUpTo depth context.line from place (AreFilled (slots_behind_node context slot.node) slot.is_nullable (type_of (kinds_of context.schema.now context.plan.now.plans.items slot) slot.item) items)
 

@@ -22,7 +22,7 @@ use Rattle.edm_rows.specs.private.RowSlots.{IsRowSlot, IsRowType}
 use Rattle.edm_rows.proofs.Places.{names_behind, names_to, reads_behind}
 use Rattle.edm_rows.proofs.Values.{some_by}
 
--- ---- lists by their places
+-- ---- lists by their indexes
 
 some_there : {X : Type 0} (xs : List X) (k : ℕ) → k < length xs → (x : X) × (slice_get xs k ≡ Some x)
 some_there [] k within = absurd (omega (arith, within))

@@ -1,4 +1,4 @@
--- Values, items and members of a line, by the places between them.
+-- Values, items and members of a line, by the offsets between them.
 use Rattle.std.proofs.Common.{◌≡◌, ◌⊎◌, inl, inr, ℕ, ◌+◌, ◌-◌, ◌<◌, ◌≤◌, List, ◌∷◌, length, drop, get_or, Bool, true, Option, None, Some, IfSome, IsSome, refl, sym, ap, ◌∙◌, subst, arith}
 use Rattle.std.proofs.lemmas.Bool.{false≢true}
 use Rattle.json.specs.Json.{after_end_array, read_key, value as json_value}
@@ -22,7 +22,7 @@ use Rattle.edm_rows.specs.private.Members.{EndsMember, NamesTo}
 pub use Rattle.edm_rows.specs.private.MembersSoFar.{MembersRead, MembersUpTo}
 use Rattle.edm_rows.specs.declared.members.After.{After}
 
--- a turn after which a value may begin is a place where one may
+-- a turn after which a value may begin is an offset where one may
 pub begins_at : (line : List ℕ) (from to : ℕ) (first : Token) (turn : Turn) → may_begin_at turn ≡ true → StandsTo line from first to → EndsHere line to → tokens_at turn line from ≡ first ∷ tokens_at AfterValue line to
 begins_at line from to first turn may stands here = stands.begins (place_of turn) may here
 
@@ -38,7 +38,7 @@ pub reads_to_as : (depth : ℕ) (line : List ℕ) (from to : ℕ) (P Q : Data �
 reads_to_as depth line from to P Q by reads =
     record { bounds = reads.bounds; reads = λ turn may here. reads_as depth (tokens_at turn line from) (tokens_at AfterValue line to) P Q by (reads.reads turn may here) }
 
--- white space before a place
+-- white space before an offset
 pub spaces_at : (turn : Turn) (line : List ℕ) (from to : ℕ) → PassesSpaces line from to → tokens_at turn line to ≡ tokens_at turn line from
 spaces_at turn line from to passed = ap (punctuate (place_of turn)) passed.same
 
@@ -114,7 +114,7 @@ brace_member line end place passed within is =
 
 -- ---- the walk over items and members
 
--- the items before a place where one may begin
+-- the items before an offset where one may begin
 pub record ItemsUpTo (depth : ℕ) (line : List ℕ) (from place : ℕ) (P : Items → Type 0) : Type 0 where
   pub bounds : (from ≤ place) × (place ≤ length line)
   pub turn : Turn
@@ -130,7 +130,7 @@ items_begin depth line from place P passed holds =
       leads = subst (λ ts. ItemsLead depth (tokens_at Fresh line from) ts P) (sym (spaces_at Fresh line from place passed)) (items_start depth (tokens_at Fresh line from) P holds);
     }
 
--- after one item more, whose end a comma or a bracket reports
+-- after one item more, whose end a comma or a bracket shows
 item_read : (depth : ℕ) (line : List ℕ) (from place end : ℕ) (P R : Items → Type 0) (Q : Data → Type 0) → ((found : Items) (d : Data) → P found → Q d → R (append_items found (item d no_items)))
     → (so_far : ItemsUpTo depth line from place P) → ReadsTo depth line place end Q → EndsHere line end → ItemsLead depth (tokens_at Fresh line from) (tokens_at AfterValue line end) R
 item_read depth line from place end P R Q by so_far reads here =

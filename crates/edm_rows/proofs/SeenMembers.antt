@@ -26,7 +26,7 @@ abbrev pub AreMarked : ℕ → List Bool → Type 0
 AreMarked seen filled = (k : ℕ) → bit_at seen k ≡ 1 → get_or filled k false ≡ true
 
 module _ (slots : Slots) (ps : List PropertyModel) (depth : ℕ) (line : List ℕ) (from : ℕ) where
-  -- the members before a place, of which these slots were seen
+  -- the members before an offset, of which these slots were seen
   pub record SeenUpTo (place seen : ℕ) : Type 0 where
     pub filled : List Bool
     pub long : length filled ≡ length ps

@@ -9,7 +9,7 @@ use Rattle.edm_values.specs.declared.sieve.Sieve.{Sieve}
 use Rattle.edm_rows.proofs.KeptMembers.{same_number}
 use Rattle.edm_rows.specs.RowsOfType.{sieve_put, sifted}
 
--- ---- an element is put at a place
+-- ---- an element is put at an index
 
 pub set_past : {X : Type 0} (xs : List X) (n : ℕ) (x : X) → length xs ≤ n → slice_set xs n x ≡ xs
 set_past [] n x past = refl

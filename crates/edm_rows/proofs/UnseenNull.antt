@@ -15,7 +15,7 @@ use Rattle.edm_rows.specs.private.RowSlots.{IsRowSlot, IsRowType}
 use Rattle.edm_rows.proofs.KeptMembers.{bit_none, none_bit, same_number, two_bits}
 use Rattle.edm_rows.proofs.KeptSlots.{conforms_null, slot_stays}
 
--- the slots that were seen stay, and those below a place that were not are null; if each that was not may be absent,
+-- the slots that were seen stay, and those below an index that were not are null; if each that was not may be absent,
 -- values that conform go on to conform
 pub record NullsBelow (seen place : ℕ) (old new : List Value) : Type 0 where
   pub long : length new ≡ length old

@@ -1,4 +1,4 @@
--- Values without parts that are held to their types by the places where they stand.
+-- Values without parts that are held to their types by the offsets where they stand.
 use Rattle.std.proofs.Common.{◌≡◌, ◌≢◌, inl, inr, ℕ, ℤ, pos, ◌<◌, List, Bool, true, Option, None, Some, IfSome, refl, sym, ap, ◌∙◌, subst}
 use Rattle.std.specs.Str.{IsUtf8}
 use Rattle.json.specs.Json.{value as json_value}

@@ -5,7 +5,7 @@ ghost use Rattle.edm_rows.specs.HeldSchema.{schema_in};
 use csdl_schema::Schema;
 use std::sync::Arc;
 
-/// A schema that is borrowed, or one that is shared: what holds it then borrows nothing, and may be stored.
+/// A schema that is borrowed or shared. What holds a shared one borrows nothing, and may be stored.
 #[derive(Drop)]
 pub enum HeldSchema<'s> {
     Borrowed(&'s Schema),

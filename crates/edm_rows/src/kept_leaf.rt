@@ -25,9 +25,9 @@ const TEXT_ROOM: usize = 4096;
 pub(crate) enum Taken {
     /// It was not read.
     Nothing,
-    /// It stands up to that place, and was put into its slot.
+    /// It stands up to that offset, and was put into its slot.
     Put(usize),
-    /// It stands up to that place, and its slot's sieve rejects it.
+    /// It stands up to that offset, and its slot's sieve rejects it.
     Rejected(usize),
     /// It was not read, and what stands in its slot is half written.
     Broken,
@@ -139,7 +139,7 @@ fn put_text(text: &str, value: &mut Value) -> bool
     }
 }
 
-/// Puts a copy of a text into the place of any value.
+/// Puts a copy of a text where any value stands.
 #[inline(never)]
 fn replace_text(alloc: Global, text: &str, value: &mut Value) -> bool
     ensures { IsTrue result → HoldsText value.new text.now }
@@ -172,7 +172,7 @@ pub(crate) fn take_number(
     }
 }
 
-/// Puts a text into the place of any value.
+/// Puts a text where any value stands.
 fn write_text(alloc: Global, text: &str, value: &mut Value) -> bool
     ensures utf8 { IsUtf8 text.now }
     ensures put { IsTrue result → HoldsText value.new text.now }

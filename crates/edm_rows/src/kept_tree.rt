@@ -23,7 +23,7 @@ use edm_values::Value;
 use json_room::{RoomyLine, null_end, past_blanks};
 use spare_values::{fit_count, list_in, record_in};
 
-/// Fills the value of a slot, or an item of it, that stands there; the place after it.
+/// Fills the value of a slot, or an item of it, that stands there; the offset after it.
 #[inline(always)]
 #[cycle(fill)]
 pub(crate) fn fill_value(
@@ -76,7 +76,7 @@ fn fill_sure(
     }
 }
 
-/// The place after a value that was put.
+/// The offset after a value that was put.
 #[inline(always)]
 fn put_end(taken: Taken) -> Option<usize>
     ensures { IfSome result (λ to. taken ≡ Taken.Put to) }
@@ -142,7 +142,7 @@ fn fill_seldom(
     }
 }
 
-/// Passes a value that is not looked at, in whose place null is put.
+/// Passes a value that is not looked at, instead of which null is put.
 fn fill_unseen(
     cache: &mut Cache,
     line: &RoomyLine<'_>,
@@ -159,7 +159,7 @@ fn fill_unseen(
     any_end(line, place, cache.depth, &mut cache.decoded)
 }
 
-/// Puts null into the place of a single value, where it stands in the line and may be.
+/// Puts null for a single value, where it stands in the line and may be.
 fn fill_null(
     cache: &mut Cache,
     line: &RoomyLine<'_>,
@@ -206,7 +206,7 @@ fn fill_leaf(
     }
 }
 
-/// Fills a record with the object that begins there; the place after it.
+/// Fills a record with the object that begins there; the offset after it.
 #[inline(always)]
 #[cycle(fill)]
 fn fill_record(
@@ -242,7 +242,7 @@ fn fill_record(
     end
 }
 
-/// Fills a list with the array that begins there; the place after it.
+/// Fills a list with the array that begins there; the offset after it.
 #[inline(always)]
 #[cycle(fill)]
 fn fill_list(
@@ -272,7 +272,7 @@ fn fill_list(
     end
 }
 
-/// Fills a list with an array's items, up to its bracket; the place after that.
+/// Fills a list with an array's items, up to its bracket; the offset after that.
 #[inline(never)]
 #[cycle(fill)]
 fn fill_items(
@@ -316,7 +316,7 @@ fn fill_items(
     }
 }
 
-/// Fills a record's values with the members of an object, up to its brace; the place after that.
+/// Fills a record's values with the members of an object, up to its brace; the offset after that.
 #[inline(never)]
 #[cycle(fill)]
 fn fill_members(

@@ -131,7 +131,7 @@ impl KnownTexts {
         }
     }
 
-    /// The place after a short text that was found to be one of that enumeration.
+    /// The offset after a short text that was found to be one of that enumeration.
     #[inline(always)]
     pub(crate) fn text_end(
         &self,

@@ -10,7 +10,7 @@ use csdl_schema::{EnumId, Schema};
 use edm_values::{Prim, Value, read_date, read_guid, read_moment};
 use json_room::{DecodeBuffer, RoomyLine, any_text_at};
 
-/// The value of a type that stands there as a literal, and the place after it.
+/// The value of a type that stands there as a literal, and the offset after it.
 pub(crate) fn literal_at(
     buffer: &mut DecodeBuffer,
     line: &RoomyLine<'_>,
@@ -29,7 +29,7 @@ pub(crate) fn literal_at(
     }
 }
 
-/// The number of an enumeration's members that stands there as a text, and the place after it.
+/// The number of an enumeration's members that stands there as a text, and the offset after it.
 pub(crate) fn member_at(
     buffer: &mut DecodeBuffer,
     schema: &Schema,

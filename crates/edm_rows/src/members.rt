@@ -12,14 +12,14 @@ use super::row_types::{RowSlot, RowType};
 use csdl_schema::Schema;
 use json_room::{DecodeBuffer, RoomyLine, any_text_at, past_blanks};
 
-/// A member: its slot and the place of its value; or one without a slot, and the place after its value.
+/// A member: its slot and the offset of its value; or one without a slot, and the offset after its value.
 #[derive(Clone, Copy, Drop)]
 pub(crate) struct Found<'w> {
     pub(crate) slot: Option<&'w RowSlot>,
     pub(crate) place: usize,
 }
 
-/// What stands after a member, and the place after that.
+/// What stands after a member, and the offset after that.
 #[derive(Clone, Copy, Drop)]
 pub(crate) enum After {
     Comma(usize),
@@ -184,7 +184,7 @@ fn named_member(
     Some(end)
 }
 
-/// The slot of the name that stands there, and the place after its colon.
+/// The slot of the name that stands there, and the offset after its colon.
 fn slot_at(
     buffer: &mut DecodeBuffer,
     schema: &Schema,
@@ -218,7 +218,7 @@ fn slot_of(schema: &Schema, plan: &RowType, name: &str) -> usize
     }
 }
 
-/// The place after the members of an object and its brace.
+/// The offset after the members of an object and its brace.
 #[inline(never)]
 #[cycle(pass)]
 pub(crate) fn pass_members(

@@ -16,7 +16,7 @@ use json_room::{
 };
 use json_tokens::number_of_text;
 
-/// The place after a number that has a value.
+/// The offset after a number that has a value.
 #[inline(always)]
 pub(crate) fn any_number_end(line: &RoomyLine<'_>, place: usize) -> Option<usize>
     requires { place ≤ length line.now }
@@ -36,7 +36,7 @@ pub(crate) fn any_number_end(line: &RoomyLine<'_>, place: usize) -> Option<usize
     }
 }
 
-/// The place after a value.
+/// The offset after a value.
 #[inline(never)]
 #[cycle(any)]
 pub(crate) fn any_end(
@@ -69,7 +69,7 @@ pub(crate) fn any_end(
     }
 }
 
-/// The place after an array's items and its bracket.
+/// The offset after an array's items and its bracket.
 #[inline(never)]
 #[cycle(any)]
 fn items_end(
@@ -99,7 +99,7 @@ fn items_end(
     }
 }
 
-/// The place after an object's members and its brace.
+/// The offset after an object's members and its brace.
 #[inline(never)]
 #[cycle(any)]
 fn members_end(
@@ -129,7 +129,7 @@ fn members_end(
     }
 }
 
-/// The place after a member's name, its colon and its value.
+/// The offset after a member's name, its colon and its value.
 #[inline(always)]
 #[cycle(any)]
 fn member_end(

@@ -33,7 +33,7 @@ pub(crate) struct ReadContext<'w> {
     pub(crate) line: RoomyLine<'w>,
 }
 
-/// The place after the value of a slot, or an item of it, that stands there.
+/// The offset after the value of a slot, or an item of it, that stands there.
 #[inline(always)]
 #[cycle(pass)]
 pub(crate) fn value_end(
@@ -91,7 +91,7 @@ fn sure_end(
     }
 }
 
-/// The place after the object that begins there.
+/// The offset after the object that begins there.
 #[inline(always)]
 #[cycle(pass)]
 fn record_end(
@@ -116,7 +116,7 @@ fn record_end(
     end
 }
 
-/// The place after the array that begins there.
+/// The offset after the array that begins there.
 #[inline(always)]
 #[cycle(pass)]
 fn array_end(
@@ -171,7 +171,7 @@ fn other_end(
     seldom_end(cache, context, slot, task, place)
 }
 
-/// The place after null, and after a value that is written as few are.
+/// The offset after null, and after a value that is written as few are.
 fn seldom_end(
     cache: &mut Cache,
     context: &ReadContext<'_>,
@@ -197,7 +197,7 @@ fn seldom_end(
     }
 }
 
-/// The place after a null that may be.
+/// The offset after a null that may be.
 fn nullable_end(line: &RoomyLine<'_>, is_nullable: bool, place: usize) -> Option<usize>
     requires { place ≤ length line.now }
     ensures { (slots : Slots) (type : SingleType) (depth : ℕ) → IfSome result (λ to. ReadsTo depth line.now place to
@@ -210,7 +210,7 @@ fn nullable_end(line: &RoomyLine<'_>, is_nullable: bool, place: usize) -> Option
     }
 }
 
-/// The place after a text with escapes, a number with a sign or of many digits, or a literal or a member's text that
+/// The offset after a text with escapes, a number with a sign or of many digits, or a literal or a member's text that
 /// was not seen at once to be one.
 fn written_end(
     cache: &mut Cache,
@@ -237,7 +237,7 @@ fn written_end(
     }
 }
 
-/// The number of the slot's type that stands there, and the place after it.
+/// The number of the slot's type that stands there, and the offset after it.
 pub(crate) fn typed_number_at(
     line: &RoomyLine<'_>,
     slot: &RowSlot,
@@ -263,7 +263,7 @@ pub(crate) fn typed_number_at(
     }
 }
 
-/// The place after a number of the slot's type.
+/// The offset after a number of the slot's type.
 fn number_end(line: &RoomyLine<'_>, slot: &RowSlot, place: usize) -> Option<usize>
     requires { place ≤ length line.now }
     ensures { (slots : Slots) (depth : ℕ) → IfSome result (λ to. ReadsTo depth line.now place to
@@ -275,7 +275,7 @@ fn number_end(line: &RoomyLine<'_>, slot: &RowSlot, place: usize) -> Option<usiz
     }
 }
 
-/// The place after a text that is a literal of the slot's type.
+/// The offset after a text that is a literal of the slot's type.
 #[inline(never)]
 fn literal_end(
     buffer: &mut DecodeBuffer,
@@ -293,7 +293,7 @@ fn literal_end(
     }
 }
 
-/// The place after a text of the slot's enumeration, which is noted.
+/// The offset after a text of the slot's enumeration, which is noted.
 #[inline(never)]
 fn member_text_end(
     cache: &mut Cache,
@@ -318,7 +318,7 @@ fn member_text_end(
     }
 }
 
-/// The place after an array's items and its bracket.
+/// The offset after an array's items and its bracket.
 #[inline(never)]
 #[cycle(pass)]
 fn items_end(

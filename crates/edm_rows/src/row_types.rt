@@ -28,7 +28,7 @@ pub(crate) const DEPTH: usize = 127;
 /// How many slots a type may have, each with a bit of a word.
 const SLOTS: usize = 64;
 
-/// How many places there are to keep the order of members.
+/// How many entries there are to store the order of members.
 pub(crate) const PLACES: usize = 1024;
 
 /// What a value, or an item, is held to.
@@ -65,7 +65,7 @@ pub(crate) struct RowSlot {
     pub(crate) order: usize,
     /// The node of the expansion after it.
     pub(crate) node: Option<usize>,
-    /// The place of its records' type.
+    /// The index of its records' plan.
     pub(crate) record: usize,
     pub(crate) prim: Prim,
     pub(crate) member_of: Option<EnumId>,
@@ -225,7 +225,7 @@ fn may_be_absent(plan: &SlotPlan) -> bool
     !navigates(&plan.property)
 }
 
-/// The slot of a plan whose index is known; the order of the members after it is kept at a place.
+/// The slot of a plan whose index is known; the order of the members after it is stored at an index.
 fn row_slot(
     alloc: Global,
     plan: &SlotPlan,
@@ -288,7 +288,7 @@ fn all_bits(count: usize) -> u64
     (1 << count) - 1
 }
 
-/// The type of the plan at a place; the order of the members of its objects is kept from another place on.
+/// The type of the plan at an index; the order of the members of its objects is stored from another index on.
 fn row_type(
     alloc: Global,
     schema: &Schema,

@@ -335,7 +335,7 @@ fn reading_of(taken: Taken) -> Reading
     }
 }
 
-/// Whether nothing but white space stands after a place.
+/// Whether nothing but white space stands after an offset.
 #[inline(always)]
 fn ends_line(line: &RoomyLine<'_>, end: usize) -> bool
     requires { end ≤ length line.now }

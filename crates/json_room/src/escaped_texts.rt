@@ -25,7 +25,7 @@ impl DecodeBuffer {
         }
     }
 
-    /// Allocates the memory, unless out of memory. A frame of its own has what is copied there.
+    /// Allocates the memory, unless out of memory. What is copied has a stack frame of its own.
     #[inline(never)]
     fn allocate(&mut self) {
         let _ = self.made.push(Scratch::new(self.alloc));

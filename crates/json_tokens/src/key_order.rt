@@ -3,8 +3,8 @@
 /// How many slots are stored. Two keys may share one; then the other key is tried.
 const PLACES: usize = 1024;
 
-/// The key that came next after each key the last time, by its index among those that are known. Objects are reported
-/// apart by how many keys are known of them.
+/// The key that came next after each key the last time, by its index among those that are known. Objects are
+/// distinguished by how many keys are known of them.
 #[derive(Drop)]
 pub struct KeyOrder {
     next: [usize; PLACES],

@@ -1,7 +1,7 @@
 //! The memory that texts with escapes are decoded into.
 use std::alloc::Global;
 
-/// Room for a text with escapes. One is stored, and each read borrows it.
+/// A buffer for a text with escapes. One is stored, and each read borrows it.
 #[derive(Drop)]
 pub struct Scratch {
     pub(crate) reported: String,

@@ -56,7 +56,7 @@ pub record Passes {X F : Type 0} (sieve : Sieve X F) (items : List X) (text : Li
 abbrev pub Filters : {X F : Type 0} → Items X F → List ℕ → Tally → Type 0
 Filters items text tally = Passes items.sieve items.all text tally
 
--- The item of this number, from 1, is the first at fault, by this class; the text is that of the kept ones before it.
+-- The item of this number, from 1, is the first at fault, with this class; the text is that of the kept ones before it.
 pub record StopsAt {X F : Type 0} (items : Items X F) (text : List ℕ) (number : ℕ)
     (line_class : LineClass F) : Type 0 where
   pub before : List X

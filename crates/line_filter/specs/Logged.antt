@@ -1,4 +1,4 @@
--- A device that keeps what became of its calls.
+-- A device that logs what became of its calls.
 use Rattle.line_filter.specs.declared.call_log.CallLog.{CallLog}
 
 -- the device, and what became of its calls so far

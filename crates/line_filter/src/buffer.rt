@@ -13,7 +13,7 @@ use std::alloc::{AllocError, Global};
 use std::io::Read;
 use std::marker::Model;
 
-/// For how many bytes there is room at first, and the least that the buffer grows by.
+/// How many bytes the buffer has at first, and the least that it grows by.
 const FIRST_ROOM: usize = 32_768;
 
 /// The most bytes that one read is asked for.

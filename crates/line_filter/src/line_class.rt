@@ -9,7 +9,7 @@ use std::alloc::AllocError;
 /// The most bytes that a line may have before its LF.
 pub(crate) const LONGEST_LINE: usize = 1_048_576;
 
-/// The class about an item. A line that is too long or blank is not judged; items of other kinds may all be.
+/// The class of an item. A line that is too long or blank is not judged; items of other kinds may all be.
 #[derive(Debug, Drop)]
 pub enum LineClass<F> {
     TooLong,

@@ -29,8 +29,8 @@ fn put_line(line: &[u8], out: &mut Vec<u8>) -> Result<(), AllocError>
     }
 }
 
-/// What was found of a line, which is put after what a vector holds where it is kept. Out of memory where there is no
-/// room for it.
+/// What was found of a line, which is put after what a vector holds where it is kept. Out of memory where the
+/// vector cannot grow.
 fn put_kept<F: Drop>(
     found: Result<LineClass<F>, AllocError>,
     line: &[u8],

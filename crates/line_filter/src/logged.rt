@@ -1,4 +1,4 @@
-//! Devices that keep what became of their calls. Nothing outside this file can change what is kept.
+//! Devices that log what became of their calls. Nothing outside this file can change that log.
 ghost use Rattle.std.specs.Prelude.{◌≡◌, ◌<◌, length, IfOk, OnErr, OnOk};
 ghost use Rattle.std.specs.Io.{ReadsAtMost, WritesAtMost};
 ghost use Rattle.std.specs.Io.KnownBytes.{Keeps, ReadConsumes, WriteAppends};

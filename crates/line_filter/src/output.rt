@@ -58,7 +58,7 @@ fn make_room<W: Write, T: Writes<W>>(
     Ok(())
 }
 
-/// Holds the bytes back after those that are held, or writes them where memory to hold them cannot be had.
+/// Holds the bytes back after those that are held, or writes them where an allocation fails.
 pub fn hold<W: Write, T: Writes<W>>(
     out: &mut W,
     held: &mut Vec<u8>,

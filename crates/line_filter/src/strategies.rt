@@ -1,4 +1,4 @@
-//! Ways to call devices: any one, those that cannot fail, and those that keep what became of their calls.
+//! Ways to call devices: any one, those that cannot fail, and those that log what became of their calls.
 ghost use Rattle.std.specs.Prelude.{◌≡◌, ◌<◌, length, IfOk, OnErr, OnOk};
 ghost use Rattle.std.specs.Io.{ReadsAtMost, WritesAtMost};
 ghost use Rattle.std.specs.Io.KnownBytes.{Keeps, ReadConsumes, WriteAppends};
@@ -79,7 +79,7 @@ impl Writes<Sink> for Unfailing {
     }
 }
 
-/// The strategy for devices that keep what became of their calls.
+/// The strategy for devices that log what became of their calls.
 #[derive(Debug, Drop)]
 pub struct ByRecord;
 

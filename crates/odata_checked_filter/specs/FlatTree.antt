@@ -6,7 +6,7 @@ use Rattle.odata_signatures.specs.Functions.{row_of}
 use Rattle.odata_checked_filter.specs.declared.checked_node.CheckedNode.{CheckedNode}
 use Rattle.odata_checked_filter.specs.declared.checked_node.NodeKind.{NodeKind}
 
--- the nodes, the values of their literals, and a text beside each node: a literal's spelling, a name (of a lambda
+-- the nodes, the values of their literals, and the text of each node: a literal's spelling, a name (of a lambda
 -- operator that of its variable), else nothing; and the text of the filter, of which these are parts
 pub record FlatTree : Type 0 where
   pub nodes : List CheckedNode

@@ -79,7 +79,7 @@ abbrev pub HasOwnValue : List Value → Slots → Shape → NodeKind → Type 0
 HasOwnValue values slots (literal kind spelling) k = HasValue values (IsValueOf slots kind spelling) k
 HasOwnValue values slots _ k = Unit {0}
 
--- the text beside a node
+-- the text of a node
 abbrev pub text_of_shape : Shape → List ℕ
 text_of_shape (literal kind spelling) = spelling
 text_of_shape (name asked) = asked

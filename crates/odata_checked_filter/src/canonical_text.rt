@@ -48,7 +48,7 @@ pub(crate) fn text_of_list(alloc: Global, list: &NodeList) -> Result<String, All
     Ok(text)
 }
 
-/// Writes a part, or its beginning, and puts the rest on the stack.
+/// Carries out a task, or its beginning, and puts the rest on the stack.
 fn write_task(
     list: &NodeList,
     task: PrintTask,

@@ -5,8 +5,8 @@ use odata_text::Span;
 /// The kind of a node, with what its evaluation needs besides its children.
 #[derive(Clone, Copy, Debug, PartialEq, Eq)]
 pub enum NodeKind {
-    /// A literal, by the index of its value in the list of values. A String literal that is read beside an enumeration
-    /// has a number of that.
+    /// A literal, by the index of its value in the list of values. An enumeration literal without its type has its
+    /// number.
     Literal { kind: LiteralKind, value: usize },
     /// `$it`, the filtered entity.
     It,
@@ -20,8 +20,8 @@ pub enum NodeKind {
     Count,
     /// `any()`, after the slash.
     AnyItem,
-    /// `any(v:..)` or `all(v:..)`, after the slash. What stands before that and its body stand after it, and the name
-    /// of its range variable stands beside it.
+    /// `any(v:..)` or `all(v:..)`, after the slash. What stands before that and its body stand after it, and its text
+    /// is the name of its range variable.
     Lambda { quantifier: Quantifier },
     /// `now()`, the moment of the evaluation.
     Now,

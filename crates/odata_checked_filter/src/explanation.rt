@@ -123,7 +123,7 @@ fn push_between(text: &mut String, kind: NodeKind, beside: &str) -> Result<(), A
     text.push(' ')
 }
 
-/// What a node of that kind is called, by the text beside it.
+/// What a node of that kind is called, by its text.
 fn push_label(text: &mut String, kind: NodeKind, beside: &str) -> Result<(), AllocError>
     ensures { OnOk result (string_bytes text.new ≡ string_bytes text.old ++ kind_label kind beside.now) }
 {

@@ -9,7 +9,7 @@ use odata_signatures::{
 };
 use odata_text::tokens_are_spelled;
 
-/// A law: a list of nodes stands for one tree at most, and that is read off it as `tree_of_nodes` says.
+/// A law: a list of nodes stands for one tree at most. That is the one that `tree_of_nodes` gives.
 pub fn a_list_stands_for_one_tree()
     ensures { OneTree }
 {}

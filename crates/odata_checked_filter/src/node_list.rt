@@ -104,7 +104,7 @@ impl NodeList {
         self.nodes[place]
     }
 
-    /// Returns the text beside a node.
+    /// Returns the text of a node.
     pub fn text(&self, place: usize) -> &str
         requires { place < length self.now.nodes }
         ensures { slice_get self.now.texts place ≡ Some result.now }

@@ -39,7 +39,7 @@ tagged tags = fields (λ asked. if pointwise nat_eq asked (codes "Tags") then pr
 abbrev pub text_and_null : Val
 text_and_null = items (item (text (codes "a")) (item null no_items))
 
--- what a tree of that shape evaluates to there, and nothing else; the places of its nodes do not matter
+-- what a tree of that shape evaluates to there, and nothing else; the positions of its nodes do not matter
 abbrev pub ComesToOn : Val → Shape → Outcome → Type 0
 ComesToOn tags shape outcome =
     (root : List ℕ) (now : MomentParts) (o : Outcome)

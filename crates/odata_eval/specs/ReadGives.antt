@@ -1,4 +1,5 @@
--- What a String literal evaluates to that is read beside an enumeration (OData URL Conventions 4.01, section 5.1.1.1).
+-- What a String literal evaluates to that is read as a literal of an enumeration (OData URL Conventions 4.01, section
+-- 5.1.1.1).
 use Rattle.std.specs.Prelude.{◌≡◌, ◌⊎◌, ℤ}
 use Rattle.edm_values.specs.Val.{member}
 use Rattle.odata_filter_operations.specs.Outcome.{Outcome, gives}

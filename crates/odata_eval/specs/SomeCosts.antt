@@ -9,7 +9,7 @@ use Rattle.odata_syntax.specs.declared.node.Quantifier.{Quantifier}
 use Rattle.odata_eval.specs.ComesToMembers.{is_null, named, null_literal, one_div_zero, over_tags, tagged, tagged_slots}
 use Rattle.odata_eval.specs.Costs.{Costs}
 
--- what a tree of that shape costs where `Tags` has that value; the places of its nodes do not matter
+-- what a tree of that shape costs where `Tags` has that value; the positions of its nodes do not matter
 abbrev pub CostsOnTags : Val → Shape → ℕ → Type 0
 CostsOnTags tags shape cost =
     (root : List ℕ) (now : MomentParts) → Costs tagged_slots root now (tagged tags) [] (node 0 0 shape) cost

@@ -1,5 +1,5 @@
--- Where no String literal is read beside an enumeration, operands evaluate to what they are by themselves (OData URL
--- Conventions 4.01, section 5.1.1.1).
+-- Where no operand is an enumeration literal without its type, operands evaluate to what they are by themselves (OData
+-- URL Conventions 4.01, section 5.1.1.1).
 use Rattle.std.specs.Prelude.{◌↔◌, ℕ, List}
 use Rattle.edm_values.specs.MomentParts.{MomentParts}
 use Rattle.edm_values.specs.Val.{Val}

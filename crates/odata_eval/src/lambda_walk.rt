@@ -1,4 +1,4 @@
-//! The walk where a lambda operator stands: its body is asked of each member, by a context with one frame more.
+//! The walk where a lambda operator stands: its body is asked of each member, by a context with one variable more.
 ghost use Rattle.std.specs.Prelude.{◌≡◌, ◌+◌, ◌↔◌, IsTrue, None, Ok};
 ghost use Rattle.std.specs.List.{AllByRecursion};
 ghost use Rattle.edm_values.specs.Val.{boolean};

@@ -120,8 +120,8 @@ pub fn one_by_one()
     ensures items { ItemsOneByOne }
 {}
 
-/// A law: an operator, `has` and an item of a list evaluate to what their operands alone make. That is where no String
-/// literal of them is read beside an enumeration.
+/// A law: an operator, `has` and an item of a list evaluate to what their operands alone make. That is where none of
+/// them is an enumeration literal without its type.
 pub fn unread_operands_stand_alone()
     ensures operands { OperandsAlone }
     ensures flags { FlagsAlone }

@@ -48,7 +48,7 @@ pub fn slot_sieves(alloc: Global, checked: &Checked<'_>) -> Vec<SlotSieve>
     }
 }
 
-/// The kind of the node in a place of the filter's list, if there is one.
+/// The kind of the node at an index of the filter's list, if there is one.
 fn kind_at(checked: &Checked<'_>, place: usize) -> Option<NodeKind>
     ensures kind { IfSome result (HasKind checked.now.list place) }
     ensures within { IfSome result (λ _. place < length checked.now.list.nodes) }

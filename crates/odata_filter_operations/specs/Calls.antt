@@ -16,7 +16,7 @@ IsArgument ArgumentKind.DateOrMoment (moment m) = IsMoment m.civil m.offset_minu
 IsArgument ArgumentKind.Moment (moment m) = IsMoment m.civil m.offset_minutes
 IsArgument kind _ = ⊥
 
--- each value is of the kind at its place
+-- each value is of the kind at its index
 abbrev pub AreArguments : List ArgumentKind → List Val → Type 0
 AreArguments kinds [] = Unit {0}
 AreArguments [] (v ∷ values) = ⊥

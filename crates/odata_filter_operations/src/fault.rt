@@ -9,7 +9,7 @@ pub enum EvalFault {
     /// A division by zero.
     #[error("DivideByZero")]
     DivideByZero,
-    /// A growth was refused. Only filters that make texts take memory.
+    /// An allocation failed. Only filters that make texts take memory.
     #[error("memory")]
     Memory,
 }

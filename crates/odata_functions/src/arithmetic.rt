@@ -84,7 +84,7 @@ fn quotient(kind: Prim, a: i64, b: i64) -> Result<Option<i64>, ArithFault>
     within(kind, a.checked_div(b))
 }
 
-/// The remainder of that division: zero or of `a`'s sign. Beside -1 it is zero, whatever the quotient.
+/// The remainder of that division: zero or of `a`'s sign. By -1 it is zero, whatever the quotient.
 #[inline(always)]
 fn remainder(kind: Prim, a: i64, b: i64) -> Result<Option<i64>, ArithFault>
     requires promoted { IsPromoted kind }

@@ -22,7 +22,7 @@ IsArgumentType kind (single (enumeration name)) = ⊥
 IsArgumentType kind (single (structured name)) = ⊥
 IsArgumentType kind (collection member) = ⊥
 
--- each argument is of the kind at its place; the last kinds may be left without one
+-- each argument is of the kind at its index; the last kinds may be left without one
 abbrev pub AreArgumentTypes : List ArgumentKind → List ExprType → Type 0
 AreArgumentTypes kinds [] = Unit {0}
 AreArgumentTypes [] (type ∷ types) = ⊥

@@ -109,7 +109,7 @@ QuotingIsText =
     → Typed slots root scope tree type
     → type ≡ string_type
 
--- where no operand of an operator is read beside a value of an enumeration, its reason is OperandTypes
+-- where no operand of an operator is read as a literal of an enumeration, its reason is OperandTypes
 abbrev pub UnreadReason : Type 0
 UnreadReason =
     (slots : Slots) (operator : BinaryOperator) (left right : Side) (code : TypeFaultCode)

@@ -14,7 +14,7 @@ pub record IsQuotedNumber (slots : Slots) (name spelling : List ℕ) (n : ℤ) :
   pub value : IsValueIn (slots.enumerations name) inner n
   pub within : IsOfUnderlying (slots.enumerations name) n
 
--- what an operand quotes is read beside a value of an enumeration, and beside no other
+-- what an operand quotes is read next to a value of an enumeration, and next to no other
 abbrev pub IsReadBeside : ExprType → Option (List ℕ) → Type 0
 IsReadBeside (single (enumeration name)) (Some spelling) = Unit {0}
 IsReadBeside _ _ = ⊥

@@ -22,7 +22,7 @@ NeedSamePaths first second =
 abbrev pub NormalFormsNeedSamePaths : Type 0
 NormalFormsNeedSamePaths = (tree normal : Tree) → IsNormalForm tree normal → NeedSamePaths tree normal
 
--- a tree and itself without its places
+-- a tree and itself without its positions
 abbrev pub PlacesNeedNoPaths : Type 0
 PlacesNeedNoPaths = (tree : Tree) → NeedSamePaths tree (bare tree)
 

@@ -1,4 +1,4 @@
--- Operands that are not read beside a value of an enumeration go by their types (OData URL Conventions 4.01, section
+-- Operands that are not read as literals of an enumeration go by their types (OData URL Conventions 4.01, section
 -- 5.1.1.1).
 use Rattle.std.specs.Prelude.{◌≡◌, ◌↔◌, ℕ, List}
 use Rattle.csdl_schema.specs.ExprType.{ExprType, single, enumeration}

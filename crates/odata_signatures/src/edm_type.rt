@@ -27,7 +27,7 @@ pub enum EdmType {
     Collection(ValueType),
 }
 
-/// The type of the literals `true` and `false`, and of what the logical operators and comparisons give.
+/// The type of `true` and `false`, and of the results of logical operators and comparisons.
 pub const BOOLEAN: EdmType = EdmType::Single(ValueType::Prim(Prim::Bool));
 
 ghost use Rattle.odata_signatures.specs.EdmType.{type_of_many};

@@ -23,8 +23,8 @@ pub fn calls_have_one_type()
         → (t : ExprType) → ¬ CallTyped name types t }
 {}
 
-/// A law: operators, `has` and `in` before a list go by the types of their operands alone. That is where no String
-/// literal is read beside a value of an enumeration; and by these types a String goes with no enumeration.
+/// A law: operators, `has` and `in` before a list go by the types of their operands alone. That is where none is
+/// an enumeration literal without its type; and by these types a String goes with no enumeration.
 pub fn unread_operands_go_by_types()
     ensures operands { OperandsByTypes }
     ensures flags { FlagsByTypes }

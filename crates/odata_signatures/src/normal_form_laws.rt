@@ -23,7 +23,7 @@ use odata_syntax::{canonical_texts_read_back, one_tree};
 use odata_text::{one_list_of_any_length, tokens_are_spelled};
 
 /// A law: a literal's canonical spelling stands for the value of the literal. A tree's normal form and the tree without
-/// its places have the types of the tree, node by node too, and quote what it quotes.
+/// its positions have the types of the tree, node by node too, and quote what it quotes.
 pub fn normal_forms_keep_types()
     ensures values { (slots : Slots) (kind : LiteralKind) (text spelling : List ℕ) (v : Val)
         → IsLiteralSpelling (literal_token kind) text spelling
@@ -47,7 +47,7 @@ pub fn normal_forms_keep_types()
 }
 
 /// A law: the tree of a canonical text has the types of the expression, node by node. It is its normal form but for
-/// places. The canonical text of a text's tree is a filter exactly if the text is one.
+/// positions. The canonical text of a text's tree is a filter exactly if the text is one.
 pub fn canonical_texts_keep_types()
     ensures nodes { (slots : Slots) (root printed : List ℕ) (tree again : Tree)
         → IsExpression tree → IsCanonicalText tree printed → HasTree printed again
@@ -69,7 +69,7 @@ pub fn canonical_texts_keep_types()
 }
 
 /// A law: the tree of a canonical text needs the paths that the expression needs, and no others. So do a tree's normal
-/// form and the tree without its places.
+/// form and the tree without its positions.
 pub fn canonical_texts_need_the_same()
     ensures normal { NormalFormsNeedSamePaths }
     ensures places { PlacesNeedNoPaths }

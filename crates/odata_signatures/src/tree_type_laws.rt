@@ -81,8 +81,8 @@ pub fn quoting_trees_are_texts()
     ensures { QuotingIsText }
 {}
 
-/// A law: the fault of an operator is `OperandTypes` where no operand is read beside an enumeration. It is the reason
-/// why the operator has no type.
+/// A law: where operands go by their types alone, the fault of an operator is `OperandTypes`. That is where none of them
+/// is an enumeration literal without its type, and it is the reason why the operator has no type.
 pub fn unread_operands_have_one_reason()
     ensures { UnreadReason }
 {}

@@ -25,7 +25,7 @@ shape_level (lambda quantifier base variable body) = path_level
 abbrev pub tree_level : Tree → Level
 tree_level (node start stop shape) = shape_level shape
 
--- in parentheses (40 and 41) where its own level is below the one that its place needs
+-- in parentheses (40 and 41) where its own level is below the one that its position needs
 abbrev pub grouped : Level → Level → List ℕ → List ℕ
 grouped needed own text = if nat_lt own needed then 40 ∷ (text ++ 41 ∷ []) else text
 

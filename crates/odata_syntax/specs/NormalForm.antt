@@ -1,4 +1,4 @@
--- The normal form of a tree: which spellings and places it forgets (OData ABNF 4.01, section 7).
+-- The normal form of a tree: which spellings and positions it forgets (OData ABNF 4.01, section 7).
 use Rattle.std.specs.Prelude.{◌≡◌, List, ℕ}
 use Rattle.odata_text.specs.LiteralSpelling.{IsLiteralSpelling}
 use Rattle.odata_text.specs.declared.token.TokenKind.{TokenKind}
@@ -16,7 +16,7 @@ literal_token LiteralKind.Guid = TokenKind.Guid
 literal_token LiteralKind.Str = TokenKind.Str
 literal_token LiteralKind.EnumLit = TokenKind.EnumLit
 
--- the second is the first with each literal in its canonical spelling, and all places kept
+-- the second is the first with each literal in its canonical spelling, and all positions kept
 abbrev mutual
   pub IsNormalForm : Tree → Tree → Type 0
   IsNormalForm (node start stop shape) normal =
@@ -50,7 +50,7 @@ abbrev mutual
   AreNormalForms (more_trees tree trees) others =
       (t : Tree) × (ts : Trees) × IsNormalForm tree t × AreNormalForms trees ts × (others ≡ more_trees t ts)
 
--- a tree without its places
+-- a tree without its positions
 abbrev mutual
   pub bare : Tree → Tree
   bare (node start stop shape) = node 0 0 (bare_shape shape)

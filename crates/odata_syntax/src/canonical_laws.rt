@@ -38,7 +38,7 @@ pub fn canonical_texts_read_back()
     one_list_of_any_length();
 }
 
-/// Two expressions have one canonical text exactly if their normal forms are one but for places.
+/// Two expressions have one canonical text exactly if their normal forms are one but for positions.
 pub fn texts_determine_normal_forms()
     ensures { (a b m n : Tree) (s t : List ℕ) → IsExpression a → IsExpression b
         → IsCanonicalText a s → IsCanonicalText b t → IsNormalForm a m → IsNormalForm b n

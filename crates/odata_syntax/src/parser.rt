@@ -41,7 +41,7 @@ pub use text_parser::{TextOrSyntaxFault, parse_text};
 /// No more parentheses may be open at once.
 const DEPTH_LIMIT: usize = 64;
 
-/// No list begins with more room, in nodes.
+/// The greatest initial capacity of a list, in nodes.
 const ROOM_LIMIT: usize = 1024;
 
 /// Parses the tokens of one text into their tree. `len` is the length of the text in bytes.

@@ -32,8 +32,8 @@ enum PrintTask<'t> {
 }
 
 /// Returns the canonical text of an expression. It has literals in their canonical spellings, words in lower case, and
-/// parentheses only where an operand binds less tightly than its place needs. Pending work is on an explicit stack, so
-/// nothing recurses, however deep the tree is.
+/// parentheses only where an operand binds less tightly than its position needs. Pending work is on an explicit stack,
+/// so nothing recurses, however deep the tree is.
 pub fn print(alloc: Global, expr: &Expr) -> Result<String, AllocError>
     ensures { IfOk result (λ text. IsCanonicalText (tree_of expr.now) (string_bytes text)) }
 {
@@ -49,8 +49,8 @@ pub fn print(alloc: Global, expr: &Expr) -> Result<String, AllocError>
     Ok(text)
 }
 
-/// Writes a part, or its beginning, and puts the rest on the stack: of a node that binds less tightly than needed `(`,
-/// and of further items a comma.
+/// Carries out a task, or its beginning, and puts the rest on the stack: of a node that binds less tightly than needed
+/// `(`, and of further items a comma.
 fn write_task<'t>(
     task: PrintTask<'t>,
     text: &mut String,

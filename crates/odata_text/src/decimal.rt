@@ -36,7 +36,7 @@ fn decimals_length(rest: &[u8]) -> usize
     longer(fraction, longer(exponent_length(rest), both))
 }
 
-/// How many bytes the number with a fraction, an exponent or both at the front takes, 0 if there is none.
+/// How many bytes the number with a fraction or an exponent at the front takes, 0 if there is none.
 pub fn decimal_length(rest: &[u8]) -> usize
     ensures { IsReach IsDecimalSpelling result rest.now }
 {

@@ -130,7 +130,7 @@ fn is_nesting(alloc: Global, piece: &[u8]) -> Result<bool, AllocError>
     )
 }
 
-/// Whether some reader finds a filter in a piece, other than the one that is plainly there if `has_filter` says so.
+/// Whether some reader finds a filter in a piece. One that is plainly there, as `has_filter` says, does not count.
 #[tactic(auto, unfolding(crate::specs::Disguise::is_disguised))]
 pub fn is_disguised(alloc: Global, piece: &[u8], has_filter: bool) -> Result<bool, AllocError>
     requires { has_filter ≡ is_filter piece.now }

@@ -78,7 +78,7 @@ fn left_out_name_length(rest: &[u8]) -> usize
     longer(duration, longer(binary, longer(geography, geometry)))
 }
 
-/// How many bytes the name of a type that is left out and the text in quotes at the front take, 0 if there are none.
+/// How many bytes the name of a left-out type at the front takes with its quoted text, 0 without these.
 pub fn quoted_length(rest: &[u8]) -> usize
     ensures { IsReach (SpellsLeftOut LeftOutKind.Quoted) result rest.now }
 {

@@ -61,7 +61,7 @@ pub(crate) fn checked_operator(
     walk.put_typed(judged, kind, edm_type, TypeFaultCode::OperandTypes)
 }
 
-/// Whether one of two operands of these types may be a String literal that is read beside the other.
+/// Whether one of two operands of these types may be an enumeration literal without its type.
 #[inline(always)]
 fn may_be_read(operator: BinaryOperator, left: &EdmType, right: &EdmType) -> bool
     ensures { (schema : SchemaModel) (l r : Option (List ℕ)) → ¬ IsTrue result

@@ -40,7 +40,7 @@ pub(crate) fn checked_call(context: &CheckContext<'_>, judged: &Judged<'_>, walk
     }
 }
 
-/// The types of the trees from an index up to `stop`, as many as there is room for.
+/// The types of the trees from an index up to `stop`, up to the capacity.
 fn first_types(walk: &Walk, from: usize, stop: usize, types: &mut [EdmType; 4]) -> usize
     requires { (row : List CheckedNode) × AreInRow walk.now.list.nodes row from stop }
     ensures few { result ≤ 4 }

@@ -15,8 +15,8 @@ use odata_syntax::LiteralKind;
 use odata_text::Span;
 use std::alloc::Global;
 
-/// The nodes that have been judged, in their places, and the first fault. The calls that judge return whether to go on:
-/// if not and there is no fault, an allocation failed.
+/// The nodes that have been judged, at their indexes, and the first fault. The calls that judge return whether to go
+/// on: if not and there is no fault, an allocation failed.
 #[derive(Drop)]
 pub(crate) struct Walk {
     pub(crate) list: NodeList,

@@ -21,7 +21,7 @@ use odata_checked_filter::NodeKind;
 use odata_signatures::{EdmType, ValueType};
 use odata_syntax::{NO_NODE, Quantifier, SyntaxKind};
 
-/// Judges the nodes from `from` up to `stop`, which are whole trees, and puts them in their places.
+/// Judges the nodes from `from` up to `stop`, which are whole trees, and puts them at their indexes.
 #[cycle(typing)]
 pub(crate) fn checked_nodes(
     context: &CheckContext<'_>,

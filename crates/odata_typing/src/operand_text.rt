@@ -1,4 +1,4 @@
-//! Which of two operands is a String literal that is read beside an enumeration.
+//! Which of two operands is an enumeration literal without its type.
 ghost use Rattle.csdl_schema.specs.SchemaModel.{slots_of};
 ghost use Rattle.odata_signatures.specs.OperatorTyped.{IsEquality};
 ghost use Rattle.odata_typing.specs.private.OperandTexts.{IsOperandRead, left_side, right_side};
@@ -50,7 +50,7 @@ pub(crate) fn operand_read(
     }
 }
 
-/// The same, of `eq` or `ne`: the right one beside the left one, or else the left one beside the right one.
+/// The same, of `eq` or `ne`: the right one by the type of the left one, or else the left one by that of the right one.
 fn equality_read(
     schema: &Schema,
     operator: BinaryOperator,

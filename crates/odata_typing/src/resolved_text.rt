@@ -10,7 +10,7 @@ ghost use Rattle.odata_signatures.specs.TypeView.{expr_type, single_type};
 use csdl_schema::{EnumId, Schema};
 use odata_signatures::{EdmType, ValueType};
 
-/// The role of an operand beside a value of a type, by what it quotes.
+/// The role of an operand next to a value of a type, by what it quotes.
 #[derive(Clone, Copy)]
 pub(crate) enum ResolvedText {
     /// It is not read: it quotes nothing, or the type is that of no enumeration.
@@ -23,7 +23,7 @@ pub(crate) enum ResolvedText {
 
 ghost use Rattle.odata_typing.specs.private.ResolvedText.{IsRoleBeside};
 
-/// The role of an operand beside a value of this type, by what it quotes.
+/// The role of an operand next to a value of this type, by what it quotes.
 pub(crate) fn number_beside(schema: &Schema, beside: &EdmType, quoted: Option<&str>) -> ResolvedText
     ensures { IsRoleBeside (slots_of schema.now) (expr_type schema.now beside.now)
         (option_map (λ spelling. spelling.now) quoted.entry) result }
@@ -35,7 +35,7 @@ pub(crate) fn number_beside(schema: &Schema, beside: &EdmType, quoted: Option<&s
     }
 }
 
-/// The same, beside a value of that type which is not a collection.
+/// The same, next to a value of that type which is not a collection.
 fn beside_value(schema: &Schema, member: &ValueType, quoted: Option<&str>) -> ResolvedText
     ensures { IsRoleBeside (slots_of schema.now) (single (single_type schema.now member.now))
         (option_map (λ spelling. spelling.now) quoted.entry) result }

@@ -75,7 +75,7 @@ fn is_day(bytes: &[u8], from: usize) -> bool
     are_within(bytes, from, DAY, DAY_SPANS) && is_in_month(bytes, from)
 }
 
-/// The place after a day in its quotes.
+/// The offset after a day in its quotes.
 #[inline(always)]
 pub fn day_end(line: &RoomyLine<'_>, place: usize) -> Option<usize>
     requires { place ≤ length line.now }
@@ -101,7 +101,7 @@ fn are_minutes(bytes: &[u8], from: usize) -> bool
     two(bytes[from + 11], bytes[from + 12]) < 24
 }
 
-/// The place after a point and at most nine digits, or the same place where no point stands.
+/// The offset after a point and at most nine digits, or the same offset where no point stands.
 #[inline(always)]
 fn fraction_end(bytes: &[u8], from: usize) -> Option<usize>
     requires { from + 10 ≤ length bytes.now }
@@ -117,7 +117,7 @@ fn fraction_end(bytes: &[u8], from: usize) -> Option<usize>
     if place == from + 1 { None } else { Some(place) }
 }
 
-/// The place after an offset.
+/// The offset after an offset.
 #[inline(always)]
 fn offset_end(bytes: &[u8], from: usize) -> Option<usize>
     requires { from + 6 ≤ length bytes.now }
@@ -159,7 +159,7 @@ fn is_digit_pair(bytes: &[u8], from: usize) -> bool
     bytes[from].is_ascii_digit() && bytes[from + 1].is_ascii_digit()
 }
 
-/// The place after a moment in its quotes.
+/// The offset after a moment in its quotes.
 #[inline(always)]
 pub fn moment_end(line: &RoomyLine<'_>, place: usize) -> Option<usize>
     requires { place ≤ length line.now }
@@ -215,7 +215,7 @@ fn is_guid(bytes: &[u8], from: usize) -> bool
     bytes[from + 23] == b'-'
 }
 
-/// The place after a Guid in its quotes.
+/// The offset after a Guid in its quotes.
 #[inline(always)]
 pub fn guid_end(line: &RoomyLine<'_>, place: usize) -> Option<usize>
     requires { place ≤ length line.now }

@@ -1,4 +1,4 @@
-//! Values of rows that are filled again: what no row holds any more is kept, and what stands in a place is written
+//! Values of rows that are filled again: what no row holds any more is stored, and the value of a slot is written
 //! over.
 #![tactic(auto)]
 

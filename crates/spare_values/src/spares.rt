@@ -8,10 +8,10 @@ use std::mem;
 /// How many records of a type are kept, and how many texts.
 const SPARES: usize = 64;
 
-/// For how many values a list that is filled again may have room.
+/// The greatest capacity of a list that is filled again, in values.
 const LIST_ROOM: usize = 1024;
 
-/// For how many bytes a text within a value that is kept may have room, and for how many values a list.
+/// The greatest capacity of a text within a stored value, in bytes, and of a list, in values.
 const SMALL_TEXT: usize = 4096;
 
 const SMALL_LIST: usize = 64;
@@ -31,7 +31,7 @@ pub enum Spare {
 #[derive(Drop)]
 pub struct Spares {
     alloc: Global,
-    /// Records, by the place of their type.
+    /// Records, by the index of their type.
     records: Vec<Vec<Value>>,
     texts: Vec<Value>,
 }
@@ -46,7 +46,7 @@ impl Spares {
         }
     }
 
-    /// A record of the type at a place, if one is kept; else null.
+    /// A record of the type at an index, if one is stored; else null.
     fn record(&mut self, place: usize) -> Value {
         if place >= self.records.len() {
             return Value::Null;
@@ -69,7 +69,7 @@ impl Spares {
         }
     }
 
-    /// Whether records of the type at a place may be kept.
+    /// Whether records of the type at an index may be stored.
     fn has_place(&mut self, place: usize) -> bool
         ensures { IsTrue result → place < length self.new.records.items }
     {
@@ -81,7 +81,7 @@ impl Spares {
         true
     }
 
-    /// Keeps a record of the type at a place.
+    /// Stores a record of the type at an index.
     fn keep_record(&mut self, place: usize, record: Value) {
         if !is_small(&record, SMALL_DEPTH) || !self.has_place(place) {
             return;
@@ -104,7 +104,7 @@ impl Spares {
         }
     }
 
-    /// Puts null into a place; what stood there is kept.
+    /// Puts null into a slot; its value is stored.
     #[inline(never)]
     pub fn put_null(&mut self, spare: Spare, value: &mut Value)
         ensures { value.new ≡ Value.Null }
@@ -113,7 +113,7 @@ impl Spares {
         self.keep(spare, old);
     }
 
-    /// Makes sure that a record stands in a place.
+    /// Makes sure that a slot holds a record.
     #[inline(always)]
     pub fn begin_record(&mut self, spare: Spare, value: &mut Value) {
         if let Value::Record(_) = value {
@@ -130,7 +130,7 @@ impl Spares {
         };
     }
 
-    /// Makes sure that a list stands in a place, and that it has not much room.
+    /// Makes sure that a slot holds a list of small capacity.
     #[inline(always)]
     pub fn begin_list(&mut self, value: &mut Value) {
         if let Value::List(old) = value {

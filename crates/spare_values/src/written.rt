@@ -7,7 +7,7 @@ ghost use Rattle.spare_values.specs.private.Written.{list_row};
 
 use edm_values::Value;
 
-/// Puts a number into a place.
+/// Puts a number into a slot.
 #[inline(always)]
 pub fn put_number(number: i64, value: &mut Value)
     ensures { value.new ≡ Value.Int number }
@@ -25,7 +25,7 @@ fn replace_number(number: i64, value: &mut Value)
     *value = Value::Int(number);
 }
 
-/// Puts a truth value into a place.
+/// Puts a truth value into a slot.
 #[inline(always)]
 pub fn put_truth(truth: bool, value: &mut Value)
     ensures { value.new ≡ Value.Bool truth }
@@ -43,7 +43,7 @@ fn replace_truth(truth: bool, value: &mut Value)
     *value = Value::Bool(truth);
 }
 
-/// The values of the record that stands in a place, to be filled there.
+/// The values of the record in a slot, to be filled there.
 #[inline(always)]
 pub fn record_in(value: &mut Value) -> Option<&mut Vec<Value>>
     ensures* { sem 𝓛 (LendsIf the_row list_row value.entry result RecordOf value.old) }
@@ -55,7 +55,7 @@ pub fn record_in(value: &mut Value) -> Option<&mut Vec<Value>>
     }
 }
 
-/// The items of the list that stands in a place, to be filled there.
+/// The items of the list in a slot, to be filled there.
 #[inline(always)]
 pub fn list_in(value: &mut Value) -> Option<&mut Vec<Value>>
     ensures* { sem 𝓛 (LendsIf the_row list_row value.entry result ListOf value.old) }

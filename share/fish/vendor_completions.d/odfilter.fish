@@ -11,4 +11,4 @@ complete -c odfilter -n '__fish_seen_subcommand_from check explain filter' -l qu
 complete -c odfilter -n '__fish_seen_subcommand_from check explain filter' -l help -s h -d 'Print help'
 complete -c odfilter -n '__fish_seen_subcommand_from filter' -l rows -r -F -d 'Rows, one JSON object a line; else standard input'
 complete -c odfilter -n '__fish_seen_subcommand_from filter' -l now -x -d 'What now() stands for, as 2020-01-01T00:00:00Z; needed by a filter that calls it'
-complete -c odfilter -n '__fish_seen_subcommand_from filter' -l collection -d 'The rows are the array `value` of one JSON object; the places of the kept ones are written'
+complete -c odfilter -n '__fish_seen_subcommand_from filter' -l collection -d 'The rows are the array `value` of one JSON object; the indexes of the kept ones are written'

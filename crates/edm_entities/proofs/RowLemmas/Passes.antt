@@ -39,7 +39,7 @@ use Rattle.edm_entities.proofs.SlotLemmas.FoundWalk.{items_null}
 
 -- ---- values without parts
 
--- a value that was put into a place is some value
+-- a value that was put into a slot is some value
 pub leaf_some : (slots : Slots) (type : ExprType) (tokens rest : List Token) (v : Value) → ReadsLeaf tokens rest (FitsHoweverNullable slots type v) → ReadsLeaf tokens rest (FitsSomeHowever slots type)
 leaf_some slots type tokens rest v leaf = record { json = leaf.json; is_read = leaf.is_read; holds = λ nullable. (val_of v slots.properties type, leaf.holds nullable) }
 

@@ -24,7 +24,7 @@ decreases-passed_value::record_end l = 8 * l.cache.now.depth + 1
 abbrev pub decreases-passed_value::array_end : goal.decreases-passed_value::array_end
 decreases-passed_value::array_end l = 8 * l.cache.now.depth + 1
 
--- some values fit the items before the place
+-- some values fit the items before the offset
 abbrev pub invariant-passed_value::items_end-items : goal.invariant-passed_value::items_end-items
 invariant-passed_value::items_end-items l =
     (l.cache.depth ≡ l.initial.cache.depth) × HeldUpTo l.context l.slot l.initial.cache.depth l.from l.place

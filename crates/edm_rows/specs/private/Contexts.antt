@@ -27,14 +27,14 @@ IsContext context =
 abbrev pub slots_behind_node : ReadContext → Option ℕ → Slots
 slots_behind_node context node = slots_at context.schema.now context.plan.now.expansion node
 
--- a slot's value, or an item of it, stands from one place to the other, nested no deeper than that, and is held to the
+-- a slot's value, or an item of it, stands from one offset to the other, nested no deeper than that, and is held to the
 -- task
 abbrev pub PassesValue : ReadContext → RowSlot → Task → ℕ → ℕ → ℕ → Type 0
 PassesValue context slot task depth from to =
     ReadsTo depth context.line from to (IsHeldTo (slots_behind_node context slot.node)
     (kinds_of context.schema.now context.plan.now.plans.items slot) slot.is_nullable slot.item task)
 
--- after an opening bracket the items of a slot's array stand from one place to the other, with the closing one
+-- after an opening bracket the items of a slot's array stand from one offset to the other, with the closing one
 abbrev pub PassesItems : ReadContext → RowSlot → ℕ → ℕ → ℕ → Type 0
 PassesItems context slot depth from to =
     PassesTo context.line from to
@@ -42,7 +42,7 @@ PassesItems context slot depth from to =
     (FitSomeItems (slots_behind_node context slot.node) slot.is_nullable
     (type_of (kinds_of context.schema.now context.plan.now.plans.items slot) slot.item))
 
--- after an opening brace the members of an object of a type stand from one place to the other, with the closing one
+-- after an opening brace the members of an object of a type stand from one offset to the other, with the closing one
 abbrev pub PassesMembers : ReadContext → RowType → ℕ → ℕ → ℕ → Type 0
 PassesMembers context type depth from to =
     PassesTo context.line from to
@@ -50,8 +50,8 @@ PassesMembers context type depth from to =
     (λ found. FitSomeSlots (slots_behind_node context type.node) (properties_at context.schema.now type.type_id)
     (object found))
 
--- the next member of an object of a type: the slot of its name, which is one of the type's, and the place of its value;
--- or a name that no slot has, and the place after the value
+-- the next member of an object of a type: the slot of its name, which is one of the type's, and the offset of its
+-- value; or a name that no slot has, and the offset after the value
 abbrev pub FindsSlot : ReadContext → RowType → ℕ → ℕ → Option RowSlot → ℕ → Type 0
 FindsSlot context type depth from (Some slot) to =
     (index : ℕ) × (slice_get type.slots.items index ≡ Some slot)

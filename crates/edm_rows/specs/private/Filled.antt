@@ -29,7 +29,7 @@ IsFilledIn context slot task value json =
     FilledAs (slots_behind_node context slot.node) (kinds_of context.schema.now context.plan.now.plans.items slot)
     slot.is_nullable slot.item task value json
 
--- a slot's value, or an item of it, stands from one place to the other, nested no deeper than that, and is the value;
+-- a slot's value, or an item of it, stands from one offset to the other, nested no deeper than that, and is the value;
 -- which is that of some JSON, whether or not it may end there
 abbrev pub FillsValue : ReadContext → RowSlot → Task → ℕ → Value → ℕ → ℕ → Type 0
 FillsValue context slot task depth value from to =
@@ -41,8 +41,8 @@ abbrev pub AreFilled : Slots → Bool → SingleType → List Value → Items �
 AreFilled slots nullable type values jsons =
     FitList slots nullable type jsons values × HoldInItems slots type values
 
--- after an opening bracket the items of a slot's array stand from one place to the other, with the closing one, and are
--- the values
+-- after an opening bracket the items of a slot's array stand from one offset to the other, with the closing one, and
+-- are the values
 abbrev pub FillsItems : ReadContext → RowSlot → ℕ → List Value → ℕ → ℕ → Type 0
 FillsItems context slot depth values from to =
     PassesTo context.line from to
@@ -50,7 +50,7 @@ FillsItems context slot depth values from to =
     (AreFilled (slots_behind_node context slot.node) slot.is_nullable
     (type_of (kinds_of context.schema.now context.plan.now.plans.items slot) slot.item) values)
 
--- after an opening brace the members of an object of a type stand from one place to the other, with the closing one,
+-- after an opening brace the members of an object of a type stand from one offset to the other, with the closing one,
 -- and the values fit them
 abbrev pub FillsMembers : ReadContext → RowType → ℕ → List Value → ℕ → ℕ → Type 0
 FillsMembers context type depth values from to =
@@ -61,7 +61,7 @@ FillsMembers context type depth values from to =
 
 -- ---- while the members are read
 
--- the members before a place, of which these slots were seen; and up to where the value of one ends
+-- the members before an offset, of which these slots were seen; and up to where the value of one ends
 pub record FilledUpTo (context : ReadContext) (type : RowType) (depth from place seen : ℕ)
     (values : List Value) : Type 0 where
   pub filled : List Bool

@@ -19,7 +19,7 @@ use Rattle.edm_entities.specs.private.RowTokens.{FitsNullable, Reads}
 use Rattle.edm_rows.specs.declared.row_types.Task.{Task}
 use Rattle.edm_rows.specs.declared.row_types.Task.TheVariants.{Text, Number, Truth, Date, Moment, Guid, Member, Record, Items, Any}
 
--- what a slot says of its values beside its task: the type of its numbers and literals, the name of its enumeration,
+-- what a slot says of its values besides its task: the type of its numbers and literals, the name of its enumeration,
 -- and the name of its records' type
 pub record Kinds : Type 0 where
   pub primitive : PrimitiveType
@@ -60,14 +60,14 @@ FilledAs slots kinds nullable inner Items value json =
 FilledAs slots kinds nullable inner task value json =
     IsFilled slots nullable nullable (single (type_of kinds task)) value json
 
--- a value stands in a line from one place, where one may begin, to the other, if it may end there, nested no deeper
+-- a value stands in a line from one offset, where one may begin, to the other, if it may end there, nested no deeper
 -- than that, and P holds of it
 pub record ReadsTo (depth : ℕ) (line : List ℕ) (from to : ℕ) (P : Data → Type 0) : Type 0 where
   pub bounds : (from < to) × (to ≤ length line)
   pub reads : (turn : Turn) → may_begin_at turn ≡ true → EndsHere line to
       → Reads depth (tokens_at turn line from) (tokens_at AfterValue line to) P
 
--- from one place on, after an opening bracket or brace, up to the other
+-- from one offset on, after an opening bracket or brace, up to the other
 abbrev pub PassesTo : List ℕ → ℕ → ℕ → Type 0
 PassesTo line from to = (from < to) × (to ≤ length line)
 

@@ -19,13 +19,13 @@ use Rattle.edm_rows.specs.private.Held.{ReadsTo}
 abbrev pub IsLeafOf : SingleType → Value → Type 0
 IsLeafOf type value = (json : Data) × ((slots : Slots) → FitsHoweverNullable slots (single type) value json)
 
--- a value of that type stands from one place to the other
+-- a value of that type stands from one offset to the other
 abbrev pub PutsLeaf : List ℕ → SingleType → Value → ℕ → ℕ → Type 0
 PutsLeaf line type value from to =
     IsLeafOf type value
     × ((slots : Slots) (depth : ℕ) → ReadsTo depth line from to (FitsHoweverNullable slots (single type) value))
 
--- a value of the enumeration of that name stands from one place to the other
+-- a value of the enumeration of that name stands from one offset to the other
 abbrev pub PutsMember : List ℕ → Slots → List ℕ → Value → ℕ → ℕ → Type 0
 PutsMember line slots name value from to =
     ((json : Data) × FitsHoweverNullable slots (single (enumeration name)) value json)
@@ -40,7 +40,7 @@ IsLeafRejected slots type sieve json =
     → Rejects sieve value)
 
 -- what became of a value: where it was not read the old one stays, or is half written; one of that type stands from one
--- place to another, and is the new one; or it is rejected, and the old one stays
+-- offset to another, and is the new one; or it is rejected, and the old one stays
 abbrev pub TakesLeaf : List ℕ → SingleType → Sieve → Value → Value → ℕ → Taken → Type 0
 TakesLeaf line type sieve old new from Nothing = new ≡ old
 TakesLeaf line type sieve old new from Broken = Unit {0}

@@ -84,7 +84,7 @@ IsRejectedIn context slot sieve json =
     → OfSlotProperty context slot (λ slots p. FitsProperty slots p.nullable p.type_of (Some json) held
     → (value : Val) × (held ≡ present value) × Rejects sieve value))
 
--- what became of a slot's value: it stands from one place to another, and is the new one; or it is rejected, and the
+-- what became of a slot's value: it stands from one offset to another, and is the new one; or it is rejected, and the
 -- old one stays
 abbrev pub TakesValue : ReadContext → RowSlot → ℕ → Value → Value → ℕ → Taken → Type 0
 TakesValue context slot depth old new from Nothing = Unit {0}
@@ -124,7 +124,7 @@ TakesFound context type is_left_out values found =
     (FitSlotsBut (root_slots context) (names_unkept_in (root_properties context) type.slots.items) (object found)
     (root_properties context) values)
 
--- after an opening brace the members of a row stand from one place to the other, with the closing one
+-- after an opening brace the members of a row stand from one offset to the other, with the closing one
 abbrev pub ReadsRow : ReadContext → RowType → Bool → List Value → ℕ → ℕ → Type 0
 ReadsRow context type is_left_out values from to =
     PassesTo context.line from to

@@ -41,7 +41,7 @@ SoFar context rows is_left_out seen filled values found =
     (SlotsSoFarBut (root_slots context) (names_unkept_in (root_properties context) rows)
     (root_properties context) found filled values)
 
--- the members before a place, of which these slots were seen; and up to where the value of one ends
+-- the members before an offset, of which these slots were seen; and up to where the value of one ends
 pub record KeptUpTo
     (context : ReadContext) (rows : List RowSlot) (from place seen : ℕ) (is_left_out : Bool)
     (values : List Value) : Type 0 where
@@ -74,7 +74,7 @@ StepsTo context type from values (Rejected read) = IsReadTo context type true fr
 StepsTo context type from values Nothing = Unit {0}
 StepsTo context type from values Broken = Unit {0}
 
--- a member that was read ends after that place
+-- a member that was read ends after that offset
 abbrev pub StepsFrom : ℕ → Step → Type 0
 StepsFrom place (Read read) = (place < read.place) × (read.order < 1024)
 StepsFrom place (Rejected read) = (place < read.place) × (read.order < 1024)

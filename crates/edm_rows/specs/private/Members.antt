@@ -1,4 +1,4 @@
--- For private clauses: the members of an object in a line, from one place to the other.
+-- For private clauses: the members of an object in a line, from one offset to the other.
 use Rattle.std.specs.Prelude.{◌≡◌, ◌≢◌, ◌⊎◌, ℕ, ◌<◌, ◌≤◌, List, length, map, slice_get, true, None, Some}
 use Rattle.std.specs.List.{AllByRecursion}
 use Rattle.json.specs.Json.{read_key}
@@ -10,7 +10,7 @@ use Rattle.json_room.specs.Lexemes.{EndsHere, tokens_at}
 use Rattle.edm_rows.specs.declared.members.After.{After}
 use Rattle.edm_rows.specs.private.Held.{ReadsTo}
 
--- from one place to the other, where a member may begin, stand a name and its colon
+-- from one offset to the other, where a member may begin, stand a name and its colon
 pub record NamesTo (line : List ℕ) (from : ℕ) (name : List ℕ) (to : ℕ) : Type 0 where
   pub bounds : (from < to) × (to ≤ length line)
   pub reads : (turn : Turn) → may_begin_at turn ≡ true
@@ -49,7 +49,7 @@ abbrev pub FindsName : List ℕ → List PropertyModel → ℕ → ℕ → ℕ �
 FindsName line properties slot from to =
     (name : List ℕ) × NamesTo line from name to × IsSlotOfName properties name slot
 
--- where a member's value ends at a place, a comma or a brace is passed up to the other
+-- where a member's value ends at an offset, a comma or a brace is passed up to the other
 abbrev pub EndsMember : List ℕ → ℕ → After → Type 0
 EndsMember line end (After.Comma next) =
     (end < next) × (next ≤ length line) × EndsHere line end

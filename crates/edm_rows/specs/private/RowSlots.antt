@@ -29,11 +29,11 @@ abbrev pub name_at : SchemaModel → Option ℕ → List ℕ
 name_at schema None = []
 name_at schema (Some id) = type_name_at schema id
 
--- the type of the plan at a place
+-- the type of the plan at an index
 abbrev pub id_at : List TypePlan → ℕ → Option ℕ
 id_at plans place = slice_get (map (λ p. p.type_id) plans) place
 
--- what a slot says of its values beside its task
+-- what a slot says of its values besides its task
 abbrev pub kinds_of : SchemaModel → List TypePlan → RowSlot → Kinds
 kinds_of schema plans slot = record {
   primitive = slot.prim;
@@ -46,7 +46,7 @@ abbrev pub IsSlotHeld : SchemaModel → List StepModel → List TypePlan → Row
 IsSlotHeld schema steps plans slot json =
     IsHeldTo (slots_at schema steps slot.node) (kinds_of schema plans slot) slot.is_nullable slot.item slot.task json
 
--- the plan at the place of its records is one of these, and is after the slot's node
+-- the plan at the index of its records' plan is one of these, and is after the slot's node
 pub record LeadsTo (plans : List TypePlan) (slot : RowSlot) : Type 0 where
   pub within : slot.record < length plans
   pub behind : IfSome (slice_get plans slot.record) (λ p. p.node ≡ slot.node)
@@ -61,7 +61,7 @@ HasPrimitive type count Moment = type ≡ prim.DateTimeOffset
 HasPrimitive type count Guid = type ≡ prim.Guid
 HasPrimitive type count _ = Unit {0}
 
--- what a slot says of its values, or of its items, beside their task agrees with that
+-- what a slot says of its values, or of its items, besides their task agrees with that
 pub record IsSlotOf (plans : List TypePlan) (slot : RowSlot) : Type 0 where
   pub leads : slot.item ≡ Record → LeadsTo plans slot
   pub primitive : HasPrimitive slot.prim slot.sure slot.item
@@ -122,7 +122,7 @@ pub record IsRowType
 abbrev pub IsTypeOf : SchemaModel → List StepModel → List TypePlan → RowType → Type 0
 IsTypeOf schema steps plans type = (plan : TypePlan) × IsRowType schema steps plans plan type
 
--- each of these types is that of the plan at its place
+-- each of these types is that of the plan at its index
 pub record AreRowTypes (schema : SchemaModel) (steps : List StepModel) (plans : List TypePlan)
     (types : List RowType) : Type 0 where
   pub count : length types ≡ length plans

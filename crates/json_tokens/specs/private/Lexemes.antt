@@ -1,4 +1,4 @@
--- For private clauses: lexemes of a text, from one place to the next.
+-- For private clauses: lexemes of a text, from one offset to the next.
 use Rattle.std.specs.Prelude.{◌≡◌, ℕ, ◌+◌, ◌<◌, ◌≤◌, List, ◌++◌, length, take, drop, get_or, Bool, true, false}
 use Rattle.std.specs.Char.{is_ascii_digit}
 use Rattle.std.specs.Str.Parse.{AllDigits, digits_value}
@@ -14,7 +14,7 @@ may_begin_at turn = may_begin (place_of turn)
 abbrev pub may_close_at : Turn → Bool
 may_close_at turn = may_close (place_of turn)
 
--- the text that is read from one place on is closed by the quote at the other
+-- the text that is read from one offset on is closed by the quote at the other
 pub record ClosesText (text : List ℕ) (from quote : ℕ) : Type 0 where
   pub bounds : (from ≤ quote) × (quote < length text)
   pub is_quote : get_or text quote 32 ≡ 34
@@ -27,7 +27,7 @@ pub record EndsValue (text : List ℕ) (from to : ℕ) (turn : Turn) : Type 0 wh
   pub no_colon : begins_colon (lex between (drop from text)) ≡ false
   pub ends : ends_word (drop from text) ≡ true
 
--- these bytes stand at a place
+-- these bytes stand at an offset
 pub record StandsAt (text : List ℕ) (from : ℕ) (word : List ℕ) : Type 0 where
   pub within : from + length word ≤ length text
   pub is : drop from text ≡ word ++ drop (from + length word) text

@@ -68,7 +68,7 @@ abbrev pub GoesOn : {F : Type 0} →
     LineJudge F → List ℕ → List ℕ → Option (List ℕ) → List ℕ → Result Tally (RunStop F) → Type 0
 GoesOn judge bytes waiting known = GoesWith (lines judge bytes) (LacksLine judge bytes waiting known)
 
--- which calls of its writer a run made by its end: one flush where it came to no stop, and none at a stop
+-- which calls of its writer a run made by its end: one flush where nothing stopped it, and none at a stop
 abbrev pub Closes : {F : Type 0} → Result Tally (RunStop F) → Result Tally (RunStop F) → CallLog → CallLog → Type 0
 Closes outcome answer old new = MatchResult outcome
     (λ tally. MatchResult answer (λ t. FlushesLast old new) (λ stop. FailsLast old new)) (λ stop. StaysWell old new)

@@ -11,7 +11,7 @@ use Rattle.odata_checked_filter.specs.FlatTree.{FlatTree}
 use Rattle.odata_checked_filter.specs.private.CanonicalText.{ArePieceTexts, ArePiecesOf, GoesOn, IsJointAt, Piece, StandsThere, WritesNode, node_weight, operand, operand_of, task_weight, plain, stop_at, weight}
 use Rattle.odata_checked_filter.proofs.canonical.Pieces.{joined, split_texts}
 
--- after the first operand, whose place needs a level, stands what the node has there, and after that these parts
+-- after the first operand, whose position needs a level, stands what the node has there, and after that these parts
 pub record Joins (list : FlatTree) (i : ℕ) (tree : Tree) (level : Level) (behind : List PrintTask) : Type 0 where
   pub first : Tree
   pub there : StandsThere list (i + 1) first

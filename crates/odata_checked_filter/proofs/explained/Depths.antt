@@ -100,7 +100,7 @@ both_reported :
 both_reported list i m j stops first second here behind =
     here ∙ ap (λ (xs : List ℕ). first ++ xs) behind ∙ sym (append_assoc first second (reported_depths j (drop j list.nodes) stops))
 
--- the nodes of a tree are reported its depths, and then those after it
+-- the walk reports the depths of the nodes of a tree, and then those after it
 mutual
   pub tree_reported :
       (schema : SchemaModel) (n : ℕ) (scope : Scope) (list : FlatTree) (i j : ℕ) (tree : Tree) (stops : List ℕ)

@@ -1,4 +1,5 @@
--- The nodes of a tree have the types of those of its normal form, and of the tree without its places, number by number.
+-- The nodes of a tree have the types of those of its normal form, and of the tree without its positions, number by
+-- number.
 use Rattle.std.proofs.Common.{◌≡◌, ◌↔◌, refl, sym, ap, subst, inl, inr, ℕ, zero, suc, ◌+◌, ◌<◌, List, [], ◌∷◌, length, arith}
 use Rattle.odata_syntax.specs.NormalForm.{AreNormalForms, IsNormalForm, IsNormalShape, bare, bare_shape, bare_trees}
 use Rattle.odata_syntax.specs.Tree.{Shape, Tree, Trees, any_item, binary, call, count, has, in_list, in_path, it, lambda, literal, logical_not, member, more_trees, name, negation, no_trees, node}
@@ -252,7 +253,7 @@ module _ (slots : Slots) (root : List ℕ) where
       among_bare scope (more_trees tree trees) k type =
           more_same scope tree (bare tree) trees (bare_trees trees) k type (size_bare tree) (λ j. nodes_bare scope tree j type) (λ j. among_bare scope trees j type)
 
-    -- ---- what has the normal form but for places
+    -- ---- what has the normal form but for positions
 
     pub nodes_same : (scope : Scope) (tree normal again : Tree) (k : ℕ) (type : ExprType) → IsNormalForm tree normal → bare again ≡ bare normal
         → NodeTyped scope tree k type ↔ NodeTyped scope again k type

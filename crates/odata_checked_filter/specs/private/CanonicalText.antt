@@ -60,7 +60,7 @@ abbrev pub ArePieceTexts : List Piece → List ℕ → Type 0
 ArePieceTexts [] text = text ≡ []
 ArePieceTexts (piece ∷ pieces) text = IsBehind (λ front. ArePieceTexts pieces front) (IsPieceText piece) text
 
--- an operand's place needs a level, and a tree stands there
+-- an operand's position needs a level, and a tree stands there
 pub record IsOperandOf (list : FlatTree) (place needed level : ℕ) (tree : Tree) : Type 0 where
   pub same : needed ≡ level
   pub there : StandsThere list place tree
@@ -149,7 +149,7 @@ abbrev pub spread : FlatTree → List PrintTask → List PrintTask
 spread list [] = []
 spread list (task ∷ tasks) = behind_of list task ++ (task ∷ spread list tasks)
 
--- the first operand of the node at an index, whose place needs a level; or none
+-- the first operand of the node at an index, whose position needs a level; or none
 abbrev pub first_operand : ℕ → Option ℕ → List PrintTask
 first_operand place None = []
 first_operand place (Some level) = operand_of (place + 1) level
@@ -215,7 +215,7 @@ pub record AreFurtherPut (list : FlatTree) (place stop : ℕ) (before after : Li
   pub text : after ≡ before ++ comma_before place stop
   pub pending : new ≡ old ++ arguments_of list place stop
 
--- the text beside a node was written
+-- the text of a node was written
 pub record IsTextAdded (list : FlatTree) (i : ℕ) (before after : List ℕ) : Type 0 where
   pub spelling : List ℕ
   pub beside : slice_get list.texts i ≡ Some spelling

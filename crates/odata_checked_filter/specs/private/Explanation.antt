@@ -11,7 +11,7 @@ use Rattle.odata_checked_filter.specs.FlatTree.{FlatTree}
 use Rattle.odata_checked_filter.specs.TypeText.{type_text}
 use Rattle.odata_checked_filter.specs.private.KindTexts.{kind_word}
 
--- what a node of a kind is called, by the text beside it
+-- what a node of a kind is called, by its text
 abbrev pub kind_label : NodeKind → List ℕ → List ℕ
 kind_label (NodeKind.Literal kind value) beside = codes "literal"
 kind_label NodeKind.It beside = codes "$it"

@@ -33,7 +33,7 @@ IsOverMembers list place =
     IsSomeAnd (slice_get list.nodes (place + 1))
     (λ base. (member : ValueType) × (base.edm_type ≡ EdmType.Collection member))
 
--- it is the variable of the operator there: it has the name beside the node, and the type of the base's members
+-- it is the variable of the operator there: it has the name at the node, and the type of the base's members
 pub record IsVariableOf (list : FlatTree) (place : ℕ) (variable : RangeVariable) : Type 0 where
   pub name_is : slice_get list.texts place ≡ Some variable.name.now
   pub member : ValueType

@@ -29,7 +29,7 @@ Statuses:
   3  the schema was refused, or has no such entity type
   4  a row was refused, or its evaluation failed
   5  a file or stream could not be read or written
-  6  no memory";
+  6  out of memory";
 
 /// An option that takes a text.
 fn text_option<'a>(alloc: Global, name: &'a str, value: &'a str, help: &'a str) -> Arg<'a>
@@ -130,7 +130,7 @@ fn filter_command<'a>(alloc: Global) -> Result<Command<'a>, AllocError>
     let collection = flag(
         alloc,
         "collection",
-        "The rows are the array `value` of one JSON object; the places of the kept ones are written",
+        "The rows are the array `value` of one JSON object; the indexes of the kept ones are written",
     );
     let about = "Writes the rows whose outcome is true, as they come";
     let command = verb_command(alloc, "filter", about)?;

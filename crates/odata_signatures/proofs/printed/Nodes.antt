@@ -1,4 +1,4 @@
--- The nodes of a tree, those of its normal form, and those of what has that form but for places.
+-- The nodes of a tree, those of its normal form, and those of what has that form but for positions.
 use Rattle.std.proofs.Common.{◌≡◌, ◌∙◌, refl, sym, ap, subst, ℕ, List, [], ◌∷◌, ◌++◌, map}
 use Rattle.std.proofs.lemmas.List.{map-append}
 use Rattle.odata_syntax.specs.NormalForm.{AreNormalForms, IsNormalForm, IsNormalShape, bare, bare_shape, bare_trees}

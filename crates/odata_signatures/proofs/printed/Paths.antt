@@ -1,4 +1,4 @@
--- A tree's normal form, and the tree without its places, need the paths that the tree needs.
+-- A tree's normal form, and the tree without its positions, need the paths that the tree needs.
 use Rattle.std.proofs.Common.{◌≡◌, ◌∙◌, ◌⊎◌, ◌↔◌, refl, sym, ap, subst, inl, inr, ℕ, List, [], ◌∷◌, ◌++◌, Option}
 use Rattle.std.specs.Prelude.{unwrap_or}
 use Rattle.odata_syntax.specs.NormalForm.{AreNormalForms, IsNormalForm, bare, bare_trees}

@@ -32,7 +32,7 @@ expression facts text tree has = record {
   parsed = has.parse;
 }
 
--- it is the normal form of the tree that was printed, but for places
+-- it is the normal form of the tree that was printed, but for positions
 pub read_again : ReadingFacts → (printed : List ℕ) (tree again : Tree) → IsExpression tree → (is : IsCanonicalText tree printed) → HasTree printed again → bare again ≡ bare is.normal
 read_again facts printed tree again of_tree is other =
     let back = facts.back tree printed of_tree is in

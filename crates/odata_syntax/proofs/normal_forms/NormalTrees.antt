@@ -107,12 +107,12 @@ mutual
   trees-bare no_trees normal is = ap bare_trees is
   trees-bare (more_trees tree trees) normal is = (bare is.0, bare_trees is.1, normal-bare tree is.0 is.2, trees-bare trees is.1 is.3, ap bare_trees is.4)
 
--- trees that are one without their places have one normal form without its places
+-- trees that are one without their positions have one normal form without its positions
 pub same-normal : AreSpellings → (a b m n : Tree) → bare a ≡ bare b → IsNormalForm a m → IsNormalForm b n → bare m ≡ bare n
 same-normal law a b m n same first second =
     normal-one law (bare b) (bare m) (bare n) (subst (λ (t : Tree). IsNormalForm t (bare m)) same (normal-bare a m first)) (normal-bare b n second)
 
--- A tree that is a normal form without its places is its own normal form.
+-- A tree that is a normal form without its positions is its own normal form.
 
 mutual
   own-normal : (tree : Tree) → IsNormalForm (bare tree) (bare tree) → IsNormalForm tree tree

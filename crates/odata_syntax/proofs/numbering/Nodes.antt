@@ -14,7 +14,7 @@ use Rattle.odata_syntax.specs.TextTree.{AreTextRanges, HasText, IsTextRange, lis
 use Rattle.odata_syntax.specs.private.PlaceGrowth.{IsBegun, IsMarked, begun_before, places_before, unplaced, unplaced_nodes}
 use Rattle.odata_syntax.proofs.numbering.Writes.{IsRead, is_begun, is_marked, number_within}
 
--- Nodes without their places.
+-- Nodes without their positions.
 
 unplaced_reverse : (nodes : List SyntaxNode) → reverse (unplaced_nodes nodes) ≡ unplaced_nodes (reverse nodes)
 unplaced_reverse [] = refl

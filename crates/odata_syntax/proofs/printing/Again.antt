@@ -1,4 +1,4 @@
--- Tokens that are such as a readable tree's pieces derive a tree that is the same without its places.
+-- Tokens that are such as a readable tree's pieces derive a tree that is the same without its positions.
 use Rattle.std.proofs.Common.{◌≡◌, inl, inr, ℕ, zero, suc, ◌+◌, ◌-◌, ◌<◌, ◌≤◌, ◌==◌, nat_lt, Bool, true, false, cond, IsTrue, List, [], ◌∷◌, ◌++◌, length, codes, arith, refl, sym, ◌∙◌, ap, subst, add-zero, add-suc, append_assoc, ◌⊎◌, ⊎_elim}
 use Rattle.std.specs.List.{list_any}
 use Rattle.std.specs.Str.{str_to_ascii_lowercase}

@@ -61,6 +61,6 @@ mutual
   further_text-bare no_trees = refl
   further_text-bare (more_trees tree trees) = λ i. 44 ∷ (text-bare tree i ++ further_text-bare trees i)
 
--- trees that are one without their places have one text
+-- trees that are one without their positions have one text
 pub same-text : (a b : Tree) → bare a ≡ bare b → tree_text a ≡ tree_text b
 same-text a b same = sym (text-bare a) ∙ ap tree_text same ∙ text-bare b

@@ -23,7 +23,7 @@ slash_piece = piece TokenKind.Slash (47 ∷ []) []
 abbrev pub space : List ℕ
 space = 32 ∷ []
 
--- pieces with white space after them and more pieces after that, in parentheses where their place needs them
+-- pieces with white space after them and more pieces after that, in parentheses where their position needs them
 abbrev pub group_pieces : Level → Level → (List ℕ → List Print → List Print) → List ℕ → List Print → List Print
 group_pieces needed own inner gap behind = cond (nat_lt own needed) (open_piece ∷ inner [] (close_piece gap ∷ behind)) (inner gap behind)
 

@@ -189,7 +189,7 @@ abbrev Grouped : Bool → (ℕ → Type 0) → ℕ → Type 0
 Grouped true P k = Behind P k
 Grouped false P k = P k
 
--- with its parentheses, where the place needs a tighter level than its own
+-- with its parentheses, where the position needs a tighter level than its own
 abbrev Placed : Level → Level → (ℕ → Type 0) → ℕ → Type 0
 Placed needed own P k = Grouped (nat_lt own needed) P k
 
@@ -412,7 +412,7 @@ mutual
 abbrev CanBePrinted : (List ℕ → List Print → List Print) → ℕ → Type 0
 CanBePrinted inner k = (gap : List ℕ) (behind : List Print) → FitPieces behind k → FitPieces (inner gap behind) k
 
--- pieces in parentheses, where their place needs them
+-- pieces in parentheses, where their position needs them
 group_fits : (needed : Level) (tree : Tree) (k : ℕ) → ((j : ℕ) → FitTree tree j → CanBePrinted (λ g b. pieces tree g b) j) → Placed needed (tree_level tree) (λ j. FitTree tree j) k
     → CanBePrinted (λ g b. group_pieces needed (tree_level tree) (λ x y. pieces tree x y) g b) k
 group_fits needed tree k can placed gap behind h = by (nat_lt (tree_level tree) needed) placed

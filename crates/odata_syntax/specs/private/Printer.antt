@@ -10,7 +10,7 @@ use Rattle.odata_syntax.specs.private.Weights.{tree_weight, trees_weight}
 use Rattle.odata_syntax.specs.declared.printer.PrintTask.{PrintTask}
 use Rattle.odata_syntax.specs.declared.printer.PrintTask.TheVariants.{Close, Further, Joint, Operand}
 
--- what is still to be written: some text as it is, further items each after a comma, an operand whose place needs a
+-- what is still to be written: some text as it is, further items each after a comma, an operand whose position needs a
 -- level, and what a form has after its first operand
 pub data Piece : Type 0 where
   plain : List ℕ → Piece
@@ -30,7 +30,7 @@ pub record AreTextsOf (text_of : Trees → List ℕ) (trees : Trees) (text : Lis
   pub are_normal : AreNormalForms trees normal
   pub printed : text ≡ text_of normal
 
--- the canonical text of an operand, in parentheses where its place needs them
+-- the canonical text of an operand, in parentheses where its position needs them
 abbrev pub operand_text : Level → Tree → List ℕ
 operand_text needed tree = grouped needed (tree_level tree) (tree_text tree)
 

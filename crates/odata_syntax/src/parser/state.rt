@@ -122,7 +122,7 @@ pub(crate) struct Piece<'t> {
 /// A node without a text.
 pub(crate) const NO_TEXT: Span = Span { start: 0, stop: 0 };
 
-/// Room for frames at the start, which seldom grows.
+/// The initial capacity for frames, which seldom grows.
 pub(crate) const FRAME_ROOM: usize = 8;
 
 /// The machine between two tokens. The last frame is the innermost.

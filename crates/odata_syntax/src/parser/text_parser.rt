@@ -26,7 +26,7 @@ pub enum TextOrSyntaxFault {
     Syntax(SyntaxFault),
 }
 
-/// Room at the start for the nodes of a short text: under a kilobyte, which allocators serve from their caches.
+/// The initial capacity for the nodes of a short text: under a kilobyte, which allocators serve from their caches.
 const SMALL_ROOM: usize = 14;
 
 /// An allocation failed.
@@ -67,7 +67,7 @@ pub fn parse_text(alloc: Global, text: &str) -> Result<SyntaxList, TextOrSyntaxF
     Ok(SyntaxList { nodes: state.nodes })
 }
 
-/// Room at the start for the nodes of a text of `len` bytes. Most texts have fewer nodes.
+/// The initial capacity for the nodes of a text of `len` bytes. Most texts have fewer nodes.
 #[inline(always)]
 fn room_for(len: usize) -> usize
     ensures { result ≤ 1024 }

@@ -22,7 +22,7 @@ letter_of b =
     (cond ((b == 84) || (b == 116)) ATime
     (cond ((b == 90) || (b == 122)) AZulu APlain)))
 
--- the bytes that the machine reports apart
+-- the bytes that the machine distinguishes
 pub data Sort : Type 0 where
   ADigit : Sort
   ALetter : Letter → Sort

@@ -1,4 +1,4 @@
--- For private clauses: which of two operands is a text that is read beside an enumeration.
+-- For private clauses: which of two operands is a text that is read as one of an enumeration.
 use Rattle.std.specs.Prelude.{ℕ, ℤ, List, Option}
 use Rattle.std.specs.Option.{option_map}
 use Rattle.csdl_schema.specs.ExprType.{ExprType}

@@ -20,7 +20,7 @@ abbrev pub AreTypesThere : SchemaModel → List CheckedNode → Type 0
 AreTypesThere schema [] = Unit {0}
 AreTypesThere schema (found ∷ row) = IsTypeThere schema found.edm_type × AreTypesThere schema row
 
--- the text beside the node of a String literal; no other node quotes a text
+-- the text of the node of a String literal; no other node quotes a text
 abbrev pub quoted_beside : NodeKind → Option (List ℕ) → Option (List ℕ)
 quoted_beside (NodeKind.Literal LiteralKind.Str place) text = text
 quoted_beside kind text = None

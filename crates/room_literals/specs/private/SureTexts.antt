@@ -12,7 +12,7 @@ AreWithin bytes from lows spans =
     (k : ℕ) → k < 16 → get_or lows k 0 + get_or spans k 0 < 256
     → (get_or lows k 0 ≤ get_or bytes (from + k) 0) × (get_or bytes (from + k) 0 ≤ get_or lows k 0 + get_or spans k 0)
 
--- the byte at a place is a digit
+-- the byte at an offset is a digit
 abbrev pub IsDigitAt : List ℕ → ℕ → Type 0
 IsDigitAt bytes place = (48 ≤ get_or bytes place 0) × (get_or bytes place 0 ≤ 57)
 

@@ -1,4 +1,4 @@
--- The type of the list that a value holds, as what is said of lending takes types: for what becomes of a value whose
+-- The type of the list that a value holds, as what is said of borrowing takes types: for what becomes of a value whose
 -- list is borrowed and filled.
 use denote.RattleType.{RattleType}
 use Rattle.std.specs.contracts.alloc.Global as global

@@ -28,7 +28,7 @@ decreases-fill_record l = 8 * l.cache.now.depth + 1
 abbrev pub decreases-fill_list : goal.decreases-fill_list
 decreases-fill_list l = 8 * l.cache.now.depth + 1
 
--- the first items are those before the place
+-- the first items are those before the offset
 abbrev pub invariant-fill_items-items : goal.invariant-fill_items-items
 invariant-fill_items-items l =
     (l.cache.depth ≡ l.initial.cache.depth) × ListUpTo l.context l.slot l.initial.cache.depth l.from l.place (take l.count l.items.items) × (l.count ≤ length l.items.items)
@@ -36,7 +36,7 @@ invariant-fill_items-items l =
 abbrev pub decreases-fill_items-items : goal.decreases-fill_items-items
 decreases-fill_items-items l = length l.context.line - l.place
 
--- the members before the place fill the slots of their names
+-- the members before the offset fill the slots of their names
 abbrev pub invariant-fill_members-members : goal.invariant-fill_members-members
 invariant-fill_members-members l =
     (l.cache.depth ≡ l.initial.cache.depth) × (l.so_far.order < 1024) × IsFilledUpTo l.context l.plan l.initial.cache.depth l.from l.values.items l.so_far × (length l.values.items ≡ length l.plan.slots.items)

@@ -3,7 +3,7 @@ use Rattle.edm_rows.specs.private.KeptRows.{RowConforms, root_properties, root_s
 use Rattle.edm_rows.specs.private.KeptSoFar.{IsReadTo}
 use Rattle.edm_rows.proofs.kept_value.pass_rest.Given as goal
 
--- one of the members before the place is rejected, and the others were passed
+-- one of the members before the offset is rejected, and the others were passed
 abbrev pub invariant-members : goal.invariant-members
 invariant-members l =
     (l.read.place ≤ length l.context.line) × (l.read.order < 1024) × (l.cache.depth ≡ 126)

@@ -3,7 +3,7 @@ use Rattle.edm_rows.specs.private.KeptRows.{RowConforms, root_properties, root_s
 use Rattle.edm_rows.specs.private.KeptSoFar.{IsUpTo}
 use Rattle.edm_rows.proofs.kept_value.take_members.Given as goal
 
--- the members before the place were put into their slots
+-- the members before the offset were put into their slots
 abbrev pub invariant-members : goal.invariant-members
 invariant-members l =
     (l.so_far.place ≤ length l.context.line) × (l.so_far.order < 1024) × (l.cache.depth ≡ 126)

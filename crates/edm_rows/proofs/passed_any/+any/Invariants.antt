@@ -22,14 +22,14 @@ any_items jsons = Unit {0}
 abbrev pub any_members : Members → Type 0
 any_members found = Unit {0}
 
--- the items before the place were read
+-- the items before the offset were read
 abbrev pub invariant-items_end-items : goal.invariant-items_end-items
 invariant-items_end-items l = ItemsUpTo l.depth l.line l.from l.place any_items
 
 abbrev pub decreases-items_end-items : goal.decreases-items_end-items
 decreases-items_end-items l = length l.line - l.place
 
--- the members before the place were read
+-- the members before the offset were read
 abbrev pub invariant-members_end-members : goal.invariant-members_end-members
 invariant-members_end-members l = MembersUpTo l.depth l.line l.from l.place any_members
 

@@ -13,7 +13,7 @@ use Rattle.odata_checked_filter.proofs.needed.Paths.{owner_there, step_end}
 use Rattle.odata_checked_filter.proofs.needed.StepRows.{stands_below, step_found, there_at}
 use Rattle.odata_checked_filter.proofs.needed_paths.expand_path.Goals as goal
 
--- the text beside a node is that of its shape
+-- the text of a node is that of its shape
 same_text : (o : Option (List ℕ)) (text asked : List ℕ) → o ≡ Some text → o ≡ Some asked → text ≡ asked
 same_text o text asked a b = let same : Some text ≡ Some asked = sym a ∙ b in cc
 
