@@ -7,9 +7,9 @@ use Rattle.edm_values.specs.MomentParts.{MomentParts}
 use Rattle.csdl_schema.specs.JsonText.{IsJsonOf, IsNoJson}
 use Rattle.line_filter.specs.Kept.{Items, StopsOn}
 use Rattle.line_filter.specs.Places.{Placed, places}
-use Rattle.odata_filter.specs.declared.bad_row.BadRow.{BadRow}
+use Rattle.row_judges.specs.declared.bad_row.BadRow.{BadRow}
 use Rattle.odata_filter.specs.declared.run_fault.RunFault.{RunFault}
-use Rattle.odata_filter.specs.RowJudgment.{JudgesValue}
+use Rattle.row_judges.specs.RowJudgment.{JudgesValue}
 use Rattle.odata_filter.specs.RunStops.{StopsBy}
 use Rattle.odata_checked_filter.specs.Filter.{Filter}
 

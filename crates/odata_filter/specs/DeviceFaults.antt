@@ -9,7 +9,7 @@ use Rattle.line_filter.specs.LineStreams.{LacksLine, ReadWell, WhyUnread}
 use Rattle.odata_checked_filter.specs.Filter.{Filter}
 use Rattle.odata_filter.specs.declared.command.whole_input.ReadAllError.{ReadAllError}
 use Rattle.odata_filter.specs.declared.run_fault.RunFault.{RunFault}
-use Rattle.odata_filter.specs.RowJudgment.{JudgesRow, rows_of}
+use Rattle.row_judges.specs.RowJudgment.{JudgesRow, rows_of}
 use Rattle.odata_filter.specs.RunStops.{run_stop}
 
 -- the stop that a fault reports of the lines of a reader, of which this waits and which has that left; where a line did

@@ -25,10 +25,10 @@ use Rattle.line_filter.specs.Once.{IsFaulty}
 use Rattle.line_filter.specs.declared.line_class.LineClass.{LineClass}
 use Rattle.line_filter.specs.declared.judge.Judgment.{Judgment}
 use Rattle.line_filter.specs.declared.tally.Tally.{Tally}
-use Rattle.odata_filter.specs.RowJudgment.{FilterMeans, JudgesRow, rows_of}
-use Rattle.odata_filter.specs.RowsOnce.{IsOfRow}
+use Rattle.row_judges.specs.RowJudgment.{FilterMeans, JudgesRow, rows_of}
+use Rattle.odata_filter.specs.StopsOnce.{IsOfRow}
 use Rattle.odata_filter.specs.RunStops.{StopsBy}
-use Rattle.odata_filter.specs.declared.bad_row.BadRow.{BadRow}
+use Rattle.row_judges.specs.declared.bad_row.BadRow.{BadRow}
 use Rattle.odata_filter.specs.declared.run_fault.RunFault.{RunFault}
 
 -- what `check` says of the filter that it answers for a text

@@ -1,4 +1,4 @@
-pub use Rattle.clap.specs.Words as ClapWords
+pub use Rattle.command_plan.specs.CommandLine
 pub use Rattle.csdl_declarations.specs.Fault
 pub use Rattle.csdl_schema.specs.Document
 pub use Rattle.csdl_schema.specs.JsonText
@@ -37,23 +37,23 @@ pub use Rattle.odata_syntax.specs.TreeView
 pub use Rattle.odata_text.specs.Query
 pub use Rattle.odata_text.specs.TokenModel
 pub use Rattle.odata_text.specs.Tokens
+pub use Rattle.row_judges.specs.FilterRows
+pub use Rattle.row_judges.specs.RowAnswer
+pub use Rattle.row_judges.specs.RowCosts
+pub use Rattle.row_judges.specs.RowJudgment
+pub use Rattle.row_judges.specs.RowLineJudge
+pub use Rattle.row_judges.specs.RowsOnce
 pub use Rattle.serde_json.specs.Data as JsonData
 pub use Rattle.serde_json.specs.Find as JsonFind
 pub use Rattle.serde_json.specs.Read as JsonRead
 pub use Rattle.serde_json.specs.View as JsonView
-pub mod RowJudgment
 pub mod RunStops
 pub mod DeviceFaults
 pub mod Collection
-pub mod RowsOnce
-pub mod RowAnswer
-pub mod FilterRows
-pub mod RowCosts
+pub mod StopsOnce
 pub mod FaultNumbers
 pub mod Headline
 pub mod CanonicalRows
 pub mod Planned
-pub mod CommandLine
-pub mod WorkedLines
 pub mod Run
 pub mod private

@@ -1,14 +1,9 @@
 -- The plans that are carried out.
-use Rattle.std.specs.Prelude.{ℕ, List, ⊤, Option, Some, None, IfSome}
+use Rattle.std.specs.Prelude.{ℕ, List, IfSome}
 use Rattle.edm_values.specs.MomentLiteral.{MomentValue}
 use Rattle.edm_values.specs.MomentParts.{MomentParts}
-use Rattle.odata_filter.specs.declared.command.command_line.Plan.{Plan}
-
--- one of the two is there, and the other is not
-abbrev pub IsOneOf : {X : Type 0} → Option X → Option X → Type 0
-IsOneOf (Some filter) None = ⊤
-IsOneOf None (Some query) = ⊤
-IsOneOf _ _ = ⊥
+use Rattle.command_plan.specs.CommandLine.{IsOneOf}
+use Rattle.command_plan.specs.declared.command_line.Plan.{Plan}
 
 -- the text is a moment (OData ABNF Construction Rules 4.01, section 7, `dateTimeOffsetValue`)
 abbrev pub IsMomentText : List ℕ → Type 0

@@ -13,15 +13,15 @@ use Rattle.line_filter.specs.declared.line_class.LineClass.{LineClass}
 use Rattle.line_filter.specs.declared.tally.Tally.{Tally}
 use Rattle.line_filter.specs.Places.{Placed}
 use Rattle.serde_json.specs.Data.{Data}
-use Rattle.odata_filter.specs.RowJudgment.{rows_of}
+use Rattle.row_judges.specs.RowJudgment.{rows_of}
 use Rattle.odata_filter.specs.Collection.{IsNoCollection, OfCollection}
-use Rattle.odata_filter.specs.declared.bad_row.BadRow.{BadRow}
+use Rattle.row_judges.specs.declared.bad_row.BadRow.{BadRow}
 use Rattle.csdl_schema.specs.Document.{StandsFor, IsFirstDocumentFault}
 use Rattle.csdl_declarations.specs.Fault.{Fault}
 use Rattle.csdl_schema.specs.SchemaModel.{SchemaModel, IsEntityAt, index_named, slots_of, type_name_at}
-use Rattle.odata_filter.specs.declared.command.command_line.Plan.{Plan}
-use Rattle.odata_filter.specs.declared.command.command_line.Verb.{Verb}
-use Rattle.odata_filter.specs.declared.command.command_line.Verb.TheVariants.{Check, Explain, Filter as ByRows}
+use Rattle.command_plan.specs.declared.command_line.Plan.{Plan}
+use Rattle.command_plan.specs.declared.command_line.Verb.{Verb}
+use Rattle.command_plan.specs.declared.command_line.Verb.TheVariants.{Check, Explain, Filter as ByRows}
 use Rattle.odata_syntax.specs.CanonicalText.{IsCanonicalText}
 use Rattle.odata_checked_filter.specs.Calls.{UsesNow}
 use Rattle.odata_checked_filter.specs.Explanation.{IsExplanation}

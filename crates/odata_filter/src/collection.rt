@@ -5,31 +5,17 @@ ghost use Rattle.line_filter.specs.Growth.{Writes};
 ghost use Rattle.line_filter.specs.Kept.{Filters};
 ghost use Rattle.odata_filter.specs.Collection.{OfCollection, StopsCollection, array_of};
 ghost use Rattle.odata_filter.specs.DeviceFaults.{WritesUntilFault};
-ghost use Rattle.odata_filter.specs.RowJudgment.{JudgesValue};
 ghost use Rattle.odata_filter.specs.private.Collection.{IsUnjudgedBy};
 ghost use Rattle.csdl_schema.specs.JsonText.{IsJsonOf};
 
-use crate::bad_row::BadRow;
-use crate::row_judge::{RowJudge, judgment_of};
 use crate::run_fault::{RunFault, run_fault};
 use edm_values::Moment;
-use line_filter::{JudgeItem, Judgment, Tally, Unlogged, Writes, filter_places};
+use line_filter::{Tally, Unlogged, Writes, filter_places};
 use odata_typing::Checked;
+use row_judges::RowJudge;
 use serde_json::Value;
-use std::alloc::{AllocError, Global};
+use std::alloc::Global;
 use std::io::Write;
-
-impl JudgeItem for RowJudge<'_, '_> {
-    type Item = Value;
-
-    type Fault = BadRow;
-
-    ghost says = { λ judge item. JudgesValue judge.checked.now judge.moment.now (view item) };
-
-    fn judge_item(&self, item: &Value) -> Result<Judgment<BadRow>, AllocError> {
-        judgment_of(self.judge_value(item))
-    }
-}
 
 /// The array that is the member `value` of a JSON object.
 fn array_of(json: &Value) -> Option<&Vec<Value>>

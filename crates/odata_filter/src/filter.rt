@@ -4,14 +4,14 @@ ghost use Rattle.line_filter.specs.Growth.{Grows, Writes};
 ghost use Rattle.line_filter.specs.Kept.{Filters, StopsOn};
 ghost use Rattle.line_filter.specs.LineSource.{IsOver, left_of};
 ghost use Rattle.odata_filter.specs.DeviceFaults.{LacksRow, ReadsUntilFault, StopsLines, WritesUntilFault};
-ghost use Rattle.odata_filter.specs.RowJudgment.{rows_of};
+ghost use Rattle.row_judges.specs.RowJudgment.{rows_of};
 ghost use Rattle.odata_filter.specs.RunStops.{StopsBy};
 
-use crate::row_line_judge::RowLineJudge;
 use crate::run_fault::{RunFault, run_fault};
 use edm_values::Moment;
 use line_filter::{LineReader, Reads, Tally, Unlogged, Writes, filter_bytes, filter_reader};
 use odata_typing::Checked;
+use row_judges::RowLineJudge;
 use std::alloc::Global;
 use std::io::{Read, Write};
 

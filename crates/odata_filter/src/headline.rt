@@ -5,13 +5,12 @@ ghost use Rattle.odata_filter.specs.CanonicalRows.{StopCollectionsAlike, AnswerR
 ghost use Rattle.odata_filter.specs.Headline.{HaveOneOutcome, AreAnswered, KeepTrueRows};
 ghost use Rattle.odata_filter.specs.Headline.{WriteTrueRows, StopAtFaults, AreRefusedOnce};
 
-use edm_entities::{
-    one_fault_is_first, one_value_fits, what_fits_has_its_type, what_has_a_fault_fits_nothing,
-};
+use edm_entities::what_fits_has_its_type;
 use odata_checked_filter::canonical_texts_keep_filters;
 use odata_eval::{canonical_texts_keep_outcomes, typed_trees_end_once};
 use odata_text::tokens_are_spelled;
 use odata_typing::texts_have_one_refusal;
+use row_judges::rows_are_judged_once;
 
 /// The headline. A filter that `check` accepts for an entity type has exactly one outcome on every entity of that type,
 /// at every moment: true, false, null, overflow or division by zero. `evaluate` returns it; `filter_lines` writes just
@@ -27,9 +26,7 @@ pub fn filters_keep_what_is_true()
 {
     typed_trees_end_once();
     what_fits_has_its_type();
-    one_value_fits();
-    what_has_a_fault_fits_nothing();
-    one_fault_is_first();
+    rows_are_judged_once();
     texts_have_one_refusal();
 }
 

@@ -1,5 +1,5 @@
 //! Laws of rows, as contracts of functions that do nothing but cite others.
-ghost use Rattle.std.specs.Prelude.{◌≡◌, ◌<◌, ℕ, List, Option, Some, Result, length};
+ghost use Rattle.std.specs.Prelude.{◌≡◌, ◌<◌, ℕ, List, Option, Some, length};
 ghost use Rattle.serde_json.specs.Data.{Data};
 ghost use Rattle.line_filter.specs.declared.call_log.CallLog.{CallLog};
 ghost use Rattle.line_filter.specs.declared.line_reader.Course.{Course};
@@ -9,23 +9,17 @@ ghost use Rattle.odata_filter.specs.DeviceFaults.{ReadsUntilFault, WritesUntilFa
 ghost use Rattle.line_filter.specs.Kept.{Filters};
 ghost use Rattle.line_filter.specs.declared.judge.Judgment.{Judgment};
 ghost use Rattle.line_filter.specs.declared.tally.Tally.{Tally};
-ghost use Rattle.edm_values.specs.MomentParts.{MomentParts};
-ghost use Rattle.odata_checked_filter.specs.Filter.{Filter};
-ghost use Rattle.odata_eval.specs.declared.verdict.Verdict.{Verdict};
-ghost use Rattle.odata_filter.specs.declared.no_verdict.NoVerdict.{NoVerdict};
 ghost use Rattle.odata_filter.specs.declared.run_fault.RunFault.{RunFault};
 ghost use Rattle.odata_filter.specs.Collection.{OfCollection, StopsCollection};
-ghost use Rattle.odata_filter.specs.RowAnswer.{AreSameAnswer, ReportsRow, judgment_reported};
-ghost use Rattle.odata_filter.specs.RowJudgment.{JudgesRow, JudgesValue, rows_of};
-ghost use Rattle.odata_filter.specs.RowsOnce.{AreSameFault, AreSameJudgment, IsOfDocument, IsOfRow};
+ghost use Rattle.row_judges.specs.RowJudgment.{JudgesRow, JudgesValue, rows_of};
+ghost use Rattle.row_judges.specs.RowsOnce.{AreSameJudgment};
+ghost use Rattle.odata_filter.specs.StopsOnce.{AreSameFault, IsOfDocument, IsOfRow};
 ghost use Rattle.odata_filter.specs.RunStops.{StopsBy};
 
-use crate::bad_row::BadRow;
-use crate::row_line_judge::RowLineJudge;
-use edm_entities::{one_fault_is_first, one_value_fits, what_has_a_fault_fits_nothing};
 use edm_values::Moment;
 use line_filter::{SaysOfItems, items_stop_once, lines_stop_once};
 use odata_typing::Checked;
+use row_judges::{BadRow, RowLineJudge, rows_are_judged_once};
 use std::alloc::Global;
 
 /// A filter has one judgment of a line at most. Of `Json`, `Row`, `Arithmetic` and `LineTooLong` at most one holds of
@@ -43,24 +37,9 @@ pub fn rows_stop_once(alloc: Global, checked: &Checked<'_>, now: &Moment)
     ensures kept { (bytes text other : List ℕ) (m n : Tally) → Filters (rows_of checked.now now.now bytes) text m
         → Filters (rows_of checked.now now.now bytes) other n → (text ≡ other) × (m ≡ n) }
 {
-    one_value_fits();
-    what_has_a_fault_fits_nothing();
-    one_fault_is_first();
+    rows_are_judged_once();
     let judge = RowLineJudge::new(alloc, checked, now);
     lines_stop_once(&judge);
-}
-
-/// One verdict or one fault is reported about a row, and that is what is said of the row as a line.
-pub fn rows_are_reported_once()
-    ensures one { (filter : Filter) (now : MomentParts) (row : List ℕ) (a b : Result Verdict NoVerdict)
-        → ReportsRow filter now row a → ReportsRow filter now row b → AreSameAnswer a b }
-    ensures line { (filter : Filter) (now : MomentParts) (row : List ℕ) (answer : Result Verdict NoVerdict)
-        (said : Judgment BadRow) → ReportsRow filter now row answer → judgment_reported answer ≡ Some said
-        → JudgesRow filter now row said }
-{
-    one_value_fits();
-    what_has_a_fault_fits_nothing();
-    one_fault_is_first();
 }
 
 /// What a filter says of JSON values at a moment, for the law of collections.
@@ -94,9 +73,7 @@ pub fn collections_stop_once(checked: &Checked<'_>, now: &Moment)
         → OfCollection checked.now now.now document (λ items. Filters items text m)
         → OfCollection checked.now now.now document (λ items. Filters items other n) → (text ≡ other) × (m ≡ n) }
 {
-    one_value_fits();
-    what_has_a_fault_fits_nothing();
-    one_fault_is_first();
+    rows_are_judged_once();
     let said = SaidOfValues {
         checked,
         moment: now,

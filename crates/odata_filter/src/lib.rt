@@ -11,38 +11,24 @@
 //! ```
 #![tactic(auto)]
 
-mod bad_row;
-mod bounded_judge;
 mod collection;
 mod command;
 mod fault_number;
 mod filter;
-mod filter_rows;
 mod headline;
 mod laws;
-mod no_verdict;
-mod row_judge;
-mod row_line_judge;
-mod row_verdict;
-mod rows_in_place;
 mod run_fault;
 
-pub use bad_row::BadRow;
-pub use bounded_judge::BoundedJudge;
 pub use collection::{filter_collection, filter_collection_with};
-pub use command::command_line;
-pub use command::laws::lines_by_example;
-pub use command::planner::plan;
 pub use command::runner::run;
 pub use command::whole_input::{ReadAllError, read_whole, read_whole_with};
+pub use command_plan::{command_line, lines_by_example, plan};
 pub use fault_number::{FaultKind, Numbered, fault_name, refusal_span, row_fault_path};
 pub use filter::{filter_lines, filter_lines_with, filter_slice};
-pub use filter_rows::FilterRows;
 pub use headline::{canonical_texts_keep_rows, filters_keep_what_is_true};
-pub use laws::{
-    collections_stop_once, rows_are_reported_once, rows_stop_once, unfailing_devices_never_fail,
-};
+pub use laws::{collections_stop_once, rows_stop_once, unfailing_devices_never_fail};
 pub use line_filter::{ByRecord, CallLog, LineFault, LineReader, Logged, Reads, Tally, Writes};
-pub use no_verdict::NoVerdict;
-pub use row_verdict::{judge_row, row_plan_of};
+pub use row_judges::{
+    BadRow, BoundedJudge, FilterRows, NoVerdict, judge_row, row_plan_of, rows_are_reported_once,
+};
 pub use run_fault::RunFault;

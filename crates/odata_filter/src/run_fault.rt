@@ -1,10 +1,10 @@
 ghost use Rattle.std.specs.Prelude.{◌≡◌, Some};
 ghost use Rattle.odata_filter.specs.RunStops.{run_stop};
 
-use crate::bad_row::BadRow;
 use edm_entities::RowFault;
 use line_filter::RunStop;
 use odata_eval::EvalFault;
+use row_judges::BadRow;
 use thiserror::Error;
 
 /// Why a run over rows ended early. Lines are counted from 1.

@@ -4,10 +4,10 @@ use Rattle.edm_values.specs.MomentParts.{MomentParts}
 use Rattle.line_filter.specs.declared.tally.Tally.{Tally}
 use Rattle.odata_checked_filter.specs.Filter.{Filter}
 use Rattle.odata_eval.specs.declared.verdict.Verdict.{Verdict}
-use Rattle.odata_filter.specs.RowAnswer.{ReportsRow}
-use Rattle.odata_filter.specs.RowCosts.{ReportsRowWithin}
-use Rattle.odata_filter.specs.declared.bad_row.BadRow.{BadRow}
-use Rattle.odata_filter.specs.declared.no_verdict.NoVerdict.{NoVerdict}
+use Rattle.row_judges.specs.RowAnswer.{ReportsRow}
+use Rattle.row_judges.specs.RowCosts.{ReportsRowWithin}
+use Rattle.row_judges.specs.declared.bad_row.BadRow.{BadRow}
+use Rattle.row_judges.specs.declared.no_verdict.NoVerdict.{NoVerdict}
 use Rattle.odfilter_c.specs.RowCalls.{IsMomentFor, IsOutcomeAt, IsOutcomeOn, IsRunAt, IsRunOver}
 use Rattle.odfilter_c.specs.private.JudgeCalls.{row_fault}
 use Rattle.odfilter_c.specs.declared.call_fault.Fault.{Fault}

@@ -9,9 +9,9 @@ pub use Rattle.odata_checked_filter.specs.FlatTree
 pub use Rattle.odata_checked_filter.specs.LambdaDepth
 pub use Rattle.odata_checked_filter.specs.PropertyPaths
 pub use Rattle.odata_filter.specs.FaultNumbers
-pub use Rattle.odata_filter.specs.FilterRows
-pub use Rattle.odata_filter.specs.RowAnswer
-pub use Rattle.odata_filter.specs.RowCosts
+pub use Rattle.row_judges.specs.FilterRows
+pub use Rattle.row_judges.specs.RowAnswer
+pub use Rattle.row_judges.specs.RowCosts
 pub use Rattle.odata_signatures.specs.HasTyping
 pub use Rattle.odata_signatures.specs.PreOrder
 pub use Rattle.odata_syntax.specs.CanonicalText

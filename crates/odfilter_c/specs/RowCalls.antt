@@ -11,10 +11,10 @@ use Rattle.line_filter.specs.declared.tally.Tally.{Tally}
 use Rattle.odata_checked_filter.specs.Calls.{UsesNow}
 use Rattle.odata_checked_filter.specs.Filter.{Filter, tree_of_filter}
 use Rattle.odata_eval.specs.declared.verdict.Verdict.{Verdict}
-use Rattle.odata_filter.specs.RowAnswer.{HasVerdict}
-use Rattle.odata_filter.specs.RowCosts.{RowCostIs}
-use Rattle.odata_filter.specs.RowJudgment.{JudgesRow, rows_of}
-use Rattle.odata_filter.specs.declared.bad_row.BadRow.{BadRow}
+use Rattle.row_judges.specs.RowAnswer.{HasVerdict}
+use Rattle.row_judges.specs.RowCosts.{RowCostIs}
+use Rattle.row_judges.specs.RowJudgment.{JudgesRow, rows_of}
+use Rattle.row_judges.specs.declared.bad_row.BadRow.{BadRow}
 use Rattle.odfilter_c.specs.Answers.{path_bytes}
 use Rattle.odfilter_c.specs.Kinds.{IsFilterKind}
 use Rattle.odfilter_c.specs.declared.call_fault.Fault.{Fault}

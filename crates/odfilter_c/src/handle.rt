@@ -102,7 +102,7 @@ impl Model for OwnFilter {
 
     ghost view = { λ own. own.held };
 
-    ghost use Rattle.odata_filter.specs.FilterRows.{AreRowsOfFilter};
+    ghost use Rattle.row_judges.specs.FilterRows.{AreRowsOfFilter};
 
     ghost invariant = { λ own. AreRowsOfFilter own.held own.rows };
 }

@@ -3,9 +3,9 @@ ghost use Rattle.std.specs.Prelude.{◌≡◌, ℕ, List, IfOk, IfErr, MatchResu
 ghost use Rattle.edm_values.specs.MomentParts.{MomentParts};
 ghost use Rattle.odata_checked_filter.specs.Calls.{UsesNow};
 ghost use Rattle.odata_checked_filter.specs.Filter.{Filter, tree_of_filter};
-ghost use Rattle.odata_filter.specs.FilterRows.{AreRowsOfFilter};
-ghost use Rattle.odata_filter.specs.RowAnswer.{ReportsRow};
-ghost use Rattle.odata_filter.specs.RowCosts.{ReportsRowWithin};
+ghost use Rattle.row_judges.specs.FilterRows.{AreRowsOfFilter};
+ghost use Rattle.row_judges.specs.RowAnswer.{ReportsRow};
+ghost use Rattle.row_judges.specs.RowCosts.{ReportsRowWithin};
 ghost use Rattle.odfilter_c.specs.Answers.{empty_answer};
 ghost use Rattle.odfilter_c.specs.Outcomes.{IsReported};
 ghost use Rattle.odfilter_c.specs.RowCalls.{IsJudgeOf, IsMomentFor, IsMomentOf, IsNewJudge, IsNoJudgeOf, IsNoMemory};

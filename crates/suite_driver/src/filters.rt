@@ -3,8 +3,8 @@ ghost use Rattle.std.specs.Prelude.{◌≡◌};
 ghost use Rattle.csdl_schema.specs.ExpansionView.{paths_in};
 ghost use Rattle.csdl_schema.specs.PathSet.{Covers};
 ghost use Rattle.csdl_schema.specs.SchemaModel.{HoldsType};
-ghost use Rattle.odata_filter.specs.FilterRows.{AreRowsOfFilter};
-ghost use Rattle.odata_filter.specs.RowAnswer.{IsPlanOfFilter};
+ghost use Rattle.row_judges.specs.FilterRows.{AreRowsOfFilter};
+ghost use Rattle.row_judges.specs.RowAnswer.{IsPlanOfFilter};
 
 use crate::nodes::{reported_nodes, second_type};
 use crate::spelled_numbers::{shown_refusal, shown_row_fault};

@@ -36,11 +36,11 @@ use Rattle.line_filter.specs.declared.tally.Tally.{Tally}
 use Rattle.odata_filter.specs.CanonicalRows.{HaveSameEntities, HaveSameOutcomes, IsCheckedAgain, KeepSameItems, KeepSameLines, OfBoth, SaySameOfRows, SaySameOfValues, StopAlike, StopCollectionsAlike, AnswerRowsAlike}
 use Rattle.odata_filter.specs.Collection.{OfCollection, StopsCollection, entities_of}
 use Rattle.odata_filter.specs.Headline.{IsCheckedOf, IsEntityFor}
-use Rattle.odata_filter.specs.RowAnswer.{ReportsRow}
-use Rattle.odata_filter.specs.RowJudgment.{FilterMeans, HasOutcome, JudgesJson, JudgesRow, JudgesValue, rows_of}
+use Rattle.row_judges.specs.RowAnswer.{ReportsRow}
+use Rattle.row_judges.specs.RowJudgment.{FilterMeans, HasOutcome, JudgesJson, JudgesRow, JudgesValue, rows_of}
 use Rattle.odata_filter.specs.RunStops.{StopsBy, run_stop}
-use Rattle.odata_filter.specs.declared.bad_row.BadRow.{BadRow}
-use Rattle.odata_filter.specs.declared.no_verdict.NoVerdict.{NoVerdict}
+use Rattle.row_judges.specs.declared.bad_row.BadRow.{BadRow}
+use Rattle.row_judges.specs.declared.no_verdict.NoVerdict.{NoVerdict}
 use Rattle.odata_filter.specs.declared.run_fault.RunFault.{RunFault}
 
 -- ---- items of which the same is found

@@ -16,9 +16,9 @@ use Rattle.line_filter.specs.declared.run_stop.RunStop.{RunStop}
 use Rattle.line_filter.specs.declared.tally.Tally.{Tally}
 use Rattle.odata_checked_filter.specs.Filter.{Filter}
 use Rattle.odata_filter.specs.Collection.{IsCollectionOf, OfCollection, StopsCollection, array_of}
-use Rattle.odata_filter.specs.RowJudgment.{JudgesValue}
+use Rattle.row_judges.specs.RowJudgment.{JudgesValue}
 use Rattle.odata_filter.specs.RunStops.{run_stop}
-use Rattle.odata_filter.specs.declared.bad_row.BadRow.{BadRow}
+use Rattle.row_judges.specs.declared.bad_row.BadRow.{BadRow}
 use Rattle.odata_filter.specs.private.Collection.{IsUnjudgedBy}
 use Rattle.odata_filter.specs.declared.run_fault.RunFault.{RunFault}
 use Rattle.odata_filter.proofs.RowLemmas.Renamed.{Filters-renamed, StopsAt-renamed, StopsOn-renamed, StopsWithin-renamed}

@@ -7,7 +7,7 @@ use Rattle.line_filter.specs.LineStreams.{ReadsUntil, WhyUnread, WritesUntil}
 use Rattle.line_filter.specs.declared.line_reader.Course.{Course}
 use Rattle.line_filter.specs.declared.line_reader.LineFault.{LineFault}
 use Rattle.line_filter.specs.declared.run_stop.RunStop.{RunStop}
-use Rattle.odata_filter.specs.declared.bad_row.BadRow.{BadRow}
+use Rattle.row_judges.specs.declared.bad_row.BadRow.{BadRow}
 use Rattle.odata_filter.specs.declared.run_fault.RunFault.{RunFault}
 use Rattle.odata_filter.specs.private.Collection.{IsUnjudgedBy}
 use Rattle.odata_filter.specs.DeviceFaults.{ReadsUntilFault, WritesUntilFault}

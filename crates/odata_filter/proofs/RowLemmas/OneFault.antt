@@ -5,9 +5,10 @@ use Rattle.line_filter.specs.LineItems.{LineJudge, IsFoundOf, lines}
 use Rattle.line_filter.specs.Once.{kind_of, IsFaulty}
 use Rattle.line_filter.specs.declared.line_class.LineClass.{LineClass}
 use Rattle.line_filter.specs.declared.judge.Judgment.{Judgment}
-use Rattle.odata_filter.specs.declared.bad_row.BadRow.{BadRow}
+use Rattle.row_judges.specs.declared.bad_row.BadRow.{BadRow}
 use Rattle.odata_filter.specs.declared.run_fault.RunFault.{RunFault}
-use Rattle.odata_filter.specs.RowsOnce.{AreSameJudgment, AreSameFault, IsOfRow}
+use Rattle.row_judges.specs.RowsOnce.{AreSameJudgment}
+use Rattle.odata_filter.specs.StopsOnce.{AreSameFault, IsOfRow}
 use Rattle.odata_filter.specs.RunStops.{StopsBy}
 
 -- the same judgments are of one kind

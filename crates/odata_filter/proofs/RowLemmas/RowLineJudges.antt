@@ -8,10 +8,10 @@ use Rattle.line_filter.specs.LineStreams.{LacksLine}
 use Rattle.line_filter.specs.declared.run_stop.RunStop.{RunStop}
 use Rattle.line_filter.specs.declared.tally.Tally.{Tally}
 use Rattle.std.specs.Prelude.{IfErr, IfOk, IsSomeAnd}
-use Rattle.odata_filter.specs.declared.bad_row.BadRow.{BadRow}
+use Rattle.row_judges.specs.declared.bad_row.BadRow.{BadRow}
 use Rattle.odata_filter.specs.declared.run_fault.RunFault.{RunFault}
 use Rattle.odata_filter.specs.DeviceFaults.{LacksRow, StopsLines}
-use Rattle.odata_filter.specs.RowJudgment.{JudgesRow, rows_of}
+use Rattle.row_judges.specs.RowJudgment.{JudgesRow, rows_of}
 use Rattle.odata_filter.specs.RunStops.{run_stop, StopsBy}
 use Rattle.odata_filter.proofs.RowLemmas.LinesOpen.{held_open, lines_open}
 

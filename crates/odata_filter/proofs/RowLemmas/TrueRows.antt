@@ -29,16 +29,20 @@ use Rattle.line_filter.specs.declared.judge.Judgment.{Judgment}
 use Rattle.line_filter.specs.declared.tally.Tally.{Tally}
 use Rattle.odata_filter.specs.Headline.{IsCheckedOf, ConformsTo, IsEntityFor, IsTruthOrFault, ComesToOne, HaveOneOutcome, AreAnswered}
 use Rattle.odata_filter.specs.Headline.{IsTrueRow, KeepTrueRows, ArePicked, HasTrueRows, WriteTrueRows, StopAtFaults}
-use Rattle.odata_filter.specs.RowJudgment.{FilterMeans, JudgesRow, rows_of}
-use Rattle.odata_filter.specs.RowsOnce.{IsOfRow}
+use Rattle.row_judges.specs.RowJudgment.{FilterMeans, JudgesRow, rows_of}
+use Rattle.odata_filter.specs.StopsOnce.{IsOfRow}
 use Rattle.odata_filter.specs.RunStops.{StopsBy}
-use Rattle.odata_filter.specs.declared.bad_row.BadRow.{BadRow}
+use Rattle.row_judges.specs.declared.bad_row.BadRow.{BadRow}
 use Rattle.odata_filter.specs.declared.run_fault.RunFault.{RunFault}
-use Rattle.odata_filter.proofs.RowLemmas.OneJudgment.{OneFits, FaultFitsNothing, OneFirstFault, judged_once}
+use Rattle.row_judges.specs.RowsOnce.{AreSameJudgment}
 
 -- the law of what fits and its type, as it is cited
-abbrev pub FitsHasType : Type 0
+abbrev FitsHasType : Type 0
 FitsHasType = (slots : Slots) (expansion : PathSet) (type_name : List ℕ) (json : Data) (v : Val) → Fits (expanded slots expansion) type_name json v → HasType slots (single (structured type_name)) v
+
+-- the law of rows, as it is cited
+abbrev JudgedOnce : Type 0
+JudgedOnce = (filter : Filter) (now : MomentParts) (line : List ℕ) (j k : Judgment BadRow) → JudgesRow filter now line j → JudgesRow filter now line k → AreSameJudgment j k
 
 -- ---- the five outcomes
 
@@ -138,14 +142,14 @@ module _ (ends : TypedEndsOnce) (has_type : FitsHasType) where
   pub kept : KeepTrueRows
   kept text filter now line checked is_moment = (kept_true filter now line, λ row. (row.short, row.some, true_judged text filter now line checked is_moment row))
 
-  module _ (one_fits : OneFits) (fits_nothing : FaultFitsNothing) (one_fault : OneFirstFault) where
+  module _ (once : JudgedOnce) where
     module _ (of : List ℕ) (filter : Filter) (now : MomentParts) (checked : IsCheckedOf of filter) (is_moment : IsMoment now.civil now.offset_minutes) where
       abbrev IsFine : SiftedItem (List ℕ) BadRow → Type 0
       IsFine s = IsFoundOf (JudgesRow filter now) s.item s.line_class × IsFaultless s.line_class
 
       left_out : (line : List ℕ) → JudgesRow filter now line Judgment.LeftOut → ¬ IsTrueRow filter now line
       left_out line out row =
-          judged_once one_fits fits_nothing one_fault filter now line Judgment.Kept Judgment.LeftOut (true_judged of filter now line checked is_moment row) out
+          once filter now line Judgment.Kept Judgment.LeftOut (true_judged of filter now line checked is_moment row) out
 
       pick : (line : List ℕ) (line_class : LineClass BadRow) (more : List (SiftedItem (List ℕ) BadRow)) → IsFoundOf (JudgesRow filter now) line line_class → IsFaultless line_class
           → HasTrueRows filter now (map (λ s. s.item) more) (kept_text text_of_line more)

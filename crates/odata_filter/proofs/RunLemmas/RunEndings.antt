@@ -12,11 +12,11 @@ use Rattle.odata_text.specs.declared.query_fault.QueryFault.{QueryFault}
 use Rattle.odata_text.specs.declared.query_fault.QueryFault.TheVariants as query
 use Rattle.line_filter.specs.Growth.{Writes, WritesFront}
 use Rattle.odata_filter.specs.Planned.{IsMomentText, IsPlanned}
-use Rattle.odata_filter.specs.declared.command.command_line.Verb.{Verb}
+use Rattle.command_plan.specs.declared.command_line.Verb.{Verb}
 use Rattle.odata_filter.specs.private.RunFailures.{AnswerSays, BeginsText, FailureSays, GivesMoment, IsAnswerOf, IsAnswered, IsMomentUnlessAsked, IsReported, IsUnwritten, LacksFilter, ReadsNoRows, status_of, status_of_query, status_of_refusal}
 use Rattle.odata_filter.specs.Run.{Answers, BeginsAs, BeginsBy, BeginsKept, HoldsOfRows, Completes, IsAccepted, IsFirstMoment, IsRefusedLine, NamesType, AsksFor, IsPlanFilter, IsReady, LacksMoment, HasNoFilter, Streams, streams, ReportsFilter, WroteNothing, OverRows, OfRows, ByFilter, FiltersAll, StopsAtFault, StopsAtRow, Status, complete, without_filter, without_plan, without_type, at_fault, without_device, without_memory, status_number, StatusSays, Begins}
 use Rattle.csdl_schema.specs.SchemaModel.{SchemaModel, slots_of, type_name_at}
-use Rattle.odata_filter.specs.declared.command.command_line.Plan.{Plan}
+use Rattle.command_plan.specs.declared.command_line.Plan.{Plan}
 use Rattle.odata_filter.specs.declared.command.failure.Failure.{Failure}
 use Rattle.odata_signatures.specs.declared.refusal.Refusal.{Refusal}
 use Rattle.odata_signatures.specs.declared.refusal.Refusal.TheVariants as refusal

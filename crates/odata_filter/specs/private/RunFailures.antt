@@ -6,14 +6,14 @@ use Rattle.edm_values.specs.MomentParts.{MomentParts}
 use Rattle.line_filter.specs.Growth.{Writes, WritesFront}
 use Rattle.odata_text.specs.declared.query_fault.QueryFault.{QueryFault}
 use Rattle.odata_text.specs.declared.query_fault.QueryFault.TheVariants as query
-use Rattle.odata_filter.specs.declared.command.command_line.Verb.{Verb}
-use Rattle.odata_filter.specs.declared.command.command_line.Verb.TheVariants.{Filter as ByRows}
+use Rattle.command_plan.specs.declared.command_line.Verb.{Verb}
+use Rattle.command_plan.specs.declared.command_line.Verb.TheVariants.{Filter as ByRows}
 use Rattle.odata_checked_filter.specs.Calls.{UsesNow}
 use Rattle.odata_checked_filter.specs.Filter.{Filter, tree_of_filter}
 use Rattle.odata_filter.specs.Run.{IsFirstMoment, IsRefusedLine, HasNoFilter, HasNoOption, Streams, WroteNothing, OverRows, Status, StatusSays, status_number, complete, without_filter, without_plan, without_type, at_fault, without_device, without_memory}
 use Rattle.csdl_declarations.specs.declared.schema_fault.SchemaFault.{SchemaFault}
 use Rattle.csdl_declarations.specs.declared.schema_fault.SchemaFault.TheVariants as schema
-use Rattle.odata_filter.specs.declared.command.command_line.Plan.{Plan}
+use Rattle.command_plan.specs.declared.command_line.Plan.{Plan}
 use Rattle.odata_filter.specs.declared.command.failure.Failure.{Failure}
 use Rattle.odata_filter.specs.declared.command.failure.Failure.TheVariants.{NotAMoment, OneOf, Schema, UnknownType, Query, NoOption, Refused, NoMoment, RowsFile, Rows}
 use Rattle.odata_filter.specs.declared.run_fault.RunFault.{RunFault}

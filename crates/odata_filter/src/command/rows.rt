@@ -1,7 +1,7 @@
 //! The rows of a plan, filtered: each a line, or all of them in one collection.
 ghost use Rattle.std.specs.Prelude.{◌≡◌, false, true, ℕ, List, None, option_map, IfOk, IfErr};
 ghost use Rattle.line_filter.specs.Kept.{Filters};
-ghost use Rattle.odata_filter.specs.RowJudgment.{rows_of};
+ghost use Rattle.row_judges.specs.RowJudgment.{rows_of};
 ghost use Rattle.odata_checked_filter.specs.Calls.{UsesNow};
 ghost use Rattle.odata_checked_filter.specs.Filter.{tree_of_filter};
 ghost use Rattle.odata_filter.specs.Run.{BeginsAs, IsPlanFilter, IsReady, OverRows, streams};
@@ -9,12 +9,12 @@ ghost use Rattle.odata_filter.specs.RunStops.{StopsBy};
 ghost use Rattle.odata_filter.specs.private.RunFailures.{AnswerSays, GivesMoment, IsMomentUnlessAsked, IsUnwritten};
 ghost use Rattle.odata_filter.specs.private.RunFailures.{IsReadWhole, StopsOver, status_of};
 
-use super::command_line::{Plan, Verb};
 use super::failure::Failure;
 use super::whole_input::{ReadAllError, read_whole};
 use crate::collection::filter_collection;
 use crate::filter::filter_lines;
 use crate::run_fault::RunFault;
+use command_plan::command_line::{Plan, Verb};
 use edm_values::Moment;
 use jiff::civil;
 use line_filter::Tally;

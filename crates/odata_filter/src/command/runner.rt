@@ -10,11 +10,11 @@ ghost use Rattle.odata_filter.specs.private.RunFailures.{AnswerSays, BeginsText,
 ghost use Rattle.odata_filter.specs.private.RunFailures.{IsReported, IsUnwritten, LacksFilter, status_of};
 ghost use Rattle.csdl_schema.specs.SchemaModel.{HoldsType, IsEntityAt, index_named};
 
-use super::command_line::{Plan, Verb};
 use super::failure::Failure;
 use super::output_line::write_line;
 use super::rows::{Asked, filter_rows};
 use crate::run_fault::RunFault;
+use command_plan::command_line::{Plan, Verb};
 use csdl_schema::{Schema, TypeId};
 use edm_values::{Moment, read_moment};
 use line_filter::{Unlogged, write_out};

@@ -1,6 +1,6 @@
 -- The fault of a row that is judged by itself.
-use Rattle.odata_filter.specs.declared.bad_row.BadRow.{BadRow}
-use Rattle.odata_filter.specs.declared.no_verdict.NoVerdict.{NoVerdict}
+use Rattle.row_judges.specs.declared.bad_row.BadRow.{BadRow}
+use Rattle.row_judges.specs.declared.no_verdict.NoVerdict.{NoVerdict}
 use Rattle.odfilter_c.specs.declared.call_fault.Fault.{Fault}
 
 -- a row by itself has no line, which is reported as 0

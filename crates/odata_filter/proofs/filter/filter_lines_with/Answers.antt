@@ -5,7 +5,7 @@ use Rattle.line_filter.specs.Growth.{Writes}
 use Rattle.line_filter.specs.Kept.{Filters}
 use Rattle.line_filter.specs.LineSource.{left_of}
 use Rattle.odata_filter.specs.DeviceFaults.{StopsLines}
-use Rattle.odata_filter.specs.RowJudgment.{rows_of}
+use Rattle.row_judges.specs.RowJudgment.{rows_of}
 use Rattle.odata_filter.proofs.RowLemmas.DeviceCalls.{reads_until_fault, writes_until_fault}
 use Rattle.odata_filter.proofs.RowLemmas.RowLineJudges.{of_filter, stops_lines}
 use Rattle.odata_filter.proofs.filter.filter_lines_with.Goals as goal

@@ -3,7 +3,7 @@ use Rattle.edm_values.specs.MomentParts.{MomentParts}
 use Rattle.odata_checked_filter.specs.Filter.{Filter}
 use Rattle.line_filter.specs.Growth.{Grows}
 use Rattle.line_filter.specs.Kept.{Filters, StopsOn}
-use Rattle.odata_filter.specs.RowJudgment.{rows_of}
+use Rattle.row_judges.specs.RowJudgment.{rows_of}
 use Rattle.odata_filter.specs.RunStops.{StopsBy}
 use Rattle.odata_filter.specs.declared.run_fault.RunFault.{RunFault}
 use Rattle.odata_filter.proofs.RowLemmas.RowLineJudges.{of_filter, held_memory, held_stops, held_unread, held_unwritten}

@@ -12,11 +12,11 @@ returns-clause-kept c = kept c.typed_trees_end_once.ensures c.what_fits_has_its_
 
 pub returns-clause-written : goal.returns-clause-written
 returns-clause-written c =
-    written c.typed_trees_end_once.ensures c.what_fits_has_its_type.ensures c.one_value_fits.ensures c.what_has_a_fault_fits_nothing.ensures c.one_fault_is_first.ensures
+    written c.typed_trees_end_once.ensures c.what_fits_has_its_type.ensures c.rows_are_judged_once.ensures.line
 
 pub returns-clause-stopped : goal.returns-clause-stopped
 returns-clause-stopped c =
-    stopped c.typed_trees_end_once.ensures c.what_fits_has_its_type.ensures c.one_value_fits.ensures c.what_has_a_fault_fits_nothing.ensures c.one_fault_is_first.ensures
+    stopped c.typed_trees_end_once.ensures c.what_fits_has_its_type.ensures c.rows_are_judged_once.ensures.line
 
 pub returns-clause-refused : goal.returns-clause-refused
 returns-clause-refused c slots root text refusal is =

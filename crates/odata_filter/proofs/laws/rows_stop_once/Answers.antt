@@ -4,26 +4,25 @@ use Rattle.odata_checked_filter.specs.Filter.{Filter}
 use Rattle.line_filter.specs.Kept.{Filters}
 use Rattle.line_filter.specs.declared.tally.Tally.{Tally}
 use Rattle.odata_filter.specs.declared.run_fault.RunFault.{RunFault}
-use Rattle.odata_filter.specs.RowJudgment.{JudgesRow, rows_of}
-use Rattle.odata_filter.specs.RowsOnce.{AreSameFault, IsOfRow}
+use Rattle.row_judges.specs.RowJudgment.{JudgesRow, rows_of}
+use Rattle.odata_filter.specs.StopsOnce.{AreSameFault, IsOfRow}
 use Rattle.odata_filter.specs.RunStops.{StopsBy}
 use Rattle.odata_filter.proofs.RowLemmas.RowLineJudges.{of_filter}
 use Rattle.odata_filter.proofs.RowLemmas.OneFault.{same_kind, faults_once, faults_never}
-use Rattle.odata_filter.proofs.RowLemmas.OneJudgment.{judged_once}
 use Rattle.odata_filter.proofs.laws.rows_stop_once.Goals as goal
 
 pub lines_stop_once-requires : goal.lines_stop_once-requires
 lines_stop_once-requires c =
     let judge = c.new-judge.result in
-    λ line j k p q. same_kind j k (judged_once c.one_value_fits.ensures c.what_has_a_fault_fits_nothing.ensures c.one_fault_is_first.ensures judge.filter judge.moment line j k p q)
+    λ line j k p q. same_kind j k (c.rows_are_judged_once.ensures.line judge.filter judge.moment line j k p q)
 
 pub returns-clause-judged : goal.returns-clause-judged
-returns-clause-judged c = judged_once c.one_value_fits.ensures c.what_has_a_fault_fits_nothing.ensures c.one_fault_is_first.ensures c.args.checked.now c.args.now.now
+returns-clause-judged c = c.rows_are_judged_once.ensures.line c.args.checked.now c.args.now.now
 
 pub returns-clause-stopped : goal.returns-clause-stopped
 returns-clause-stopped c =
     let judge = c.new-judge.result in
-    let once = judged_once c.one_value_fits.ensures c.what_has_a_fault_fits_nothing.ensures c.one_fault_is_first.ensures judge.filter judge.moment in
+    let once = c.rows_are_judged_once.ensures.line judge.filter judge.moment in
     let Once : Filter → MomentParts → Type 0 = λ f m. (bytes text other : List ℕ) (d e : RunFault) → IsOfRow d → IsOfRow e
     → StopsBy (rows_of f m bytes) text d → StopsBy (rows_of f m bytes) other e → AreSameFault d e × (text ≡ other) in
     of_filter Once judge.filter c.args.checked.now judge.moment c.args.now.now c.new-judge.ensures.filter c.new-judge.ensures.moment

@@ -3,7 +3,7 @@ use Rattle.std.proofs.lemmas.Bool.{eqb-true}
 use Rattle.csdl_schema.specs.ExpansionView.{StepModel}
 use Rattle.edm_row_plans.specs.declared.row_plan.RowPlan.{RowPlan}
 use Rattle.odata_checked_filter.specs.Filter.{Filter}
-use Rattle.odata_filter.specs.RowAnswer.{IsPlanOfFilter}
+use Rattle.row_judges.specs.RowAnswer.{IsPlanOfFilter}
 use Rattle.odfilter_c.specs.HeldType.{IsPlanOfType}
 use Rattle.odfilter_c.specs.declared.call_fault.Fault.TheVariants.{Memory}
 use Rattle.odfilter_c.proofs.filter_calls.plan_for.Goals.{in-Ok, in-Err}

@@ -1,6 +1,6 @@
 use Rattle.std.proofs.Common.{Option, Ok, Err, Some, sym, subst}
 use Rattle.odata_eval.specs.declared.verdict.Verdict.{Verdict}
-use Rattle.odata_filter.specs.RowCosts.{ReportsRowWithin}
+use Rattle.row_judges.specs.RowCosts.{ReportsRowWithin}
 use Rattle.odfilter_c.specs.RowCalls.{IsOutcomeAt}
 use Rattle.odfilter_c.specs.declared.call_fault.Fault.{Fault}
 use Rattle.odfilter_c.proofs.RowSteps.{bounded_row}

@@ -1,6 +1,6 @@
 use Rattle.std.proofs.Common.{◌∙◌, sym, subst}
 use Rattle.odata_checked_filter.specs.Filter.{Filter}
-use Rattle.odata_filter.specs.FilterRows.{AreRowsOfFilter}
+use Rattle.row_judges.specs.FilterRows.{AreRowsOfFilter}
 use Rattle.odfilter_c.specs.RowCalls.{IsOutcomeAt}
 use Rattle.odfilter_c.specs.declared.handle.OwnFilter.TheInside.{Inside}
 use Rattle.odfilter_c.proofs.RowSteps.{at_moment, outcome_there}

@@ -1,5 +1,5 @@
 use Rattle.std.proofs.Common.{Err, None, sym, subst}
-use Rattle.odata_filter.specs.RowAnswer.{ReportsRow}
+use Rattle.row_judges.specs.RowAnswer.{ReportsRow}
 use Rattle.odfilter_c.specs.RowCalls.{IsOutcomeAt}
 use Rattle.odfilter_c.specs.declared.call_fault.Fault.{Fault}
 use Rattle.odfilter_c.proofs.RowSteps.{plain_row}

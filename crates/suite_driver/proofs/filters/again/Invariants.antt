@@ -1,4 +1,4 @@
-use Rattle.odata_filter.specs.FilterRows.{AreRowsOfFilter}
+use Rattle.row_judges.specs.FilterRows.{AreRowsOfFilter}
 use Rattle.suite_driver.proofs.filters.again.Given as goal
 
 -- what is kept from row to row stays the filter's

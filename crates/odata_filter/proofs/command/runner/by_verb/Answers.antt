@@ -1,6 +1,6 @@
 use Rattle.std.proofs.Common.{option_map}
 use Rattle.odata_filter.specs.Run.{streams}
-use Rattle.odata_filter.specs.declared.command.command_line.Verb.{Verb}
+use Rattle.command_plan.specs.declared.command_line.Verb.{Verb}
 use Rattle.odata_filter.proofs.RunLemmas.RunEndings.{accepted_begins, accepted_says, begins_as, explained_begins, explained_says, says_as}
 use Rattle.odata_filter.proofs.command.runner.by_verb.Goals as goal
 

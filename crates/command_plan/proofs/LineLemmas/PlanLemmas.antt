@@ -1,0 +1,94 @@
+-- What a command line asks for, from what `clap` found.
+use Rattle.std.proofs.Common.{◌≡◌, ◌∙◌, [], true, false, List, Option, None, Some, refl, sym, subst, ap, ap₂, codes, option_map}
+use Rattle.std.specs.Prelude.{◌||◌, is_some, unwrap_or}
+use Rattle.std.proofs.Math.Bool.{beq}
+use Rattle.std.specs.Borrow.{Bor}
+use Rattle.clap.specs.Words.{AddsArg, App, Row, Rule, Text, first_of, first_value, rows_of, rule_of, with_rule}
+use Rattle.clap.specs.Simple.{app_of_fields}
+use Rattle.clap.specs.declared.builder.arg.Arg.{Arg}
+use Rattle.clap.specs.declared.builder.command.Command.{Command}
+use Rattle.clap.specs.declared.builder.command.Command.TheViews.{out-Command}
+use Rattle.clap.specs.declared.parser.matches.Found.{Found}
+use Rattle.clap.proofs.WalkLemmas.{first_value-rows}
+use Rattle.command_plan.specs.CommandLine.{IsOneOf, LacksOneOf, option_value, text_rule}
+use Rattle.command_plan.specs.declared.command_line.Verb.TheVariants.{Filter}
+use Rattle.command_plan.specs.private.Planner.{IsApp}
+
+-- ---- a command grows
+
+-- the texts at the top and the end of help change nothing
+pub app_about : (c d : Command) (app : App) (text : _)
+    → out-Command d ≡ record (out-Command c) { about = text } → IsApp app c → IsApp app d
+app_about c d app text made is = record {
+  whole = ap app_of_fields made ∙ is.whole;
+  local = ap (λ f. f.has_globals) made ∙ is.local;
+}
+
+pub app_after_help : (c d : Command) (app : App) (text : _)
+    → out-Command d ≡ record (out-Command c) { after_help = text } → IsApp app c → IsApp app d
+app_after_help c d app text made is = record {
+  whole = ap app_of_fields made ∙ is.whole;
+  local = ap (λ f. f.has_globals) made ∙ is.local;
+}
+
+-- one more option
+pub app_arg : (c d : Command) (a : Arg) (app : App) (rule : Rule)
+    → rule_of a ≡ rule → a.global ≡ false → AddsArg c a d → IsApp app c → IsApp (with_rule app rule) d
+app_arg c d a app rule same local added is = record {
+  whole = added.shape local ∙ ap₂ with_rule is.whole same;
+  local = added.globals ∙ (ap (λ b. b || a.global) is.local ∙ ap (λ b. false || b) local);
+}
+
+-- an option that the words must have
+pub required_rule : (a b : Arg) (name : Text)
+    → rule_of a ≡ text_rule name false → b ≡ record a { required = true } → rule_of b ≡ text_rule name true
+required_rule a b name same made =
+    ap rule_of made ∙ ap (λ (r : Rule). record r { required = true }) same
+
+-- ---- the texts of options
+
+-- the value that was found
+pub text_found : (f : Found) (id : Text) (o : Option (Bor Text))
+    → option_map (λ s. s.now) o ≡ first_value f id → option_map (λ s. s.now) o ≡ first_of id (rows_of f)
+text_found f id o same = same ∙ first_value-rows f id
+
+-- exactly one of two texts is there, or not
+IsOneOf-apart : (o p : Option (Bor Text)) → beq (is_some o) (is_some p) ≡ true
+    → ¬ IsOneOf (option_map (λ s. s.now) o) (option_map (λ s. s.now) p)
+IsOneOf-apart None None same one = one
+IsOneOf-apart (Some a) (Some b) same one = one
+IsOneOf-apart None (Some b) same one = cc
+IsOneOf-apart (Some a) None same one = cc
+
+pub one_found : (o p : Option (Bor Text)) → beq (is_some o) (is_some p) ≡ false → IsOneOf o p
+one_found None None apart = cc
+one_found (Some a) (Some b) apart = cc
+one_found None (Some b) apart = tt
+one_found (Some a) None apart = tt
+
+pub one_found-not : (f : Found) (o p : Option (Bor Text))
+    → option_map (λ s. s.now) o ≡ first_value f (codes "filter")
+    → option_map (λ s. s.now) p ≡ first_value f (codes "query")
+    → beq (is_some o) (is_some p) ≡ true → LacksOneOf (rows_of f)
+one_found-not f o p filter query same one =
+    IsOneOf-apart o p same
+    (subst (λ x. IsOneOf x (option_map (λ s. s.now) p)) (sym (text_found f (codes "filter") o filter))
+    (subst (λ x. IsOneOf (first_of (codes "filter") (rows_of f)) x)
+    (sym (text_found f (codes "query") p query)) one))
+
+-- the value, or the empty text
+pub text_or_empty : (f : Found) (id : Text) (o : Option (Bor Text)) (t other : Bor Text)
+    → option_map (λ s. s.now) o ≡ first_value f id → t ≡ unwrap_or o other → other.now ≡ []
+    → t.now ≡ unwrap_or (first_of id (rows_of f)) []
+text_or_empty f id None t other same is empty =
+    ap (λ s. s.now) is ∙ empty ∙ ap (λ o. unwrap_or o []) (text_found f id None same)
+text_or_empty f id (Some x) t other same is empty =
+    ap (λ s. s.now) is ∙ ap (λ o. unwrap_or o []) (text_found f id (Some x) same)
+
+-- ---- the options that not every verb has
+
+pub rows_of_filter : (found : List Row) → option_value Filter (codes "rows") found ≡ first_of (codes "rows") found
+rows_of_filter found = refl
+
+pub now_of_filter : (found : List Row) → option_value Filter (codes "now") found ≡ first_of (codes "now") found
+now_of_filter found = refl

@@ -1,0 +1,4 @@
+pub use Rattle.clap.specs.Words as ClapWords
+pub mod CommandLine
+pub mod WorkedLines
+pub mod private

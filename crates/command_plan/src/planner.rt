@@ -1,0 +1,250 @@
+ghost use Rattle.std.specs.Prelude.{◌≡◌, IfOk, MatchResult, codes, false, map, option_map};
+ghost use Rattle.clap.specs.Words.{found_of, rows_of, rule_of};
+ghost use Rattle.command_plan.specs.CommandLine.{HasValues, IsPlanOf, IsRefusedBy};
+ghost use Rattle.command_plan.specs.CommandLine.{check_app, explain_app, filter_app, flag_rule, is_flag_set};
+ghost use Rattle.command_plan.specs.CommandLine.{odfilter_app, option_value, rowless_app, text_rule, verb_app};
+ghost use Rattle.command_plan.specs.private.Planner.{IsApp, IsClapFault, IsNotOneFault};
+
+use super::command_line::{Plan, PlanFault, Verb};
+use clap::error::ErrorKind;
+use clap::{Arg, ArgAction, ArgMatches, Command, Error};
+use std::alloc::{AllocError, Global};
+
+/// The version that the program reports.
+const VERSION: &str = "0.1.0";
+
+/// What stands at the end of each help.
+const AFTER_HELP: &str = "\
+Examples:
+  odfilter check --schema schema.json --type Mini.Item --filter \"Name eq 'a'\"
+  odfilter explain --schema schema.json --type Mini.Item --filter \"Name eq 'a'\"
+  odfilter filter --schema schema.json --type Mini.Item --filter \"Name eq 'a'\" --rows rows.json
+  odfilter filter --schema schema.json --type Mini.Item --query '$filter=ID%20eq%201' <rows.json
+  odfilter filter --schema schema.json --type Mini.Item --filter \"Name eq 'a'\" --collection <answer.json
+
+Statuses:
+  0  done; or help or the version was asked for
+  1  the filter was refused
+  2  the command line was refused
+  3  the schema was refused, or has no such entity type
+  4  a row was refused, or its evaluation failed
+  5  a file or stream could not be read or written
+  6  out of memory";
+
+/// An option that takes a text.
+fn text_option<'a>(alloc: Global, name: &'a str, value: &'a str, help: &'a str) -> Arg<'a>
+    ensures rule { rule_of result ≡ text_rule name.entry.now false }
+    ensures local { result.global ≡ false }
+{
+    Arg::new(alloc, name)
+        .long(name)
+        .value_name(value)
+        .help(help)
+        .action(ArgAction::Set)
+}
+
+/// An option that takes no text.
+fn flag<'a>(alloc: Global, name: &'a str, help: &'a str) -> Arg<'a>
+    ensures rule { rule_of result ≡ flag_rule name.entry.now }
+    ensures local { result.global ≡ false }
+{
+    Arg::new(alloc, name)
+        .long(name)
+        .help(help)
+        .action(ArgAction::SetTrue)
+}
+
+/// The subcommand of a verb, with the options that every verb has.
+fn verb_command<'a>(alloc: Global, word: &'a str, about: &'a str) -> Result<Command<'a>, AllocError>
+    ensures { IfOk result (IsApp (verb_app word.entry.now)) }
+{
+    let schema = text_option(alloc, "schema", "FILE", "CSDL JSON that declares the type").required(
+        true,
+    );
+    let named = text_option(
+        alloc,
+        "type",
+        "NAME",
+        "The entity type of the rows, with its namespace",
+    )
+    .required(true);
+    let filter = text_option(
+        alloc,
+        "filter",
+        "TEXT",
+        "The text of a $filter; as --filter=TEXT if it begins with '-'",
+    );
+    let query = text_option(
+        alloc,
+        "query",
+        "TEXT",
+        "A query string as it stands in a URL, with the filter and no other option of OData",
+    );
+    Command::new(alloc, word)
+        .about(about)
+        .after_help(AFTER_HELP)
+        .arg(schema)?
+        .arg(named)?
+        .arg(filter)?
+        .arg(query)
+}
+
+/// The subcommand `check`.
+fn check_command<'a>(alloc: Global) -> Result<Command<'a>, AllocError>
+    ensures { IfOk result (IsApp check_app) }
+{
+    verb_command(
+        alloc,
+        "check",
+        "Says whether a filter fits a type, and its canonical text",
+    )
+}
+
+/// The subcommand `explain`.
+fn explain_command<'a>(alloc: Global) -> Result<Command<'a>, AllocError>
+    ensures { IfOk result (IsApp explain_app) }
+{
+    verb_command(
+        alloc,
+        "explain",
+        "Says of each node of a filter where it stands, what it is, and its type",
+    )
+}
+
+/// The subcommand `filter`, which may name its rows, say what stands for now, and say that the rows are a collection.
+fn filter_command<'a>(alloc: Global) -> Result<Command<'a>, AllocError>
+    ensures { IfOk result (IsApp filter_app) }
+{
+    let rows = text_option(
+        alloc,
+        "rows",
+        "FILE",
+        "Rows, one JSON object a line; else standard input",
+    );
+    let now = text_option(
+        alloc,
+        "now",
+        "MOMENT",
+        "What now() stands for, as 2020-01-01T00:00:00Z; needed by a filter that calls it",
+    );
+    let collection = flag(
+        alloc,
+        "collection",
+        "The rows are the array `value` of one JSON object; the indexes of the kept ones are written",
+    );
+    let about = "Writes the rows whose outcome is true, as they come";
+    let command = verb_command(alloc, "filter", about)?;
+    command.arg(rows)?.arg(now)?.arg(collection)
+}
+
+/// The command with the subcommands that read no rows.
+fn rowless_command<'a>(alloc: Global) -> Result<Command<'a>, AllocError>
+    ensures { IfOk result (IsApp rowless_app) }
+{
+    Command::new(alloc, "odfilter")
+        .about("Checks an OData $filter against a type, and filters rows by it")
+        .after_help(AFTER_HELP)
+        .version(VERSION)
+        .subcommand_required(true)
+        .subcommand(check_command(alloc)?)?
+        .subcommand(explain_command(alloc)?)
+}
+
+/// The command line as `clap` reads it.
+fn command<'a>(alloc: Global) -> Result<Command<'a>, AllocError>
+    ensures { IfOk result (IsApp odfilter_app) }
+{
+    rowless_command(alloc)?.subcommand(filter_command(alloc)?)
+}
+
+fn fault_of(error: Error) -> PlanFault
+    ensures { IsClapFault error result }
+{
+    match error.kind() {
+        ErrorKind::OutOfMemory => PlanFault::Memory,
+        _ => PlanFault::Clap(error),
+    }
+}
+
+/// The rows file, which `filter` alone may name.
+fn rows_file<'a>(verb: Verb, matches: &ArgMatches<'a>) -> Option<&'a str>
+    ensures { option_map (λ s. s.now) result
+        ≡ option_value verb (codes "rows") (rows_of (found_of matches.now)) }
+{
+    match verb {
+        Verb::Filter => matches.get_str("rows"),
+        Verb::Check | Verb::Explain => None,
+    }
+}
+
+/// What stands for now, which `filter` alone may say.
+fn moment_text<'a>(verb: Verb, matches: &ArgMatches<'a>) -> Option<&'a str>
+    ensures { option_map (λ s. s.now) result
+        ≡ option_value verb (codes "now") (rows_of (found_of matches.now)) }
+{
+    match verb {
+        Verb::Filter => matches.get_str("now"),
+        Verb::Check | Verb::Explain => None,
+    }
+}
+
+/// Whether the rows are a collection, which `filter` alone may say.
+fn is_collection(verb: Verb, matches: &ArgMatches<'_>) -> bool
+    ensures { result ≡ is_flag_set verb (codes "collection") (rows_of (found_of matches.now)) }
+{
+    match verb {
+        Verb::Filter => matches.get_one::<bool>("collection").unwrap_or(false),
+        Verb::Check | Verb::Explain => false,
+    }
+}
+
+/// The plan of what stands after a verb.
+fn plan_of<'a>(verb: Verb, matches: &ArgMatches<'a>) -> Result<Plan<'a>, PlanFault>
+    ensures verb { IfOk result (λ plan. plan.verb ≡ verb) }
+    ensures values { MatchResult result (HasValues (rows_of (found_of matches.now)))
+        (IsNotOneFault (rows_of (found_of matches.now))) }
+{
+    let filter = matches.get_str("filter");
+    let query = matches.get_str("query");
+    if filter.is_some() == query.is_some() {
+        return Err(PlanFault::OneOf);
+    }
+    Ok(Plan {
+        verb,
+        schema: matches.get_str("schema").unwrap_or(""),
+        named: matches.get_str("type").unwrap_or(""),
+        filter,
+        query,
+        rows: rows_file(verb, matches),
+        now: moment_text(verb, matches),
+        collection: is_collection(verb, matches),
+    })
+}
+
+/// Reads a command line, the program's name first.
+///
+/// `OneOf` is returned where not exactly one of filter and query is given, `Clap` where `clap` refuses the words or is
+/// asked for help or the version.
+pub fn plan<'a>(alloc: Global, words: &'a [&'a str]) -> Result<Plan<'a>, PlanFault>
+    ensures { MatchResult result (IsPlanOf (map (λ s. s.now) words.entry.now))
+        (IsRefusedBy (map (λ s. s.now) words.entry.now)) }
+{
+    let command = match command(alloc) {
+        Ok(command) => command,
+        Err(_) => return Err(PlanFault::Memory),
+    };
+    let matches = match command.try_get_matches_from(words) {
+        Ok(matches) => matches,
+        Err(error) => return Err(fault_of(error)),
+    };
+    match matches.subcommand_matches("filter") {
+        Some(inner) => plan_of(Verb::Filter, inner),
+        None => match matches.subcommand_matches("check") {
+            Some(inner) => plan_of(Verb::Check, inner),
+            None => match matches.subcommand_matches("explain") {
+                Some(inner) => plan_of(Verb::Explain, inner),
+                None => Err(PlanFault::OneOf),
+            },
+        },
+    }
+}

@@ -1,6 +1,0 @@
-use Rattle.std.proofs.Common.{sym, subst}
-use Rattle.odata_filter.specs.RowCosts.{ReportsRowWithin}
-use Rattle.odata_filter.proofs.bounded_judge.BoundedJudge.judge.Goals as goal
-
-pub returns-in-Some : goal.returns-in-Some
-returns-in-Some c = subst (ReportsRowWithin c.args.self.now.checked.now c.args.self.now.moment.now c.args.row.now c.args.self.now.most) (sym c.reported.ensures) c.in-Some.ensures

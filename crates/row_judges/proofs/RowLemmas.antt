@@ -1,0 +1,10 @@
+pub mod BlankLines
+pub mod CostsAlone
+pub mod CostsBut
+pub mod NamesAlone
+pub mod OneJudgment
+pub mod RowBounds
+pub mod RowJudges
+pub mod RowsBut
+pub mod RowsInPlace
+pub mod SlotTests

@@ -1,0 +1,105 @@
+-- From what is known of an entity, which may lack what was passed, to what the JSON of its row costs.
+use mathlib.Core.Path.{fun_ext}
+use Rattle.std.proofs.Common.{◌≡◌, ◌≢◌, ◌⊎◌, inl, inr, ℕ, List, [], slice_get, sym, ap, ◌∙◌, subst, IfSome}
+use Rattle.serde_json.specs.Data.{Data}
+use Rattle.edm_values.specs.MomentParts.{MomentParts}
+use Rattle.edm_values.specs.Val.{Val, FieldVal, fields}
+use Rattle.csdl_schema.specs.ExpansionView.{paths_in}
+use Rattle.csdl_schema.specs.PathSet.{PropertyPath}
+use Rattle.csdl_schema.specs.SchemaModel.{SchemaModel, slots_of, type_name_at}
+use Rattle.edm_entities.specs.Fits.{Fits}
+use Rattle.edm_entities.specs.Row.{Row, value_of}
+use Rattle.edm_entities.specs.RowReading.{IsLineBut}
+use Rattle.edm_row_plans.specs.PassedNames.{Names}
+use Rattle.odata_checked_filter.specs.Filter.{Filter, slots_for_filter, tree_of_filter}
+use Rattle.odata_checked_filter.specs.declared.checked_node.NodeKind.{NodeKind}
+use Rattle.odata_filter_operations.specs.Outcome.{Outcome}
+use Rattle.odata_eval.specs.Costs.{Costs}
+use Rattle.odata_eval.specs.CostsOn.{CostsOn, KeepsBound}
+use Rattle.odata_eval.specs.Means.{Means}
+use Rattle.odata_eval.specs.declared.stop.EvalStop.{EvalStop}
+use Rattle.odata_eval.specs.declared.verdict.Verdict.{Verdict}
+use Rattle.std.specs.Prelude.{Result}
+use Rattle.row_judges.specs.RowAnswer.{PassesNone}
+use Rattle.row_judges.specs.RowCosts.{FilterCosts, HasCost}
+use Rattle.row_judges.proofs.RowLemmas.CostsAlone.{costs_same}
+use Rattle.row_judges.proofs.RowLemmas.RowJudges.{IsRowOf}
+use Rattle.row_judges.proofs.RowLemmas.RowsBut.{IsRowBut, fits_but, row_but, steps_same, tree_none}
+
+-- an entity with what the filter needs of a line, on which it costs what it costs on the line's value
+pub record IsRowCosting (filter : Filter) (now : MomentParts) (json : Data) (row : Row) : Type 0 where
+  pub reported : IsRowBut filter now json row
+  pub whole : Val
+  pub fits : Fits (slots_for_filter filter) (type_name_at filter.schema filter.filtered) json whole
+  pub costs : (n : ℕ) → CostsOn row now (tree_of_filter filter) n → FilterCosts filter now whole n
+  pub costed : (n : ℕ) → FilterCosts filter now whole n → CostsOn row now (tree_of_filter filter) n
+
+-- ---- a whole entity
+
+-- the same at the row's schema and type as at the filter's
+module _ (filter : Filter) (row : Row) (same_schema : row.schema ≡ filter.schema) (same_type : row.type_id ≡ filter.filtered) where
+  abbrev There : (SchemaModel → ℕ → Type 0) → Type 0
+  There Holds = Holds row.schema row.type_id
+
+  abbrev Here : (SchemaModel → ℕ → Type 0) → Type 0
+  Here Holds = Holds filter.schema filter.filtered
+
+  moved : (Holds : SchemaModel → ℕ → Type 0) → There Holds → Here Holds
+  moved Holds holds = subst (λ n. Holds filter.schema n) same_type (subst (λ s. Holds s row.type_id) same_schema holds)
+
+  moved_back : (Holds : SchemaModel → ℕ → Type 0) → Here Holds → There Holds
+  moved_back Holds holds = subst (λ s. Holds s row.type_id) (sym same_schema) (subst (λ n. Holds filter.schema n) (sym same_type) holds)
+
+pub whole_costs : (filter : Filter) (now : MomentParts) (json : Data) (row : Row) → IsRowOf filter json row → IsRowCosting filter now json row
+whole_costs filter now json row is =
+    let tree = tree_of_filter filter in
+    let MeansAt : Outcome → SchemaModel → ℕ → Type 0 = λ o s n. Means (slots_of s) (type_name_at s n) now (value_of row) [] tree o in
+    let CostsAt : ℕ → SchemaModel → ℕ → Type 0 = λ k s n. Costs (slots_of s) (type_name_at s n) now (value_of row) [] tree k in
+    record {
+      reported = record {
+        same_schema = is.same_schema;
+        same_type = is.same_type;
+        whole = value_of row;
+        fits = is.fits;
+        means = λ o. moved filter row is.same_schema is.same_type (MeansAt o);
+        meant = λ o. moved_back filter row is.same_schema is.same_type (MeansAt o);
+      };
+      whole = value_of row;
+      fits = is.fits;
+      costs = λ k. moved filter row is.same_schema is.same_type (CostsAt k);
+      costed = λ k. moved_back filter row is.same_schema is.same_type (CostsAt k);
+    }
+
+-- ---- an entity that lacks what was passed
+
+costs_alike : (filter : Filter) (Passed : Names) (schema : SchemaModel) (id : ℕ) (now : MomentParts) (kept whole : List ℕ → FieldVal) → PassesNone filter Passed → ((name : List ℕ) → ¬ Passed name → kept name ≡ whole name)
+    → Costs (slots_of schema) (type_name_at schema id) now (fields kept) [] (tree_of_filter filter) ≡ Costs (slots_of schema) (type_name_at schema id) now (fields whole) [] (tree_of_filter filter)
+costs_alike filter Passed schema id now kept whole passes agrees = by passes.no_row
+  where
+    by : ((name : List ℕ) → ¬ Passed name) ⊎ ((place : ℕ) → IfSome (slice_get filter.list.nodes place) (λ found. found.kind ≢ NodeKind.It))
+        → Costs (slots_of schema) (type_name_at schema id) now (fields kept) [] (tree_of_filter filter) ≡ Costs (slots_of schema) (type_name_at schema id) now (fields whole) [] (tree_of_filter filter)
+    by (inl none) = ap (λ (held : List ℕ → FieldVal). Costs (slots_of schema) (type_name_at schema id) now (fields held) [] (tree_of_filter filter)) (fun_ext (λ (name : List ℕ). agrees name (none name)))
+    by (inr no_row) =
+        costs_same (slots_of schema) (type_name_at schema id) now (fields kept) (fields whole) Passed (λ word not. steps_same kept whole word (agrees word not)) [] (tree_of_filter filter) (tree_none filter Passed passes no_row)
+
+pub kept_costs : (filter : Filter) (now : MomentParts) (line : List ℕ) (Passed : Names) (row : Row) → row.schema ≡ filter.schema → row.type_id ≡ filter.filtered
+    → ((path : PropertyPath) → paths_in row.expansion path ≡ paths_in filter.expansion path) → PassesNone filter Passed → (read : IsLineBut line Passed row) → IsRowCosting filter now read.json row
+kept_costs filter now line Passed row schema_is type_is paths passes read =
+    let tree = tree_of_filter filter in
+    let At : ℕ → SchemaModel → ℕ → Type 0 = λ k s n. Costs (slots_of s) (type_name_at s n) now (fields read.whole) [] tree k in
+    let same : Costs (slots_of row.schema) (type_name_at row.schema row.type_id) now (value_of row) [] tree ≡ Costs (slots_of row.schema) (type_name_at row.schema row.type_id) now (fields read.whole) [] tree =
+    ap (λ (v : Val). Costs (slots_of row.schema) (type_name_at row.schema row.type_id) now v [] tree) read.value_is ∙ costs_alike filter Passed row.schema row.type_id now read.kept read.whole passes read.agrees in
+    record {
+      reported = row_but filter now line Passed row schema_is type_is paths passes read;
+      whole = fields read.whole;
+      fits = fits_but filter line Passed row schema_is type_is paths read;
+      costs = λ k holds. moved filter row schema_is type_is (At k) (subst (λ (C : ℕ → Type 0). C k) same holds);
+      costed = λ k holds. subst (λ (C : ℕ → Type 0). C k) (sym same) (moved_back filter row schema_is type_is (At k) holds);
+    }
+
+-- ---- its cost
+
+pub cost_of_row : (filter : Filter) (now : MomentParts) (json : Data) (row : Row) (most : ℕ) (answer : Result Verdict EvalStop) → IsRowCosting filter now json row
+    → (bound : KeepsBound row now (tree_of_filter filter) most answer) → HasCost filter now json bound.cost
+cost_of_row filter now json row most answer is bound =
+    record { value = is.whole; fits = is.fits; related = is.costs bound.cost bound.related; only = λ other costs. bound.only other (is.costed other costs) }

@@ -1,0 +1,65 @@
+-- What is reported about a row that is judged by itself (OData JSON Format 4.01, sections 4.5 and 7; OData URL
+-- Conventions 4.01, section 5.1.1).
+use Rattle.std.specs.Prelude.{◌≡◌, ◌≢◌, ◌⊎◌, ◌<◌, ℕ, List, [], length, slice_get, unwrap_or, IfSome, Option, Some, None, Result, Ok, Err, IsTrue}
+use Rattle.serde_json.specs.Data.{Data}
+use Rattle.edm_values.specs.MomentParts.{MomentParts}
+use Rattle.csdl_schema.specs.JsonText.{IsJsonOf}
+use Rattle.edm_row_plans.specs.Plans.{IsPlanOf}
+use Rattle.edm_row_plans.specs.PassedNames.{Names, names_passed}
+use Rattle.edm_row_plans.specs.declared.row_plan.RowPlan.{RowPlan}
+use Rattle.line_filter.specs.declared.judge.Judgment.{Judgment}
+use Rattle.odata_checked_filter.specs.Filter.{Filter}
+use Rattle.odata_checked_filter.specs.declared.checked_node.NodeKind.{NodeKind}
+use Rattle.odata_filter_operations.specs.Outcome.{gives}
+use Rattle.odata_eval.specs.VerdictView.{verdict_val}
+use Rattle.odata_eval.specs.declared.verdict.Verdict.{Verdict}
+use Rattle.row_judges.specs.RowJudgment.{HasOutcome, JudgesRow}
+use Rattle.row_judges.specs.RowsOnce.{AreSameJudgment}
+use Rattle.row_judges.specs.declared.bad_row.BadRow.{BadRow}
+use Rattle.row_judges.specs.declared.no_verdict.NoVerdict.{NoVerdict}
+
+-- the filter's list has none of these names at a node; where there are some, nothing stands for the whole row
+pub record PassesNone (filter : Filter) (Passed : Names) : Type 0 where
+  pub unnamed :
+      (place : ℕ) → place < length filter.list.nodes → ¬ Passed (unwrap_or (slice_get filter.list.texts place) [])
+  pub spelled : ¬ Passed []
+  pub no_row :
+      ((name : List ℕ) → ¬ Passed name)
+      ⊎ ((place : ℕ) → IfSome (slice_get filter.list.nodes place) (λ node. node.kind ≢ NodeKind.It))
+
+-- the plan is of the filter's schema and type, and a whole one has that expanded which the filter needs; it passes
+-- nothing that the filter names
+pub record IsPlanOfFilter (filter : Filter) (plan : RowPlan) : Type 0 where
+  pub schema : IsPlanOf filter.schema plan
+  pub type_id : plan.type_id ≡ filter.filtered
+  pub whole : IsTrue plan.is_whole → plan.expansion ≡ filter.expansion
+  pub passes : PassesNone filter (names_passed filter.schema plan)
+
+-- the row is a JSON value that fits, and the verdict is the filter's one outcome on it
+pub record HasVerdict (filter : Filter) (now : MomentParts) (row : List ℕ) (verdict : Verdict) : Type 0 where
+  pub json : Data
+  pub is_json : IsJsonOf row json
+  pub outcome : HasOutcome filter now json (gives (verdict_val verdict))
+
+-- what is reported about a row: its verdict, or what is wrong with it, which is what is said of a line at fault;
+-- running out of memory says nothing
+abbrev pub ReportsRow : Filter → MomentParts → List ℕ → Result Verdict NoVerdict → Type 0
+ReportsRow filter now row (Ok verdict) = HasVerdict filter now row verdict
+ReportsRow filter now row (Err (NoVerdict.Bad bad)) = JudgesRow filter now row (Judgment.Fault bad)
+ReportsRow filter now row (Err NoVerdict.Memory) = Unit {0}
+
+-- what is said of the row as a line: it is kept where the verdict is true; nothing when out of memory
+abbrev pub judgment_reported : Result Verdict NoVerdict → Option (Judgment BadRow)
+judgment_reported (Ok Verdict.True) = Some Judgment.Kept
+judgment_reported (Ok Verdict.False) = Some Judgment.LeftOut
+judgment_reported (Ok Verdict.Null) = Some Judgment.LeftOut
+judgment_reported (Err (NoVerdict.Bad bad)) = Some (Judgment.Fault bad)
+judgment_reported (Err NoVerdict.Memory) = None
+
+-- the same verdict, or the same fault; running out of memory goes with any
+abbrev pub AreSameAnswer : Result Verdict NoVerdict → Result Verdict NoVerdict → Type 0
+AreSameAnswer (Ok v) (Ok w) = v ≡ w
+AreSameAnswer (Err (NoVerdict.Bad f)) (Err (NoVerdict.Bad g)) = AreSameJudgment (Judgment.Fault f) (Judgment.Fault g)
+AreSameAnswer (Err NoVerdict.Memory) other = Unit {0}
+AreSameAnswer other (Err NoVerdict.Memory) = Unit {0}
+AreSameAnswer _ _ = ⊥

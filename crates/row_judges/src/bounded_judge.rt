@@ -1,0 +1,143 @@
+//! Rows judged within a bound on what they cost.
+ghost use Rattle.std.specs.Prelude.{◌≡◌, ℕ, List, true, IfSome};
+ghost use Rattle.serde_json.specs.View.{view};
+ghost use Rattle.csdl_schema.specs.ExpansionView.{paths_in};
+ghost use Rattle.csdl_schema.specs.PathSet.{PropertyPath};
+ghost use Rattle.edm_entities.specs.RowReading.{IsLineBut};
+ghost use Rattle.edm_rows.specs.RowsOfType.{names_unkept, row_held};
+ghost use Rattle.odata_checked_filter.specs.Filter.{tree_of_filter};
+ghost use Rattle.odata_eval.specs.CostsOn.{KeepsBound};
+ghost use Rattle.odata_eval.specs.MeansOn.{IsTheOutcome};
+ghost use Rattle.odata_eval.specs.VerdictView.{outcome_reported};
+ghost use Rattle.row_judges.specs.FilterRows.{KeepsNames};
+ghost use Rattle.row_judges.specs.RowAnswer.{IsPlanOfFilter};
+ghost use Rattle.row_judges.specs.RowCosts.{ReportsRowWithin};
+ghost use Rattle.row_judges.specs.private.BoundedJudge.{ReportsValueWithin, stop_reported};
+
+use crate::bad_row::BadRow;
+use crate::no_verdict::NoVerdict;
+use crate::row_judge::reported_fault;
+use edm_entities::{Entity, RowFault, RowPlan, RowReader};
+use edm_rows::TypeRows;
+use edm_values::Moment;
+use odata_eval::{EvalStop, Verdict, evaluate_within};
+use odata_typing::Checked;
+use serde_json::Value;
+use std::alloc::Global;
+
+/// Judges rows by a filter, each within a bound on its cost. The bound is on the bodies of lambda operators, and the
+/// items of lists within them, that the filter evaluates on the row. The plan is that of the filter
+/// ([`row_plan_of`](crate::row_plan_of)).
+#[derive(Drop)]
+pub struct BoundedJudge<'c, 's> {
+    pub checked: &'c Checked<'s>,
+    pub moment: &'c Moment,
+    pub plan: &'c RowPlan,
+    pub most: u64,
+}
+
+impl BoundedJudge<'_, '_> {
+    /// Judges a row, one JSON object, as [`judge_row`](crate::judge_row) does without a bound. `None` if the filter
+    /// costs more on the row than the bound allows.
+    pub fn judge(&self, reader: &mut RowReader, row: &[u8]) -> Result<Option<Verdict>, NoVerdict>
+        requires { IsPlanOfFilter self.now.checked.now self.now.plan.now }
+        ensures { ReportsRowWithin self.now.checked.now self.now.moment.now row.now self.now.most result }
+    {
+        let alloc = reader.allocator();
+        match self.judge_read(alloc, reader, row) {
+            Some(answer) => reported(answer),
+            None => self.judge_by_tree(alloc, row),
+        }
+    }
+
+    /// Judges a row that is an entity, without a tree; none where it has to be read through one.
+    fn judge_read(
+        &self,
+        alloc: Global,
+        reader: &mut RowReader,
+        row: &[u8],
+    ) -> Option<Result<Verdict, EvalStop>>
+        requires { IsPlanOfFilter self.now.checked.now self.now.plan.now }
+        ensures { IfSome result (λ answer. ReportsRowWithin self.now.checked.now self.now.moment.now row.now
+            self.now.most (stop_reported answer)) }
+    {
+        let is_whole = self.plan.is_whole;
+        if !is_whole {
+            return None;
+        }
+        let Some(entity) = reader.read(self.checked.schema(), self.plan, row) else {
+            return None;
+        };
+        let answer = self.judge_entity(alloc, &entity);
+        Some(answer)
+    }
+
+    /// Judges the row that was read last where it stood.
+    pub(crate) fn judge_held(
+        &self,
+        alloc: Global,
+        rows: &TypeRows<'_>,
+    ) -> Result<Option<Verdict>, NoVerdict>
+        requires rows { KeepsNames self.now.checked.now rows.now }
+        requires ready { rows.now.is_ready ≡ true }
+        requires whole { rows.now.is_whole ≡ true }
+        ensures { (line : List ℕ) → IsLineBut line (names_unkept rows.now) (row_held rows.now)
+            → ReportsRowWithin self.now.checked.now self.now.moment.now line self.now.most result }
+    {
+        let entity = rows.entity();
+        reported(self.judge_entity(alloc, &entity))
+    }
+
+    /// Judges an entity of the filter's type, with what the filter needs.
+    fn judge_entity(&self, alloc: Global, entity: &Entity<'_>) -> Result<Verdict, EvalStop>
+        requires schema { entity.now.schema ≡ self.now.checked.now.schema }
+        requires type_id { entity.now.type_id ≡ self.now.checked.now.filtered }
+        requires expansion { (path : PropertyPath)
+            → paths_in entity.now.expansion path ≡ paths_in self.now.checked.now.expansion path }
+        ensures outcome { IfSome (outcome_reported result)
+            (IsTheOutcome entity.now self.now.moment.now (tree_of_filter self.now.checked.now)) }
+        ensures bound { KeepsBound entity.now self.now.moment.now (tree_of_filter self.now.checked.now) self.now.most
+            result }
+    {
+        evaluate_within(alloc, self.checked, entity, self.moment, self.most)
+    }
+
+    /// Judges a row through a tree.
+    fn judge_by_tree(&self, alloc: Global, row: &[u8]) -> Result<Option<Verdict>, NoVerdict>
+        ensures { ReportsRowWithin self.now.checked.now self.now.moment.now row.now self.now.most result }
+    {
+        match Value::from_slice(alloc, row) {
+            Ok(json) => self.judge_value(alloc, &json),
+            Err(error) => {
+                if error.is_memory() {
+                    Err(NoVerdict::Memory)
+                } else {
+                    Err(NoVerdict::Bad(BadRow::NotJson))
+                }
+            }
+        }
+    }
+
+    /// Judges a JSON value.
+    fn judge_value(&self, alloc: Global, json: &Value) -> Result<Option<Verdict>, NoVerdict>
+        ensures { ReportsValueWithin self.now.checked.now self.now.moment.now (view json.now) self.now.most result }
+    {
+        let (schema, type_id) = (self.checked.schema(), self.checked.filtered_type());
+        match Entity::expanded_from_json(alloc, schema, type_id, self.checked.expansion(), json) {
+            Ok(entity) => reported(self.judge_entity(alloc, &entity)),
+            Err(RowFault::Memory) => Err(NoVerdict::Memory),
+            Err(fault) => Err(NoVerdict::Bad(BadRow::NoEntity(fault))),
+        }
+    }
+}
+
+/// What a filter's answer to an entity reports about its row: none where it costs too much.
+fn reported(answer: Result<Verdict, EvalStop>) -> Result<Option<Verdict>, NoVerdict>
+    ensures { result ≡ stop_reported answer }
+{
+    match answer {
+        Ok(verdict) => Ok(Some(verdict)),
+        Err(EvalStop::Fault(fault)) => Err(reported_fault(fault)),
+        Err(EvalStop::TooCostly) => Ok(None),
+    }
+}

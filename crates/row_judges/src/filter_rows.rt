@@ -1,0 +1,123 @@
+//! Rows judged by one filter, each by itself.
+ghost use Rattle.std.specs.Prelude.{◌≡◌};
+ghost use Rattle.edm_rows.specs.HeldSchema.{schema_in};
+ghost use Rattle.odata_checked_filter.specs.Filter.{Filter};
+ghost use Rattle.row_judges.specs.FilterRows.{AreRowsOfFilter};
+ghost use Rattle.row_judges.specs.RowAnswer.{ReportsRow};
+ghost use Rattle.row_judges.specs.RowCosts.{ReportsRowWithin};
+
+use crate::bounded_judge::BoundedJudge;
+use crate::no_verdict::NoVerdict;
+use crate::row_judge::RowJudge;
+use crate::row_verdict::row_plan_of;
+use crate::rows_in_place::{kept_rows_of, reads_copy};
+use csdl_schema::Schema;
+use edm_entities::{RowPlan, RowReader};
+use edm_rows::{HeldSchema, TypeRows};
+use edm_values::Moment;
+use odata_eval::Verdict;
+use odata_typing::Checked;
+use std::alloc::Global;
+use std::sync::Arc;
+
+/// What is kept from row to row of one filter: how its rows are read, and memory that is filled again. A row of a kind
+/// seen before takes no memory.
+#[derive(Drop)]
+pub struct FilterRows<'s> {
+    plan: RowPlan,
+    reader: RowReader,
+    type_rows: TypeRows<'s>,
+    /// The last row, in a copy that has room after it.
+    room: Vec<u8>,
+}
+
+impl<'s> FilterRows<'s> {
+    /// Returns what is kept of the filter's rows, before the first. It borrows the filter's schema.
+    pub fn new(alloc: Global, checked: &Checked<'s>) -> FilterRows<'s>
+        ensures { AreRowsOfFilter checked.now result }
+    {
+        FilterRows::of(alloc, checked, HeldSchema::Borrowed(checked.schema()))
+    }
+
+    /// Returns the same with a share in the filter's schema, so that it borrows nothing.
+    pub fn shared(alloc: Global, checked: &Checked<'_>, schema: Arc<Schema>) -> FilterRows<'static>
+        requires { schema.value ≡ checked.now.schema }
+        ensures { AreRowsOfFilter checked.now result }
+    {
+        FilterRows::of(alloc, checked, HeldSchema::Shared(schema))
+    }
+
+    /// The same, wherever the schema is.
+    fn of(alloc: Global, checked: &Checked<'_>, schema: HeldSchema<'s>) -> FilterRows<'s>
+        requires { schema_in schema ≡ checked.now.schema }
+        ensures { AreRowsOfFilter checked.now result }
+    {
+        FilterRows {
+            plan: row_plan_of(alloc, checked),
+            reader: RowReader::new(alloc),
+            type_rows: kept_rows_of(alloc, checked, schema),
+            room: Vec::new(alloc),
+        }
+    }
+
+    /// Judges a row, one JSON object, as [`judge_row`](crate::judge_row) does. The filter is that for which this was
+    /// made. The row is copied once, so that bytes can be read past its end.
+    pub fn judge(
+        &mut self,
+        checked: &Checked<'_>,
+        now: &Moment,
+        row: &[u8],
+    ) -> Result<Verdict, NoVerdict>
+        requires { AreRowsOfFilter checked.now self.old }
+        ensures verdict { ReportsRow checked.now now.now row.now result }
+        ensures rows { AreRowsOfFilter checked.now self.new }
+    {
+        let by = RowJudge {
+            alloc: self.reader.allocator(),
+            checked,
+            moment: now,
+        };
+        if reads_copy(&mut self.type_rows, &mut self.room, row) {
+            return by.judge_held(&self.type_rows);
+        }
+        let answer = by.judge_bytes(&self.plan, &mut self.reader, row);
+        self.begin(row);
+        answer
+    }
+
+    /// Judges a row within a bound on what it costs, as [`BoundedJudge::judge`] does. `None` if that is not enough. The
+    /// filter is that for which this was made.
+    pub fn judge_within(
+        &mut self,
+        checked: &Checked<'_>,
+        now: &Moment,
+        most: u64,
+        row: &[u8],
+    ) -> Result<Option<Verdict>, NoVerdict>
+        requires { AreRowsOfFilter checked.now self.old }
+        ensures verdict { ReportsRowWithin checked.now now.now row.now most result }
+        ensures rows { AreRowsOfFilter checked.now self.new }
+    {
+        let by = BoundedJudge {
+            checked,
+            moment: now,
+            plan: &self.plan,
+            most,
+        };
+        if reads_copy(&mut self.type_rows, &mut self.room, row) {
+            return by.judge_held(self.reader.allocator(), &self.type_rows);
+        }
+        let answer = by.judge(&mut self.reader, row);
+        self.begin(row);
+        answer
+    }
+
+    /// Has the next rows read where they stand, from this one on, unless they are already.
+    fn begin(&mut self, row: &[u8])
+        ensures { (filter : Filter) → AreRowsOfFilter filter self.old → AreRowsOfFilter filter self.new }
+    {
+        if !self.type_rows.has_row() {
+            self.type_rows.begin(&mut self.reader, row);
+        }
+    }
+}

@@ -1,0 +1,196 @@
+ghost use Rattle.std.specs.Prelude.{◌≡◌, ◌≢◌, ℕ, List, Ok, Err, Some, None, true, IfSome, MatchResult};
+ghost use Rattle.serde_json.specs.Data.{Data};
+ghost use Rattle.serde_json.specs.View.{view};
+ghost use Rattle.csdl_schema.specs.ExpansionView.{paths_in};
+ghost use Rattle.csdl_schema.specs.PathSet.{PropertyPath};
+ghost use Rattle.csdl_schema.specs.SchemaModel.{type_name_at};
+ghost use Rattle.edm_entities.specs.Fits.{Fits};
+ghost use Rattle.edm_entities.specs.Row.{slots_for, value_of};
+ghost use Rattle.line_filter.specs.LineItems.{judgment_where};
+ghost use Rattle.odata_checked_filter.specs.Calls.{TakesMemory};
+ghost use Rattle.odata_checked_filter.specs.Filter.{tree_of_filter};
+ghost use Rattle.odata_eval.specs.MeansOn.{IsTheOutcome};
+ghost use Rattle.odata_eval.specs.VerdictView.{reported_outcome};
+ghost use Rattle.row_judges.specs.RowAnswer.{IsPlanOfFilter, ReportsRow, judgment_reported};
+ghost use Rattle.row_judges.specs.RowJudgment.{JudgesValue};
+ghost use Rattle.row_judges.specs.private.ValueAnswer.{ReportsValue, answer_reported, fault_reported};
+
+use crate::bad_row::BadRow;
+use crate::no_verdict::NoVerdict;
+use edm_entities::{Entity, RowFault, RowPlan, RowReader};
+use edm_values::Moment;
+use line_filter::{JudgeItem, Judgment};
+use odata_eval::{EvalFault, Verdict, evaluate};
+use odata_typing::Checked;
+use serde_json::Value;
+use std::alloc::{AllocError, Global};
+
+/// Judges rows by a filter.
+#[derive(Drop)]
+pub struct RowJudge<'c, 's> {
+    pub alloc: Global,
+    pub checked: &'c Checked<'s>,
+    pub moment: &'c Moment,
+}
+
+impl RowJudge<'_, '_> {
+    /// Judges a JSON value.
+    pub(crate) fn judge_value(&self, json: &Value) -> Result<Verdict, NoVerdict>
+        ensures { ReportsValue self.now.checked.now self.now.moment.now (view json.now) result }
+    {
+        let (schema, type_id) = (self.checked.schema(), self.checked.filtered_type());
+        match Entity::expanded_from_json(
+            self.alloc,
+            schema,
+            type_id,
+            self.checked.expansion(),
+            json,
+        ) {
+            Ok(entity) => reported(self.judge_entity(&entity)),
+            Err(RowFault::Memory) => Err(NoVerdict::Memory),
+            Err(fault) => Err(NoVerdict::Bad(BadRow::NoEntity(fault))),
+        }
+    }
+
+    /// Judges an entity of the filter's type, with what the filter needs.
+    #[inline(always)]
+    pub(crate) fn judge_entity(&self, entity: &Entity<'_>) -> Result<Verdict, EvalFault>
+        requires schema { entity.now.schema ≡ self.now.checked.now.schema }
+        requires type_id { entity.now.type_id ≡ self.now.checked.now.filtered }
+        requires expansion { (path : PropertyPath)
+            → paths_in entity.now.expansion path ≡ paths_in self.now.checked.now.expansion path }
+        ensures reported { (json : Data) → Fits (slots_for entity.now)
+            (type_name_at entity.now.schema entity.now.type_id) json (value_of entity.now)
+            → ReportsValue self.now.checked.now self.now.moment.now json (answer_reported result) }
+        ensures outcome { IfSome (reported_outcome result)
+            (IsTheOutcome entity.now self.now.moment.now (tree_of_filter self.now.checked.now)) }
+        ensures no_memory { ¬ TakesMemory (tree_of_filter self.now.checked.now) → result ≢ Err EvalFault.Memory }
+    {
+        evaluate(self.alloc, self.checked, entity, self.moment)
+    }
+
+    /// Judges a row through a tree.
+    #[inline(never)]
+    pub(crate) fn judge_by_tree(&self, row: &[u8]) -> Result<Verdict, NoVerdict>
+        ensures { ReportsRow self.now.checked.now self.now.moment.now row.now result }
+    {
+        match Value::from_slice(self.alloc, row) {
+            Ok(json) => self.judge_value(&json),
+            Err(error) => {
+                if error.is_memory() {
+                    Err(NoVerdict::Memory)
+                } else {
+                    Err(NoVerdict::Bad(BadRow::NotJson))
+                }
+            }
+        }
+    }
+
+    /// Judges a row: without a tree where it is an entity, else through one.
+    pub(crate) fn judge_bytes(
+        &self,
+        plan: &RowPlan,
+        reader: &mut RowReader,
+        row: &[u8],
+    ) -> Result<Verdict, NoVerdict>
+        requires { IsPlanOfFilter self.now.checked.now plan.now }
+        ensures { ReportsRow self.now.checked.now self.now.moment.now row.now result }
+    {
+        match self.judge_read(plan, reader, row) {
+            Some(answer) => reported(answer),
+            None => self.judge_by_tree(row),
+        }
+    }
+
+    /// Judges a row that is an entity, without a tree. Where it returns none, the row goes through one: so it does
+    /// also where the plan is not whole.
+    #[inline(always)]
+    pub(crate) fn judge_read(
+        &self,
+        plan: &RowPlan,
+        reader: &mut RowReader,
+        row: &[u8],
+    ) -> Option<Result<Verdict, EvalFault>>
+        requires { IsPlanOfFilter self.now.checked.now plan.now }
+        ensures { IfSome result (λ answer. ReportsRow self.now.checked.now self.now.moment.now row.now
+            (answer_reported answer)) }
+    {
+        let is_whole = plan.is_whole;
+        if !is_whole {
+            return None;
+        }
+        let Some(entity) = reader.read(self.checked.schema(), plan, row) else {
+            return None;
+        };
+        let answer = self.judge_entity(&entity);
+        Some(answer)
+    }
+}
+
+impl JudgeItem for RowJudge<'_, '_> {
+    type Item = Value;
+
+    type Fault = BadRow;
+
+    ghost says = { λ judge item. JudgesValue judge.checked.now judge.moment.now (view item) };
+
+    fn judge_item(&self, item: &Value) -> Result<Judgment<BadRow>, AllocError> {
+        judgment_of(self.judge_value(item))
+    }
+}
+
+/// What a fault of the filter says of its row. Running out of memory says nothing of it.
+pub(crate) fn reported_fault(fault: EvalFault) -> NoVerdict
+    ensures { result ≡ fault_reported fault }
+{
+    match fault {
+        EvalFault::Memory => NoVerdict::Memory,
+        EvalFault::Overflow | EvalFault::DivideByZero => NoVerdict::Bad(BadRow::NoValue(fault)),
+    }
+}
+
+/// What a filter's answer to an entity says of its row.
+pub(crate) fn reported(answer: Result<Verdict, EvalFault>) -> Result<Verdict, NoVerdict>
+    ensures { result ≡ answer_reported answer }
+{
+    match answer {
+        Ok(verdict) => Ok(verdict),
+        Err(fault) => Err(reported_fault(fault)),
+    }
+}
+
+/// What is kept of rows by their verdicts: those on which the filter is true.
+#[inline(always)]
+pub(crate) fn judged_by(verdict: Verdict) -> Judgment<BadRow>
+    ensures { judgment_reported (Ok verdict) ≡ Some result }
+{
+    match verdict {
+        Verdict::True => Judgment::Kept,
+        Verdict::False | Verdict::Null => Judgment::LeftOut,
+    }
+}
+
+/// Whether a row with that verdict is kept.
+#[inline(always)]
+pub(crate) fn is_kept(verdict: Verdict) -> bool
+    ensures { judgment_reported (Ok verdict) ≡ Some (judgment_where result) }
+{
+    match verdict {
+        Verdict::True => true,
+        Verdict::False | Verdict::Null => false,
+    }
+}
+
+/// What is kept of rows by what is reported about each.
+pub(crate) fn judgment_of(
+    answer: Result<Verdict, NoVerdict>,
+) -> Result<Judgment<BadRow>, AllocError>
+    ensures { MatchResult result (λ said. judgment_reported answer ≡ Some said)
+        (λ refused. judgment_reported answer ≡ None) }
+{
+    match answer {
+        Ok(verdict) => Ok(judged_by(verdict)),
+        Err(NoVerdict::Bad(bad)) => Ok(Judgment::Fault(bad)),
+        Err(NoVerdict::Memory) => Err(AllocError),
+    }
+}

@@ -1,0 +1,227 @@
+//! The reader of a filter's rows where they stand.
+ghost use Rattle.std.specs.Prelude.{◌≡◌, ◌<◌, ◌≤◌, ℕ, List, [], length, slice_get, take, false, true, unwrap_or, All, IfSome, IsTrue};
+ghost use Rattle.std.specs.Str.{IsAscii};
+ghost use Rattle.edm_entities.specs.RowReading.{IsLineBut};
+ghost use Rattle.edm_values.specs.declared.sieve.Sieve.{Sieve};
+ghost use Rattle.edm_rows.specs.RowsOfType.{IsLeftOut, IsSameButKept, IsSameReader, names_unkept, row_held};
+ghost use Rattle.line_filter.specs.LineItems.{judgment_where};
+ghost use Rattle.edm_rows.specs.HeldSchema.{schema_in};
+ghost use Rattle.row_judges.specs.FilterRows.{KeepsNames};
+ghost use Rattle.row_judges.specs.RowAnswer.{ReportsRow};
+ghost use Rattle.row_judges.specs.RowJudgment.{JudgesRow};
+ghost use Rattle.row_judges.specs.private.RowsInPlace.{AreRowsOf, IsSameButSieves, IsTestAt};
+
+use crate::bad_row::BadRow;
+use crate::no_verdict::NoVerdict;
+use crate::row_judge::{RowJudge, is_kept, reported};
+use crate::row_verdict::{names_whole_row, plan_of};
+use edm_entities::{RowReader, what_fits_has_its_type};
+use edm_rows::{HeldSchema, Reading, TypeRows};
+use json_room::ROOM;
+use line_filter::Judgment;
+use odata_eval::{Verdict, slot_sieves, typed_trees_end_once};
+use odata_typing::Checked;
+use std::alloc::{AllocError, Global};
+
+/// The reader of the filter's rows. It keeps the properties that the filter names, and leaves rows out by the tests of
+/// single values that the filter makes. It is made in place, as the judge is.
+#[inline(always)]
+pub(crate) fn type_rows_of<'s>(alloc: Global, checked: &Checked<'s>) -> TypeRows<'s>
+    ensures { AreRowsOf checked.now result }
+{
+    // No two slots of a type have one name.
+    let _ = checked.schema().slots(checked.filtered_type());
+    let mut rows = kept_rows_of(alloc, checked, HeldSchema::Borrowed(checked.schema()));
+    sift_by_tests(&mut rows, alloc, checked);
+    rows
+}
+
+/// The same, which leaves no row out.
+#[inline(always)]
+pub(crate) fn kept_rows_of<'s>(
+    alloc: Global,
+    checked: &Checked<'_>,
+    schema: HeldSchema<'s>,
+) -> TypeRows<'s>
+    requires { schema_in schema ≡ checked.now.schema }
+    ensures names { KeepsNames checked.now result }
+    ensures all_pass { All (λ sieve. sieve ≡ Sieve.All) result.sieves }
+{
+    let mut rows = TypeRows::new(alloc, schema, plan_of(alloc, checked));
+    if names_whole_row(checked) {
+        rows.keep_all();
+        return rows;
+    }
+    rows.keep_named("");
+    keep_names(&mut rows, checked);
+    rows
+}
+
+/// Keeps the properties that the filter names.
+fn keep_names(rows: &mut TypeRows<'_>, checked: &Checked<'_>)
+    ensures same { IsSameButKept rows.old rows.new }
+    ensures less { (name : List ℕ) → names_unkept rows.new name → names_unkept rows.old name }
+    ensures kept { (place : ℕ) → place < length checked.now.list.nodes
+        → ¬ names_unkept rows.new (unwrap_or (slice_get checked.now.list.texts place) []) }
+{
+    let nodes = checked.nodes();
+    for place in 0..nodes.len() {
+        rows.keep_named(checked.text(place));
+    }
+}
+
+/// Has rows left out by the filter's tests of single values.
+fn sift_by_tests(rows: &mut TypeRows<'_>, alloc: Global, checked: &Checked<'_>)
+    requires { (slot : ℕ) → IfSome (slice_get rows.old.sieves slot) (IsTestAt checked.now slot) }
+    ensures same { IsSameButSieves rows.old rows.new }
+    ensures tests { (slot : ℕ) → IfSome (slice_get rows.new.sieves slot) (IsTestAt checked.now slot) }
+{
+    let mut tests = slot_sieves(alloc, checked);
+    while let Some(test) = tests.pop() {
+        rows.sift(test.slot, test.sieve);
+    }
+}
+
+/// Has the rows' reader fill the row of a line from here on, if that was not at fault and it has none yet.
+pub(crate) fn begin_after(
+    judged: &Result<Judgment<BadRow>, AllocError>,
+    rows: &mut TypeRows<'_>,
+    reader: &mut RowReader,
+    line: &[u8],
+)
+    ensures { IsSameReader rows.old rows.new }
+{
+    match judged {
+        Ok(Judgment::Kept) | Ok(Judgment::LeftOut) => {
+            if !rows.has_row() {
+                rows.begin(reader, line);
+            }
+        }
+        _ => {}
+    }
+}
+
+/// Copies a line to where it has a line feed and room after it, unless out of memory. What else was there stays.
+#[inline(always)]
+pub(crate) fn copy_with_room(line: &[u8], room: &mut Vec<u8>) -> bool
+    ensures within { IsTrue result → length line.now ≤ length room.new.items }
+    ensures copied { IsTrue result → take (length line.now) room.new.items ≡ line.now }
+{
+    let count = line.len();
+    if room.len() < ROOM || count > room.len() - ROOM {
+        return take_room(line, room);
+    }
+    write_line(room.as_mut_slice(), line);
+    true
+}
+
+/// Writes a line and a line feed over the front of a buffer.
+#[inline(always)]
+fn write_line(room: &mut [u8], line: &[u8])
+    requires { length line.now < length room.old }
+    ensures long { length room.new ≡ length room.old }
+    ensures copied { take (length line.now) room.new ≡ line.now }
+{
+    let (front, rest) = room.split_at_mut(line.len());
+    front.copy_from_slice(line);
+    rest[0] = b'\n';
+}
+
+/// The same in a buffer that is made for it.
+#[inline(never)]
+fn take_room(line: &[u8], room: &mut Vec<u8>) -> bool
+    ensures within { IsTrue result → length line.now ≤ length room.new.items }
+    ensures copied { IsTrue result → take (length line.now) room.new.items ≡ line.now }
+{
+    room.clear();
+    room.extend_from_slice(line).is_ok() && room.extend_from_slice(&[b'\n'; ROOM]).is_ok()
+}
+
+/// Whether a row is held once it was read in a copy that has room after it.
+pub(crate) fn reads_copy(rows: &mut TypeRows<'_>, room: &mut Vec<u8>, row: &[u8]) -> bool
+    ensures same { IsSameReader rows.old rows.new }
+    ensures whole { IsTrue result → rows.new.is_whole ≡ true }
+    ensures ready { IsTrue result → rows.new.is_ready ≡ true }
+    ensures row { IsTrue result → IsLineBut row.now (names_unkept rows.new) (row_held rows.new) }
+{
+    if !rows.has_row() || !copy_with_room(row, room) {
+        return false;
+    }
+    match rows.read(room.as_slice(), row.len(), false) {
+        Reading::Row => true,
+        Reading::LeftOut | Reading::Unread => false,
+    }
+}
+
+impl RowJudge<'_, '_> {
+    /// Whether the line of that length at the front of the bytes is kept, where the reader decides.
+    #[inline(always)]
+    pub(crate) fn keeps_in_place(
+        &self,
+        rows: &mut TypeRows<'_>,
+        bytes: &[u8],
+        count: usize,
+        is_ascii: bool,
+    ) -> Option<bool>
+        requires rows { AreRowsOf self.now.checked.now rows.old }
+        requires within { count ≤ length bytes.now }
+        requires ascii { IsTrue is_ascii → IsAscii (take count bytes.now) }
+        ensures rows { AreRowsOf self.now.checked.now rows.new }
+        ensures said { IfSome result (λ kept. JudgesRow self.now.checked.now self.now.moment.now (take count bytes.now)
+            (judgment_where kept)) }
+    {
+        match rows.read(bytes, count, is_ascii) {
+            Reading::Row => self.keeps_held(rows),
+            Reading::LeftOut => {
+                self.leaves_out(rows);
+                Some(false)
+            }
+            Reading::Unread => None,
+        }
+    }
+
+    /// Whether the row that was read last is kept, where its verdict comes without a fault.
+    #[inline(never)]
+    pub(crate) fn keeps_held(&self, rows: &TypeRows<'_>) -> Option<bool>
+        requires rows { AreRowsOf self.now.checked.now rows.now }
+        requires ready { rows.now.is_ready ≡ true }
+        requires whole { rows.now.is_whole ≡ true }
+        ensures { (line : List ℕ) → IsLineBut line (names_unkept rows.now) (row_held rows.now)
+            → IfSome result (λ kept. JudgesRow self.now.checked.now self.now.moment.now line (judgment_where kept)) }
+    {
+        let entity = rows.entity();
+        match self.judge_entity(&entity) {
+            Ok(verdict) => Some(is_kept(verdict)),
+            Err(_) => None,
+        }
+    }
+
+    /// Judges the row that was read last.
+    #[inline(always)]
+    pub(crate) fn judge_held(&self, rows: &TypeRows<'_>) -> Result<Verdict, NoVerdict>
+        requires rows { KeepsNames self.now.checked.now rows.now }
+        requires ready { rows.now.is_ready ≡ true }
+        requires whole { rows.now.is_whole ≡ true }
+        ensures { (line : List ℕ) → IsLineBut line (names_unkept rows.now) (row_held rows.now)
+            → ReportsRow self.now.checked.now self.now.moment.now line result }
+    {
+        let entity = rows.entity();
+        reported(self.judge_entity(&entity))
+    }
+
+    /// A law: the filter leaves out each line of which a slot's sieve rejects the value.
+    #[inline(always)]
+    pub(crate) fn leaves_out(&self, rows: &TypeRows<'_>)
+        requires rows { AreRowsOf self.now.checked.now rows.now }
+        requires whole { rows.now.is_whole ≡ true }
+        ensures { (line : List ℕ) → IsLeftOut line rows.now
+            → JudgesRow self.now.checked.now self.now.moment.now line (judgment_where false) }
+    {
+        typed_trees_end_once();
+        what_fits_has_its_type();
+        let _nodes = self.checked.nodes();
+        // The moment is one that a literal can spell.
+        let _civil = self.moment.civil();
+        let _offset = self.moment.offset_minutes();
+    }
+}
