@@ -225,6 +225,7 @@ fn plan_of<'a>(verb: Verb, matches: &ArgMatches<'a>) -> Result<Plan<'a>, PlanFau
 ///
 /// `OneOf` is returned where not exactly one of filter and query is given, `Clap` where `clap` refuses the words or is
 /// asked for help or the version.
+#[inline(never)]
 pub fn plan<'a>(alloc: Global, words: &'a [&'a str]) -> Result<Plan<'a>, PlanFault>
     ensures { MatchResult result (IsPlanOf (map (λ s. s.now) words.entry.now))
         (IsRefusedBy (map (λ s. s.now) words.entry.now)) }

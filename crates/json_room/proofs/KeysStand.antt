@@ -1,11 +1,10 @@
 -- Names that stand in a line, byte by byte.
-use Rattle.std.proofs.Common.{◌≡◌, ◌≢◌, ℕ, zero, suc, ◌+◌, ◌-◌, ◌%◌, ◌<◌, ◌≤◌, List, [], ◌∷◌, ◌++◌, length, take, drop, get_or, bit_and, true, false, refl, sym, ap, ◌∙◌, arith, Fits, w8}
+use Rattle.std.proofs.Common.{◌≡◌, ◌≢◌, ℕ, zero, suc, ◌+◌, ◌-◌, ◌%◌, ◌<◌, ◌≤◌, List, [], ◌∷◌, ◌++◌, length, take, drop, get_or, bit_and, false, refl, sym, ap, ◌∙◌, arith, Fits, w8}
 use Rattle.std.proofs.lemmas.Nat.{and_mask}
 use Rattle.std.proofs.lemmas.Simd.{Each1-get_or, get_or-zip2}
 use lib.Lanes.{Each1, zip2}
 use Rattle.std.proofs.lemmas.Bool.{true≢false}
 use Rattle.std.specs.List.{AllByRecursion}
-use Rattle.std.proofs.lemmas.List.{get_or_default}
 use Rattle.json.specs.Run.{is_plain}
 use Rattle.json.specs.Written.{PlainBetween}
 use Rattle.json_tokens.specs.Keys.{name_with_colon, quoted_name}
@@ -41,10 +40,10 @@ stands_by_bytes d i w begins none stands = record { within = last_within d i w b
 
 -- ---- no byte of a name with its quotes and its colon is an LF
 
-abbrev EachOther : List ℕ → Type 0
+abbrev pub EachOther : List ℕ → Type 0
 EachOther w = AllByRecursion (λ x. x ≢ 10) w
 
-each_at : (w : List ℕ) → EachOther w → NoFeed w
+pub each_at : (w : List ℕ) → EachOther w → NoFeed w
 each_at [] each k l = absurd (omega (arith, l))
 each_at (x ∷ w) each zero l = each.0
 each_at (x ∷ w) each (suc k) l = each_at w each.1 k (omega (arith, l))

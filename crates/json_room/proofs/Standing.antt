@@ -1,5 +1,6 @@
 -- Tokens that stand in a line from one place to the other.
-use Rattle.std.proofs.Common.{◌≡◌, ℕ, ◌+◌, ◌-◌, ◌<◌, ◌≤◌, List, [], ◌∷◌, ◌++◌, length, take, drop, get_or, Bool, true, false, refl, sym, ap, ◌∙◌, arith}
+use Rattle.std.proofs.Common.{◌≡◌, ℕ, ◌+◌, ◌-◌, ◌<◌, ◌≤◌, List, [], ◌∷◌, length, take, drop, get_or, Bool, true, false, ◌&&◌, ◌||◌, refl, sym, ap, ◌∙◌, subst, arith}
+use mir.Val.{bool_byte}
 use Rattle.std.proofs.lemmas.Bool.{true≢false}
 use Rattle.json.specs.Token.{boolean, key, null, number, string}
 use Rattle.json.specs.Lex.{token, Place, fresh, after_value, after_comma, after_key, may_begin, between, lex, punctuate}
@@ -12,8 +13,9 @@ use Rattle.json_tokens.specs.declared.lexeme.Turn.{Turn}
 use Rattle.json_tokens.specs.declared.lexeme.Turn.TheVariants.{Fresh, AfterValue, AfterComma}
 use Rattle.json_tokens.proofs.KeyLemmas.{key_there, member_there}
 use Rattle.json_tokens.proofs.LexemeLemmas.{begins_false, begins_null, begins_text, begins_true, from_byte, number_begins, stay}
-use Rattle.json_room.specs.Lexemes.{EndsHere, StandsTo}
-use Rattle.json_room.proofs.RoomLemmas.{ends_here, other_default, within_byte}
+use Rattle.json_room.specs.Lexemes.{StandsTo}
+use Rattle.json_room.proofs.KeysStand.{NoFeed, each_at, bytes_stand, stands_by_bytes}
+use Rattle.json_room.proofs.RoomLemmas.{byte_reported, ends_here, other_default, within_byte}
 
 pub string_stands : (d : List ℕ) (i to : ℕ) (s : List ℕ) → i < to → to ≤ length d → lex between (drop i d) ≡ token (string s) ∷ lex between (drop to d) → StandsTo d i (string s) to
 string_stands d i to s further within lexed =
@@ -29,6 +31,46 @@ false_stands d i within first stands =
     let read : drop i d ≡ 102 ∷ 97 ∷ 108 ∷ 115 ∷ 101 ∷ drop (i + 5) d =
     from_byte d i 102 within first ∙ ap (λ t. 102 ∷ t) (stands.is ∙ ap (λ k. 97 ∷ 108 ∷ 115 ∷ 101 ∷ drop k d) there) in
     record { bounds = (omega arith, omega (arith, stands.within)); begins = λ p may here. ap (λ t. punctuate p (lex between t)) read ∙ begins_false p (drop (i + 5) d) may here.ends }
+
+-- `true`, and what follows the f of `false`
+abbrev true_word : List ℕ
+true_word = 116 ∷ 114 ∷ 117 ∷ 101 ∷ []
+
+abbrev alse : List ℕ
+alse = 97 ∷ 108 ∷ 115 ∷ 101 ∷ []
+
+no_feed_true : NoFeed true_word
+no_feed_true = each_at true_word ((λ e. omega (arith, e)), ((λ e. omega (arith, e)), ((λ e. omega (arith, e)), ((λ e. omega (arith, e)), tt))))
+
+no_feed_alse : NoFeed alse
+no_feed_alse = each_at alse ((λ e. omega (arith, e)), ((λ e. omega (arith, e)), ((λ e. omega (arith, e)), ((λ e. omega (arith, e)), tt))))
+
+-- one of the two stands there, by the tests of both
+module _ (line bytes : List ℕ) (front : take (length line) bytes ≡ line) (feed : get_or bytes (length line) 0 ≡ 10) (room : length line + 64 ≤ length bytes) where
+  abbrev FourAt : ℕ → List ℕ → Type 0
+  FourAt i word = (k : ℕ) → k < 4 → get_or bytes (i + k) 0 ≡ get_or word k 0
+
+  four_stand : (i : ℕ) (word : List ℕ) → i ≤ length line → length word ≡ 4 → NoFeed word → FourAt i word → StandsAt line i word
+  four_stand i word begins long none there =
+      stands_by_bytes line i word begins none (λ k inside. bytes_stand line bytes front feed room i 4 word begins none (λ j few l. there j few) k (omega (arith, long, inside)) inside)
+
+  pub truth_stands : (i : ℕ) (is_true is_f other : Bool) → i ≤ length line → (is_f ≡ true → get_or bytes i 0 ≡ 102) → (is_true || (is_f && other)) ≡ true
+      → (is_true ≡ true → FourAt i true_word) → (other ≡ true → FourAt (i + 1) alse) → StandsTo line i (boolean is_true) (i + 4 + bool_byte (is_f && other))
+  truth_stands i true false other begins first either there rest =
+      let end : i + 4 ≡ i + 4 + 0 = omega arith in
+      subst (StandsTo line i (boolean true)) end (true_stands line i (four_stand i true_word begins refl no_feed_true (there refl)))
+  truth_stands i true true other begins first either there rest =
+      let here : i ≡ i + 0 = omega arith in
+      let letter : get_or bytes i 0 ≡ 116 = ap (λ k. get_or bytes k 0) here ∙ there refl 0 (omega arith) in
+      absurd (omega (arith, letter, first refl))
+  truth_stands i false true true begins first either there rest =
+      let letter : get_or line i 10 ≡ 102 = sym (byte_reported line bytes front feed room i begins) ∙ first refl in
+      let within = within_byte line i 102 letter (λ e. omega (arith, e)) in
+      let end : i + 5 ≡ i + 4 + 1 = omega arith in
+      subst (StandsTo line i (boolean false)) end
+      (false_stands line i within (other_default line i 102 letter (λ e. omega (arith, e))) (four_stand (i + 1) alse (omega (arith, within)) refl no_feed_alse (rest refl)))
+  truth_stands i false true false begins first either there rest = absurd (true≢false (sym either))
+  truth_stands i false false other begins first either there rest = absurd (true≢false (sym either))
 
 pub null_stands : (d : List ℕ) (i : ℕ) → StandsAt d i (110 ∷ 117 ∷ 108 ∷ 108 ∷ []) → StandsTo d i null (i + 4)
 null_stands d i stands =

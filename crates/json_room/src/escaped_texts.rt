@@ -8,11 +8,10 @@ use super::texts::{text_at, text_end};
 use json_tokens::{Scratch, escaped_at};
 use std::alloc::Global;
 
-/// The memory in which escapes are decoded. It is allocated for the first text that has any.
+/// The memory in which escapes are decoded. Nothing is allocated for it before the first text that has any.
 #[derive(Drop)]
 pub struct DecodeBuffer {
-    alloc: Global,
-    made: Vec<Scratch>,
+    scratch: Scratch,
 }
 
 impl DecodeBuffer {
@@ -20,26 +19,7 @@ impl DecodeBuffer {
     #[inline(always)]
     pub fn new(alloc: Global) -> DecodeBuffer {
         DecodeBuffer {
-            alloc,
-            made: Vec::new(alloc),
-        }
-    }
-
-    /// Allocates the memory, unless out of memory. What is copied has a stack frame of its own.
-    #[inline(never)]
-    fn allocate(&mut self) {
-        let _ = self.made.push(Scratch::new(self.alloc));
-    }
-
-    /// Returns the memory, unless it was allocated in vain.
-    fn scratch(&mut self) -> Option<&mut Scratch> {
-        if self.made.len() == 0 {
-            self.allocate();
-        }
-        if self.made.len() > 0 {
-            Some(&mut self.made[0])
-        } else {
-            None
+            scratch: Scratch::new(alloc),
         }
     }
 }
@@ -103,10 +83,7 @@ fn escaped_text_at<'t>(
     if line.byte(place) != b'"' {
         return None;
     }
-    let Some(scratch) = buffer.scratch() else {
-        return None;
-    };
-    match escaped_at(line.text(), place, scratch) {
+    match escaped_at(line.text(), place, &mut buffer.scratch) {
         Some((text, end)) => if end > place { Some((text, end)) } else { None },
         None => None,
     }

@@ -9,28 +9,28 @@ ghost use Rattle.json_tokens.specs.LexemesAt.{IsTextAt};
 use super::roomy_line::RoomyLine;
 use std::simd::prelude::*;
 
-/// Which of sixteen bytes are quotes, backslashes or control characters: the first is the lowest bit.
+/// Which of 32 bytes are quotes, backslashes or control characters: the first is the lowest bit.
 #[inline(always)]
-fn stops_16(lanes: u8x16) -> u64
+fn stops_32(lanes: u8x32) -> u64
     ensures { result ≡ mask_l (map is_stop lanes) }
 {
-    (lanes.simd_eq(u8x16::splat(b'"'))
-        | lanes.simd_eq(u8x16::splat(b'\\'))
-        | lanes.simd_lt(u8x16::splat(0x20))).to_bitmask()
+    (lanes.simd_eq(u8x32::splat(b'"'))
+        | lanes.simd_eq(u8x32::splat(b'\\'))
+        | lanes.simd_lt(u8x32::splat(0x20))).to_bitmask()
 }
 
-/// The first of sixteen offsets that has a quote, a backslash or a control character; `None` where all are plain.
+/// The first of 32 offsets that has a quote, a backslash or a control character; `None` where all are plain.
 #[inline(always)]
 fn plain_run(line: &RoomyLine<'_>, place: usize) -> Option<usize>
     requires { place ≤ length line.now }
     ensures bounds { IfSome result (λ end. (place ≤ end) × (end ≤ length line.now)) }
     ensures plain { IfSome result (PlainBetween line.now place) }
-    ensures further { result ≡ None → place + 16 ≤ length line.now }
-    ensures all { result ≡ None → PlainBetween line.now place (place + 16) }
+    ensures further { result ≡ None → place + 32 ≤ length line.now }
+    ensures all { result ≡ None → PlainBetween line.now place (place + 32) }
     ensures short { length line.now + 64 < 2 ^ 63 }
 {
     let bytes = line.bytes();
-    let stops = stops_16(u8x16::from_slice(&bytes[place..]));
+    let stops = stops_32(u8x32::from_slice(&bytes[place..]));
     if stops == 0 {
         None
     } else {
@@ -49,7 +49,7 @@ pub fn plain_end(line: &RoomyLine<'_>, from: usize) -> usize
     loop {
         match plain_run(line, place) {
             Some(end) => return end,
-            None => place += 16,
+            None => place += 32,
         }
     }
 }

@@ -7,7 +7,7 @@ ghost use Rattle.json_room.specs.Lexemes.{StandsTo};
 use super::roomy_line::RoomyLine;
 use std::simd::prelude::*;
 
-/// Whether these four bytes are there.
+/// Whether these four bytes of a word are there.
 #[inline(always)]
 fn stand_4(line: &RoomyLine<'_>, place: usize, word: u8x4) -> bool
     requires within { place ≤ length line.now }
@@ -15,8 +15,16 @@ fn stand_4(line: &RoomyLine<'_>, place: usize, word: u8x4) -> bool
     ensures stands { IsTrue result → StandsAt line.now place word }
     ensures short { length line.now + 64 < 2 ^ 63 }
 {
-    let bytes = line.bytes();
-    are_equal_4(u8x4::from_slice(&bytes[place..]), word)
+    are_4(line.bytes(), place, word)
+}
+
+/// Whether these four bytes are there, wherever the line ends.
+#[inline(always)]
+fn are_4(bytes: &[u8], from: usize, word: u8x4) -> bool
+    requires { from + 4 ≤ length bytes.now }
+    ensures { IsTrue result → (k : ℕ) → k < 4 → get_or bytes.now (from + k) 0 ≡ get_or word k 0 }
+{
+    are_equal_4(u8x4::from_slice(&bytes[from..]), word)
 }
 
 #[inline(always)]
@@ -26,19 +34,20 @@ fn are_equal_4(lanes: u8x4, others: u8x4) -> bool
     lanes.simd_eq(others).to_bitmask() == 0xf
 }
 
-/// The truth value that begins there, and the offset after it.
+/// The truth value that begins there, and the offset after it. Neither value is guessed: no branch tells them apart.
 #[inline(always)]
 pub fn truth_end(line: &RoomyLine<'_>, place: usize) -> Option<(bool, usize)>
     requires { place ≤ length line.now }
     ensures { IfSome result (λ found. StandsTo line.now place (boolean found.0) found.1) }
 {
-    if stand_4(line, place, u8x4::from_array(*b"true")) {
-        return Some((true, place + 4));
+    let bytes = line.bytes();
+    let is_true = are_4(bytes, place, u8x4::from_array(*b"true"));
+    let is_false = (bytes[place] == b'f') & are_4(bytes, place + 1, u8x4::from_array(*b"alse"));
+    if is_true | is_false {
+        Some((is_true, place + 4 + is_false as usize))
+    } else {
+        None
     }
-    if line.byte(place) == b'f' && stand_4(line, place + 1, u8x4::from_array(*b"alse")) {
-        return Some((false, place + 5));
-    }
-    None
 }
 
 /// The offset after the null that begins there.

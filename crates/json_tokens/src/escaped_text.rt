@@ -181,7 +181,10 @@ fn unescaped<'t>(quoted: &'t str, scratch: &'t mut Scratch) -> Option<&'t str>
     if report(quoted, &mut scratch.reported) {
         return Some(scratch.reported.as_str());
     }
-    reported_by_json(quoted, &mut scratch.of_json)
+    match scratch.of_json() {
+        Some(of_json) => reported_by_json(quoted, of_json),
+        None => None,
+    }
 }
 
 /// The text that begins with the quote at an offset, and the offset after its closing quote.

@@ -5,7 +5,7 @@ use odata_filter::command_line::{Plan, PlanFault};
 use odata_filter::{ReadAllError, plan, read_whole, run};
 use std::fmt::Display;
 use std::fs::File;
-use std::io::{ErrorKind, Read};
+use std::io::{ErrorKind, Read, Stdin};
 use std::process::ExitCode;
 use std::{env, io};
 
@@ -14,6 +14,22 @@ const SCHEMA_BYTES: u64 = 1_048_577;
 
 /// How much stack is taken before anything is allocated.
 const STACK_BYTES: usize = 196_608;
+
+/// Where the rows come from. A run over either is the same code, which is in memory once.
+#[derive(Drop)]
+enum Rows {
+    File(File),
+    Stdin(Stdin),
+}
+
+impl Read for Rows {
+    fn read(&mut self, bytes: &mut [u8]) -> io::Result<usize> {
+        match self {
+            Rows::File(file) => file.read(bytes),
+            Rows::Stdin(stdin) => stdin.read(bytes),
+        }
+    }
+}
 
 /// Writes a line to standard error. The status was decided before, so it stands where standard error fails.
 fn report<D: Display + Drop>(rt: &HostRuntime, line: D, status: u8) -> u8 {
@@ -56,17 +72,14 @@ fn carry_out(rt: &HostRuntime, plan: &Plan<'_>) -> u8 {
     };
     let (alloc, document) = (rt.alloc(), document.as_slice());
     let (mut out, mut err) = (rt.stdout(), rt.stderr());
-    match plan.rows {
-        Some(name) => run(
-            alloc,
-            plan,
-            document,
-            File::open(rt, name).ok(),
-            &mut out,
-            &mut err,
-        ),
-        None => run(alloc, plan, document, Some(rt.stdin()), &mut out, &mut err),
-    }
+    let rows = match plan.rows {
+        Some(name) => match File::open(rt, name) {
+            Ok(file) => Some(Rows::File(file)),
+            Err(_) => None,
+        },
+        None => Some(Rows::Stdin(rt.stdin())),
+    };
+    run(alloc, plan, document, rows, &mut out, &mut err)
 }
 
 /// The words of the command line, the program's name first.

@@ -179,7 +179,9 @@ fn report_nodes<'p, W: Write>(
     }
 }
 
-/// What the plan's verb makes of its filter. `check` and `explain` look at no rows.
+/// What the plan's verb makes of its filter. `check` and `explain` look at no rows. A frame of its own has what reads
+/// rows: the schema was read before.
+#[inline(never)]
 fn by_verb<'p, R: Read + Drop, W: Write>(
     alloc: Global,
     asked: &Asked<'_, '_, 'p>,

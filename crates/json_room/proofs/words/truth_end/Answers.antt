@@ -1,13 +1,8 @@
-use Rattle.std.proofs.Common.{sym, ◌∙◌, arith}
-use Rattle.json_room.proofs.RoomLemmas.{other_default, within_byte}
-use Rattle.json_room.proofs.Standing.{false_stands, true_stands}
+use Rattle.std.proofs.Common.{eqb-true}
+use Rattle.json_room.proofs.Standing.{truth_stands}
 use Rattle.json_room.proofs.words.truth_end.Goals as goal
 
-pub returns-then-stand_4 : goal.returns-then-stand_4
-returns-then-stand_4 c = true_stands c.args.line.now c.args.place (c.stand_4.ensures.stands c.if-stand_4.true)
-
-pub returns-then-stand_4-2 : goal.returns-then-stand_4-2
-returns-then-stand_4-2 c =
-    let d = c.args.line.now in
-    let first = sym c.byte.ensures.here ∙ c.if-byte-eq102.true in
-    false_stands d c.args.place (within_byte d c.args.place 102 first (λ e. omega (arith, e))) (other_default d c.args.place 102 first (λ e. omega (arith, e))) (c.stand_4-then-byte-eq102.ensures.stands c.if-stand_4-2.true)
+pub returns-then-is_true-is_false : goal.returns-then-is_true-is_false
+returns-then-is_true-is_false c =
+    let r = c.bytes-bytes.ensures in
+    truth_stands c.args.line.now c.bytes-bytes.result.now r.front r.line_feed r.room c.args.place c.are_4-is_true.result _ c.are_4.result c.requires (λ is. eqb-true _ _ is) c.if-is_true-is_false.true c.are_4-is_true.ensures c.are_4.ensures
