@@ -14,7 +14,7 @@ use std::io::Read;
 use std::marker::Model;
 
 /// How many bytes the buffer has at first, and the least that it grows by.
-const FIRST_ROOM: usize = 32_768;
+const FIRST_ROOM: usize = 16_384;
 
 /// The most bytes that one read is asked for.
 pub const ONE_READ: usize = 65_536;
