@@ -2,7 +2,7 @@
 """A gateway before a service of OData: `gateway.py SCHEMA TYPE BACKEND [PORT [OPTION ..]]`.
 
 It takes GET for entities of one type. A query goes on to BACKEND (as http://localhost:8000) if its filter is accepted
-and its other options are the standard's or one of OPTION; its canonical text takes the place of the filter's value, and
+and its other options are the standard's or one of OPTION; its canonical text replaces the filter's value, and
 all else stays. Any other query is answered by 400 and the standard's error body, with a caret under the fault.
 The module odfilter is installed, or on PYTHONPATH.
 """

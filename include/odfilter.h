@@ -34,8 +34,9 @@
  * asks for the length.
  *
  * HANDLES are made by calls that take an `odfilter_handle **`: where they return ODFILTER_OK it points to the new
- * handle, and else, but for ODFILTER_NULL, to NULL. What stood there before is overwritten, and not freed: let it
- * be NULL or a handle. All that a call allocates belongs to a handle and is freed with it, by odfilter_free alone.
+ * handle, and else, but for ODFILTER_NULL, to NULL. Initialise the variable to NULL, and free a handle in it before the
+ * call: the old value is overwritten. All that a call allocates belongs to a handle and is freed with it, by
+ * odfilter_free alone.
  * A handle that was made from another owns what it needs of it, so handles may be freed in any order. A handle of
  * another kind than a call requires is ODFILTER_OTHER_KIND, and NULL is ODFILTER_NULL. A call that returns another
  * status than ODFILTER_OK leaves the handles that it was given unchanged, but for the path that a judge stores.
@@ -257,7 +258,7 @@ uint32_t odfilter_lambda_depth(const odfilter_handle *filter, odfilter_answer *a
 
 /* Writes the paths of the properties that the filter reads, from its type: Name, Home/City, and Parts/Qty of the
  * members of a collection. Each is written once, in the order in which they first stand in the filter, and followed by
- * a line feed; Home, which Home/City names too, comes after that. For callers that allow some properties only.
+ * a line feed; Home/City lists Home too, after it. For callers that allow some properties only.
  *
  * ODFILTER_OK: `number` paths have been written, `length` bytes. ODFILTER_TOO_SMALL: `length` are needed.
  * ODFILTER_NULL: any of the three is. ODFILTER_OTHER_KIND: `filter` is not a filter. ODFILTER_MEMORY. */

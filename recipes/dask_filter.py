@@ -108,7 +108,7 @@ def files_of(paths):
 
 
 def line_end(file, place, limit):
-    """Where the line ends that has the byte before a place; no further than the limit."""
+    """Where the line ends that has the byte before an offset; no further than the limit."""
     place -= 1
     file.seek(place)
     while place < limit:
@@ -135,7 +135,7 @@ def judged(client, name, blocks):
     """Each block with its answer to come, in order; under way are no more than two for each thread of the workers."""
     waiting = collections.deque()
     for block in blocks:
-        # not pure: in the next run the same place may have other rows
+        # not pure: in the next run the same block may have other rows
         waiting.append((block, client.submit(answer_of, name, *block, pure=False)))
         if len(waiting) >= 2 * max(1, sum(client.nthreads().values())):
             yield waiting.popleft()

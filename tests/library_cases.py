@@ -54,7 +54,7 @@ class Later:
 
 
 class Questions:
-    """Takes down what is asked, in the place of answering."""
+    """Takes down what is asked, instead of answering."""
 
     def __init__(self):
         self.wire, self.count = [], 0

@@ -216,7 +216,7 @@ def differs(wanted, got):
 
 
 def cases():
-    """The cases of the suite, each with its place."""
+    """The cases of the suite, each with its file and line."""
     for name in sorted(os.listdir(f"{DATA}/cases")):
         with open(f"{DATA}/cases/{name}", encoding="utf-8") as file:
             yield from ((f"cases/{name}:{number}", json.loads(line)) for number, line in enumerate(file, 1))

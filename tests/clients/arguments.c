@@ -13,7 +13,7 @@ static char names[512];
 static const odfilter_buffer room = {names, sizeof names};
 static odfilter_answer answer;
 
-/* a place where another handle stood: it is written over, and not freed */
+/* a variable that held another handle: it is overwritten, and the handle is not freed */
 static odfilter_handle **place(void)
 {
     static odfilter_handle *at;
@@ -28,7 +28,7 @@ static odfilter_answer *fresh(void)
     return &answer;
 }
 
-/* then nothing is written: neither the answer nor the place of a handle */
+/* then nothing is written: neither the answer nor the variable of a handle */
 static void is_null(const char *name, uint32_t status, int has_answer, odfilter_handle *const *at)
 {
     check(name, status == ODFILTER_NULL);

@@ -100,7 +100,7 @@ static uint32_t call_new_judge_of(void)
     return odfilter_new_judge_of(filter, &made);
 }
 
-/* judges that have seen no row, so that they have no room of their own yet */
+/* judges that have seen no row, so that they have no memory of their own yet */
 static void renew_judges(void)
 {
     is_watched = 0;

@@ -29,7 +29,7 @@ static uint32_t fault_name(odfilter_buffer room, odfilter_answer *answer)
     return odfilter_fault_name(ODFILTER_ROW_FAULT, ODFILTER_ROW_NULL_NOT_ALLOWED, room, answer);
 }
 
-/* whether room is as `block` made it, from a byte on */
+/* whether the buffer is as `block` made it, from a byte on */
 static int is_untouched(odfilter_buffer room, size_t from)
 {
     for (; from < room.length; from++)
@@ -38,7 +38,7 @@ static int is_untouched(odfilter_buffer room, size_t from)
     return 1;
 }
 
-/* a call with room of one length, of a text that is wanted */
+/* a call with a buffer of one length, of a text that is wanted */
 static void at_length(const char *name, uint32_t (*call)(odfilter_buffer, odfilter_answer *), const char *wanted,
                       size_t length)
 {

@@ -1,6 +1,6 @@
 /* Answers the questions of tests/library_cases.py by the calls of the library: `suite FILE`. In C99.
  *
- * Each text that is handed in, and all room, is a block of just as many bytes, so valgrind reports a byte too many.
+ * Each text that is handed in, and each buffer, is a block of just as many bytes, so valgrind reports a byte too many.
  */
 #include <inttypes.h>
 #include <stdio.h>
@@ -73,7 +73,7 @@ static void add_fault(struct text *to, uint32_t status, uint32_t fault)
     add(to, name, answer.length);
 }
 
-/* what a call writes about a handle: first its length is asked for, then it is written into just so much room */
+/* what a call writes about a handle: first its length is asked for, then it is written into a buffer of that length */
 static void add_written(struct text *to, writer write, const odfilter_handle *handle)
 {
     odfilter_answer answer = {0}, again;

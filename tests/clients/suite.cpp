@@ -49,7 +49,7 @@ class handle
     {
         return at;
     }
-    /* the place for a new one */
+    /* the variable for a new one */
     odfilter_handle **place()
     {
         odfilter_free(&at);
@@ -184,7 +184,7 @@ class client
         }
     }
 
-    /* the filter of a whole query, where its option and its value stand, and its text, for which there is just room */
+    /* the filter of a whole query, where its option and its value stand, and its text, in a buffer of just its length */
     std::string found_in(odfilter_bytes query)
     {
         odfilter_answer reported{};
