@@ -17,7 +17,7 @@ class Cluster:
         self.room, self.threads, self.workers = room, threads, []
         os.makedirs(f"{room}/config")
         self.env = {**os.environ, "PYTHONPATH": MODULE, "PYTHONDONTWRITEBYTECODE": "1", "DASK_CONFIG": f"{room}/config"}
-        self.scheduler = f"{room}/scheduler.json"
+        self.scheduler_file = f"{room}/scheduler.json"
         self.scheduler = self.started("scheduler", "dask_scheduler", "--port", "0")
         try:
             self.address = self.wait_for(self.address_known)
@@ -30,7 +30,7 @@ class Cluster:
     def started(self, name, module, *words):
         line = [PYTHON, "-m", f"distributed.cli.{module}", "--host", "127.0.0.1", "--no-dashboard", *words]
         with open(f"{self.room}/{name}", "wb") as said:
-            to_file = ["--scheduler-file", self.scheduler]
+            to_file = ["--scheduler-file", self.scheduler_file]
             streams = {"stdin": subprocess.DEVNULL, "stdout": said, "stderr": said}
             return subprocess.Popen([*line, *to_file], env=self.env, cwd=self.room, **streams)
 
@@ -47,7 +47,7 @@ class Cluster:
 
     def address_known(self):
         try:
-            with open(self.scheduler, encoding="utf-8") as file:
+            with open(self.scheduler_file, encoding="utf-8") as file:
                 return json.load(file)["address"]
         except (OSError, ValueError):
             return None
