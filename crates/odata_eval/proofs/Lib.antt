@@ -1,4 +1,2 @@
-pub mod costs
-pub mod meaning
 pub mod spending
 pub mod walking

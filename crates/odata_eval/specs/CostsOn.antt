@@ -4,7 +4,7 @@ use Rattle.edm_values.specs.MomentParts.{MomentParts}
 use Rattle.odata_syntax.specs.Tree.{Tree}
 use Rattle.csdl_schema.specs.SchemaModel.{slots_of, type_name_at}
 use Rattle.edm_entities.specs.Row.{Row, value_of}
-use Rattle.odata_eval.specs.Costs.{Costs}
+use Rattle.odata_meaning.specs.Costs.{Costs}
 use Rattle.odata_eval.specs.declared.stop.EvalStop.{EvalStop}
 use Rattle.odata_eval.specs.declared.verdict.Verdict.{Verdict}
 use Rattle.odata_filter_operations.specs.declared.fault.EvalFault.{EvalFault}

@@ -7,7 +7,7 @@ use Rattle.edm_values.specs.declared.sieve.Sieve.{Sieve}
 use Rattle.odata_syntax.specs.Tree.{Tree}
 use Rattle.csdl_schema.specs.SchemaModel.{Slots, properties_at, slot_named, slots_of, type_name_at}
 use Rattle.odata_checked_filter.specs.Filter.{Filter, tree_of_filter}
-use Rattle.odata_eval.specs.Means.{Means}
+use Rattle.odata_meaning.specs.Means.{Means}
 use Rattle.odata_eval.specs.declared.value_tests.SlotSieve.{SlotSieve}
 use Rattle.odata_filter_operations.specs.Outcome.{Outcome, gives}
 

@@ -4,7 +4,6 @@ pub mod EvalContext
 pub mod Frames
 pub mod KeptOperands
 pub mod Lambda
-pub mod LawsBelow
 pub mod Place
 pub mod RemainingTerms
 pub mod Spending

@@ -1,6 +1,6 @@
 //! How many bodies of lambda operators, and items of lists within them, a walk may still ask for.
 ghost use Rattle.std.specs.Prelude.{◌≡◌, ◌≢◌};
-ghost use Rattle.odata_eval.specs.Costs.{item_cost};
+ghost use Rattle.odata_meaning.specs.Costs.{item_cost};
 ghost use Rattle.odata_eval.specs.private.ContextModel.{environment_of};
 ghost use Rattle.odata_eval.specs.private.Spending.{IsTaken, datum_as_stop};
 

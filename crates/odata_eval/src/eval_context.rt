@@ -10,14 +10,14 @@ ghost use Rattle.odata_eval.specs.private.Frames.{StandsAtLevel, frame_of, names
 ghost use Rattle.odata_eval.specs.private.Lambda.{IsOverMembers, IsVariableOf, Suits};
 ghost use Rattle.odata_eval.specs.private.EvalContext.{EndsOnceHere, HoldsAt};
 ghost use Rattle.odata_eval.specs.private.ContextModel.{IsBeside, environment_of, with_frame};
-ghost use Rattle.odata_eval.specs.Costs.{item_cost};
+ghost use Rattle.odata_meaning.specs.Costs.{item_cost};
 ghost use Rattle.odata_eval.specs.private.Spending.{CostsOnceHere};
 
 use super::frames::{AtLevel, Frames, RangeVariable, at_level};
-use super::laws::{typed_trees_cost_once_on_entities, typed_trees_end_once_on_entities};
 use edm_entities::Entity;
 use edm_values::{Moment, Value};
 use odata_checked_filter::{Checked, CheckedNode};
+use odata_meaning::{typed_trees_cost_once_on_entities, typed_trees_end_once_on_entities};
 use odata_signatures::EdmType;
 use std::alloc::Global;
 use std::marker::Model;

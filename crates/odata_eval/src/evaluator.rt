@@ -1,6 +1,6 @@
 //! The call that the other modules use.
 ghost use Rattle.std.specs.Prelude.{◌≡◌, ◌≢◌, [], Some, Option, Bool, Err, IfSome};
-ghost use Rattle.odata_eval.specs.MeansOn.{MeansOn, IsTheOutcome};
+ghost use Rattle.odata_meaning.specs.MeansOn.{MeansOn, IsTheOutcome};
 ghost use Rattle.odata_eval.specs.VerdictView.{reported_outcome, verdict_val};
 ghost use Rattle.odata_filter_operations.specs.TruthGives.{truth_val};
 ghost use Rattle.odata_checked_filter.specs.Calls.{TakesMemory};

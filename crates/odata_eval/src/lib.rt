@@ -20,7 +20,6 @@ mod kept_arithmetic;
 mod kept_operands;
 mod kept_terms;
 mod lambda_walk;
-mod laws;
 mod logical;
 mod number_walk;
 mod stop;
@@ -31,12 +30,6 @@ mod walk_operand;
 
 pub use bounded_evaluator::evaluate_within;
 pub use evaluator::evaluate;
-pub use laws::{
-    canonical_texts_keep_outcomes, entities_end_once_at_paths, first_run_comes_to, members_come_to,
-    members_cost, one_by_one, typed_trees_cost_once_on_entities, typed_trees_end_once,
-    typed_trees_end_once_at_paths, typed_trees_end_once_on_entities, unread_operands_stand_alone,
-    values_have_types_at_paths,
-};
 pub use odata_filter_operations::EvalFault;
 pub use stop::EvalStop;
 pub use value_tests::{SlotSieve, slot_sieves};

@@ -1,7 +1,7 @@
 //! Logical operators, the left truth value first: it may decide.
 ghost use Rattle.std.specs.Prelude.{◌≡◌, ◌↔◌, IsTrue};
 ghost use Rattle.odata_filter_operations.specs.TruthGives.{joined, truth_val};
-ghost use Rattle.odata_eval.specs.private.WalkClass.{IsDecided};
+ghost use Rattle.odata_meaning.specs.private.Decided.{IsDecided};
 
 use odata_functions::{and3, or3};
 use odata_syntax::LogicalOperator;

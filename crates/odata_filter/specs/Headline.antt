@@ -13,7 +13,7 @@ use Rattle.edm_entities.specs.Row.{Row, IsEntity, value_of}
 use Rattle.odata_signatures.specs.HasTyping.{HasTyping, HasNoTyping, IsRefusal}
 use Rattle.odata_signatures.specs.declared.refusal.Refusal.{Refusal}
 use Rattle.odata_checked_filter.specs.Filter.{Filter, HasNeededPaths, slots_for_filter, tree_of_filter}
-use Rattle.odata_eval.specs.MeansOn.{IsTheOutcome}
+use Rattle.odata_meaning.specs.MeansOn.{IsTheOutcome}
 use Rattle.odata_filter_operations.specs.Outcome.{Outcome, gives, overflow, divides_by_zero}
 use Rattle.odata_eval.specs.VerdictView.{reported_outcome}
 use Rattle.odata_filter_operations.specs.declared.fault.EvalFault.{EvalFault}

@@ -23,11 +23,11 @@ pub use Rattle.line_filter.specs.Lines
 pub use Rattle.line_filter.specs.Once
 pub use Rattle.line_filter.specs.Places
 pub use Rattle.odata_checked_filter.specs.Filter
-pub use Rattle.odata_eval.specs.Costs
-pub use Rattle.odata_eval.specs.Means
-pub use Rattle.odata_eval.specs.MeansOn
 pub use Rattle.odata_eval.specs.VerdictView
 pub use Rattle.odata_filter_operations.specs.Outcome
+pub use Rattle.odata_meaning.specs.Costs
+pub use Rattle.odata_meaning.specs.Means
+pub use Rattle.odata_meaning.specs.MeansOn
 pub use Rattle.odata_signatures.specs.HasTyping
 pub use Rattle.odata_syntax.specs.CanonicalText
 pub use Rattle.odata_syntax.specs.Parse

@@ -7,7 +7,7 @@ ghost use Rattle.odata_filter.specs.Headline.{WriteTrueRows, StopAtFaults, AreRe
 
 use edm_entities::what_fits_has_its_type;
 use odata_checked_filter::canonical_texts_keep_filters;
-use odata_eval::{canonical_texts_keep_outcomes, typed_trees_end_once};
+use odata_meaning::{canonical_texts_keep_outcomes, typed_trees_end_once};
 use odata_text::tokens_are_spelled;
 use odata_typing::texts_have_one_refusal;
 use row_judges::rows_are_judged_once;

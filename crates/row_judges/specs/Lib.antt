@@ -9,11 +9,11 @@ pub use Rattle.edm_values.specs.Val
 pub use Rattle.line_filter.specs.Kept
 pub use Rattle.line_filter.specs.LineItems
 pub use Rattle.odata_checked_filter.specs.Filter
-pub use Rattle.odata_eval.specs.Costs
-pub use Rattle.odata_eval.specs.Means
-pub use Rattle.odata_eval.specs.MeansOn
 pub use Rattle.odata_eval.specs.VerdictView
 pub use Rattle.odata_filter_operations.specs.Outcome
+pub use Rattle.odata_meaning.specs.Costs
+pub use Rattle.odata_meaning.specs.Means
+pub use Rattle.odata_meaning.specs.MeansOn
 pub use Rattle.serde_json.specs.Data as JsonData
 pub use Rattle.serde_json.specs.View as JsonView
 pub mod RowJudgment

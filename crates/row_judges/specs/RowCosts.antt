@@ -8,7 +8,7 @@ use Rattle.csdl_schema.specs.JsonText.{IsJsonOf}
 use Rattle.csdl_schema.specs.SchemaModel.{slots_of, type_name_at}
 use Rattle.edm_entities.specs.Fits.{Fits}
 use Rattle.odata_checked_filter.specs.Filter.{Filter, slots_for_filter, tree_of_filter}
-use Rattle.odata_eval.specs.Costs.{Costs}
+use Rattle.odata_meaning.specs.Costs.{Costs}
 use Rattle.odata_eval.specs.declared.verdict.Verdict.{Verdict}
 use Rattle.row_judges.specs.RowAnswer.{ReportsRow}
 use Rattle.row_judges.specs.declared.bad_row.BadRow.{BadRow}

@@ -12,7 +12,7 @@ use Rattle.line_filter.specs.declared.judge.Judgment.{Judgment}
 use Rattle.row_judges.specs.declared.bad_row.BadRow.{BadRow}
 use Rattle.edm_entities.specs.Fits.{Fits}
 use Rattle.edm_entities.specs.RowFaults.{IsRowFault}
-use Rattle.odata_eval.specs.Means.{Means}
+use Rattle.odata_meaning.specs.Means.{Means}
 use Rattle.odata_filter_operations.specs.Outcome.{Outcome, gives}
 use Rattle.odata_filter_operations.specs.FaultView.{fault_outcome}
 use Rattle.odata_checked_filter.specs.Filter.{Filter, slots_for_filter, tree_of_filter}

@@ -7,7 +7,7 @@ ghost use Rattle.edm_entities.specs.RowReading.{IsLineBut};
 ghost use Rattle.edm_rows.specs.RowsOfType.{names_unkept, row_held};
 ghost use Rattle.odata_checked_filter.specs.Filter.{tree_of_filter};
 ghost use Rattle.odata_eval.specs.CostsOn.{KeepsBound};
-ghost use Rattle.odata_eval.specs.MeansOn.{IsTheOutcome};
+ghost use Rattle.odata_meaning.specs.MeansOn.{IsTheOutcome};
 ghost use Rattle.odata_eval.specs.VerdictView.{outcome_reported};
 ghost use Rattle.row_judges.specs.FilterRows.{KeepsNames};
 ghost use Rattle.row_judges.specs.RowAnswer.{IsPlanOfFilter};

@@ -9,7 +9,7 @@ ghost use Rattle.edm_entities.specs.Row.{slots_for, value_of};
 ghost use Rattle.line_filter.specs.LineItems.{judgment_where};
 ghost use Rattle.odata_checked_filter.specs.Calls.{TakesMemory};
 ghost use Rattle.odata_checked_filter.specs.Filter.{tree_of_filter};
-ghost use Rattle.odata_eval.specs.MeansOn.{IsTheOutcome};
+ghost use Rattle.odata_meaning.specs.MeansOn.{IsTheOutcome};
 ghost use Rattle.odata_eval.specs.VerdictView.{reported_outcome};
 ghost use Rattle.row_judges.specs.RowAnswer.{IsPlanOfFilter, ReportsRow, judgment_reported};
 ghost use Rattle.row_judges.specs.RowJudgment.{JudgesValue};

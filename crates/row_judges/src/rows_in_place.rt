@@ -19,7 +19,8 @@ use edm_entities::{RowReader, what_fits_has_its_type};
 use edm_rows::{HeldSchema, Reading, TypeRows};
 use json_room::ROOM;
 use line_filter::Judgment;
-use odata_eval::{Verdict, slot_sieves, typed_trees_end_once};
+use odata_eval::{Verdict, slot_sieves};
+use odata_meaning::typed_trees_end_once;
 use odata_typing::Checked;
 use std::alloc::{AllocError, Global};
 

@@ -25,7 +25,7 @@ use Rattle.odata_filter_operations.specs.Outcome.{gives}
 use Rattle.odata_filter_operations.specs.TruthGives.{truth_val}
 use Rattle.odata_filter_operations.specs.DatumView.{reading_at}
 use Rattle.odata_eval.specs.declared.stop.EvalStop.{EvalStop}
-use Rattle.odata_eval.specs.Costs.{item_cost}
+use Rattle.odata_meaning.specs.Costs.{item_cost}
 use Rattle.odata_eval.specs.private.EvalContext.{EndsOnceHere, TypedHere}
 use Rattle.odata_eval.specs.private.Spending.{CountedDatum, CountedMembers, CountedTruth, SpendsAt, IsTaken, Takes, datum_stop, stopped_by}
 use Rattle.odata_eval.specs.declared.budget.Budget.{Budget}
@@ -47,7 +47,7 @@ use Rattle.odata_eval.specs.private.Lambda.{Suits}
 use Rattle.odata_eval.specs.private.ContextModel.{ContextModel, environment_of, with_frame}
 use Rattle.odata_eval.proofs.walking.Parts.{found_there, part_inside, there_found}
 use Rattle.odata_eval.proofs.walking.CallSteps.{OneName, argument_behind, argument_faults, argument_stands, call_answers, call_applies, first_argument, third_is_last}
-use Rattle.odata_eval.specs.private.LawsBelow.{Promotes}
+use Rattle.odata_meaning.specs.private.LawsBelow.{Promotes}
 use Rattle.odata_eval.proofs.walking.BaseSteps.{any_item_base, base_answers, base_members, count_base}
 use Rattle.odata_eval.proofs.walking.ItemSteps.{equal_due, item_differs, item_equals, item_faults, items_there, list_begins, lists_there, may_compare_item, next_item, no_item, stop_further}
 use Rattle.odata_eval.proofs.walking.Lambdas.{body_behind, body_place, body_there, fault_answers, members_suit, null_answers, over_members, truth_answers}

@@ -5,15 +5,15 @@ use Rattle.csdl_schema.specs.SchemaModel.{slots_of, type_name_at}
 use Rattle.edm_entities.specs.Row.{Row, value_of}
 use Rattle.odata_checked_filter.specs.Filter.{Filter, IsFilter, tree_of_filter}
 use Rattle.odata_filter_operations.specs.declared.fault.EvalFault.{EvalFault}
-use Rattle.odata_eval.specs.Costs.{Costs}
+use Rattle.odata_meaning.specs.Costs.{Costs}
 use Rattle.odata_eval.specs.CostsOn.{CostsOn, IsWithin, KeepsBound}
-use Rattle.odata_eval.specs.Environment.{Environment}
+use Rattle.odata_meaning.specs.Environment.{Environment}
 use Rattle.odata_eval.specs.declared.budget.Budget.{Budget}
 use Rattle.odata_eval.specs.declared.stop.EvalStop.{EvalStop}
 use Rattle.odata_eval.specs.declared.verdict.Verdict.{Verdict}
 use Rattle.std.specs.Prelude.{IfSome}
 use Rattle.odata_checked_filter.specs.Calls.{TakesMemory}
-use Rattle.odata_eval.specs.MeansOn.{IsTheOutcome}
+use Rattle.odata_meaning.specs.MeansOn.{IsTheOutcome}
 use Rattle.odata_eval.specs.VerdictView.{outcome_reported}
 use Rattle.odata_eval.specs.private.Place.{OperandStands}
 use Rattle.odata_eval.specs.private.EvalContext.{EndsOnceHere}
@@ -41,11 +41,9 @@ taken_within most n (Budget.Left left) takes = omega (arith, takes)
 taken_within most n Budget.Unbounded takes = absurd takes
 
 answer_within : (most n : ℕ) (new : Budget) (answer : Result Verdict EvalStop) → Spent (stopped_by answer) (Budget.Left most) new n → IsWithin most n answer
-answer_within most n new (Ok verdict) spent = taken_within most n new spent
 answer_within most n new (Err EvalStop.TooCostly) spent = spent
-answer_within most n new (Err (EvalStop.Fault EvalFault.Overflow)) spent = taken_within most n new spent
-answer_within most n new (Err (EvalStop.Fault EvalFault.DivideByZero)) spent = taken_within most n new spent
 answer_within most n new (Err (EvalStop.Fault EvalFault.Memory)) spent = tt
+answer_within most n new _ spent = taken_within most n new spent
 
 module _ (filter : Filter) (row : Row) (moment : MomentParts) (context : ContextModel) (right : IsFilter filter) (one_schema : filter.schema ≡ row.schema)
     (one_type : filter.filtered ≡ row.type_id) (is_row : context.row ≡ row) (is_moment : context.moment ≡ moment) (is_list : context.list ≡ filter.list) (is_empty : context.frames ≡ []) where

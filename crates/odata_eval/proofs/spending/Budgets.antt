@@ -37,11 +37,9 @@ fewer_first Budget.Unbounded m n less = absurd less
 
 -- a first cost was taken, and then a second one was asked for
 pub spent_then : (stop : Option EvalStop) (a b c : Budget) (m n : ℕ) → Takes a b m → Spent stop b c n → Spent stop a c (m + n)
-spent_then None a b c m n first second = takes_both a b c m n first second
 spent_then (Some EvalStop.TooCostly) a b c m n first second = fewer_then a b m n first second
-spent_then (Some (EvalStop.Fault EvalFault.Overflow)) a b c m n first second = takes_both a b c m n first second
-spent_then (Some (EvalStop.Fault EvalFault.DivideByZero)) a b c m n first second = takes_both a b c m n first second
 spent_then (Some (EvalStop.Fault EvalFault.Memory)) a b c m n first second = tt
+spent_then _ a b c m n first second = takes_both a b c m n first second
 
 -- what stopped a first cost stops both
 pub spent_first : (stop : EvalStop) (a b : Budget) (m n : ℕ) → ((fault : EvalFault) → stop ≡ EvalStop.Fault fault → ¬ (fault ≡ EvalFault.Memory) → n ≡ 0) → Spent (Some stop) a b m → Spent (Some stop) a b (m + n)
@@ -56,10 +54,8 @@ spent_first (EvalStop.Fault EvalFault.Memory) a b m n stays first = tt
 
 -- nothing is asked of a budget that stays as it was
 pub spent_nothing : {Held : Type 0} (answer : Result Held EvalFault) (budget : Budget) → Spent (stopped_by (as_stop answer)) budget budget 0
-spent_nothing (Ok held) budget = takes_nothing budget
-spent_nothing (Err EvalFault.Overflow) budget = takes_nothing budget
-spent_nothing (Err EvalFault.DivideByZero) budget = takes_nothing budget
 spent_nothing (Err EvalFault.Memory) budget = tt
+spent_nothing _ budget = takes_nothing budget
 
 -- one cost by another name
 pub spent_same : (stop : Option EvalStop) (a b : Budget) (m n : ℕ) → n ≡ m → Spent stop a b m → Spent stop a b n

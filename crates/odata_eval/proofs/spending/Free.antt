@@ -12,7 +12,7 @@ use Rattle.odata_syntax.specs.declared.binary_operator.BinaryOperator.{BinaryOpe
 use Rattle.odata_signatures.specs.Sides.{side_of}
 use Rattle.odata_syntax.specs.Tree.{Tree, binary, node}
 use Rattle.odata_signatures.specs.declared.function.Function.{Function}
-use Rattle.odata_eval.specs.Costs.{RightCosts}
+use Rattle.odata_meaning.specs.Costs.{RightCosts}
 use Rattle.odata_eval.specs.declared.walk_operand.WalkClass.{WalkClass}
 use Rattle.odata_eval.specs.private.KeptOperands.{IsPathAt}
 use Rattle.odata_eval.specs.private.Place.{HasKind, IsClassAt}
@@ -20,8 +20,8 @@ use Rattle.odata_eval.specs.private.EvalContext.{MeansHere, OperandHere, StandsH
 use Rattle.odata_eval.specs.private.ContextModel.{ContextModel, environment_of}
 use Rattle.odata_eval.specs.private.Spending.{CostsHere}
 use Rattle.odata_eval.specs.private.WalkClass.{walk_of_kind, walk_of_operator}
-use Rattle.odata_eval.proofs.costs.PlainTypes.{IsPlainType, call_free, number_plain, plain_free}
-use Rattle.odata_eval.proofs.costs.Zero.{IsFree, after_free, right_free}
+use Rattle.odata_meaning.proofs.costs.PlainTypes.{IsPlainType, call_free, number_plain, plain_free}
+use Rattle.odata_meaning.proofs.costs.Zero.{IsFree, after_free, right_free}
 use Rattle.odata_eval.proofs.walking.Children.{only_child}
 use Rattle.odata_eval.proofs.walking.Parts.{by_kind, some_there, there_found}
 use Rattle.odata_eval.proofs.walking.Spines.{equality_walks, plain_types}

@@ -11,7 +11,7 @@ use Rattle.std.specs.List.{AllByRecursion}
 use Rattle.odata_signatures.specs.Sides.{sides_of}
 use Rattle.odata_signatures.specs.CollectionTyped.{IsItemBeside}
 use Rattle.odata_syntax.specs.Tree.{Tree, Trees, more_trees, no_trees}
-use Rattle.odata_eval.specs.Costs.{CostThen, item_cost}
+use Rattle.odata_meaning.specs.Costs.{CostThen, item_cost}
 use Rattle.odata_eval.specs.declared.budget.Budget.{Budget}
 use Rattle.odata_eval.specs.declared.stop.EvalStop.{EvalStop}
 use Rattle.odata_eval.specs.private.EvalContext.{EndsOnceHere, OperandHere, StandsHere, TypedHere}

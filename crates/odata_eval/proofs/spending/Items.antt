@@ -15,8 +15,8 @@ use Rattle.odata_signatures.specs.ExprTypes.{boolean_type}
 use Rattle.odata_syntax.specs.Tree.{Tree, Trees, in_list, more_trees, no_trees, node}
 use Rattle.odata_syntax.specs.declared.node.Quantifier.{Quantifier}
 use Rattle.odata_signatures.specs.Sides.{side_of}
-use Rattle.odata_eval.specs.Costs.{CostAfter, CostThen, ItemsCost, OthersCost, item_cost}
-use Rattle.odata_eval.specs.Means.{ItemMeans}
+use Rattle.odata_meaning.specs.Costs.{CostAfter, CostThen, ItemsCost, OthersCost, item_cost}
+use Rattle.odata_meaning.specs.Means.{ItemMeans}
 use Rattle.odata_eval.specs.private.EvalContext.{EndsOnceHere, MeansHere, StandsHere, TypedHere}
 use Rattle.odata_eval.specs.private.ContextModel.{ContextModel, environment_of}
 use Rattle.odata_eval.specs.private.Spending.{CostsHere}
@@ -55,9 +55,7 @@ module _ (context : ContextModel) where
   value_alone : (Beside : ExprType → Type 0) (l w : Val) (item : Tree) (o : Outcome) → AloneHere context Beside item (gives w) → CompareGives ComparisonOperator.Eq l w o → AloneGives Beside l item o
   value_alone Beside l w item (gives (boolean true)) alone compares = decides_alone Beside l item (gives w, (alone, compares))
   value_alone Beside l w item (gives (boolean false)) alone compares = passes_alone Beside l item (gives w, (alone, compares))
-  value_alone Beside l w item (gives _) alone compares = absurd compares.1
-  value_alone Beside l w item overflow alone compares = absurd compares.1
-  value_alone Beside l w item divides_by_zero alone compares = absurd compares.1
+  value_alone Beside l w item _ alone compares = absurd compares.1
 
   alone_gives : (Beside : ExprType → Type 0) (l : Val) (item : Tree) (o : Outcome) → ComparedHere Beside l item o → AloneGives Beside l item o
   alone_gives Beside l item o (gives w, (alone, compares)) = value_alone Beside l w item o alone compares

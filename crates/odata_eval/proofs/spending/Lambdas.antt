@@ -16,9 +16,9 @@ use Rattle.odata_filter_operations.specs.DatumView.{reading_at}
 use Rattle.odata_filter_operations.specs.Outcome.{gives}
 use Rattle.odata_syntax.specs.Tree.{Tree}
 use Rattle.odata_syntax.specs.declared.node.Quantifier.{Quantifier}
-use Rattle.odata_eval.specs.Costs.{Costs, MembersCost}
-use Rattle.odata_eval.specs.Environment.{bound_over, scope_of}
-use Rattle.odata_eval.specs.Means.{Means}
+use Rattle.odata_meaning.specs.Costs.{Costs, MembersCost}
+use Rattle.odata_meaning.specs.Environment.{bound_over, scope_of}
+use Rattle.odata_meaning.specs.Means.{Means}
 use Rattle.odata_eval.specs.declared.budget.Budget.{Budget}
 use Rattle.odata_eval.specs.declared.frames.RangeVariable.{RangeVariable}
 use Rattle.odata_eval.specs.declared.stop.EvalStop.{EvalStop}

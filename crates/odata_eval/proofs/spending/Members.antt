@@ -11,8 +11,8 @@ use Rattle.odata_filter_operations.specs.TruthGives.{truth_val}
 use Rattle.odata_filter_operations.specs.declared.fault.EvalFault.{EvalFault}
 use Rattle.odata_syntax.specs.Tree.{Tree}
 use Rattle.odata_syntax.specs.declared.node.Quantifier.{Quantifier}
-use Rattle.odata_eval.specs.Costs.{CostAfter, Costs, MembersCost, OthersCost}
-use Rattle.odata_eval.specs.Environment.{bound_over}
+use Rattle.odata_meaning.specs.Costs.{CostAfter, Costs, MembersCost, OthersCost}
+use Rattle.odata_meaning.specs.Environment.{bound_over}
 use Rattle.odata_eval.specs.declared.budget.Budget.{Budget}
 use Rattle.odata_eval.specs.declared.frames.RangeVariable.{RangeVariable}
 use Rattle.odata_eval.specs.declared.stop.EvalStop.{EvalStop}
@@ -28,20 +28,16 @@ use Rattle.odata_eval.proofs.walking.Spines.{has_type}
 
 -- a value that decides asks for no more, another one for the others
 decided_others : (quantifier : Quantifier) (Others : ℕ → Type 0) (truth : Option Bool) (n : ℕ) → ¬ (IsUndecided quantifier (truth_val truth)) → OthersCost quantifier Others (truth_val truth) n → n ≡ 0
-decided_others Quantifier.Any Others (Some true) n decided costs = costs
 decided_others Quantifier.Any Others (Some false) n decided costs = absurd (decided tt)
 decided_others Quantifier.Any Others None n decided costs = absurd (decided tt)
 decided_others Quantifier.All Others (Some true) n decided costs = absurd (decided tt)
-decided_others Quantifier.All Others (Some false) n decided costs = costs
-decided_others Quantifier.All Others None n decided costs = costs
+decided_others _ Others _ n decided costs = costs
 
 undecided_others : (quantifier : Quantifier) (Others : ℕ → Type 0) (truth : Option Bool) (n : ℕ) → IsUndecided quantifier (truth_val truth) → OthersCost quantifier Others (truth_val truth) n → Others n
-undecided_others Quantifier.Any Others (Some true) n undecided costs = absurd undecided
 undecided_others Quantifier.Any Others (Some false) n undecided costs = costs
 undecided_others Quantifier.Any Others None n undecided costs = costs
 undecided_others Quantifier.All Others (Some true) n undecided costs = costs
-undecided_others Quantifier.All Others (Some false) n undecided costs = absurd undecided
-undecided_others Quantifier.All Others None n undecided costs = absurd undecided
+undecided_others _ Others _ n undecided costs = absurd undecided
 
 module _ (context : ContextModel) (place : ℕ) (quantifier : Quantifier) (variable : RangeVariable) (members : List Value) where
   -- what members cost

@@ -15,7 +15,7 @@ use Rattle.odata_syntax.specs.declared.binary_operator.BinaryOperator.{BinaryOpe
 use Rattle.odata_syntax.specs.declared.binary_operator.ComparisonOperator.{ComparisonOperator}
 use Rattle.odata_syntax.specs.Tree.{call, has, literal, more_trees, no_trees, node, Tree, Trees}
 use Rattle.odata_signatures.specs.Functions.{IsNamed}
-use Rattle.odata_eval.specs.Costs.{ArgumentsCost, CostAfter, CostThen, RightCosts}
+use Rattle.odata_meaning.specs.Costs.{ArgumentsCost, CostAfter, CostThen, RightCosts}
 use Rattle.odata_eval.specs.declared.budget.Budget.{Budget}
 use Rattle.odata_eval.specs.declared.stop.EvalStop.{EvalStop}
 use Rattle.odata_eval.specs.private.Place.{HasKind, IsRightOf}
@@ -23,9 +23,9 @@ use Rattle.odata_eval.specs.private.EvalContext.{EndsOnceHere, MeansHere, Number
 use Rattle.odata_eval.specs.private.ContextModel.{ContextModel, environment_of}
 use Rattle.odata_eval.specs.private.Spending.{CostsHere, SpendsAt, SpendsRest, Spent}
 use Rattle.odata_eval.specs.private.WalkAnswer.{AnswersAtPlace, AnswersTruth}
-use Rattle.odata_eval.specs.private.WalkClass.{IsDecided}
-use Rattle.odata_eval.proofs.costs.PlainTypes.{arguments_free}
-use Rattle.odata_eval.proofs.costs.Zero.{IsFree, then_free}
+use Rattle.odata_meaning.specs.private.Decided.{IsDecided}
+use Rattle.odata_meaning.proofs.costs.PlainTypes.{arguments_free}
+use Rattle.odata_meaning.proofs.costs.Zero.{IsFree, then_free}
 use Rattle.odata_eval.proofs.spending.Budgets.{spent_same, takes_nothing}
 use Rattle.odata_eval.proofs.spending.Free.{FreeThere, flags_plain_type, path_plain_type, plain_here}
 use Rattle.odata_eval.proofs.spending.Splits.{follows, no_more, number_free, operand_spent, rest_spends, SplitWith}
@@ -217,18 +217,12 @@ module _ (context : ContextModel) where
 decided_costs : (logical : LogicalOperator) (left : Option Bool) (Right : ℕ → Type 0) (n : ℕ) → IsDecided logical (truth_val left) → RightCosts (BinaryOperator.Logical logical) (truth_val left) Right n → n ≡ 0
 decided_costs LogicalOperator.And (Some false) Right n decided costs = costs
 decided_costs LogicalOperator.Or (Some true) Right n decided costs = costs
-decided_costs LogicalOperator.And (Some true) Right n decided costs = absurd decided
-decided_costs LogicalOperator.Or (Some false) Right n decided costs = absurd decided
-decided_costs LogicalOperator.And None Right n decided costs = absurd decided
-decided_costs LogicalOperator.Or None Right n decided costs = absurd decided
+decided_costs _ _ Right n decided costs = absurd decided
 
 undecided_costs : (logical : LogicalOperator) (left : Option Bool) (Right : ℕ → Type 0) (n : ℕ) → ¬ (IsDecided logical (truth_val left)) → RightCosts (BinaryOperator.Logical logical) (truth_val left) Right n → Right n
 undecided_costs LogicalOperator.And (Some false) Right n undecided costs = absurd (undecided tt)
 undecided_costs LogicalOperator.Or (Some true) Right n undecided costs = absurd (undecided tt)
-undecided_costs LogicalOperator.And (Some true) Right n undecided costs = costs
-undecided_costs LogicalOperator.Or (Some false) Right n undecided costs = costs
-undecided_costs LogicalOperator.And None Right n undecided costs = costs
-undecided_costs LogicalOperator.Or None Right n undecided costs = costs
+undecided_costs _ _ Right n undecided costs = costs
 
 module _ (context : ContextModel) (place : ℕ) (logical : LogicalOperator) (here : HasKind context.list place (NodeKind.Binary (BinaryOperator.Logical logical))) (ends : EndsOnceHere context)
     (left : Option Bool) (first : AnswersTruth context (place + 1) (Ok left)) where

@@ -13,7 +13,7 @@ use Rattle.odata_signatures.specs.Functions.{IsNamed}
 use Rattle.odata_signatures.specs.declared.function.Function.{Function}
 use Rattle.odata_syntax.specs.Tree.{Tree, Trees, literal, node, call, more_trees, no_trees}
 use Rattle.odata_syntax.specs.declared.node.LiteralKind.{LiteralKind}
-use Rattle.odata_eval.specs.Costs.{CostAfter, CostThen}
+use Rattle.odata_meaning.specs.Costs.{CostAfter, CostThen}
 use Rattle.odata_eval.specs.declared.budget.Budget.{Budget}
 use Rattle.odata_eval.specs.declared.walk_operand.WalkClass.{WalkClass}
 use Rattle.odata_eval.specs.declared.stop.EvalStop.{EvalStop}
@@ -24,7 +24,7 @@ use Rattle.odata_eval.specs.private.Spending.{CostsHere, SpendsAt, SpendsRest, S
 use Rattle.odata_eval.specs.private.WalkAnswer.{AnswersAtPlace}
 use Rattle.odata_eval.specs.private.WalkClass.{walk_of_kind}
 use Rattle.odata_eval.proofs.spending.Budgets.{spent_first, spent_same, spent_then}
-use Rattle.odata_eval.proofs.costs.Zero.{IsFree}
+use Rattle.odata_meaning.proofs.costs.Zero.{IsFree}
 use Rattle.odata_eval.proofs.walking.Children.{only_child}
 use Rattle.odata_eval.proofs.walking.Operands.{HasNone, fault_no_value, inner_number}
 use Rattle.odata_eval.proofs.walking.Parts.{by_kind, some_there, there_found}

@@ -6,7 +6,7 @@ use Rattle.odata_eval.specs.private.Place.{HasKind, IsRightOf}
 use Rattle.odata_eval.specs.private.EvalContext.{TypedHere}
 use Rattle.odata_eval.specs.private.ContextModel.{ContextModel}
 use Rattle.odata_eval.specs.private.Spending.{CostsHere}
-use Rattle.odata_eval.proofs.costs.Zero.{IsFree}
+use Rattle.odata_meaning.proofs.costs.Zero.{IsFree}
 use Rattle.odata_eval.proofs.spending.Free.{FreeThere, operand_free, sides_free}
 use Rattle.odata_eval.proofs.walking.Parts.{by_kind}
 use Rattle.odata_eval.proofs.walking.Extents.{left_here, right_stands}

@@ -14,7 +14,8 @@ use Rattle.odata_eval.specs.declared.walk_operand.WalkClass.{WalkClass}
 use Rattle.odata_eval.specs.private.Place.{HasOperator, IsClassAt, IsRightOf, OperandStands, PartStands, TruthStands}
 use Rattle.odata_eval.specs.private.ContextModel.{ContextModel}
 use Rattle.odata_eval.specs.private.WalkAnswer.{AnswersKept, AnswersTruth}
-use Rattle.odata_eval.specs.private.WalkClass.{IsDecided, walk_of_operator}
+use Rattle.odata_meaning.specs.private.Decided.{IsDecided}
+use Rattle.odata_eval.specs.private.WalkClass.{walk_of_operator}
 use Rattle.odata_eval.proofs.walking.KeptValues.{kept_value}
 use Rattle.odata_eval.proofs.walking.Operands.{tree_of_class}
 use Rattle.odata_eval.proofs.walking.Extents.{right_there, right_typed}

@@ -26,7 +26,7 @@ use Rattle.odata_eval.specs.private.EvalContext.{EndsOnceHere, MeansHere, Stands
 use Rattle.odata_eval.specs.private.ContextModel.{ContextModel}
 use Rattle.odata_filter_operations.specs.Reports.{Reports}
 use Rattle.odata_eval.specs.private.WalkAnswer.{AllAnswered, AnswersAtPlace, AnswersDatum}
-use Rattle.odata_eval.proofs.meaning.CallEnds.{HaveTypes, applies_of}
+use Rattle.odata_meaning.proofs.meaning.CallEnds.{HaveTypes, applies_of}
 use Rattle.odata_eval.proofs.walking.Operands.{no_number}
 use Rattle.odata_eval.proofs.walking.Parts.{by_kind, reports_there}
 use Rattle.odata_eval.proofs.walking.Extents.{all_further, further, stops_here, stops_there}
@@ -76,24 +76,7 @@ call_takes function asked arguments from to named makes = record {
 
 at_most_three : (function : Function) → length (row_of function).arguments ≤ 3
 at_most_three Function.Contains = omega arith
-at_most_three Function.StartsWith = omega arith
-at_most_three Function.EndsWith = omega arith
-at_most_three Function.Concat = omega arith
-at_most_three Function.Length = omega arith
-at_most_three Function.IndexOf = omega arith
-at_most_three Function.Substring = omega arith
-at_most_three Function.Trim = omega arith
-at_most_three Function.ToLower = omega arith
-at_most_three Function.ToUpper = omega arith
-at_most_three Function.Year = omega arith
-at_most_three Function.Month = omega arith
-at_most_three Function.Day = omega arith
-at_most_three Function.Hour = omega arith
-at_most_three Function.Minute = omega arith
-at_most_three Function.Second = omega arith
-at_most_three Function.TotalOffsetMinutes = omega arith
-at_most_three Function.Date = omega arith
-at_most_three Function.Now = omega arith
+at_most_three _ = omega arith
 
 module _ (context : ContextModel) where
   pub no_more : (i j : ℕ) (tree : Tree) (more : Trees) → StandsAll context i j (more_trees tree more) → ¬ (i ≡ j)

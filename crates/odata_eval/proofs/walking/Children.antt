@@ -5,7 +5,7 @@ use Rattle.csdl_schema.specs.SchemaModel.{SchemaModel, slots_of, type_name_at}
 use Rattle.odata_signatures.specs.Typed.{Scope, Typed}
 use Rattle.odata_checked_filter.specs.FlatTree.{FlatTree}
 use Rattle.odata_checked_filter.specs.Stands.{InBody, InLine, SideBySide, Stands}
-use Rattle.odata_eval.specs.Environment.{scope_of}
+use Rattle.odata_meaning.specs.Environment.{scope_of}
 use Rattle.odata_eval.specs.private.EvalContext.{StandsHere}
 use Rattle.odata_eval.specs.private.ContextModel.{ContextModel, environment_of}
 

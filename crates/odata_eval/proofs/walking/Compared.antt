@@ -24,7 +24,7 @@ use Rattle.odata_eval.specs.private.Place.{HasOperator, IsRightOf, PartStands}
 use Rattle.odata_eval.specs.private.EvalContext.{EndsOnceHere}
 use Rattle.odata_eval.specs.private.ContextModel.{ContextModel}
 use Rattle.odata_eval.specs.private.WalkAnswer.{AnswersAtPlace, AnswersDatum, AnswersKept, AnswersNumber, AnswersTruth}
-use Rattle.odata_eval.proofs.meaning.Kinds.{comparable_values}
+use Rattle.odata_meaning.proofs.meaning.Kinds.{comparable_values}
 use Rattle.odata_eval.proofs.walking.KeptValues.{at_contents, at_types}
 use Rattle.odata_eval.proofs.walking.Parts.{some_there}
 use Rattle.odata_eval.proofs.walking.WalkSteps.{of_sides, sides_there}

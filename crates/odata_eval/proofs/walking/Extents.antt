@@ -9,7 +9,7 @@ use Rattle.odata_checked_filter.specs.declared.checked_node.CheckedNode.{Checked
 use Rattle.odata_checked_filter.specs.declared.checked_node.NodeKind.{NodeKind}
 use Rattle.odata_checked_filter.specs.FlatTree.{FlatTree}
 use Rattle.odata_eval.specs.declared.walk_operand.WalkClass.{WalkClass}
-use Rattle.odata_eval.specs.Environment.{scope_of}
+use Rattle.odata_meaning.specs.Environment.{scope_of}
 use Rattle.odata_signatures.specs.Reads.{OfEquality}
 use Rattle.odata_signatures.specs.Sides.{side_of}
 use Rattle.odata_eval.specs.private.Place.{HasKind, IsRightOf, OperandStands, PartStands, TypedStands}

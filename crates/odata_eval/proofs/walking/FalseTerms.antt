@@ -36,10 +36,10 @@ use Rattle.odata_filter_operations.specs.Outcome.{GivesSome, Outcome, gives, ove
 use Rattle.odata_filter_operations.specs.TruthGives.{LogicalGives, JoinGives}
 use Rattle.odata_eval.specs.FalseWhere.{IsSieveOf}
 use Rattle.odata_eval.specs.declared.value_tests.SlotSieve.{SlotSieve}
-use Rattle.odata_eval.specs.LiteralGives.{LiteralGives}
-use Rattle.odata_eval.specs.Means.{BinaryGives, Means}
-use Rattle.odata_eval.specs.NameGives.{FieldGives}
-use Rattle.odata_eval.specs.OperatorGives.{SidesGive}
+use Rattle.odata_meaning.specs.LiteralGives.{LiteralGives}
+use Rattle.odata_meaning.specs.Means.{BinaryGives, Means}
+use Rattle.odata_meaning.specs.NameGives.{FieldGives}
+use Rattle.odata_meaning.specs.OperatorGives.{SidesGive}
 use Rattle.odata_eval.specs.private.ValueTests.{AndsAbove, GoesUp, IsFalseAt, IsNoNumber, IsTermSieve, IsValue, LeavesNoFault, Refutes, StandsFor}
 use Rattle.odata_eval.specs.private.Place.{HasKind, HasOperator, IsRightOf}
 use Rattle.odata_eval.specs.private.EvalContext.{NumberHere}

@@ -25,10 +25,10 @@ use Rattle.odata_checked_filter.specs.Stands.{ItemsStand, SideBySide}
 use Rattle.odata_checked_filter.specs.declared.checked_node.NodeKind.{NodeKind}
 use Rattle.odata_filter_operations.specs.declared.fault.EvalFault.{EvalFault}
 use Rattle.odata_filter_operations.specs.CompareGives.{CompareGives}
-use Rattle.odata_eval.specs.Environment.{scope_of}
+use Rattle.odata_meaning.specs.Environment.{scope_of}
 use Rattle.odata_filter_operations.specs.LambdaGives.{ItemsGive}
 use Rattle.odata_filter_operations.specs.LeftFirst.{After}
-use Rattle.odata_eval.specs.Means.{ItemMeans}
+use Rattle.odata_meaning.specs.Means.{ItemMeans}
 use Rattle.odata_filter_operations.specs.Outcome.{Outcome, divides_by_zero, gives, overflow}
 use Rattle.odata_filter_operations.specs.QuantifierGives.{Passes, QuantifierGives}
 use Rattle.odata_filter_operations.specs.FaultView.{fault_outcome}
@@ -38,11 +38,11 @@ use Rattle.odata_eval.specs.private.EvalContext.{EndsOnceHere, MeansHere, Operan
 use Rattle.odata_eval.specs.private.ContextModel.{ContextModel, environment_of}
 use Rattle.odata_filter_operations.specs.Reports.{Reports}
 use Rattle.odata_eval.specs.private.WalkAnswer.{AnswersAtPlace, AnswersDatum}
-use Rattle.odata_eval.proofs.meaning.Kinds.{comparable_values}
-use Rattle.odata_eval.proofs.meaning.Reads.{number_comparable, read_has}
+use Rattle.odata_meaning.proofs.meaning.Kinds.{comparable_values}
+use Rattle.odata_meaning.proofs.meaning.Reads.{number_comparable, read_has}
 use Rattle.odata_eval.proofs.walking.CallSteps.{behind_first}
 use Rattle.odata_eval.proofs.walking.Compared.{ComparedAnyhow}
-use Rattle.odata_eval.specs.Costs.{CostAfter, CostThen, OthersCost, item_cost}
+use Rattle.odata_meaning.specs.Costs.{CostAfter, CostThen, OthersCost, item_cost}
 use Rattle.odata_eval.specs.private.Spending.{CostsHere}
 use Rattle.odata_eval.proofs.spending.Items.{ComparedHere, ItemDue, ItemsCostHere, ItemsDue, SideItem, due_first, item_due, one_compared}
 use Rattle.odata_eval.proofs.walking.Parts.{by_kind}

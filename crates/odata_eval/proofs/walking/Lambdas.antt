@@ -22,9 +22,9 @@ use Rattle.odata_checked_filter.specs.Calls.{TakesMemory}
 use Rattle.odata_checked_filter.specs.Stands.{Stands}
 use Rattle.odata_checked_filter.specs.declared.checked_node.CheckedNode.{CheckedNode}
 use Rattle.odata_checked_filter.specs.declared.checked_node.NodeKind.{NodeKind}
-use Rattle.odata_eval.specs.Environment.{bound_over, scope_of}
-use Rattle.odata_eval.specs.Means.{Means}
-use Rattle.odata_eval.specs.OneByOne.{MembersGo}
+use Rattle.odata_meaning.specs.Environment.{bound_over, scope_of}
+use Rattle.odata_meaning.specs.Means.{Means}
+use Rattle.odata_meaning.specs.OneByOne.{MembersGo}
 use Rattle.odata_filter_operations.specs.Outcome.{Outcome, gives}
 use Rattle.odata_filter_operations.specs.TruthGives.{truth_val}
 use Rattle.odata_filter_operations.specs.declared.fault.EvalFault.{EvalFault}
@@ -36,7 +36,7 @@ use Rattle.odata_eval.specs.private.EvalContext.{EndsOnceHere, MeansHere, Stands
 use Rattle.odata_eval.specs.private.ContextModel.{ContextModel, environment_of}
 use Rattle.odata_filter_operations.specs.Reports.{Reports}
 use Rattle.odata_eval.specs.private.WalkAnswer.{AnswersDatum, AnswersTruth}
-use Rattle.odata_eval.proofs.meaning.OneByOne.{members_one_by_one}
+use Rattle.odata_meaning.proofs.meaning.OneByOne.{members_one_by_one}
 use Rattle.odata_eval.proofs.walking.Children.{body_stands}
 use Rattle.odata_eval.proofs.walking.Operands.{no_number}
 use Rattle.odata_eval.proofs.walking.Parts.{by_kind, found_there, some_there, reports_there, there_found}

@@ -15,8 +15,8 @@ use Rattle.edm_entities.specs.Row.{val_of, value_of}
 use Rattle.odata_signatures.specs.Typed.{PropertyTyped, variable_type}
 use Rattle.odata_checked_filter.specs.declared.checked_node.NodeKind.{NodeKind}
 use Rattle.odata_checked_filter.specs.Stands.{HasOwnValue, IsValueOf}
-use Rattle.odata_eval.specs.Environment.{scope_of, variable_value}
-use Rattle.odata_eval.specs.NameGives.{FoundGives}
+use Rattle.odata_meaning.specs.Environment.{scope_of, variable_value}
+use Rattle.odata_meaning.specs.NameGives.{FoundGives}
 use Rattle.odata_filter_operations.specs.Outcome.{Outcome, gives}
 use Rattle.odata_eval.specs.private.Frames.{StandsAtLevel, names_of}
 use Rattle.odata_eval.specs.private.Place.{HasKind, IsRightOf, IsStopOf, OperandStands}

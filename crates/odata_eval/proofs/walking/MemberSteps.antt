@@ -15,16 +15,16 @@ use Rattle.odata_checked_filter.specs.declared.checked_node.NodeKind.{NodeKind}
 use Rattle.odata_signatures.specs.Laws.{OneType}
 use Rattle.odata_signatures.specs.TypeView.{expr_type}
 use Rattle.odata_signatures.specs.Typed.{PropertyTyped, StepTyped}
-use Rattle.odata_eval.specs.NameGives.{StepGives}
-use Rattle.odata_eval.specs.Environment.{scope_of}
+use Rattle.odata_meaning.specs.NameGives.{StepGives}
+use Rattle.odata_meaning.specs.Environment.{scope_of}
 use Rattle.odata_filter_operations.specs.Outcome.{gives}
 use Rattle.odata_filter_operations.specs.DatumView.{HasSlot, IsDatumOf, IsStepOf, reading_at}
 use Rattle.odata_eval.specs.private.Place.{HasKind, PartStands}
 use Rattle.odata_eval.specs.private.EvalContext.{EndsOnceHere, MeansHere, TypedHere}
 use Rattle.odata_eval.specs.private.ContextModel.{ContextModel, environment_of}
 use Rattle.odata_eval.specs.private.WalkAnswer.{AnswersDatum, AnswersKept}
-use Rattle.odata_eval.proofs.meaning.Progress.{field_gives}
-use Rattle.odata_eval.proofs.meaning.TypeValues.{held_present}
+use Rattle.odata_meaning.proofs.meaning.Progress.{field_gives}
+use Rattle.odata_meaning.proofs.meaning.TypeValues.{held_present}
 use Rattle.odata_eval.proofs.walking.Children.{only_child}
 use Rattle.odata_eval.proofs.walking.Operands.{no_number}
 use Rattle.odata_eval.proofs.walking.Parts.{by_kind, kind_there, some_there}

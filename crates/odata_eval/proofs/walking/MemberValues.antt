@@ -16,7 +16,7 @@ use Rattle.odata_filter_operations.specs.LambdaGives.{InGives}
 use Rattle.odata_filter_operations.specs.Outcome.{Outcome}
 use Rattle.odata_filter_operations.specs.DatumView.{reading_at}
 use Rattle.odata_filter_operations.specs.Collections.{IsOfEnumeration, MayBeAmong, MayBeMember}
-use Rattle.odata_eval.proofs.meaning.Kinds.{comparable_values}
+use Rattle.odata_meaning.proofs.meaning.Kinds.{comparable_values}
 
 -- ---- `in` before a path: the members are of the type that the left side is compared with
 

@@ -11,7 +11,7 @@ use Rattle.csdl_schema.specs.SchemaModel.{slots_of}
 use Rattle.edm_entities.specs.Row.{val_of}
 use Rattle.odata_checked_filter.specs.Calls.{TakesMemory}
 use Rattle.odata_filter_operations.specs.LeftFirst.{After}
-use Rattle.odata_eval.specs.OneByOne.{GoesOn, MembersGo}
+use Rattle.odata_meaning.specs.OneByOne.{GoesOn, MembersGo}
 use Rattle.odata_filter_operations.specs.Outcome.{Outcome, gives}
 use Rattle.odata_filter_operations.specs.QuantifierGives.{IsUndecided, undecided_val}
 use Rattle.odata_filter_operations.specs.TruthGives.{truth_val}
@@ -23,7 +23,7 @@ use Rattle.odata_eval.specs.private.Lambda.{AnswersMembers, BodyIsThere, BodyMea
 use Rattle.odata_eval.specs.private.Place.{TruthStands}
 use Rattle.odata_eval.specs.private.ContextModel.{ContextModel, with_frame}
 use Rattle.odata_eval.specs.private.WalkAnswer.{AnswersAtPlace, AnswersTruth}
-use Rattle.odata_eval.proofs.meaning.OneByOne.{passes_on}
+use Rattle.odata_meaning.proofs.meaning.OneByOne.{passes_on}
 use Rattle.odata_eval.proofs.walking.Parts.{reports_there}
 use Rattle.odata_eval.proofs.walking.Spines.{fault_stays}
 

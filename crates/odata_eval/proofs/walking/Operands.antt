@@ -24,8 +24,8 @@ use Rattle.odata_filter_operations.specs.FaultView.{fault_outcome}
 use Rattle.odata_filter_operations.specs.Reports.{Reports}
 use Rattle.odata_filter_operations.specs.declared.fault.EvalFault.{EvalFault}
 use Rattle.edm_entities.specs.Row.{value_of}
-use Rattle.odata_eval.specs.Environment.{scope_of}
-use Rattle.odata_eval.specs.OneByOne.{ItemAlone}
+use Rattle.odata_meaning.specs.Environment.{scope_of}
+use Rattle.odata_meaning.specs.OneByOne.{ItemAlone}
 use Rattle.odata_eval.specs.declared.walk_operand.WalkClass.{WalkClass}
 use Rattle.odata_eval.specs.private.Place.{HasKind, IsClassAt, OperandStands, PartStands}
 use Rattle.odata_eval.specs.private.EvalContext.{MeansHere, NumberHere, OperandHere, StandsHere, TypedHere}

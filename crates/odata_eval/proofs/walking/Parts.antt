@@ -12,7 +12,7 @@ use Rattle.odata_checked_filter.specs.declared.checked_node.CheckedNode.{Checked
 use Rattle.odata_checked_filter.specs.declared.checked_node.NodeKind.{NodeKind}
 use Rattle.odata_checked_filter.specs.Stands.{IsKindOf}
 use Rattle.odata_signatures.specs.Typed.{Scope}
-use Rattle.odata_eval.specs.Environment.{scope_of}
+use Rattle.odata_meaning.specs.Environment.{scope_of}
 use Rattle.odata_filter_operations.specs.Outcome.{Outcome}
 use Rattle.odata_eval.specs.private.Place.{HasKind, PartStands}
 use Rattle.odata_eval.specs.private.EvalContext.{StandsHere, TypedHere}

@@ -16,8 +16,8 @@ use Rattle.odata_filter_operations.specs.CalculationGives.{number_val}
 use Rattle.odata_filter_operations.specs.TruthGives.{truth_val}
 use Rattle.odata_filter_operations.specs.Operators.{AreNumbers, IsOneNumber}
 use Rattle.odata_eval.specs.private.Place.{IsNumberOperand}
-use Rattle.odata_eval.proofs.meaning.Kinds.{truth_of}
-use Rattle.odata_eval.proofs.meaning.Numbers.{IsNumberIn, number_in}
+use Rattle.odata_meaning.proofs.meaning.Kinds.{truth_of}
+use Rattle.odata_meaning.proofs.meaning.Numbers.{IsNumberIn, number_in}
 
 -- a value without parts
 abbrev pub IsPlain : Val → Type 0

@@ -26,7 +26,7 @@ use Rattle.odata_eval.specs.private.EvalContext.{EndsOnceHere, MeansHere, Stands
 use Rattle.odata_eval.specs.private.ContextModel.{ContextModel}
 use Rattle.odata_eval.specs.private.WalkAnswer.{AnswersAtPlace, AnswersDatum}
 use Rattle.odata_eval.proofs.walking.Children.{two_children}
-use Rattle.odata_eval.proofs.meaning.Reads.{number_flags, read_has}
+use Rattle.odata_meaning.proofs.meaning.Reads.{number_flags, read_has}
 use Rattle.odata_eval.proofs.walking.Operands.{BesideHere, HasNone, beside_operand, fault_no_value, no_number, number_is}
 use Rattle.odata_eval.proofs.walking.Parts.{by_kind, reports_there}
 use Rattle.odata_eval.proofs.walking.Extents.{further, right_beside, stops_here, stops_there}

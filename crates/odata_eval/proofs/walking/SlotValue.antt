@@ -11,11 +11,11 @@ use Rattle.edm_values.specs.declared.value.Value.{Value, Record, the_lemmas}
 use Rattle.csdl_schema.specs.ExprType.{ExprType, single, structured}
 use Rattle.csdl_schema.specs.SchemaModel.{Slots, PropertyModel, PropertyType, declared, opaque, navigation, slot_named, slots_of, properties_at, type_name_at}
 use Rattle.edm_entities.specs.Row.{Row, val_of, value_of, field_of, field_by_name, record_of}
-use Rattle.odata_eval.specs.NameGives.{StepGives}
+use Rattle.odata_meaning.specs.NameGives.{StepGives}
 use Rattle.odata_filter_operations.specs.Outcome.{gives}
 use Rattle.odata_signatures.specs.Typed.{PropertyTyped, named_type, property_named}
 use Rattle.odata_eval.specs.private.EvalContext.{HoldsAt}
-use Rattle.odata_eval.proofs.meaning.Progress.{field_gives}
+use Rattle.odata_meaning.proofs.meaning.Progress.{field_gives}
 
 pub val_of-Record : (slots : Slots) (type : ExprType) (v : Vec Value Global) → val_of (Record v) slots.properties type ≡ record_of slots.properties type (map val_of v.items)
 val_of-Record slots type v = search (rules, the_lemmas)

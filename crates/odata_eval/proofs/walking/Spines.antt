@@ -19,11 +19,11 @@ use Rattle.odata_checked_filter.specs.declared.checked_node.NodeKind.{NodeKind}
 use Rattle.odata_checked_filter.specs.FlatTree.{FlatTree}
 use Rattle.odata_filter_operations.specs.declared.fault.EvalFault.{EvalFault}
 use Rattle.odata_eval.specs.declared.walk_operand.WalkClass.{WalkClass}
-use Rattle.odata_eval.specs.Environment.{scope_of}
+use Rattle.odata_meaning.specs.Environment.{scope_of}
 use Rattle.odata_filter_operations.specs.LeftFirst.{After}
 use Rattle.odata_filter_operations.specs.HasGives.{HasGives}
-use Rattle.odata_eval.specs.OperatorGives.{OperatorGives, SidesGive}
-use Rattle.odata_eval.specs.ReadGives.{GivesMember}
+use Rattle.odata_meaning.specs.OperatorGives.{OperatorGives, SidesGive}
+use Rattle.odata_meaning.specs.ReadGives.{GivesMember}
 use Rattle.odata_signatures.specs.Reads.{OfEquality, ReadsNone}
 use Rattle.odata_signatures.specs.Sides.{side_of}
 use Rattle.edm_values.specs.Val as val
@@ -40,7 +40,7 @@ use Rattle.odata_signatures.specs.declared.function.Function.{Function}
 use Rattle.odata_signatures.specs.CallTyped.{CallTyped}
 use Rattle.odata_checked_filter.specs.Stands.{AllStand}
 use Rattle.odata_signatures.specs.Typed.{AreTyped}
-use Rattle.odata_eval.specs.Means.{ArgumentsMean}
+use Rattle.odata_meaning.specs.Means.{ArgumentsMean}
 use Rattle.odata_filter_operations.specs.CallGives.{CallGives}
 use Rattle.csdl_schema.specs.SchemaModel.{Slots, slots_of, type_name_at}
 use Rattle.edm_entities.specs.Row.{value_of}
@@ -198,45 +198,12 @@ typed_part context place Allowed typed = record { stop = typed.stop; tree = type
 -- only `now` is called so, and only it takes nothing
 pub only_now : (function : Function) → (row_of function).name ≡ (row_of Function.Now).name → function ≡ Function.Now
 only_now Function.Now is = refl
-only_now Function.Contains is = let lengths : 8 ≡ 3 = ap length is in absurd (omega (arith, lengths))
-only_now Function.StartsWith is = let lengths : 10 ≡ 3 = ap length is in absurd (omega (arith, lengths))
-only_now Function.EndsWith is = let lengths : 8 ≡ 3 = ap length is in absurd (omega (arith, lengths))
-only_now Function.Concat is = let lengths : 6 ≡ 3 = ap length is in absurd (omega (arith, lengths))
-only_now Function.Length is = let lengths : 6 ≡ 3 = ap length is in absurd (omega (arith, lengths))
-only_now Function.IndexOf is = let lengths : 7 ≡ 3 = ap length is in absurd (omega (arith, lengths))
-only_now Function.Substring is = let lengths : 9 ≡ 3 = ap length is in absurd (omega (arith, lengths))
-only_now Function.Trim is = let lengths : 4 ≡ 3 = ap length is in absurd (omega (arith, lengths))
-only_now Function.ToLower is = let lengths : 7 ≡ 3 = ap length is in absurd (omega (arith, lengths))
-only_now Function.ToUpper is = let lengths : 7 ≡ 3 = ap length is in absurd (omega (arith, lengths))
-only_now Function.Year is = let lengths : 4 ≡ 3 = ap length is in absurd (omega (arith, lengths))
-only_now Function.Month is = let lengths : 5 ≡ 3 = ap length is in absurd (omega (arith, lengths))
-only_now Function.Hour is = let lengths : 4 ≡ 3 = ap length is in absurd (omega (arith, lengths))
-only_now Function.Minute is = let lengths : 6 ≡ 3 = ap length is in absurd (omega (arith, lengths))
-only_now Function.Second is = let lengths : 6 ≡ 3 = ap length is in absurd (omega (arith, lengths))
-only_now Function.TotalOffsetMinutes is = let lengths : 18 ≡ 3 = ap length is in absurd (omega (arith, lengths))
-only_now Function.Date is = let lengths : 4 ≡ 3 = ap length is in absurd (omega (arith, lengths))
 only_now Function.Day is = let letters : 100 ≡ 110 = ap (λ (name : List ℕ). slice_index_or name 0 0) is in absurd (omega (arith, letters))
+only_now _ is = let lengths = ap length is in absurd (omega (arith, lengths))
 
 pub some_taken : (function : Function) → ¬ (function ≡ Function.Now) → 1 ≤ (row_of function).least
 some_taken Function.Now later = absurd (later refl)
-some_taken Function.Contains later = omega arith
-some_taken Function.StartsWith later = omega arith
-some_taken Function.EndsWith later = omega arith
-some_taken Function.Concat later = omega arith
-some_taken Function.Length later = omega arith
-some_taken Function.IndexOf later = omega arith
-some_taken Function.Substring later = omega arith
-some_taken Function.Trim later = omega arith
-some_taken Function.ToLower later = omega arith
-some_taken Function.ToUpper later = omega arith
-some_taken Function.Year later = omega arith
-some_taken Function.Month later = omega arith
-some_taken Function.Hour later = omega arith
-some_taken Function.Minute later = omega arith
-some_taken Function.Second later = omega arith
-some_taken Function.TotalOffsetMinutes later = omega arith
-some_taken Function.Date later = omega arith
-some_taken Function.Day later = omega arith
+some_taken _ later = omega arith
 
 -- the arguments of a context's list
 abbrev pub StandsAll : ContextModel → ℕ → ℕ → Trees → Type 0
@@ -261,23 +228,29 @@ module _ (context : ContextModel) where
   first_typed argument more [] typed = absurd typed
   first_typed argument more (type ∷ types) typed = (type, (typed.0, tt))
 
+  -- a node that evaluates to what follows the value of that child
+  after_first : (place : ℕ) (class : WalkClass) (tree operand : Tree) (stop : ℕ) (Goes : Val → Outcome → Type 0) → Contains (children_of (shape_of tree)) operand
+      → StandsHere context (place + 1) stop operand → ((type : ExprType) → TypedHere context tree type → (first : ExprType) × (TypedHere context operand first × AllowedBy class first))
+      → ((o : Outcome) → After (MeansHere context operand) Goes o → MeansHere context tree o) → FirstTree context place class tree
+  after_first place class tree operand stop Goes is_child stands typed means = record {
+    stop = stop;
+    operand = operand;
+    stands = stands;
+    typed = typed;
+    faults = λ fault is.
+        reports_there (fault_outcome fault) (TakesMemory tree) (TakesMemory tree) (After (MeansHere context operand) Goes) (MeansHere context tree) (λ takes. takes) means
+        (fault_stays fault (TakesMemory operand) (TakesMemory tree) (MeansHere context operand) Goes (child_takes tree operand is_child) is);
+  }
+
   -- a call of another function than `now` has a first argument
   call_first : (place : ℕ) (asked : List ℕ) (arguments : Trees) (stop from to : ℕ) → ¬ (IsNamed Function.Now asked)
       → StandsHere context place stop (node from to (call asked arguments)) → FirstTree context place WalkClass.Eager (node from to (call asked arguments))
   call_first place asked no_trees stop from to later stands = absurd (no_empty_call asked stands.top.typed.types _ later stands.top.typed.arguments_typed stands.top.typed.call_typed)
   call_first place asked (more_trees argument more) stop from to later stands =
-      let whole = node from to (call asked (more_trees argument more)) in
-      record {
-        stop = stands.children.middle;
-        operand = argument;
-        stands = stands.children.left;
-        typed = λ type typed. first_typed argument more typed.types typed.arguments_typed;
-        faults = λ fault is.
-            let called = stands.top.typed.call_typed in
-            reports_there (fault_outcome fault) (TakesMemory whole) (TakesMemory whole) (After (MeansHere context argument) (λ v. MeanAll context more (λ values. CallGives context.moment called.function (v ∷ values)))) (MeansHere context whole) (λ takes. takes)
-            (λ o given. record { function = called.function; named = called.named; given = given })
-            (fault_stays fault (TakesMemory argument) (TakesMemory whole) (MeansHere context argument) _ (child_takes whole argument (first_child argument (list_of_trees more))) is);
-      }
+      let called = stands.top.typed.call_typed in
+      after_first place WalkClass.Eager (node from to (call asked (more_trees argument more))) argument stands.children.middle (λ v. MeanAll context more (λ values. CallGives context.moment called.function (v ∷ values)))
+      (first_child argument (list_of_trees more)) stands.children.left (λ type typed. first_typed argument more typed.types typed.arguments_typed)
+      (λ o given. record { function = called.function; named = called.named; given = given })
 
   -- an operator's is a tree or a literal that is read
   equality_operand : (operator : BinaryOperator) (place : ℕ) → IsEquality operator → OperandStands context place → StandsBy context place (walk_of_operator operator)
@@ -299,121 +272,63 @@ module _ (context : ContextModel) where
   }
   binary_first place operator stop from to left right stands (inr alone) (inl read) =
       let whole = node from to (binary operator left right) in
-      of_first context place (walk_of_operator operator) stop whole stands (record {
-        stop = stands.children.middle;
-        operand = left;
-        stands = alone.1;
-        typed = λ type typed. (typed.left, (typed.left_typed, equality_allows operator typed.left read.1.beside.0));
-        faults = λ fault is.
-            reports_there (fault_outcome fault) (TakesMemory whole) (TakesMemory whole) (SidesGive operator (TypedHere context whole) (MeansHere context left) (GivesMember read.0)) (MeansHere context whole) (λ takes. takes)
-            (λ o given. inl (read.0, read.1, given))
-            (fault_stays fault (TakesMemory left) (TakesMemory whole) (MeansHere context left) (λ l. OperatorGives operator (TypedHere context whole) l (GivesMember read.0)) (child_takes whole left (first_child left (right ∷ []))) is);
-      })
+      of_first context place (walk_of_operator operator) stop whole stands
+      (after_first place (walk_of_operator operator) whole left stands.children.middle (λ l. OperatorGives operator (TypedHere context whole) l (GivesMember read.0)) (first_child left (right ∷ [])) alone.1
+      (λ type typed. (typed.left, (typed.left_typed, equality_allows operator typed.left read.1.beside.0))) (λ o given. inl (read.0, read.1, given)))
   binary_first place operator stop from to left right stands (inr alone) (inr other) =
       let whole = node from to (binary operator left right) in
-      of_first context place (walk_of_operator operator) stop whole stands (record {
-        stop = stands.children.middle;
-        operand = left;
-        stands = alone.1;
-        typed = λ type typed.
-            (typed.left, (typed.left_typed, (operands_allowed operator typed.left typed.right type (types_alone context from to operator left right other.0 alone.0 type typed)).0));
-        faults = λ fault is.
-            reports_there (fault_outcome fault) (TakesMemory whole) (TakesMemory whole) (SidesGive operator (TypedHere context whole) (MeansHere context left) (MeansHere context right)) (MeansHere context whole) (λ takes. takes)
-            (λ o given. inr (other.0, inr (alone.0, given)))
-            (fault_stays fault (TakesMemory left) (TakesMemory whole) (MeansHere context left) (λ l. OperatorGives operator (TypedHere context whole) l (MeansHere context right)) (child_takes whole left (first_child left (right ∷ []))) is);
-      })
+      of_first context place (walk_of_operator operator) stop whole stands
+      (after_first place (walk_of_operator operator) whole left stands.children.middle (λ l. OperatorGives operator (TypedHere context whole) l (MeansHere context right)) (first_child left (right ∷ [])) alone.1
+      (λ type typed. (typed.left, (typed.left_typed, (operands_allowed operator typed.left typed.right type (types_alone context from to operator left right other.0 alone.0 type typed)).0)))
+      (λ o given. inr (other.0, inr (alone.0, given))))
 
-  -- so does `has`, of which the right operand may be read
-  flags_faults : (from to : ℕ) (left right : Tree) (i j : ℕ) (fault : EvalFault) → BesideHere context (TypedHere context left) right i j
-      → Reports (TakesMemory left) (MeansHere context left) (fault_outcome fault)
-      → Reports (TakesMemory (node from to (has left right))) (MeansHere context (node from to (has left right))) (fault_outcome fault)
-  flags_faults from to left right i j fault (inl read) is =
-      let whole = node from to (has left right) in
-      reports_there (fault_outcome fault) (TakesMemory whole) (TakesMemory whole) (After (MeansHere context left) (λ l. HasGives l (val.member read.0))) (MeansHere context whole) (λ takes. takes)
-      (λ o given. inl (read.0, read.1, given))
-      (fault_stays fault (TakesMemory left) (TakesMemory whole) (MeansHere context left) (λ l. HasGives l (val.member read.0)) (child_takes whole left (first_child left (right ∷ []))) is)
-  flags_faults from to left right i j fault (inr alone) is =
-      let whole = node from to (has left right) in
-      reports_there (fault_outcome fault) (TakesMemory whole) (TakesMemory whole) (After (MeansHere context left) (λ l. After (MeansHere context right) (HasGives l))) (MeansHere context whole) (λ takes. takes)
-      (λ o given. inr (alone.0, given))
-      (fault_stays fault (TakesMemory left) (TakesMemory whole) (MeansHere context left) (λ l. After (MeansHere context right) (HasGives l)) (child_takes whole left (first_child left (right ∷ []))) is)
+  -- so has `has`, of which the right operand may be read
+  flags_first : (place stop from to : ℕ) (left right : Tree) (i j : ℕ) → StandsHere context (place + 1) stop left → BesideHere context (TypedHere context left) right i j
+      → FirstTree context place WalkClass.Eager (node from to (has left right))
+  flags_first place stop from to left right i j stands (inl read) =
+      after_first place WalkClass.Eager (node from to (has left right)) left stop (λ l. HasGives l (val.member read.0)) (first_child left (right ∷ [])) stands
+      (λ type typed. (typed.left, (typed.left_typed, tt))) (λ o given. inl (read.0, read.1, given))
+  flags_first place stop from to left right i j stands (inr alone) =
+      after_first place WalkClass.Eager (node from to (has left right)) left stop (λ l. After (MeansHere context right) (HasGives l)) (first_child left (right ∷ [])) stands
+      (λ type typed. (typed.left, (typed.left_typed, tt))) (λ o given. inr (alone.0, given))
 
   first_of_kind : (place : ℕ) (kind : NodeKind) → ¬ (walk_of_kind kind ≡ WalkClass.Leaf) → HasKind context.list place kind
       → (stop : ℕ) (tree : Tree) → StandsHere context place stop tree → FirstOperand context place (walk_of_kind kind) tree
   first_of_kind place (NodeKind.Member slot) inner here stop tree stands = of_first context place (walk_of_kind (NodeKind.Member slot)) stop tree stands (by_kind context place (NodeKind.Member slot) here (λ stop tree. FirstTree context place WalkClass.Eager tree)
-      (λ base asked stop from to stands. record {
-        stop = stop;
-        operand = base;
-        stands = only_child context (place + 1) stop base stands.children;
-        typed = λ type typed. (typed.operand, (typed.operand_typed, tt));
-        faults = λ fault. fault_stays fault (TakesMemory base) (TakesMemory (node from to (member base asked))) (MeansHere context base) _ (child_takes (node from to (member base asked)) base (first_child base []));
-      }) stop tree stands)
+      (λ base asked stop from to stands.
+      after_first place WalkClass.Eager (node from to (member base asked)) base stop _ (first_child base []) (only_child context (place + 1) stop base stands.children) (λ type typed. (typed.operand, (typed.operand_typed, tt))) (λ o is. is))
+      stop tree stands)
   first_of_kind place NodeKind.Count inner here stop tree stands = of_first context place (walk_of_kind NodeKind.Count) stop tree stands (by_kind context place NodeKind.Count here (λ stop tree. FirstTree context place WalkClass.Eager tree)
-      (λ base stop from to stands. record {
-        stop = stop;
-        operand = base;
-        stands = only_child context (place + 1) stop base stands.children;
-        typed = λ type typed. (typed.operand, (typed.operand_typed, tt));
-        faults = λ fault. fault_stays fault (TakesMemory base) (TakesMemory (node from to (count base))) (MeansHere context base) _ (child_takes (node from to (count base)) base (first_child base []));
-      }) stop tree stands)
+      (λ base stop from to stands.
+      after_first place WalkClass.Eager (node from to (count base)) base stop _ (first_child base []) (only_child context (place + 1) stop base stands.children) (λ type typed. (typed.operand, (typed.operand_typed, tt))) (λ o is. is))
+      stop tree stands)
   first_of_kind place NodeKind.AnyItem inner here stop tree stands = of_first context place (walk_of_kind NodeKind.AnyItem) stop tree stands (by_kind context place NodeKind.AnyItem here (λ stop tree. FirstTree context place WalkClass.Eager tree)
-      (λ base stop from to stands. record {
-        stop = stop;
-        operand = base;
-        stands = only_child context (place + 1) stop base stands.children;
-        typed = λ type typed. (typed.operand, (typed.operand_typed, tt));
-        faults = λ fault. fault_stays fault (TakesMemory base) (TakesMemory (node from to (any_item base))) (MeansHere context base) _ (child_takes (node from to (any_item base)) base (first_child base []));
-      }) stop tree stands)
+      (λ base stop from to stands.
+      after_first place WalkClass.Eager (node from to (any_item base)) base stop _ (first_child base []) (only_child context (place + 1) stop base stands.children) (λ type typed. (typed.operand, (typed.operand_typed, tt))) (λ o is. is))
+      stop tree stands)
+  first_of_kind place NodeKind.Neg inner here stop tree stands = of_first context place (walk_of_kind NodeKind.Neg) stop tree stands (by_kind context place NodeKind.Neg here (λ stop tree. FirstTree context place WalkClass.Numeric tree)
+      (λ operand stop from to stands.
+      after_first place WalkClass.Numeric (node from to (negation operand)) operand stop _ (first_child operand []) (only_child context (place + 1) stop operand stands.children) (λ type typed. (typed.operand, (typed.operand_typed, (typed.makes.number, typed.makes.operand_is)))) (λ o is. is))
+      stop tree stands)
+  first_of_kind place NodeKind.Not inner here stop tree stands = of_first context place (walk_of_kind NodeKind.Not) stop tree stands (by_kind context place NodeKind.Not here (λ stop tree. FirstTree context place WalkClass.Logical tree)
+      (λ operand stop from to stands.
+      after_first place WalkClass.Logical (node from to (logical_not operand)) operand stop _ (first_child operand []) (only_child context (place + 1) stop operand stands.children) (λ type typed. (typed.operand, (typed.operand_typed, typed.makes.0))) (λ o is. is))
+      stop tree stands)
   first_of_kind place NodeKind.Has inner here stop tree stands = of_first context place (walk_of_kind NodeKind.Has) stop tree stands (by_kind context place NodeKind.Has here (λ stop tree. FirstTree context place WalkClass.Eager tree)
-      (λ left right stop from to stands. record {
-        stop = stands.children.middle;
-        operand = left;
-        stands = stands.children.left;
-        typed = λ type typed. (typed.left, (typed.left_typed, tt));
-        faults = λ fault. flags_faults from to left right stands.children.middle stands.children.right.middle fault stands.children.right.left;
-      }) stop tree stands)
+      (λ left right stop from to stands. flags_first place stands.children.middle from to left right stands.children.middle stands.children.right.middle stands.children.left stands.children.right.left)
+      stop tree stands)
   first_of_kind place NodeKind.InPath inner here stop tree stands = of_first context place (walk_of_kind NodeKind.InPath) stop tree stands (by_kind context place NodeKind.InPath here (λ stop tree. FirstTree context place WalkClass.Eager tree)
-      (λ left path stop from to stands. record {
-        stop = stands.children.middle;
-        operand = left;
-        stands = stands.children.left;
-        typed = λ type typed. (typed.left, (typed.left_typed, tt));
-        faults = λ fault. fault_stays fault (TakesMemory left) (TakesMemory (node from to (in_path left path))) (MeansHere context left) _ (child_takes (node from to (in_path left path)) left (first_child left (path ∷ [])));
-      }) stop tree stands)
+      (λ left path stop from to stands.
+      after_first place WalkClass.Eager (node from to (in_path left path)) left stands.children.middle _ (first_child left (path ∷ [])) stands.children.left (λ type typed. (typed.left, (typed.left_typed, tt))) (λ o is. is))
+      stop tree stands)
   first_of_kind place NodeKind.InList inner here stop tree stands = of_first context place (walk_of_kind NodeKind.InList) stop tree stands (by_kind context place NodeKind.InList here (λ stop tree. FirstTree context place WalkClass.Eager tree)
-      (λ left items stop from to stands. record {
-        stop = stands.children.middle;
-        operand = left;
-        stands = stands.children.left;
-        typed = λ type typed. (typed.left, (typed.left_typed, tt));
-        faults = λ fault. fault_stays fault (TakesMemory left) (TakesMemory (node from to (in_list left items))) (MeansHere context left) _ (child_takes (node from to (in_list left items)) left (first_child left (list_of_trees items)));
-      }) stop tree stands)
+      (λ left items stop from to stands.
+      after_first place WalkClass.Eager (node from to (in_list left items)) left stands.children.middle _ (first_child left (list_of_trees items)) stands.children.left (λ type typed. (typed.left, (typed.left_typed, tt))) (λ o is. is))
+      stop tree stands)
   first_of_kind place (NodeKind.Lambda quantifier) inner here stop tree stands = of_first context place (walk_of_kind (NodeKind.Lambda quantifier)) stop tree stands (by_kind context place (NodeKind.Lambda quantifier) here (λ stop tree. FirstTree context place WalkClass.Eager tree)
       (λ base asked body stop from to stands.
-      let whole = node from to (lambda quantifier base asked body) in
-      record {
-        stop = stands.children.middle;
-        operand = base;
-        stands = stands.children.left;
-        typed = λ type typed. (collection typed.member_type, (typed.binds.over, tt));
-        faults = λ fault. fault_stays fault (TakesMemory base) (TakesMemory whole) (MeansHere context base) _ (child_takes whole base (first_child base (body ∷ [])));
-      }) stop tree stands)
-  first_of_kind place NodeKind.Neg inner here stop tree stands = of_first context place (walk_of_kind NodeKind.Neg) stop tree stands (by_kind context place NodeKind.Neg here (λ stop tree. FirstTree context place WalkClass.Numeric tree)
-      (λ operand stop from to stands. record {
-        stop = stop;
-        operand = operand;
-        stands = only_child context (place + 1) stop operand stands.children;
-        typed = λ type typed. (typed.operand, (typed.operand_typed, (typed.makes.number, typed.makes.operand_is)));
-        faults = λ fault. fault_stays fault (TakesMemory operand) (TakesMemory (node from to (negation operand))) (MeansHere context operand) _ (child_takes (node from to (negation operand)) operand (first_child operand []));
-      }) stop tree stands)
-  first_of_kind place NodeKind.Not inner here stop tree stands = of_first context place (walk_of_kind NodeKind.Not) stop tree stands (by_kind context place NodeKind.Not here (λ stop tree. FirstTree context place WalkClass.Logical tree)
-      (λ operand stop from to stands. record {
-        stop = stop;
-        operand = operand;
-        stands = only_child context (place + 1) stop operand stands.children;
-        typed = λ type typed. (typed.operand, (typed.operand_typed, typed.makes.0));
-        faults = λ fault. fault_stays fault (TakesMemory operand) (TakesMemory (node from to (logical_not operand))) (MeansHere context operand) _ (child_takes (node from to (logical_not operand)) operand (first_child operand []));
-      }) stop tree stands)
+      after_first place WalkClass.Eager (node from to (lambda quantifier base asked body)) base stands.children.middle _ (first_child base (body ∷ [])) stands.children.left (λ type typed. (collection typed.member_type, (typed.binds.over, tt))) (λ o is. is))
+      stop tree stands)
   first_of_kind place (NodeKind.Call function) inner here stop tree stands = of_first context place (walk_of_kind (NodeKind.Call function)) stop tree stands (by_kind context place (NodeKind.Call function) here (λ stop tree. FirstTree context place WalkClass.Eager tree)
       (λ asked arguments named later stop from to stands. call_first place asked arguments stop from to (λ of_now. later (only_now function (named ∙ sym of_now))) stands) stop tree stands)
   first_of_kind place (NodeKind.Binary operator) inner here stop tree stands =

@@ -10,9 +10,9 @@ use Rattle.odata_checked_filter.specs.FlatTree.{FlatTree}
 use Rattle.odata_checked_filter.specs.Stands.{Stands}
 use Rattle.odata_signatures.specs.Typed.{Typed}
 use Rattle.odata_filter_operations.specs.declared.fault.EvalFault.{EvalFault}
-use Rattle.odata_eval.specs.Environment.{Environment, scope_of}
-use Rattle.odata_eval.specs.Means.{Means}
-use Rattle.odata_eval.specs.MeansOn.{IsTheOutcome, MeansOn}
+use Rattle.odata_meaning.specs.Environment.{Environment, scope_of}
+use Rattle.odata_meaning.specs.Means.{Means}
+use Rattle.odata_meaning.specs.MeansOn.{IsTheOutcome, MeansOn}
 use Rattle.odata_eval.specs.private.Frames.{Frame, environment_in}
 use Rattle.odata_filter_operations.specs.Outcome.{Outcome}
 use Rattle.odata_filter_operations.specs.TruthGives.{truth_val}

@@ -9,8 +9,8 @@ use Rattle.csdl_schema.specs.SchemaModel.{SchemaModel, Slots, slots_of}
 use Rattle.edm_entities.specs.Row.{val_of}
 use Rattle.odata_signatures.specs.Typed.{variable_type}
 use Rattle.odata_checked_filter.specs.Levels.{level_named}
-use Rattle.odata_eval.specs.Environment.{Bound as BoundVariable, Environment, scope_of, variable_value}
-use Rattle.odata_eval.specs.NameGives.{FoundGives}
+use Rattle.odata_meaning.specs.Environment.{Bound as BoundVariable, Environment, scope_of, variable_value}
+use Rattle.odata_meaning.specs.NameGives.{FoundGives}
 use Rattle.odata_filter_operations.specs.Outcome.{gives}
 use Rattle.odata_eval.specs.declared.frames.Frames.{Frames, Bound, Empty, the_lemmas}
 use Rattle.odata_eval.specs.declared.frames.RangeVariable.{RangeVariable}

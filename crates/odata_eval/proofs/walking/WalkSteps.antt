@@ -23,9 +23,9 @@ use Rattle.odata_signatures.specs.Sides.{quoted_text, side_of}
 use Rattle.odata_filter_operations.specs.declared.fault.EvalFault.{EvalFault}
 use Rattle.odata_filter_operations.specs.CalculationGives.{CalculationGives, NegatedGives, number_val}
 use Rattle.odata_filter_operations.specs.CompareGives.{CompareGives}
-use Rattle.odata_eval.specs.Environment.{scope_of}
+use Rattle.odata_meaning.specs.Environment.{scope_of}
 use Rattle.odata_filter_operations.specs.LeftFirst.{After}
-use Rattle.odata_eval.specs.OperatorGives.{OperatorGives, InType}
+use Rattle.odata_meaning.specs.OperatorGives.{OperatorGives, InType}
 use Rattle.odata_filter_operations.specs.Outcome.{Outcome, gives}
 use Rattle.odata_filter_operations.specs.TruthGives.{LogicalGives, JoinGives, joined, truth_val}
 use Rattle.odata_filter_operations.specs.FaultView.{fault_outcome}
@@ -36,12 +36,12 @@ use Rattle.odata_eval.specs.private.EvalContext.{EndsOnceHere, MeansHere, Stands
 use Rattle.odata_eval.specs.private.ContextModel.{ContextModel, environment_of}
 use Rattle.odata_filter_operations.specs.Reports.{Reports}
 use Rattle.odata_eval.specs.private.WalkAnswer.{AnswersAtPlace, AnswersNumber, AnswersTruth}
-use Rattle.odata_eval.specs.private.WalkClass.{IsDecided}
-use Rattle.odata_eval.specs.private.LawsBelow.{Promotes}
-use Rattle.odata_eval.proofs.meaning.Numbers.{calculated_values, negated_value}
-use Rattle.odata_eval.specs.ReadGives.{GivesMember}
-use Rattle.odata_eval.proofs.meaning.Reads.{equality_typed, number_comparable, read_has}
-use Rattle.odata_eval.proofs.meaning.Progress.{decided_gives, join_gives, not_gives, undecided_goes}
+use Rattle.odata_meaning.specs.private.Decided.{IsDecided}
+use Rattle.odata_meaning.specs.private.LawsBelow.{Promotes}
+use Rattle.odata_meaning.proofs.meaning.Numbers.{calculated_values, negated_value}
+use Rattle.odata_meaning.specs.ReadGives.{GivesMember}
+use Rattle.odata_meaning.proofs.meaning.Reads.{equality_typed, number_comparable, read_has}
+use Rattle.odata_meaning.proofs.meaning.Progress.{decided_gives, join_gives, not_gives, undecided_goes}
 use Rattle.odata_eval.proofs.walking.Children.{only_child}
 use Rattle.odata_eval.proofs.walking.Operands.{BesideHere, HasNone, equality_boolean, no_number, not_both, number_is}
 use Rattle.odata_eval.proofs.walking.Parts.{by_kind, goes_there, some_reports, reports_there, type_there}

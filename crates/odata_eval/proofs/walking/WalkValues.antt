@@ -9,7 +9,7 @@ use Rattle.csdl_schema.specs.SchemaModel.{slots_of}
 use Rattle.edm_entities.specs.HasType.{HasType}
 use Rattle.edm_entities.specs.Row.{val_of}
 use Rattle.odata_functions.specs.DatumVal.{Reading, datum_val}
-use Rattle.odata_eval.specs.EndsOnce.{IsOutcomeOf}
+use Rattle.odata_meaning.specs.EndsOnce.{IsOutcomeOf}
 use Rattle.odata_filter_operations.specs.Outcome.{Outcome, gives}
 use Rattle.odata_filter_operations.specs.DatumView.{IsDatumOf, reading_at}
 use Rattle.odata_eval.specs.private.Place.{TypedStands}

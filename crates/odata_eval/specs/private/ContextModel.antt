@@ -7,7 +7,7 @@ use Rattle.csdl_schema.specs.SchemaModel.{slots_of}
 use Rattle.edm_entities.specs.Row.{Row, IsEntity}
 use Rattle.odata_checked_filter.specs.declared.checked_node.CheckedNode.{CheckedNode}
 use Rattle.odata_checked_filter.specs.FlatTree.{FlatTree}
-use Rattle.odata_eval.specs.Environment.{Environment, IsFitting}
+use Rattle.odata_meaning.specs.Environment.{Environment, IsFitting}
 use Rattle.odata_eval.specs.private.Frames.{Frame, environment_in}
 
 -- the entity, the moment that `now` stands for, the filter's list, and the variables

@@ -8,9 +8,9 @@ use Rattle.csdl_schema.specs.SchemaModel.{slots_of, type_name_at}
 use Rattle.edm_entities.specs.Row.{Row, value_of}
 use Rattle.odata_checked_filter.specs.Stands.{NumberStands, Stands}
 use Rattle.odata_signatures.specs.Typed.{Typed}
-use Rattle.odata_eval.specs.EndsOnce.{EndsOnce}
-use Rattle.odata_eval.specs.Environment.{scope_of}
-use Rattle.odata_eval.specs.Means.{Means}
+use Rattle.odata_meaning.specs.EndsOnce.{EndsOnce}
+use Rattle.odata_meaning.specs.Environment.{scope_of}
+use Rattle.odata_meaning.specs.Means.{Means}
 use Rattle.odata_filter_operations.specs.Outcome.{Outcome}
 use Rattle.odata_eval.specs.private.ContextModel.{ContextModel, environment_of}
 

@@ -10,7 +10,7 @@ use Rattle.odata_signatures.specs.declared.edm_type.EdmType.{EdmType}
 use Rattle.odata_signatures.specs.Typed.{variable_type}
 use Rattle.odata_checked_filter.specs.Levels.{level_named}
 use Rattle.odata_checked_filter.specs.Stands.{variable_names}
-use Rattle.odata_eval.specs.Environment.{Bound, Environment, scope_of, variable_value}
+use Rattle.odata_meaning.specs.Environment.{Bound, Environment, scope_of, variable_value}
 use Rattle.odata_eval.specs.declared.frames.AtLevel.{AtLevel}
 use Rattle.odata_eval.specs.declared.frames.Frames.{Frames, fold-Frames}
 use Rattle.odata_eval.specs.declared.frames.Frames.TheOpen.{Frames-F}

@@ -16,9 +16,9 @@ use Rattle.odata_signatures.specs.Typed.{Scope, Typed, with_variable}
 use Rattle.odata_checked_filter.specs.Calls.{TakesMemory}
 use Rattle.odata_checked_filter.specs.FlatTree.{FlatTree}
 use Rattle.odata_checked_filter.specs.Stands.{Stands}
-use Rattle.odata_eval.specs.Environment.{bound_over, scope_of}
-use Rattle.odata_eval.specs.Means.{Means}
-use Rattle.odata_eval.specs.OneByOne.{MembersGo}
+use Rattle.odata_meaning.specs.Environment.{bound_over, scope_of}
+use Rattle.odata_meaning.specs.Means.{Means}
+use Rattle.odata_meaning.specs.OneByOne.{MembersGo}
 use Rattle.odata_filter_operations.specs.Outcome.{Outcome}
 use Rattle.odata_filter_operations.specs.TruthGives.{truth_val}
 use Rattle.odata_filter_operations.specs.declared.fault.EvalFault.{EvalFault}

@@ -8,9 +8,9 @@ use Rattle.edm_entities.specs.Row.{value_of}
 use Rattle.odata_syntax.specs.Tree.{Tree}
 use Rattle.odata_syntax.specs.declared.node.Quantifier.{Quantifier}
 use Rattle.odata_filter_operations.specs.declared.fault.EvalFault.{EvalFault}
-use Rattle.odata_eval.specs.Costs.{Costs, MembersCost}
-use Rattle.odata_eval.specs.CostsOnce.{CostsOnce}
-use Rattle.odata_eval.specs.Environment.{bound_over}
+use Rattle.odata_meaning.specs.Costs.{Costs, MembersCost}
+use Rattle.odata_meaning.specs.CostsOnce.{CostsOnce}
+use Rattle.odata_meaning.specs.Environment.{bound_over}
 use Rattle.odata_eval.specs.declared.budget.Budget.{Budget}
 use Rattle.odata_eval.specs.declared.frames.RangeVariable.{RangeVariable}
 use Rattle.odata_eval.specs.declared.stop.EvalStop.{EvalStop}

@@ -14,7 +14,7 @@ use Rattle.csdl_schema.specs.SchemaModel.{Slots, properties_at, slot_named, slot
 use Rattle.odata_checked_filter.specs.Filter.{Filter}
 use Rattle.odata_checked_filter.specs.Stands.{Stands}
 use Rattle.odata_eval.specs.FalseWhere.{IsFalseWhere}
-use Rattle.odata_eval.specs.Means.{Means}
+use Rattle.odata_meaning.specs.Means.{Means}
 use Rattle.odata_eval.specs.private.Place.{HasOperator}
 use Rattle.odata_filter_operations.specs.Outcome.{Outcome, gives, overflow, divides_by_zero}
 

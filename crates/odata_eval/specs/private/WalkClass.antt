@@ -1,8 +1,5 @@
 -- For private clauses: how the walk takes a node.
-use Rattle.std.specs.Prelude.{true, false}
-use Rattle.edm_values.specs.Val.{Val, boolean}
 use Rattle.odata_checked_filter.specs.declared.checked_node.NodeKind.{NodeKind}
-use Rattle.odata_syntax.specs.declared.binary_operator.LogicalOperator.{LogicalOperator}
 use Rattle.odata_syntax.specs.declared.binary_operator.BinaryOperator.{BinaryOperator}
 use Rattle.odata_eval.specs.declared.walk_operand.WalkClass.{WalkClass}
 
@@ -31,9 +28,3 @@ walk_of_kind NodeKind.AnyItem = WalkClass.Eager
 walk_of_kind (NodeKind.Lambda quantifier) = WalkClass.Eager
 walk_of_kind NodeKind.Now = WalkClass.Leaf
 walk_of_kind (NodeKind.Binary operator) = walk_of_operator operator
-
--- the left truth value alone decides
-abbrev pub IsDecided : LogicalOperator → Val → Type 0
-IsDecided LogicalOperator.And (boolean false) = Unit {0}
-IsDecided LogicalOperator.Or (boolean true) = Unit {0}
-IsDecided logical _ = ⊥

@@ -21,9 +21,9 @@ use Rattle.edm_entities.specs.declared.row_fault.RowFault.{RowFault}
 use Rattle.odata_signatures.specs.HasTyping.{HasTree}
 use Rattle.odata_checked_filter.specs.CanonicalFilters.{AreCoveredAlike, ExpandTheSame, IsOfCanonicalText, OfCanonicalTexts}
 use Rattle.odata_checked_filter.specs.Filter.{Filter, slots_for_filter, tree_of_filter}
-use Rattle.odata_eval.specs.Means.{Means}
+use Rattle.odata_meaning.specs.Means.{Means}
 use Rattle.odata_filter_operations.specs.Outcome.{Outcome}
-use Rattle.odata_eval.specs.SameMeaning.{CanonicalTextsKeepOutcomes}
+use Rattle.odata_meaning.specs.SameMeaning.{CanonicalTextsKeepOutcomes}
 use Rattle.odata_eval.specs.declared.verdict.Verdict.{Verdict}
 use Rattle.line_filter.specs.Kept.{Filters, IsFaultless, Items, Passes, Sieve, SiftedItem, Stops, StopsAt, StopsBefore, StopsOn, StopsWithin}
 use Rattle.line_filter.specs.LineItems.{IsFoundOf, LineJudge}

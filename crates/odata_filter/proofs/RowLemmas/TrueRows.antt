@@ -14,9 +14,9 @@ use Rattle.edm_entities.specs.Fits.{Fits}
 use Rattle.edm_entities.specs.HasType.{HasType}
 use Rattle.edm_entities.specs.Row.{Row, value_of}
 use Rattle.odata_checked_filter.specs.Filter.{Filter, tree_of_filter}
-use Rattle.odata_eval.specs.EndsOnce.{IsOutcomeOf, TypedEndsOnce}
-use Rattle.odata_eval.specs.Means.{Means}
-use Rattle.odata_eval.specs.MeansOn.{IsTheOutcome}
+use Rattle.odata_meaning.specs.EndsOnce.{IsOutcomeOf, TypedEndsOnce}
+use Rattle.odata_meaning.specs.Means.{Means}
+use Rattle.odata_meaning.specs.MeansOn.{IsTheOutcome}
 use Rattle.odata_filter_operations.specs.Outcome.{Outcome, gives, overflow, divides_by_zero}
 use Rattle.odata_eval.specs.VerdictView.{reported_outcome, verdict_val}
 use Rattle.odata_filter_operations.specs.declared.fault.EvalFault.{EvalFault}

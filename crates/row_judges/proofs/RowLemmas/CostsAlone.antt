@@ -13,11 +13,11 @@ use Rattle.odata_signatures.specs.Typed.{Typed}
 use Rattle.odata_filter_operations.specs.CompareGives.{CompareGives}
 use Rattle.odata_filter_operations.specs.LeftFirst.{After}
 use Rattle.odata_filter_operations.specs.Outcome.{Outcome}
-use Rattle.odata_eval.specs.Costs.{ArgumentsCost, CostAfter, Costs, CostsMore, ItemsCost, LambdaCosts, OthersCost, RightCosts, item_cost}
-use Rattle.odata_eval.specs.Environment.{Environment, bound_over, scope_of}
-use Rattle.odata_eval.specs.Means.{Means}
-use Rattle.odata_eval.specs.NameGives.{StepGives}
-use Rattle.odata_eval.specs.ReadGives.{GivesMember, UnlessRead}
+use Rattle.odata_meaning.specs.Costs.{ArgumentsCost, CostAfter, Costs, CostsMore, ItemsCost, LambdaCosts, OthersCost, RightCosts, item_cost}
+use Rattle.odata_meaning.specs.Environment.{Environment, bound_over, scope_of}
+use Rattle.odata_meaning.specs.Means.{Means}
+use Rattle.odata_meaning.specs.NameGives.{StepGives}
+use Rattle.odata_meaning.specs.ReadGives.{GivesMember, UnlessRead}
 use Rattle.row_judges.proofs.RowLemmas.NamesAlone.{NamesNone, TreesNameNone, means_same}
 
 -- an operand with the same outcomes and costs, and the same after each of its values

@@ -14,9 +14,9 @@ use Rattle.edm_row_plans.specs.PassedNames.{Names}
 use Rattle.odata_checked_filter.specs.Filter.{Filter, slots_for_filter, tree_of_filter}
 use Rattle.odata_checked_filter.specs.declared.checked_node.NodeKind.{NodeKind}
 use Rattle.odata_filter_operations.specs.Outcome.{Outcome}
-use Rattle.odata_eval.specs.Costs.{Costs}
+use Rattle.odata_meaning.specs.Costs.{Costs}
 use Rattle.odata_eval.specs.CostsOn.{CostsOn, KeepsBound}
-use Rattle.odata_eval.specs.Means.{Means}
+use Rattle.odata_meaning.specs.Means.{Means}
 use Rattle.odata_eval.specs.declared.stop.EvalStop.{EvalStop}
 use Rattle.odata_eval.specs.declared.verdict.Verdict.{Verdict}
 use Rattle.std.specs.Prelude.{Result}

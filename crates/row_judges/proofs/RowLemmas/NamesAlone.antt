@@ -17,15 +17,15 @@ use Rattle.odata_checked_filter.specs.declared.checked_node.NodeKind.{NodeKind}
 use Rattle.odata_filter_operations.specs.CalculationGives.{NegatedGives}
 use Rattle.odata_filter_operations.specs.CallGives.{CallMeans}
 use Rattle.odata_filter_operations.specs.CollectionGives.{AnyItemGives, CountGives}
-use Rattle.odata_eval.specs.Environment.{Environment, bound_over, scope_of, variable_value}
+use Rattle.odata_meaning.specs.Environment.{Environment, bound_over, scope_of, variable_value}
 use Rattle.odata_filter_operations.specs.HasGives.{HasGives}
 use Rattle.odata_filter_operations.specs.LambdaGives.{InGives, ItemsGive, LambdaGives}
 use Rattle.odata_filter_operations.specs.LeftFirst.{After}
-use Rattle.odata_eval.specs.Means.{ArgumentsMean, BinaryGives, ItemMeans, Means}
-use Rattle.odata_eval.specs.NameGives.{FoundGives, StepGives}
-use Rattle.odata_eval.specs.OperatorGives.{InType}
+use Rattle.odata_meaning.specs.Means.{ArgumentsMean, BinaryGives, ItemMeans, Means}
+use Rattle.odata_meaning.specs.NameGives.{FoundGives, StepGives}
+use Rattle.odata_meaning.specs.OperatorGives.{InType}
 use Rattle.odata_filter_operations.specs.Outcome.{Outcome}
-use Rattle.odata_eval.specs.ReadGives.{GivesMember, UnlessRead}
+use Rattle.odata_meaning.specs.ReadGives.{GivesMember, UnlessRead}
 use Rattle.odata_filter_operations.specs.TruthGives.{NotGives}
 use Rattle.edm_values.specs.Val as val
 

@@ -15,8 +15,8 @@ use Rattle.line_filter.specs.declared.judge.Judgment.{Judgment}
 use Rattle.row_judges.specs.declared.bad_row.BadRow.{BadRow}
 use Rattle.edm_entities.specs.Fits.{Fits}
 use Rattle.edm_entities.specs.Row.{Row, expanded_by, slots_for, value_of}
-use Rattle.odata_eval.specs.Means.{Means}
-use Rattle.odata_eval.specs.MeansOn.{IsTheOutcome}
+use Rattle.odata_meaning.specs.Means.{Means}
+use Rattle.odata_meaning.specs.MeansOn.{IsTheOutcome}
 use Rattle.odata_filter_operations.specs.Outcome.{Outcome, gives, overflow, divides_by_zero}
 use Rattle.odata_filter_operations.specs.FaultView.{fault_outcome}
 use Rattle.odata_eval.specs.VerdictView.{reported_outcome, verdict_val}

@@ -16,9 +16,9 @@ use Rattle.edm_row_plans.specs.PassedNames.{Names}
 use Rattle.odata_checked_filter.specs.Filter.{Filter, slots_for_filter, tree_of_filter}
 use Rattle.odata_checked_filter.specs.declared.checked_node.CheckedNode.{CheckedNode}
 use Rattle.odata_checked_filter.specs.declared.checked_node.NodeKind.{NodeKind}
-use Rattle.odata_eval.specs.Means.{Means}
-use Rattle.odata_eval.specs.MeansOn.{IsTheOutcome}
-use Rattle.odata_eval.specs.NameGives.{FieldGives, StepGives}
+use Rattle.odata_meaning.specs.Means.{Means}
+use Rattle.odata_meaning.specs.MeansOn.{IsTheOutcome}
+use Rattle.odata_meaning.specs.NameGives.{FieldGives, StepGives}
 use Rattle.odata_filter_operations.specs.Outcome.{Outcome, gives, overflow, divides_by_zero}
 use Rattle.odata_eval.specs.VerdictView.{reported_outcome, verdict_val}
 use Rattle.odata_filter_operations.specs.FaultView.{fault_outcome}

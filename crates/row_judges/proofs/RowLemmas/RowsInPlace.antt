@@ -18,8 +18,8 @@ use Rattle.edm_values.specs.declared.sieve.Sieve.{Sieve}
 use Rattle.line_filter.specs.LineItems.{judgment_where}
 use Rattle.line_filter.specs.Lines.{IsBlank}
 use Rattle.odata_checked_filter.specs.Filter.{Filter, IsFilter, slots_for_filter, tree_of_filter}
-use Rattle.odata_eval.specs.EndsOnce.{TypedEndsOnce}
-use Rattle.odata_eval.specs.MeansOn.{IsTheOutcome}
+use Rattle.odata_meaning.specs.EndsOnce.{TypedEndsOnce}
+use Rattle.odata_meaning.specs.MeansOn.{IsTheOutcome}
 use Rattle.odata_eval.specs.CostsOn.{KeepsBound}
 use Rattle.odata_eval.specs.VerdictView.{outcome_reported, reported_outcome, verdict_val}
 use Rattle.odata_eval.specs.declared.stop.EvalStop.{EvalStop}

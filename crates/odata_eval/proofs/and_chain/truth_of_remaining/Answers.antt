@@ -3,7 +3,7 @@ use Rattle.std.proofs.lemmas.Result.{err_from_is_err_and}
 use Rattle.odata_syntax.specs.declared.binary_operator.LogicalOperator.{LogicalOperator}
 use Rattle.odata_filter_operations.specs.TruthGives.{truth_val}
 use Rattle.odata_eval.specs.private.WalkAnswer.{AnswersTruth}
-use Rattle.odata_eval.specs.private.WalkClass.{IsDecided}
+use Rattle.odata_meaning.specs.private.Decided.{IsDecided}
 use Rattle.odata_eval.proofs.walking.AndChains.{decided_up, false_answers, fault_answers, fault_up, null_answers, term_stands, term_there, reported_not, true_answers}
 use Rattle.odata_eval.proofs.walking.Spines.{at_top}
 use Rattle.odata_eval.proofs.and_chain.truth_of_remaining.Goals as goal

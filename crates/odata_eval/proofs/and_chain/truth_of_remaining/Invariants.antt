@@ -2,7 +2,7 @@ use Rattle.std.proofs.Common.{◌≤◌, Ok}
 use Rattle.odata_syntax.specs.declared.binary_operator.LogicalOperator.{LogicalOperator}
 use Rattle.odata_filter_operations.specs.TruthGives.{truth_val}
 use Rattle.odata_eval.specs.private.WalkAnswer.{AnswersTruth}
-use Rattle.odata_eval.specs.private.WalkClass.{IsDecided}
+use Rattle.odata_meaning.specs.private.Decided.{IsDecided}
 use Rattle.odata_eval.proofs.and_chain.truth_of_remaining.Given as goal
 
 abbrev pub invariant-loop-at : goal.invariant-loop-at

@@ -4,7 +4,7 @@ use Rattle.odata_checked_filter.specs.declared.checked_node.NodeKind.{NodeKind}
 use Rattle.odata_filter_operations.specs.declared.fault.EvalFault.{EvalFault}
 use Rattle.odata_syntax.specs.declared.binary_operator.BinaryOperator.{BinaryOperator}
 use Rattle.odata_eval.specs.private.WalkAnswer.{AnswersNumber}
-use Rattle.odata_eval.specs.private.LawsBelow.{Promotes}
+use Rattle.odata_meaning.specs.private.LawsBelow.{Promotes}
 use Rattle.odata_eval.proofs.walking.Extents.{right_part, right_there}
 use Rattle.odata_eval.proofs.walking.Parts.{part_inside, there_found}
 use Rattle.odata_eval.proofs.walking.WalkSteps.{calculation_answers, numbers_there}

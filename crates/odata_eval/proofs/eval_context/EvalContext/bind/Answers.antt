@@ -1,7 +1,7 @@
 use Rattle.std.proofs.Common.{◌≡◌, ◌∙◌, List, ◌∷◌, ap, subst, sym}
 use Rattle.csdl_schema.specs.SchemaModel.{slots_of}
 use Rattle.edm_entities.specs.Row.{Row}
-use Rattle.odata_eval.specs.Environment.{IsFitting}
+use Rattle.odata_meaning.specs.Environment.{IsFitting}
 use Rattle.odata_eval.specs.private.Frames.{Frame, environment_in, frame_of, frames_in}
 use Rattle.odata_eval.specs.private.Lambda.{Suits}
 use Rattle.odata_eval.specs.private.ContextModel.{IsBeside, ContextModel, context_in}

@@ -3,7 +3,7 @@ use Rattle.csdl_schema.specs.ExpansionView.{StepModel, paths_in}
 use Rattle.edm_entities.specs.Row.{Row}
 use Rattle.odata_checked_filter.specs.Filter.{tree_of_filter}
 use Rattle.odata_eval.specs.CostsOn.{KeepsBound}
-use Rattle.odata_eval.specs.MeansOn.{IsTheOutcome}
+use Rattle.odata_meaning.specs.MeansOn.{IsTheOutcome}
 use Rattle.odata_eval.specs.VerdictView.{outcome_reported}
 use Rattle.row_judges.specs.RowCosts.{ReportsRowWithin}
 use Rattle.row_judges.proofs.RowLemmas.RowsInPlace.{held_within}

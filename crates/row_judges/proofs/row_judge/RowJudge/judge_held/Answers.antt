@@ -2,7 +2,7 @@ use Rattle.std.proofs.Common.{List, sym, ap, ◌∙◌, subst, IfSome}
 use Rattle.csdl_schema.specs.ExpansionView.{StepModel, paths_in}
 use Rattle.edm_entities.specs.Row.{Row}
 use Rattle.odata_checked_filter.specs.Filter.{tree_of_filter}
-use Rattle.odata_eval.specs.MeansOn.{IsTheOutcome}
+use Rattle.odata_meaning.specs.MeansOn.{IsTheOutcome}
 use Rattle.odata_eval.specs.VerdictView.{reported_outcome}
 use Rattle.row_judges.specs.RowAnswer.{ReportsRow}
 use Rattle.row_judges.proofs.RowLemmas.RowsInPlace.{held_reported}

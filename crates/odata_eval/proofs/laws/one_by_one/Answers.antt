@@ -1,5 +1,0 @@
-use Rattle.odata_eval.proofs.meaning.OneByOne.{compared_one_by_one, items_one_by_one, members_one_by_one}
-use Rattle.odata_eval.proofs.laws.one_by_one.Goals as goal
-
-pub returns : goal.returns
-returns c = record { members = members_one_by_one; compared = compared_one_by_one; items = items_one_by_one }

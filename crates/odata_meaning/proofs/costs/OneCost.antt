@@ -1,0 +1,192 @@
+-- A tree that has a type has exactly one cost.
+use Rattle.std.proofs.Common.{◌≡◌, ℕ, List, [], ◌∷◌, Some, None, refl, sym, subst}
+use Rattle.serde_json.specs.Data.{Data}
+use Rattle.edm_values.specs.MomentParts.{IsMoment, MomentParts}
+use Rattle.edm_values.specs.Val.{Val, null, items, Vals, no_items, item}
+use Rattle.csdl_schema.specs.ExpansionView.{paths_in}
+use Rattle.csdl_schema.specs.ExprType.{ExprType, SingleType, collection, enumeration, single, structured}
+use Rattle.csdl_schema.specs.PathSet.{PathSet}
+use Rattle.csdl_schema.specs.SchemaModel.{Slots, expanded, slots_of, type_name_at}
+use Rattle.edm_entities.specs.Fits.{Fits}
+use Rattle.edm_entities.specs.HasType.{AllHaveType, HasType}
+use Rattle.edm_entities.specs.Row.{value_of}
+use Rattle.odata_syntax.specs.declared.binary_operator.ComparisonOperator.{ComparisonOperator}
+use Rattle.odata_syntax.specs.Tree.{Tree, node, literal, it, name, count, negation, logical_not, binary, in_list, in_path, call, any_item, lambda, Trees, no_trees, more_trees}
+use Rattle.odata_syntax.specs.Tree as tree
+use Rattle.odata_syntax.specs.declared.node.Quantifier.{Quantifier}
+use Rattle.odata_signatures.specs.ExprTypes.{boolean_type}
+use Rattle.odata_signatures.specs.Typed.{AreTyped, Typed}
+use Rattle.odata_filter_operations.specs.CompareGives.{CompareGives}
+use Rattle.odata_filter_operations.specs.LeftFirst.{After}
+use Rattle.odata_filter_operations.specs.Outcome.{Outcome, gives}
+use Rattle.odata_meaning.specs.Costs.{ArgumentsCost, Costs, ItemsCost, LambdaCosts, MembersCost, OthersCost, RightCosts, item_cost}
+use Rattle.odata_meaning.specs.CostsOnce.{CostsOnceOnEntities}
+use Rattle.odata_meaning.specs.EndsOnce.{IsOutcomeOf, TypedEndsOnce}
+use Rattle.odata_meaning.specs.Environment.{Environment, IsFitting, bound_over, scope_of}
+use Rattle.odata_meaning.specs.Means.{Means}
+use Rattle.odata_meaning.specs.OneByOne.{ItemAlone}
+use Rattle.odata_meaning.proofs.costs.Once.{EndsAlone, Once, after_once, more_once, nothing_once, others_once, right_once}
+use Rattle.odata_meaning.proofs.meaning.AllTrees.{AllTrees, AllTyped}
+use Rattle.odata_meaning.proofs.meaning.CompareEnds.{compare_ends}
+use Rattle.odata_meaning.proofs.meaning.Ends.{Ends, after_ends}
+use Rattle.odata_meaning.proofs.meaning.FormsEnd.{ItemEnds}
+use Rattle.odata_meaning.specs.private.LawsBelow.{OneEach, SomeEach}
+use Rattle.odata_meaning.proofs.meaning.OneLeaf.{CompareGives-one}
+use Rattle.odata_meaning.proofs.meaning.OneMeaning.{items_one}
+use Rattle.odata_meaning.proofs.meaning.OneStep.{After-one, AtMostOne}
+use Rattle.odata_meaning.proofs.meaning.Progress.{ReadsHave, items_end}
+
+-- a number that is read is of its enumeration
+reads_have : (slots : Slots) → ReadsHave slots slots
+reads_have slots (single (enumeration of)) (Some spelling) n number = number.within
+reads_have slots (single (enumeration of)) None n number = absurd number
+reads_have slots _ quoted n number = absurd number
+
+members_once : (quantifier : Quantifier) (Body : Val → Outcome → Type 0) (BodyCosts : Val → ℕ → Type 0) (slots : Slots) (m : SingleType)
+    → ((v : Val) → HasType slots (single m) v → EndsAlone (Body v)) → ((v : Val) → HasType slots (single m) v → Once (BodyCosts v))
+    → (values : Vals) → AllHaveType slots m values → Once (MembersCost quantifier Body BodyCosts values)
+members_once quantifier Body BodyCosts slots m ends once no_items all = nothing_once
+members_once quantifier Body BodyCosts slots m ends once (item v more) all =
+    more_once 1 _
+    (after_once (Body v) (BodyCosts v) (OthersCost quantifier (MembersCost quantifier Body BodyCosts more)) (ends v all.0) (once v all.0)
+    (λ w is. others_once quantifier (MembersCost quantifier Body BodyCosts more) w (members_once quantifier Body BodyCosts slots m ends once more all.1)))
+
+-- the type of a collection's members is one
+over_once : (quantifier : Quantifier) (BaseTyped : ExprType → Type 0) (Body : ExprType → Val → Outcome → Type 0) (BodyCosts : ExprType → Val → ℕ → Type 0) (slots : Slots) (m : SingleType)
+    → BaseTyped (collection m) → ((s t : ExprType) → BaseTyped s → BaseTyped t → s ≡ t) → (v : Val) → HasType slots (collection m) v
+    → ((values : Vals) → AllHaveType slots m values → Once (MembersCost quantifier (Body (single m)) (BodyCosts (single m)) values))
+    → Once (LambdaCosts quantifier BaseTyped Body BodyCosts v)
+over_once quantifier BaseTyped Body BodyCosts slots m over one null has members = nothing_once
+over_once quantifier BaseTyped Body BodyCosts slots m over one (items values) has members =
+    let once = members values has in
+    record {
+      number = once.number;
+      is = (m, over, once.is);
+      only = λ other costs.
+          let kinds : collection costs.0 ≡ collection m = one (collection costs.0) (collection m) costs.1 over in
+          let same : costs.0 ≡ m = cc in
+          once.only other (subst (λ (s : SingleType). MembersCost quantifier (Body (single s)) (BodyCosts (single s)) values other) same costs.2);
+    }
+over_once quantifier BaseTyped Body BodyCosts slots m over one _ has members = absurd has
+
+module _ (one : OneEach) (some : SomeEach) (all_end : TypedEndsOnce) (slots : Slots) (root : List ℕ) (now : MomentParts) (entity : Val)
+    (is_moment : IsMoment now.civil now.offset_minutes) (conforms : HasType slots (single (structured root)) entity) where
+  ends : (environment : Environment) → IsFitting slots environment → (tree : Tree) (type : ExprType) → Typed slots root (scope_of environment) tree type
+      → EndsAlone (Means slots root now entity environment tree)
+  ends environment fitting tree type typed =
+      let end = all_end slots root now entity environment tree type is_moment conforms fitting typed in
+      record { outcome = end.outcome; is = end.related; only = end.only }
+
+  -- a value that it evaluates to is of its type
+  value_typed : (environment : Environment) → IsFitting slots environment → (tree : Tree) (type : ExprType) → Typed slots root (scope_of environment) tree type
+      → (v : Val) → Means slots root now entity environment tree (gives v) → HasType slots type v
+  value_typed environment fitting tree type typed v means =
+      let end = all_end slots root now entity environment tree type is_moment conforms fitting typed in
+      subst (λ (o : Outcome). IsOutcomeOf slots type o) (sym (end.only (gives v) means)) end.of_type
+
+  -- an item compared with the left value
+  compared : (environment : Environment) (Beside : ExprType → Type 0) (left : ExprType) (l : Val) (listed_item : Tree) → HasType slots left l
+      → AtMostOne (ItemAlone slots root now entity environment Beside listed_item) → ItemEnds slots left (ItemAlone slots root now entity environment Beside listed_item)
+      → EndsAlone (After (ItemAlone slots root now entity environment Beside listed_item) (CompareGives ComparisonOperator.Eq l))
+  compared environment Beside left l listed_item of_l alone ends_so =
+      let Equal : Val → Outcome → Type 0 = CompareGives ComparisonOperator.Eq l in
+      let Item : Outcome → Type 0 = ItemAlone slots root now entity environment Beside listed_item in
+      let end = after_ends slots slots ends_so.0 boolean_type Item Equal ends_so.2
+      (λ w of_w. compare_ends some slots ComparisonOperator.Eq left ends_so.0 boolean_type l w (ends_so.1, refl) of_l of_w) in
+      record {
+        outcome = end.0;
+        is = end.1.0;
+        only = λ other is. After-one Item Equal alone (CompareGives-one ComparisonOperator.Eq l) other end.0 is end.1.0;
+      }
+
+  items_once : (environment : Environment) (Beside : ExprType → Type 0) (left : ExprType) (l : Val) (listed : Trees) → HasType slots left l
+      → AllTrees (λ t. AtMostOne (ItemAlone slots root now entity environment Beside t)) listed
+      → AllTrees (λ t. ItemEnds slots left (ItemAlone slots root now entity environment Beside t)) listed
+      → AllTrees (λ t. Once (Costs slots root now entity environment t)) listed
+      → Once (ItemsCost slots root now entity environment Beside l listed)
+  items_once environment Beside left l no_trees of_l alone ends_so once = nothing_once
+  items_once environment Beside left l (more_trees listed_item more) of_l alone ends_so once =
+      more_once (item_cost environment) _
+      (after_once (After (ItemAlone slots root now entity environment Beside listed_item) (CompareGives ComparisonOperator.Eq l)) (Costs slots root now entity environment listed_item)
+      (OthersCost Quantifier.Any (ItemsCost slots root now entity environment Beside l more)) (compared environment Beside left l listed_item of_l alone.0 ends_so.0) once.0
+      (λ w is. others_once Quantifier.Any (ItemsCost slots root now entity environment Beside l more) w (items_once environment Beside left l more of_l alone.1 ends_so.1 once.1)))
+
+  all_end_so : (environment : Environment) → IsFitting slots environment → (trees : Trees) (types : List ExprType) → AreTyped slots root (scope_of environment) trees types
+      → AllTyped (λ t type. Ends slots type (Means slots root now entity environment t)) trees types
+  all_end_so environment fitting no_trees [] typed = tt
+  all_end_so environment fitting (more_trees tree more) (type ∷ types) typed =
+      let end = all_end slots root now entity environment tree type is_moment conforms fitting typed.0 in
+      ((end.outcome, (end.related, end.of_type)), all_end_so environment fitting more types typed.1)
+  all_end_so environment fitting _ _ typed = absurd typed
+
+  mutual
+    pub tree_once : (environment : Environment) → IsFitting slots environment → (tree : Tree) (type : ExprType) → Typed slots root (scope_of environment) tree type
+        → Once (Costs slots root now entity environment tree)
+    tree_once environment fitting (node start stop (literal kind spelling)) type typed = nothing_once
+    tree_once environment fitting (node start stop it) type typed = nothing_once
+    tree_once environment fitting (node start stop (name asked)) type typed = nothing_once
+    tree_once environment fitting (node start stop (tree.member base asked)) type typed = tree_once environment fitting base typed.operand typed.operand_typed
+    tree_once environment fitting (node start stop (count base)) type typed = tree_once environment fitting base typed.operand typed.operand_typed
+    tree_once environment fitting (node start stop (negation operand)) type typed = tree_once environment fitting operand typed.operand typed.operand_typed
+    tree_once environment fitting (node start stop (logical_not operand)) type typed = tree_once environment fitting operand typed.operand typed.operand_typed
+    tree_once environment fitting (node start stop (any_item base)) type typed = tree_once environment fitting base typed.operand typed.operand_typed
+    tree_once environment fitting (node start stop (binary operator left right)) type typed =
+        after_once (Means slots root now entity environment left) (Costs slots root now entity environment left)
+        (λ l. RightCosts operator l (Costs slots root now entity environment right))
+        (ends environment fitting left typed.left typed.left_typed) (tree_once environment fitting left typed.left typed.left_typed)
+        (λ l is. right_once operator l (Costs slots root now entity environment right) (tree_once environment fitting right typed.right typed.right_typed))
+    tree_once environment fitting (node start stop (tree.has left right)) type typed =
+        after_once (Means slots root now entity environment left) (Costs slots root now entity environment left) (λ l. Costs slots root now entity environment right)
+        (ends environment fitting left typed.left typed.left_typed) (tree_once environment fitting left typed.left typed.left_typed)
+        (λ l is. tree_once environment fitting right typed.right typed.right_typed)
+    tree_once environment fitting (node start stop (in_path left path)) type typed =
+        after_once (Means slots root now entity environment left) (Costs slots root now entity environment left) (λ l. Costs slots root now entity environment path)
+        (ends environment fitting left typed.left typed.left_typed) (tree_once environment fitting left typed.left typed.left_typed)
+        (λ l is. tree_once environment fitting path typed.right typed.right_typed)
+    tree_once environment fitting (node start stop (in_list left listed)) type typed =
+        let Beside : ExprType → Type 0 = Typed slots root (scope_of environment) left in
+        after_once (Means slots root now entity environment left) (Costs slots root now entity environment left)
+        (λ l. ItemsCost slots root now entity environment Beside l listed)
+        (ends environment fitting left typed.left typed.left_typed) (tree_once environment fitting left typed.left typed.left_typed)
+        (λ l is. items_once environment Beside typed.left l listed (value_typed environment fitting left typed.left typed.left_typed l is)
+        (items_one one slots root now entity environment left listed)
+        (items_end some slots slots (reads_have slots) root now entity environment left typed.left typed.left_typed listed typed.items typed.items_typed typed.makes.1
+        (all_end_so environment fitting listed typed.items typed.items_typed))
+        (trees_once environment fitting listed typed.items typed.items_typed))
+    tree_once environment fitting (node start stop (call asked arguments)) type typed = arguments_once environment fitting arguments typed.types typed.arguments_typed
+    tree_once environment fitting (node start stop (lambda quantifier base variable body)) type typed =
+        let BaseTyped : ExprType → Type 0 = Typed slots root (scope_of environment) base in
+        let Body : ExprType → Val → Outcome → Type 0 = λ t v. Means slots root now entity (bound_over environment variable t v) body in
+        let BodyCosts : ExprType → Val → ℕ → Type 0 = λ t v. Costs slots root now entity (bound_over environment variable t v) body in
+        let m = typed.member_type in
+        after_once (Means slots root now entity environment base) (Costs slots root now entity environment base) (LambdaCosts quantifier BaseTyped Body BodyCosts)
+        (ends environment fitting base (collection m) typed.binds.over) (tree_once environment fitting base (collection m) typed.binds.over)
+        (λ v is. over_once quantifier BaseTyped Body BodyCosts slots m typed.binds.over (λ s t p q. one.types slots root (scope_of environment) base s t p q) v
+        (value_typed environment fitting base (collection m) typed.binds.over v is)
+        (λ values all. members_once quantifier (Body (single m)) (BodyCosts (single m)) slots m
+        (λ w of_w. ends (bound_over environment variable (single m) w) (of_w, fitting) body typed.body typed.body_typed)
+        (λ w of_w. tree_once (bound_over environment variable (single m) w) (of_w, fitting) body typed.body typed.body_typed) values all))
+
+    trees_once : (environment : Environment) → IsFitting slots environment → (trees : Trees) (types : List ExprType) → AreTyped slots root (scope_of environment) trees types
+        → AllTrees (λ t. Once (Costs slots root now entity environment t)) trees
+    trees_once environment fitting no_trees [] typed = tt
+    trees_once environment fitting (more_trees tree more) (type ∷ types) typed = (tree_once environment fitting tree type typed.0, trees_once environment fitting more types typed.1)
+    trees_once environment fitting _ _ typed = absurd typed
+
+    arguments_once : (environment : Environment) → IsFitting slots environment → (trees : Trees) (types : List ExprType) → AreTyped slots root (scope_of environment) trees types
+        → Once (ArgumentsCost slots root now entity environment trees)
+    arguments_once environment fitting no_trees [] typed = nothing_once
+    arguments_once environment fitting (more_trees tree more) (type ∷ types) typed =
+        after_once (Means slots root now entity environment tree) (Costs slots root now entity environment tree) (λ v. ArgumentsCost slots root now entity environment more)
+        (ends environment fitting tree type typed.0) (tree_once environment fitting tree type typed.0) (λ v is. arguments_once environment fitting more types typed.1)
+    arguments_once environment fitting _ _ typed = absurd typed
+
+-- so on entities
+pub costs_once_on_entities : OneEach → SomeEach → TypedEndsOnce
+    → ((slots : Slots) (expansion : PathSet) (type_name : List ℕ) (json : Data) (v : Val) → Fits (expanded slots expansion) type_name json v → HasType slots (single (structured type_name)) v)
+    → CostsOnceOnEntities
+costs_once_on_entities one some all_end fits row now environment tree type is_moment entity fitting typed =
+    let root = type_name_at row.schema row.type_id in
+    let once = tree_once one some all_end (slots_of row.schema) root now (value_of row) is_moment
+    (fits (slots_of row.schema) (paths_in row.expansion) root entity.conforms.0 (value_of row) entity.conforms.1) environment fitting tree type typed in
+    record { cost = once.number; related = once.is; only = once.only }

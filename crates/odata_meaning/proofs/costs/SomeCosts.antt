@@ -1,0 +1,138 @@
+-- What the definitions say that filters on the members 'a' and null cost.
+use Rattle.std.proofs.Common.{refl, ℕ, ◌+◌, List, [], ◌∷◌, codes, inr, true, false}
+use Rattle.std.specs.Prelude.{pos}
+use Rattle.edm_values.specs.MomentParts.{MomentParts}
+use Rattle.edm_values.specs.Val.{Val, boolean, null, text, whole, items, no_items}
+use Rattle.edm_values.specs.declared.primitive.PrimitiveType.{PrimitiveType}
+use Rattle.csdl_schema.specs.ExprType.{ExprType, primitive, single}
+use Rattle.odata_syntax.specs.declared.binary_operator.ComparisonOperator.{ComparisonOperator}
+use Rattle.odata_filter_operations.specs.CompareGives.{CompareGives}
+use Rattle.odata_filter_operations.specs.LeftFirst.{After}
+use Rattle.odata_filter_operations.specs.Outcome.{Outcome, gives, divides_by_zero}
+use Rattle.odata_syntax.specs.Tree.{Tree, trees_of_list}
+use Rattle.odata_syntax.specs.declared.node.Quantifier.{Quantifier}
+use Rattle.odata_signatures.specs.Typed.{Typed}
+use Rattle.odata_meaning.specs.ComesToMembers.{all_alike, is_alike, is_null, named, null_literal, over_tags, tagged, tagged_slots, text_and_null}
+use Rattle.odata_meaning.specs.Costs.{CostAfter, Costs, CostThen}
+use Rattle.odata_meaning.specs.Environment.{Environment, bound_over, scope_of}
+use Rattle.odata_meaning.specs.Means.{Means}
+use Rattle.odata_meaning.specs.OneByOne.{ItemAlone}
+use Rattle.odata_meaning.specs.SomeCosts.{CostsOnTags, fault_first, is_listed}
+use Rattle.odata_meaning.proofs.meaning.OneByOne.{items_both}
+use Rattle.odata_meaning.proofs.meaning.MembersLaws.{divides, free, null_is_null, one, text_is_null, within_null, within_text}
+
+-- what an operand costs, and after it what follows
+paid : {Operand : Outcome → Type 0} {OperandCosts : ℕ → Type 0} {GoesOn : Val → ℕ → Type 0} (o : Outcome) (own rest : ℕ)
+    → Operand o → OperandCosts own → CostThen o GoesOn rest → CostAfter Operand OperandCosts GoesOn (own + rest)
+paid o own rest is costs follows = record { outcome = o; is = is; own = own; costs = costs; rest = rest; follows = follows; sum = refl }
+
+-- the variable `t` at a value
+abbrev At : Val → Environment
+At v = bound_over [] (codes "t") (single (primitive PrimitiveType.String)) v
+
+-- `t eq null`
+null_test : (root : List ℕ) (now : MomentParts) (v : Val) → Costs tagged_slots root now (tagged text_and_null) (At v) is_null 0
+null_test root now v = paid (gives v) 0 0 refl refl refl
+
+pub some : CostsOnTags text_and_null (over_tags Quantifier.Any is_null) 2
+some root now =
+    paid (gives text_and_null) 0 2 refl refl (
+      primitive PrimitiveType.String,
+      refl,
+      (
+        1,
+        paid (gives (boolean false)) 0 1 (text_is_null root now text_and_null) (null_test root now (text (codes "a")))
+            (0, paid (gives (boolean true)) 0 0 (null_is_null root now text_and_null) (null_test root now null) refl, refl),
+        refl,
+      ),
+    )
+
+pub not_all : CostsOnTags text_and_null (over_tags Quantifier.All is_null) 1
+not_all root now =
+    paid (gives text_and_null) 0 1 refl refl (
+      primitive PrimitiveType.String,
+      refl,
+      (0, paid (gives (boolean false)) 0 0 (text_is_null root now text_and_null) (null_test root now (text (codes "a"))) refl, refl),
+    )
+
+pub of_none : (quantifier : Quantifier) (body : Tree) → CostsOnTags (items no_items) (over_tags quantifier body) 0
+of_none quantifier body root now =
+    paid (gives (items no_items)) 0 0 refl refl (primitive PrimitiveType.String, refl, refl)
+
+pub of_null : (quantifier : Quantifier) (body : Tree) → CostsOnTags null (over_tags quantifier body) 0
+of_null quantifier body root now = paid (gives null) 0 0 refl refl refl
+
+-- `1 div 0`
+pub fault_costs : CostsOnTags text_and_null fault_first 0
+fault_costs root now = paid divides_by_zero 0 0 (divides root now text_and_null []) (paid (gives (whole (pos 1))) 0 0 one refl refl) refl
+
+-- `Tags/all(u:u eq t)`, with `t` at a value
+abbrev Both : Val → Val → Environment
+Both v w = bound_over (At v) (codes "u") (single (primitive PrimitiveType.String)) w
+
+alike_test : (root : List ℕ) (now : MomentParts) (v w : Val) → Costs tagged_slots root now (tagged text_and_null) (Both v w) is_alike 0
+alike_test root now v w = paid (gives w) 0 0 refl refl refl
+
+within_a_text : (root : List ℕ) (now : MomentParts) → Costs tagged_slots root now (tagged text_and_null) (At (text (codes "a"))) all_alike 2
+within_a_text root now =
+    paid (gives text_and_null) 0 2 refl refl (
+      primitive PrimitiveType.String,
+      refl,
+      (
+        1,
+        paid (gives (boolean true)) 0 1 (inr (free _ _, inr (free _ _, (gives (text (codes "a")), (refl, (gives (text (codes "a")), (refl, (tt, (λ is. refl, λ is. refl))))))))) (alike_test root now (text (codes "a")) (text (codes "a")))
+            (0, paid (gives (boolean false)) 0 0 (inr (free _ _, inr (free _ _, (gives null, (refl, (gives (text (codes "a")), (refl, (tt, (λ no. cc, λ no. absurd no))))))))) (alike_test root now (text (codes "a")) null) refl, refl),
+        refl,
+      ),
+    )
+
+within_a_null : (root : List ℕ) (now : MomentParts) → Costs tagged_slots root now (tagged text_and_null) (At null) all_alike 1
+within_a_null root now =
+    paid (gives text_and_null) 0 1 refl refl (
+      primitive PrimitiveType.String,
+      refl,
+      (0, paid (gives (boolean false)) 0 0 (inr (free _ _, inr (free _ _, (gives (text (codes "a")), (refl, (gives null, (refl, (tt, (λ no. cc, λ no. absurd no))))))))) (alike_test root now null (text (codes "a"))) refl, refl),
+    )
+
+pub within : CostsOnTags text_and_null (over_tags Quantifier.Any all_alike) 5
+within root now =
+    paid (gives text_and_null) 0 5 refl refl (
+      primitive PrimitiveType.String,
+      refl,
+      (
+        4,
+        paid (gives (boolean false)) 2 2 (within_text root now) (within_a_text root now)
+            (1, paid (gives (boolean false)) 1 0 (within_null root now) (within_a_null root now) refl, refl),
+        refl,
+      ),
+    )
+
+-- `t in (null,null)`, with `t` at a text
+abbrev Beside : List ℕ → ExprType → Type 0
+Beside root = Typed tagged_slots root (scope_of (At (text (codes "a")))) (named (codes "t"))
+
+null_differs : (root : List ℕ) (now : MomentParts)
+    → After (ItemAlone tagged_slots root now (tagged text_and_null) (At (text (codes "a"))) (Beside root) null_literal) (CompareGives ComparisonOperator.Eq (text (codes "a"))) (gives (boolean false))
+null_differs root now = (gives null, (inr (free (Beside root) null_literal, tt), (tt, (λ no. cc, λ no. absurd no))))
+
+listed_is_false : (root : List ℕ) (now : MomentParts) → Means tagged_slots root now (tagged text_and_null) (At (text (codes "a"))) is_listed (gives (boolean false))
+listed_is_false root now = (
+  gives (text (codes "a")),
+  (
+    refl,
+    (items_both tagged_slots root now (tagged text_and_null) (At (text (codes "a"))) (Beside root) (text (codes "a")) (trees_of_list (null_literal ∷ null_literal ∷ [])) (gives (boolean false))).1
+        (gives (boolean false), (null_differs root now, (gives (boolean false), (null_differs root now, refl)))),
+  ),
+)
+
+listed_costs : (root : List ℕ) (now : MomentParts) → Costs tagged_slots root now (tagged text_and_null) (At (text (codes "a"))) is_listed 2
+listed_costs root now =
+    paid (gives (text (codes "a"))) 0 2 refl refl (
+      1,
+      paid (gives (boolean false)) 0 1 (null_differs root now) refl
+          (0, paid (gives (boolean false)) 0 0 (null_differs root now) refl refl, refl),
+      refl,
+    )
+
+pub listed : CostsOnTags text_and_null (over_tags Quantifier.All is_listed) 3
+listed root now = paid (gives text_and_null) 0 3 refl refl (primitive PrimitiveType.String, refl, (2, paid (gives (boolean false)) 2 0 (listed_is_false root now) (listed_costs root now) refl, refl))
