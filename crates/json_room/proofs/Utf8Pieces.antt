@@ -6,7 +6,7 @@ use Rattle.std.proofs.lemmas.Str.{IsUtf8-append, IsUtf8-from_ascii}
 use Rattle.std.specs.Str.{IsAscii, IsUtf8}
 use Rattle.json_tokens.specs.private.Lexemes.{AsciiBetween}
 
--- up to one place, and from there up to the other
+-- up to one offset, and from there up to the other
 front_joined : (d : List ℕ) (i j : ℕ) → i ≤ j → take j d ≡ take i d ++ take (j - i) (drop i d)
 front_joined d i j order = let both : j ≡ i + (j - i) = omega arith in ap (λ n. take n d) both ∙ take-add i (j - i) d
 

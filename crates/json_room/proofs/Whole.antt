@@ -26,7 +26,7 @@ whole_stands d i to further within few digits starts =
     let bound : digits_value 10 s < 1000000000000000000 = lt_of_lt_of_le below (pow-le-pow_right (lit< tt) short) in
     (s, number_stands d i to further within (cut_number d i to further within digits starts), (digits_value 10 s, digits_whole s (digits_value 10 s) (omega (arith, long, further), all) refl bound, below))
 
--- the number that digits at a place write
+-- the number that digits at an offset write
 pub written_stands : (d : List ℕ) (i to n : ℕ) → i < to → to ≤ length d → (get_or d i 0 ≡ 48 → to ≡ i + 1) → WritesWhole (drop i d) (to - i) n → (s : List ℕ) × StandsTo d i (number s) to × IsWhole s n
 written_stands d i to n further within starts writes =
     let s = take (to - i) (drop i d) in

@@ -133,14 +133,14 @@ NumberStands schema n scope list number i j (node start stop (literal LiteralKin
     (HasValue list.values (λ value. value ≡ Value.Enum number))) (i + 1 ≡ j)
 NumberStands schema n scope list number i j _ = ⊥
 
--- beside an operand of one of these types: such a literal, where the tree is read there; else what stands for the tree
--- by itself (OData URL Conventions 4.01, section 5.1.1.1)
-abbrev pub BesideStands :
+-- the other operand is of one of these types: an enumeration literal without its type, where the tree is one then; else
+-- what stands for the tree by itself (OData URL Conventions 4.01, section 5.1.1.1)
+abbrev pub ResolvedStands :
     SchemaModel → ℕ → Scope → FlatTree → (ExprType → Type 0) → Tree → (ℕ → ℕ → Type 0) → ℕ → ℕ → Type 0
-BesideStands schema n scope list Beside tree Alone i j =
-    ((number : ℤ) × ReadsNumber (slots_of schema) Beside tree number
+ResolvedStands schema n scope list OtherSide tree Alone i j =
+    ((number : ℤ) × ReadsNumber (slots_of schema) OtherSide tree number
     × NumberStands schema n scope list number i j tree)
-    ⊎ (ReadsNone (slots_of schema) Beside tree × Alone i j)
+    ⊎ (ReadsNone (slots_of schema) OtherSide tree × Alone i j)
 
 abbrev mutual
   -- the nodes from the i-th up to the j-th stand for the tree, where the filtered type is the schema's n-th and these
@@ -160,16 +160,16 @@ abbrev mutual
   child_parts schema n scope list (negation operand) = (λ i j. Stands schema n scope list i j operand) ∷ []
   child_parts schema n scope list (logical_not operand) = (λ i j. Stands schema n scope list i j operand) ∷ []
   child_parts schema n scope list (binary operator left right) =
-      BesideStands schema n scope list
+      ResolvedStands schema n scope list
       (OfEquality operator (Typed (slots_of schema) (type_name_at schema n) scope right))
       left (λ i j. Stands schema n scope list i j left)
-      ∷ BesideStands schema n scope list
+      ∷ ResolvedStands schema n scope list
       (OfEquality operator (Typed (slots_of schema) (type_name_at schema n) scope left)) right
       (λ i j. Stands schema n scope list i j right)
       ∷ []
   child_parts schema n scope list (has left right) =
       (λ i j. Stands schema n scope list i j left)
-      ∷ BesideStands schema n scope list (Typed (slots_of schema) (type_name_at schema n) scope left) right
+      ∷ ResolvedStands schema n scope list (Typed (slots_of schema) (type_name_at schema n) scope left) right
       (λ i j. Stands schema n scope list i j right)
       ∷ []
   child_parts schema n scope list (in_list left items) =
@@ -191,13 +191,13 @@ abbrev mutual
   tree_parts schema n scope list (more_trees tree trees) =
       (λ i j. Stands schema n scope list i j tree) ∷ tree_parts schema n scope list trees
 
-  -- likewise for each item of a list, beside an operand of one of these types
+  -- likewise for each item of a list, whose left operand is of one of these types
   pub item_parts :
       SchemaModel → ℕ → Scope → FlatTree → (ExprType → Type 0) → Trees → List (ℕ → ℕ → Type 0)
-  item_parts schema n scope list Beside no_trees = []
-  item_parts schema n scope list Beside (more_trees tree trees) =
-      BesideStands schema n scope list Beside tree (λ i j. Stands schema n scope list i j tree)
-      ∷ item_parts schema n scope list Beside trees
+  item_parts schema n scope list OtherSide no_trees = []
+  item_parts schema n scope list OtherSide (more_trees tree trees) =
+      ResolvedStands schema n scope list OtherSide tree (λ i j. Stands schema n scope list i j tree)
+      ∷ item_parts schema n scope list OtherSide trees
 
 -- the nodes from the i-th up to the j-th stand for the children of the shape, one after another
 abbrev pub ChildrenStand : SchemaModel → ℕ → Scope → FlatTree → ℕ → ℕ → Shape → Type 0
@@ -209,4 +209,4 @@ AllStand schema n scope list i j trees = InLine (tree_parts schema n scope list 
 
 -- likewise for items
 abbrev pub ItemsStand : SchemaModel → ℕ → Scope → FlatTree → (ExprType → Type 0) → ℕ → ℕ → Trees → Type 0
-ItemsStand schema n scope list Beside i j items = InLine (item_parts schema n scope list Beside items) i j
+ItemsStand schema n scope list OtherSide i j items = InLine (item_parts schema n scope list OtherSide items) i j

@@ -91,7 +91,7 @@ fn ands_above(checked: &Checked<'_>) -> usize
     place
 }
 
-/// The test that the term in a place makes.
+/// The test that the term at a node makes.
 fn term_sieve(alloc: Global, checked: &Checked<'_>, place: usize) -> Option<SlotSieve>
     ensures { IfSome result (λ test. IsTermSieve checked.now place test.slot test.sieve) }
 {

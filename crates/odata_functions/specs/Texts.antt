@@ -45,7 +45,7 @@ rest_from start text = drop (from_zero start) text
 abbrev pub front_of : ℤ → List ℕ → List ℕ
 front_of most text = take (from_zero most) text
 
--- the same from a place on
+-- the same from an index on
 abbrev pub part_from : ℤ → ℤ → List ℕ → List ℕ
 part_from start most text = front_of most (rest_from start text)
 

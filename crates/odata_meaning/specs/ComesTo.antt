@@ -35,7 +35,7 @@ abbrev pub ComesToIn : Slots → Tree → Val → Outcome → Type 0
 ComesToIn slots tree value outcome =
     (root : List ℕ) (now : MomentParts) (o : Outcome) → Means slots root now value [] tree o ↔ (o ≡ outcome)
 
--- it has so where there are no enumerations, beside which a text is read
+-- it has so where there are no enumerations, so that each String literal is a text
 abbrev pub ComesTo : Tree → Val → Outcome → Type 0
 ComesTo tree value outcome =
     (slots : Slots) → ((name : List ℕ) → slots.enumerations name ≡ None) → ComesToIn slots tree value outcome

@@ -118,12 +118,12 @@ abbrev mutual
   -- the items of a list after a left value, up to one that is equal or has a fault
   pub ItemsCost :
       Slots → List ℕ → MomentParts → Val → Environment → (ExprType → Type 0) → Val → Trees → ℕ → Type 0
-  ItemsCost slots root now entity environment Beside l no_trees = CostsNothing
-  ItemsCost slots root now entity environment Beside l (more_trees tree more) =
+  ItemsCost slots root now entity environment OtherSide l no_trees = CostsNothing
+  ItemsCost slots root now entity environment OtherSide l (more_trees tree more) =
       CostsMore (item_cost environment)
-      (CostAfter (After (ItemAlone slots root now entity environment Beside tree) (CompareGives Eq l))
+      (CostAfter (After (ItemAlone slots root now entity environment OtherSide tree) (CompareGives Eq l))
       (Costs slots root now entity environment tree)
-      (OthersCost Any (ItemsCost slots root now entity environment Beside l more)))
+      (OthersCost Any (ItemsCost slots root now entity environment OtherSide l more)))
 
   -- the arguments of a call one after another, up to a fault
   pub ArgumentsCost : Slots → List ℕ → MomentParts → Val → Environment → Trees → ℕ → Type 0

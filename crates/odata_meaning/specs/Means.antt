@@ -27,7 +27,7 @@ use Rattle.odata_filter_operations.specs.Outcome.{NoOutcome, Outcome, gives}
 use Rattle.odata_meaning.specs.ReadGives.{GivesMember, UnlessRead}
 use Rattle.odata_filter_operations.specs.TruthGives.{NotGives}
 
--- an operator between two trees of these types and outcomes; one that is read beside the other evaluates to its number
+-- an operator between two trees of these types and outcomes; an enumeration literal without its type has its number
 abbrev pub BinaryGives :
     Slots → BinaryOperator → (ExprType → Type 0) → (ExprType → Type 0) → Tree → Tree → (Outcome → Type 0)
     → (Outcome → Type 0) → Outcome → Type 0
@@ -87,14 +87,14 @@ abbrev mutual
       (LambdaGives quantifier (Typed slots root (scope_of environment) base)
       (λ type v. Means slots root now entity (bound_over environment variable type v) body))
 
-  -- the item of a list at an index, beside an operand of one of these types
+  -- the item of a list at an index, where the left operand is of one of these types
   pub ItemMeans :
       Slots → List ℕ → MomentParts → Val → Environment → (ExprType → Type 0) → Trees → ℕ → Outcome → Type 0
-  ItemMeans slots root now entity environment Beside no_trees place = NoOutcome
-  ItemMeans slots root now entity environment Beside (more_trees tree more) zero =
-      UnlessRead (ReadsNumber slots Beside tree) GivesMember (Means slots root now entity environment tree)
-  ItemMeans slots root now entity environment Beside (more_trees tree more) (suc place) =
-      ItemMeans slots root now entity environment Beside more place
+  ItemMeans slots root now entity environment OtherSide no_trees place = NoOutcome
+  ItemMeans slots root now entity environment OtherSide (more_trees tree more) zero =
+      UnlessRead (ReadsNumber slots OtherSide tree) GivesMember (Means slots root now entity environment tree)
+  ItemMeans slots root now entity environment OtherSide (more_trees tree more) (suc place) =
+      ItemMeans slots root now entity environment OtherSide more place
 
   -- the arguments of a call one after another, and what follows their values
   pub ArgumentsMean :

@@ -55,11 +55,11 @@ ComparedOneByOne =
     (l : Val) (values : Vals) (o : Outcome)
     → MembersGive Any (CompareGives Eq l) values o ↔ MembersGo Any (CompareGives Eq l) values o
 
--- one item, beside an operand of one of these types
+-- one item, where the left operand is of one of these types
 abbrev pub ItemAlone :
     Slots → List ℕ → MomentParts → Val → Environment → (ExprType → Type 0) → Tree → Outcome → Type 0
-ItemAlone slots root now entity environment Beside tree =
-    UnlessRead (ReadsNumber slots Beside tree) GivesMember (Means slots root now entity environment tree)
+ItemAlone slots root now entity environment OtherSide tree =
+    UnlessRead (ReadsNumber slots OtherSide tree) GivesMember (Means slots root now entity environment tree)
 
 -- of the items of a list
 abbrev pub ItemsOneByOne : Type 0

@@ -32,13 +32,13 @@ IsComparableWithMembers left _ = ⊥
 abbrev pub InPathTyped : Side → Side → ExprType → Type 0
 InPathTyped left path type = IsComparableWithMembers left.type_of path.type_of × (type ≡ boolean_type)
 
--- beside a value of the type on the left, an item of a list: it is compared with that, or is a String literal that
--- stands for a number of its enumeration
-abbrev pub IsItemBeside : Slots → ExprType → Side → Type 0
-IsItemBeside slots left item = AreComparable left item.type_of ⊎ HasNumber slots left item.quoted
+-- an item of a list whose left operand is of the type: its own type is comparable with that, or it is a String literal
+-- that stands for a number of the enumeration
+abbrev pub IsItemFor : Slots → ExprType → Side → Type 0
+IsItemFor slots left item = AreComparable left item.type_of ⊎ HasNumber slots left item.quoted
 
--- `in` before a list: the value on the left is none of a collection, and each item may stand beside it (section
+-- `in` before a list: the value on the left is none of a collection, and each item goes with it (section
 -- 5.1.1.1.11)
 abbrev pub InListTyped : Slots → Side → List Side → ExprType → Type 0
 InListTyped slots left items type =
-    (¬ IsCollection left.type_of) × AllByRecursion (IsItemBeside slots left.type_of) items × (type ≡ boolean_type)
+    (¬ IsCollection left.type_of) × AllByRecursion (IsItemFor slots left.type_of) items × (type ≡ boolean_type)

@@ -55,15 +55,15 @@ abbrev pub LiteralReason : LiteralKind → TypeFaultCode → Type 0
 LiteralReason LiteralKind.EnumLit code = code ≡ TypeFaultCode.UnknownEnum
 LiteralReason _ code = code ≡ TypeFaultCode.LiteralRange
 
--- why operands do not go together: a String literal among them is read and stands for no number of the enumeration
--- beside it; else their types do not
+-- why operands do not go together: a String literal among them is resolved and stands for no number of the other's
+-- enumeration; else their types do not
 abbrev pub OperandReason : Type 0 → TypeFaultCode → Type 0
 OperandReason Lacks code =
     (Lacks × (code ≡ TypeFaultCode.UnknownEnum)) ⊎ ((¬ Lacks) × (code ≡ TypeFaultCode.OperandTypes))
 
 -- the same, by the type of the left operand
-abbrev pub BesideReason : (ExprType → Type 0) → (ExprType → Type 0) → TypeFaultCode → Type 0
-BesideReason Left Lacks code = (type : ExprType) × Left type × OperandReason (Lacks type) code
+abbrev pub UnresolvedReason : (ExprType → Type 0) → (ExprType → Type 0) → TypeFaultCode → Type 0
+UnresolvedReason Left Lacks code = (type : ExprType) × Left type × OperandReason (Lacks type) code
 
 -- the same, by the types of both operands
 abbrev pub SidesReason :
@@ -97,9 +97,9 @@ IsReason slots root scope (node start stop (binary operator left right)) code =
     SidesReason (Typed slots root scope left) (Typed slots root scope right)
     (λ l r. OfOneSide (LacksNumber slots) operator (side_of left l) (side_of right r)) code
 IsReason slots root scope (node start stop (has left right)) code =
-    BesideReason (Typed slots root scope left) (λ l. LacksNumber slots l (quoted_text right)) code
+    UnresolvedReason (Typed slots root scope left) (λ l. LacksNumber slots l (quoted_text right)) code
 IsReason slots root scope (node start stop (in_list left items)) code =
-    BesideReason (Typed slots root scope left) (λ l. OneLacksNumber slots l items) code
+    UnresolvedReason (Typed slots root scope left) (λ l. OneLacksNumber slots l items) code
 IsReason slots root scope (node start stop (in_path left path)) code =
     (type : ExprType) × Typed slots root scope path type × PathReason type code
 IsReason slots root scope (node start stop (call asked arguments)) code =

@@ -16,7 +16,7 @@ use Rattle.odata_syntax.specs.Parse.{IsExpression}
 use Rattle.odata_signatures.specs.Considered.{ChildrenTyped}
 use Rattle.odata_signatures.specs.FirstAmong.{IsFirstBelow}
 use Rattle.odata_signatures.specs.OperatorTyped.{OfOneSide}
-use Rattle.odata_signatures.specs.QuotedNumber.{IsReadBeside, LacksNumber}
+use Rattle.odata_signatures.specs.QuotedNumber.{IsResolvedBy, LacksNumber}
 use Rattle.odata_signatures.specs.Side.{Side}
 use Rattle.odata_signatures.specs.FirstUntypable.{IsFirstUntypable, IsReason, IsUntypable, OperandReason}
 use Rattle.odata_signatures.specs.HasTyping.{HasNoTyping, HasTree, IsRefusal}
@@ -113,7 +113,7 @@ QuotingIsText =
 abbrev pub UnreadReason : Type 0
 UnreadReason =
     (slots : Slots) (operator : BinaryOperator) (left right : Side) (code : TypeFaultCode)
-    → ¬ OfOneSide IsReadBeside operator left right
+    → ¬ OfOneSide IsResolvedBy operator left right
     → OperandReason (OfOneSide (LacksNumber slots) operator left right) code ↔ (code ≡ TypeFaultCode.OperandTypes)
 
 -- the tree of a text has no more nodes than a text may have tokens

@@ -10,7 +10,7 @@ use Rattle.odata_syntax.specs.NormalForm.{IsNormalForm, bare}
 use Rattle.odata_syntax.specs.Tree.{Tree}
 
 -- the text has tokens, they are a tree and nowhere too deep, that tree is the normal form of the one printed but for
--- places, and it is printed as the same text; within the limits of a text the tokens are what is read of it
+-- offsets, and it is printed as the same text; within the limits of a text the tokens are what is read of it
 pub record IsReadBack (tree : Tree) (text : List ℕ) : Type 0 where
   pub tokens : List TokenModel
   pub again : Tree

@@ -1,4 +1,4 @@
-pub mod beside
+pub mod resolved_operands
 pub mod bodies
 pub mod calls
 pub mod flat

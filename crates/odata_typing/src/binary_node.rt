@@ -4,7 +4,7 @@ ghost use Rattle.odata_syntax.specs.Tree.{Tree, binary};
 ghost use Rattle.csdl_schema.specs.ExprType.{ExprType};
 ghost use Rattle.csdl_schema.specs.SchemaModel.{SchemaModel};
 ghost use Rattle.odata_signatures.specs.CollectionTyped.{IsCollection};
-ghost use Rattle.odata_signatures.specs.QuotedNumber.{IsReadBeside};
+ghost use Rattle.odata_signatures.specs.QuotedNumber.{IsResolvedBy};
 ghost use Rattle.odata_signatures.specs.Side.{quoting};
 ghost use Rattle.odata_signatures.specs.TypeThere.{IsTypeThere};
 ghost use Rattle.odata_signatures.specs.TypeView.{expr_type};
@@ -65,7 +65,7 @@ pub(crate) fn checked_operator(
 #[inline(always)]
 fn may_be_read(operator: BinaryOperator, left: &EdmType, right: &EdmType) -> bool
     ensures { (schema : SchemaModel) (l r : Option (List ℕ)) → ¬ IsTrue result
-        → ¬ OneIsRead IsReadBeside (NodeKind.Binary operator) (quoting l (expr_type schema left.now))
+        → ¬ OneIsRead IsResolvedBy (NodeKind.Binary operator) (quoting l (expr_type schema left.now))
         (quoting r (expr_type schema right.now)) }
 {
     match operator {

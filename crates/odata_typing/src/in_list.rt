@@ -14,7 +14,7 @@ use super::binary_node::is_enumeration;
 use super::check_context::{CheckContext, Judged};
 use super::judged_list::Walk;
 use super::laws_below::laws_below;
-use super::resolved_text::{ResolvedText, number_beside};
+use super::resolved_text::{ResolvedText, resolved_number};
 use csdl_schema::Schema;
 use odata_checked_filter::{CheckedNode, NodeKind};
 use odata_signatures::{BOOLEAN, EdmType, TypeFaultCode, are_comparable};
@@ -138,7 +138,7 @@ fn put_item(schema: &Schema, left: &EdmType, item: usize, walk: &mut Walk) -> It
     ensures kept { IsKeptOutside item (item + 1) walk.old.list walk.new.list }
     ensures walk { walk.new ≡ record walk.old { list = walk.new.list } }
 {
-    match number_beside(schema, left, walk.quoted_at(item)) {
+    match resolved_number(schema, left, walk.quoted_at(item)) {
         ResolvedText::Number(number) => {
             if walk.put_number(item, number) {
                 ItemsFit::All

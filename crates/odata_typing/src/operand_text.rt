@@ -4,7 +4,7 @@ ghost use Rattle.odata_signatures.specs.OperatorTyped.{IsEquality};
 ghost use Rattle.odata_typing.specs.private.OperandTexts.{IsOperandRead, left_side, right_side};
 
 use super::binary_node::OperandTypes;
-use super::resolved_text::{ResolvedText, number_beside};
+use super::resolved_text::{ResolvedText, resolved_number};
 use csdl_schema::Schema;
 use odata_checked_filter::NodeKind;
 use odata_syntax::{BinaryOperator, ComparisonOperator};
@@ -41,7 +41,7 @@ pub(crate) fn operand_read(
             },
             BinaryOperator::Logical(_) | BinaryOperator::Arithmetic(_) => OperandRead::Neither,
         },
-        NodeKind::Has => match number_beside(schema, &operands.left, operands.right_quoted) {
+        NodeKind::Has => match resolved_number(schema, &operands.left, operands.right_quoted) {
             ResolvedText::Unread => OperandRead::Neither,
             ResolvedText::Number(number) => OperandRead::Right(number),
             ResolvedText::Unknown => OperandRead::Unknown,
@@ -60,10 +60,14 @@ fn equality_read(
     ensures { IsOperandRead (slots_of schema.now) (NodeKind.Binary operator) (left_side schema.now operands.now)
         (right_side schema.now operands.now) result }
 {
-    match number_beside(schema, &operands.left, operands.right_quoted) {
+    match resolved_number(schema, &operands.left, operands.right_quoted) {
         ResolvedText::Number(number) => OperandRead::Right(number),
         ResolvedText::Unknown => OperandRead::Unknown,
-        ResolvedText::Unread => match number_beside(schema, &operands.right, operands.left_quoted) {
+        ResolvedText::Unread => match resolved_number(
+            schema,
+            &operands.right,
+            operands.left_quoted,
+        ) {
             ResolvedText::Unread => OperandRead::Neither,
             ResolvedText::Number(number) => OperandRead::Left(number),
             ResolvedText::Unknown => OperandRead::Unknown,

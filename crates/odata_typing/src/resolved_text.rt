@@ -21,11 +21,15 @@ pub(crate) enum ResolvedText {
     Unknown,
 }
 
-ghost use Rattle.odata_typing.specs.private.ResolvedText.{IsRoleBeside};
+ghost use Rattle.odata_typing.specs.private.ResolvedText.{IsRoleFor};
 
 /// The role of an operand next to a value of this type, by what it quotes.
-pub(crate) fn number_beside(schema: &Schema, beside: &EdmType, quoted: Option<&str>) -> ResolvedText
-    ensures { IsRoleBeside (slots_of schema.now) (expr_type schema.now beside.now)
+pub(crate) fn resolved_number(
+    schema: &Schema,
+    beside: &EdmType,
+    quoted: Option<&str>,
+) -> ResolvedText
+    ensures { IsRoleFor (slots_of schema.now) (expr_type schema.now beside.now)
         (option_map (λ spelling. spelling.now) quoted.entry) result }
 {
     match beside {
@@ -37,7 +41,7 @@ pub(crate) fn number_beside(schema: &Schema, beside: &EdmType, quoted: Option<&s
 
 /// The same, next to a value of that type which is not a collection.
 fn beside_value(schema: &Schema, member: &ValueType, quoted: Option<&str>) -> ResolvedText
-    ensures { IsRoleBeside (slots_of schema.now) (single (single_type schema.now member.now))
+    ensures { IsRoleFor (slots_of schema.now) (single (single_type schema.now member.now))
         (option_map (λ spelling. spelling.now) quoted.entry) result }
 {
     match member {

@@ -8,9 +8,9 @@ use Rattle.csdl_schema.specs.SchemaModel.{SchemaModel, Slots, slots_of, type_nam
 use Rattle.odata_checked_filter.specs.declared.checked_node.CheckedNode.{CheckedNode}
 use Rattle.odata_checked_filter.specs.declared.checked_node.NodeKind.{NodeKind}
 use Rattle.odata_checked_filter.specs.FlatTree.{FlatTree}
-use Rattle.odata_checked_filter.specs.Stands.{AllStand, BesideStands, ChildrenStand, HasOwnValue, HasValue, IsTop, ItemsStand, NumberStands, Stands}
+use Rattle.odata_checked_filter.specs.Stands.{AllStand, ResolvedStands, ChildrenStand, HasOwnValue, HasValue, IsTop, ItemsStand, NumberStands, Stands}
 use Rattle.odata_signatures.specs.Typed.{Scope, Typed, with_variable}
-use Rattle.odata_checked_filter.proofs.flat.Lying.{all_lie, beside_lies, items_lie, stands_lie}
+use Rattle.odata_checked_filter.proofs.flat.Lying.{all_lie, resolved_lies, items_lie, stands_lie}
 use Rattle.odata_checked_filter.proofs.flat.Standing.{lies_nonempty, lie_onward}
 
 -- the nodes from one index up to another are kept
@@ -75,17 +75,17 @@ number_kept from to old new schema n scope number i j (node start stop (literal 
     }
 number_kept from to old new schema n scope number i j _ kept after before stands = absurd stands
 
-beside_kept :
-    (from to : ℕ) (old new : FlatTree) (schema : SchemaModel) (n : ℕ) (scope : Scope) (Beside : ExprType → Type 0) (tree : Tree) (Before After : ℕ → ℕ → Type 0) (i j : ℕ)
+resolved_kept :
+    (from to : ℕ) (old new : FlatTree) (schema : SchemaModel) (n : ℕ) (scope : Scope) (OtherSide : ExprType → Type 0) (tree : Tree) (Before After : ℕ → ℕ → Type 0) (i j : ℕ)
     → IsKeptIn from to old new
     → from ≤ i
     → j ≤ to
     → (Before i j → After i j)
-    → BesideStands schema n scope old Beside tree Before i j
-    → BesideStands schema n scope new Beside tree After i j
-beside_kept from to old new schema n scope Beside tree Before After i j kept after before alone (inl read) =
+    → ResolvedStands schema n scope old OtherSide tree Before i j
+    → ResolvedStands schema n scope new OtherSide tree After i j
+resolved_kept from to old new schema n scope OtherSide tree Before After i j kept after before alone (inl read) =
     inl (read.0, read.1, number_kept from to old new schema n scope read.0 i j tree kept after before read.2)
-beside_kept from to old new schema n scope Beside tree Before After i j kept after before alone (inr none) = inr (none.0, alone none.1)
+resolved_kept from to old new schema n scope OtherSide tree Before After i j kept after before alone (inr none) = inr (none.0, alone none.1)
 
 within : (to m j : ℕ) → j ≤ to → m ≡ j → m ≤ to
 within to m j before same = omega arith
@@ -130,15 +130,15 @@ mutual
       let last : k ≡ j = stand.right.right in
       let Left : ℕ → ℕ → Type 0 = λ a b. Stands schema n scope old a b left in
       let Right : ℕ → ℕ → Type 0 = λ a b. Stands schema n scope old a b right in
-      let a : i < m = lies_nonempty schema n scope old i m left (beside_lies schema n scope old _ left Left i m (stands_lie schema n scope old i m left) stand.left) in
-      let b : m < k = lies_nonempty schema n scope old m k right (beside_lies schema n scope old _ right Right m k (stands_lie schema n scope old m k right) stand.right.left) in
+      let a : i < m = lies_nonempty schema n scope old i m left (resolved_lies schema n scope old _ left Left i m (stands_lie schema n scope old i m left) stand.left) in
+      let b : m < k = lies_nonempty schema n scope old m k right (resolved_lies schema n scope old _ right Right m k (stands_lie schema n scope old m k right) stand.right.left) in
       record {
         middle = m;
-        left = beside_kept from to old new schema n scope _ left Left (λ a b. Stands schema n scope new a b left) i m kept after (omega arith)
+        left = resolved_kept from to old new schema n scope _ left Left (λ a b. Stands schema n scope new a b left) i m kept after (omega arith)
             (stands_kept from to old new schema n scope i m left kept after (omega arith)) stand.left;
         right = record {
           middle = k;
-          left = beside_kept from to old new schema n scope _ right Right (λ a b. Stands schema n scope new a b right) m k kept (omega arith) (omega arith)
+          left = resolved_kept from to old new schema n scope _ right Right (λ a b. Stands schema n scope new a b right) m k kept (omega arith) (omega arith)
               (stands_kept from to old new schema n scope m k right kept (omega arith) (omega arith)) stand.right.left;
           right = stand.right.right;
         };
@@ -149,13 +149,13 @@ mutual
       let last : k ≡ j = stand.right.right in
       let Right : ℕ → ℕ → Type 0 = λ a b. Stands schema n scope old a b right in
       let a : i < m = lies_nonempty schema n scope old i m left (stands_lie schema n scope old i m left stand.left) in
-      let b : m < k = lies_nonempty schema n scope old m k right (beside_lies schema n scope old _ right Right m k (stands_lie schema n scope old m k right) stand.right.left) in
+      let b : m < k = lies_nonempty schema n scope old m k right (resolved_lies schema n scope old _ right Right m k (stands_lie schema n scope old m k right) stand.right.left) in
       record {
         middle = m;
         left = stands_kept from to old new schema n scope i m left kept after (omega arith) stand.left;
         right = record {
           middle = k;
-          left = beside_kept from to old new schema n scope _ right Right (λ a b. Stands schema n scope new a b right) m k kept (omega arith) (omega arith)
+          left = resolved_kept from to old new schema n scope _ right Right (λ a b. Stands schema n scope new a b right) m k kept (omega arith) (omega arith)
               (stands_kept from to old new schema n scope m k right kept (omega arith) (omega arith)) stand.right.left;
           right = stand.right.right;
         };
@@ -236,13 +236,13 @@ mutual
   items_kept from to old new schema n scope left i j no_trees kept after before stand = stand
   items_kept from to old new schema n scope left i j (more_trees tree trees) kept after before stand =
       let m = stand.middle in
-      let Beside : ExprType → Type 0 = Typed (slots_of schema) (type_name_at schema n) scope left in
+      let OtherSide : ExprType → Type 0 = Typed (slots_of schema) (type_name_at schema n) scope left in
       let Alone : ℕ → ℕ → Type 0 = λ a b. Stands schema n scope old a b tree in
-      let a : i < m = lies_nonempty schema n scope old i m tree (beside_lies schema n scope old Beside tree Alone i m (stands_lie schema n scope old i m tree) stand.left) in
-      let b : m ≤ j = lie_onward schema n scope old m j trees (items_lie schema n scope old Beside m j trees stand.right) in
+      let a : i < m = lies_nonempty schema n scope old i m tree (resolved_lies schema n scope old OtherSide tree Alone i m (stands_lie schema n scope old i m tree) stand.left) in
+      let b : m ≤ j = lie_onward schema n scope old m j trees (items_lie schema n scope old OtherSide m j trees stand.right) in
       record {
         middle = m;
-        left = beside_kept from to old new schema n scope Beside tree Alone (λ a b. Stands schema n scope new a b tree) i m kept after (omega arith)
+        left = resolved_kept from to old new schema n scope OtherSide tree Alone (λ a b. Stands schema n scope new a b tree) i m kept after (omega arith)
             (stands_kept from to old new schema n scope i m tree kept after (omega arith)) stand.left;
         right = items_kept from to old new schema n scope left m j trees kept (omega arith) before stand.right;
       }

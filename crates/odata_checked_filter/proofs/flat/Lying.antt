@@ -8,7 +8,7 @@ use Rattle.odata_checked_filter.specs.declared.checked_node.NodeKind.{NodeKind}
 use Rattle.odata_checked_filter.specs.Filter.{Filter, IsFilter, tree_of_filter}
 use Rattle.odata_checked_filter.specs.FlatTree.{FlatTree}
 use Rattle.odata_checked_filter.specs.private.Layout.{AllLie, ChildrenLie, Lies, OfAnyValue}
-use Rattle.odata_checked_filter.specs.Stands.{AllStand, BesideStands, ChildrenStand, IsTop, ItemsStand, NumberStands, Stands}
+use Rattle.odata_checked_filter.specs.Stands.{AllStand, ResolvedStands, ChildrenStand, IsTop, ItemsStand, NumberStands, Stands}
 use Rattle.odata_signatures.specs.Typed.{Scope, Typed, with_variable}
 
 top_lies :
@@ -35,13 +35,13 @@ number_lies schema n scope list number i j (node start stop (literal LiteralKind
     record { top = top_lies schema n scope list i j start stop (literal LiteralKind.Str spelling) _ stands.top; children = stands.children }
 number_lies schema n scope list number i j _ stands = absurd stands
 
-pub beside_lies :
-    (schema : SchemaModel) (n : ℕ) (scope : Scope) (list : FlatTree) (Beside : ExprType → Type 0) (tree : Tree) (Alone : ℕ → ℕ → Type 0) (i j : ℕ)
+pub resolved_lies :
+    (schema : SchemaModel) (n : ℕ) (scope : Scope) (list : FlatTree) (OtherSide : ExprType → Type 0) (tree : Tree) (Alone : ℕ → ℕ → Type 0) (i j : ℕ)
     → (Alone i j → Lies schema n scope list i j tree)
-    → BesideStands schema n scope list Beside tree Alone i j
+    → ResolvedStands schema n scope list OtherSide tree Alone i j
     → Lies schema n scope list i j tree
-beside_lies schema n scope list Beside tree Alone i j lies (inl read) = number_lies schema n scope list read.0 i j tree read.2
-beside_lies schema n scope list Beside tree Alone i j lies (inr alone) = lies alone.1
+resolved_lies schema n scope list OtherSide tree Alone i j lies (inl read) = number_lies schema n scope list read.0 i j tree read.2
+resolved_lies schema n scope list OtherSide tree Alone i j lies (inr alone) = lies alone.1
 
 mutual
   pub stands_lie :
@@ -73,10 +73,10 @@ mutual
       let k = stand.right.middle in
       record {
         middle = m;
-        left = beside_lies schema n scope list _ left (λ a b. Stands schema n scope list a b left) i m (stands_lie schema n scope list i m left) stand.left;
+        left = resolved_lies schema n scope list _ left (λ a b. Stands schema n scope list a b left) i m (stands_lie schema n scope list i m left) stand.left;
         right = record {
           middle = k;
-          left = beside_lies schema n scope list _ right (λ a b. Stands schema n scope list a b right) m k (stands_lie schema n scope list m k right) stand.right.left;
+          left = resolved_lies schema n scope list _ right (λ a b. Stands schema n scope list a b right) m k (stands_lie schema n scope list m k right) stand.right.left;
           right = stand.right.right;
         };
       }
@@ -88,7 +88,7 @@ mutual
         left = stands_lie schema n scope list i m left stand.left;
         right = record {
           middle = k;
-          left = beside_lies schema n scope list _ right (λ a b. Stands schema n scope list a b right) m k (stands_lie schema n scope list m k right) stand.right.left;
+          left = resolved_lies schema n scope list _ right (λ a b. Stands schema n scope list a b right) m k (stands_lie schema n scope list m k right) stand.right.left;
           right = stand.right.right;
         };
       }
@@ -149,22 +149,22 @@ mutual
       let m = stand.middle in
       record {
         middle = m;
-        left = beside_lies schema n scope list _ tree (λ a b. Stands schema n scope list a b tree) i m (stands_lie schema n scope list i m tree) stand.left;
+        left = resolved_lies schema n scope list _ tree (λ a b. Stands schema n scope list a b tree) i m (stands_lie schema n scope list i m tree) stand.left;
         right = listed_lie schema n scope list left m j trees stand.right;
       }
 
 -- beside anything
 pub items_lie :
-    (schema : SchemaModel) (n : ℕ) (scope : Scope) (list : FlatTree) (Beside : ExprType → Type 0) (i j : ℕ) (items : Trees)
-    → ItemsStand schema n scope list Beside i j items
+    (schema : SchemaModel) (n : ℕ) (scope : Scope) (list : FlatTree) (OtherSide : ExprType → Type 0) (i j : ℕ) (items : Trees)
+    → ItemsStand schema n scope list OtherSide i j items
     → AllLie schema n scope list i j items
-items_lie schema n scope list Beside i j no_trees stand = stand
-items_lie schema n scope list Beside i j (more_trees tree trees) stand =
+items_lie schema n scope list OtherSide i j no_trees stand = stand
+items_lie schema n scope list OtherSide i j (more_trees tree trees) stand =
     let m = stand.middle in
     record {
       middle = m;
-      left = beside_lies schema n scope list Beside tree (λ a b. Stands schema n scope list a b tree) i m (stands_lie schema n scope list i m tree) stand.left;
-      right = items_lie schema n scope list Beside m j trees stand.right;
+      left = resolved_lies schema n scope list OtherSide tree (λ a b. Stands schema n scope list a b tree) i m (stands_lie schema n scope list i m tree) stand.left;
+      right = items_lie schema n scope list OtherSide m j trees stand.right;
     }
 
 -- the list of a filter lies as its tree does

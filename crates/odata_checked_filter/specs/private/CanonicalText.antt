@@ -34,8 +34,8 @@ pub record AllThere (list : FlatTree) (i j : ℕ) (trees : Trees) : Type 0 where
   pub scope : Scope
   pub stand : AllLie schema filtered scope list i j trees
 
--- what is still to be written: some text as it is, further arguments each after a comma, and an operand whose place
--- needs a level
+-- what is still to be written: some text as it is, further arguments each after a comma, and an operand whose
+-- position needs a level
 pub data Piece : Type 0 where
   plain : List ℕ → Piece
   further : Trees → Piece

@@ -24,7 +24,7 @@ kind_level NodeKind.InList = primary_level
 kind_level NodeKind.InPath = primary_level
 kind_level (NodeKind.Call function) = base_level
 
--- the level that the place of its first operand needs: its own, where an operator stands after that
+-- the level that the position of its first operand needs: its own, where an operator stands after that
 abbrev pub first_level : NodeKind → Level
 first_level (NodeKind.Binary operator) = kind_level (NodeKind.Binary operator)
 first_level NodeKind.Has = kind_level NodeKind.Has

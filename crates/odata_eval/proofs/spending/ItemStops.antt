@@ -9,7 +9,7 @@ use Rattle.odata_filter_operations.specs.Outcome.{Outcome, overflow, divides_by_
 use Rattle.odata_filter_operations.specs.declared.fault.EvalFault.{EvalFault}
 use Rattle.std.specs.List.{AllByRecursion}
 use Rattle.odata_signatures.specs.Sides.{sides_of}
-use Rattle.odata_signatures.specs.CollectionTyped.{IsItemBeside}
+use Rattle.odata_signatures.specs.CollectionTyped.{IsItemFor}
 use Rattle.odata_syntax.specs.Tree.{Tree, Trees, more_trees, no_trees}
 use Rattle.odata_meaning.specs.Costs.{CostThen, item_cost}
 use Rattle.odata_eval.specs.declared.budget.Budget.{Budget}
@@ -21,19 +21,19 @@ use Rattle.odata_eval.proofs.spending.Budgets.{fewer_first, fewer_then, spent_fi
 use Rattle.odata_eval.proofs.spending.Items.{ComparedHere, ItemsCostHere, ItemsDue, SideItem, one_compared}
 use Rattle.odata_eval.proofs.spending.Splits.{Faults, SplitWith, fault_follows, operand_spent, rest_spends}
 use Rattle.odata_eval.proofs.walking.ItemSteps.{EqualDue, ItemsLeft, ListLeft, ListedHere, left_at, no_more_listed}
-use Rattle.odata_eval.proofs.walking.Operands.{BesideHere, beside_here, beside_reports}
+use Rattle.odata_eval.proofs.walking.Operands.{ResolvedHere, resolved_here, resolved_reports}
 use Rattle.odata_eval.proofs.walking.Spines.{TypedAll, has_type}
 
 module _ (context : ContextModel) where
   module _ (place own at : ℕ) (left : Datum) (old now : Budget) (rest : ListLeft context place own at (Takes old now) left) where
-    none_due : (Beside : ExprType → Type 0) (l : Val) (items : Trees) (due : ℕ) → ListedHere context Beside at own items → at ≡ own → ItemsCostHere context Beside l items due → due ≡ 0
-    none_due Beside l no_trees due stand end asked = asked
-    none_due Beside l (more_trees item more) due stand end asked = absurd (no_more_listed context Beside at own item more stand end)
+    none_due : (OtherSide : ExprType → Type 0) (l : Val) (items : Trees) (due : ℕ) → ListedHere context OtherSide at own items → at ≡ own → ItemsCostHere context OtherSide l items due → due ≡ 0
+    none_due OtherSide l no_trees due stand end asked = asked
+    none_due OtherSide l (more_trees item more) due stand end asked = absurd (no_more_listed context OtherSide at own item more stand end)
 
-    some_due : (Beside : ExprType → Type 0) (l : Val) (items : Trees) (due : ℕ) → ListedHere context Beside at own items → ¬ (at ≡ own) → ItemsCostHere context Beside l items due
+    some_due : (OtherSide : ExprType → Type 0) (l : Val) (items : Trees) (due : ℕ) → ListedHere context OtherSide at own items → ¬ (at ≡ own) → ItemsCostHere context OtherSide l items due
         → (more : ℕ) × (due ≡ item_cost (environment_of context) + more)
-    some_due Beside l no_trees due stand further asked = absurd (further stand)
-    some_due Beside l (more_trees item more) due stand further asked = (asked.0, asked.2)
+    some_due OtherSide l no_trees due stand further asked = absurd (further stand)
+    some_due OtherSide l (more_trees item more) due stand further asked = (asked.0, asked.2)
 
     -- of a whole that stands there, what is due
     abbrev Left : Tree → Type 0
@@ -82,15 +82,15 @@ module _ (context : ContextModel) where
 
     module _ (taken new : Budget) (takes : Takes now taken (item_cost (environment_of context))) where
       -- the next item stopped
-      item_stays : (left_tree : Tree) (l : Val) (item : Tree) → SideItem context left_tree l item → EndsOnceHere context → (last : ℕ) → BesideHere context (TypedHere context left_tree) item at last
+      item_stays : (left_tree : Tree) (l : Val) (item : Tree) → SideItem context left_tree l item → EndsOnceHere context → (last : ℕ) → ResolvedHere context (TypedHere context left_tree) item at last
           → (stop : EvalStop) → Faults context at stop
           → (outcome : Outcome) → ComparedHere context (TypedHere context left_tree) l item outcome → (GoesOn : Val → ℕ → Type 0) (later : ℕ) → CostThen outcome GoesOn later
           → (fault : EvalFault) → stop ≡ EvalStop.Fault fault → ¬ (fault ≡ EvalFault.Memory) → later ≡ 0
       item_stays left_tree l item side ends last beside (EvalStop.Fault EvalFault.Overflow) faults outcome is GoesOn later goes fault same known =
-          let alone = beside_reports context (TypedHere context left_tree) item at last side.item_type (λ type. fault_outcome EvalFault.Overflow) beside side.item_typed faults in
+          let alone = resolved_reports context (TypedHere context left_tree) item at last side.item_type (λ type. fault_outcome EvalFault.Overflow) beside side.item_typed faults in
           fault_follows EvalFault.Overflow outcome overflow GoesOn later refl (one_compared context ends left_tree l item side outcome overflow is (overflow, (alone, refl))) goes
       item_stays left_tree l item side ends last beside (EvalStop.Fault EvalFault.DivideByZero) faults outcome is GoesOn later goes fault same known =
-          let alone = beside_reports context (TypedHere context left_tree) item at last side.item_type (λ type. fault_outcome EvalFault.DivideByZero) beside side.item_typed faults in
+          let alone = resolved_reports context (TypedHere context left_tree) item at last side.item_type (λ type. fault_outcome EvalFault.DivideByZero) beside side.item_typed faults in
           fault_follows EvalFault.DivideByZero outcome divides_by_zero GoesOn later refl (one_compared context ends left_tree l item side outcome divides_by_zero is (divides_by_zero, (alone, refl))) goes
       item_stays left_tree l item side ends last beside (EvalStop.Fault EvalFault.Memory) faults outcome is GoesOn later goes fault same known = absurd (known (let e : fault ≡ EvalFault.Memory = cc in e))
       item_stays left_tree l item side ends last beside EvalStop.TooCostly faults outcome is GoesOn later goes fault same known = absurd (cc)
@@ -103,9 +103,9 @@ module _ (context : ContextModel) where
           → (n : ℕ) → ItemsDue context place n (Takes old now) it.left_tree (left_at context left it.left_type) items → SplitWith context place n (λ taken_in_all. Spent (Some stop) old new taken_in_all)
       items_stop ends stop faults spends further whole it no_trees stand beside n due = absurd (further stand)
       items_stop ends stop faults spends further whole it (more_trees item more) stand beside n due =
-          let Beside : ExprType → Type 0 = TypedHere context it.left_tree in
+          let OtherSide : ExprType → Type 0 = TypedHere context it.left_tree in
           let after = due.asked.1 in
-          let spent = operand_spent context at taken new (Some stop) spends stand.middle item after.own (beside_here context Beside item at stand.middle stand.left) after.costs in
+          let spent = operand_spent context at taken new (Some stop) spends stand.middle item after.own (resolved_here context OtherSide item at stand.middle stand.left) after.costs in
           let both = spent_first stop taken new after.own after.rest
           (item_stays it.left_tree (left_at context left it.left_type) item (beside item more refl) ends stand.middle stand.left stop faults after.outcome after.is _ after.rest after.follows) spent in
           record {
@@ -122,7 +122,7 @@ module _ (context : ContextModel) where
                 (spent_then (Some stop) now taken new (item_cost (environment_of context)) (after.own + after.rest) takes both));
           }
 
-      beside_of : (whole : Tree) (it : Left whole) (items : Trees) (types : List ExprType) → TypedAll context items types → AllByRecursion (IsItemBeside (slots_of context.row.schema) it.left_type) (sides_of items types)
+      beside_of : (whole : Tree) (it : Left whole) (items : Trees) (types : List ExprType) → TypedAll context items types → AllByRecursion (IsItemFor (slots_of context.row.schema) it.left_type) (sides_of items types)
           → (item : Tree) (more : Trees) → items ≡ more_trees item more → SideItem context it.left_tree (left_at context left it.left_type) item
       beside_of whole it no_trees types typed beside item more same = absurd (cc)
       beside_of whole it (more_trees tree others) [] typed beside item more same = absurd typed

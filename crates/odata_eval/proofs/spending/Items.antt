@@ -10,7 +10,7 @@ use Rattle.odata_filter_operations.specs.LambdaGives.{ItemsGive}
 use Rattle.odata_filter_operations.specs.LeftFirst.{After}
 use Rattle.odata_filter_operations.specs.Outcome.{Outcome, gives, overflow, divides_by_zero}
 use Rattle.odata_filter_operations.specs.QuantifierGives.{Passes}
-use Rattle.odata_signatures.specs.CollectionTyped.{IsCollection, IsItemBeside}
+use Rattle.odata_signatures.specs.CollectionTyped.{IsCollection, IsItemFor}
 use Rattle.odata_signatures.specs.ExprTypes.{boolean_type}
 use Rattle.odata_syntax.specs.Tree.{Tree, Trees, in_list, more_trees, no_trees, node}
 use Rattle.odata_syntax.specs.declared.node.Quantifier.{Quantifier}
@@ -30,44 +30,44 @@ module _ (context : ContextModel) where
 
   -- what an item evaluates to, compared with it
   abbrev pub ComparedHere : (ExprType → Type 0) → Val → Tree → Outcome → Type 0
-  ComparedHere Beside l item = After (AloneHere context Beside item) (CompareGives ComparisonOperator.Eq l)
+  ComparedHere OtherSide l item = After (AloneHere context OtherSide item) (CompareGives ComparisonOperator.Eq l)
 
   -- ---- an item compared evaluates to one outcome: that of a list of it alone
 
   abbrev ItemAt : (ExprType → Type 0) → Tree → ℕ → Outcome → Type 0
-  ItemAt Beside item =
-      ItemMeans (slots_of context.row.schema) (type_name_at context.row.schema context.row.type_id) context.moment (value_of context.row) (environment_of context) Beside (more_trees item no_trees)
+  ItemAt OtherSide item =
+      ItemMeans (slots_of context.row.schema) (type_name_at context.row.schema context.row.type_id) context.moment (value_of context.row) (environment_of context) OtherSide (more_trees item no_trees)
 
   abbrev AloneGives : (ExprType → Type 0) → Val → Tree → Outcome → Type 0
-  AloneGives Beside l item = ItemsGive l 1 (ItemAt Beside item)
+  AloneGives OtherSide l item = ItemsGive l 1 (ItemAt OtherSide item)
 
-  decides_alone : (Beside : ExprType → Type 0) (l : Val) (item : Tree) → ComparedHere Beside l item (gives (boolean true)) → AloneGives Beside l item (gives (boolean true))
-  decides_alone Beside l item compared = inl (record { place = 0; here = (gives (boolean true), (compared, refl)); earlier = λ k before. absurd (omega (arith, before)) })
+  decides_alone : (OtherSide : ExprType → Type 0) (l : Val) (item : Tree) → ComparedHere OtherSide l item (gives (boolean true)) → AloneGives OtherSide l item (gives (boolean true))
+  decides_alone OtherSide l item compared = inl (record { place = 0; here = (gives (boolean true), (compared, refl)); earlier = λ k before. absurd (omega (arith, before)) })
 
-  passes_at : (Beside : ExprType → Type 0) (l : Val) (item : Tree) → ComparedHere Beside l item (gives (boolean false)) → (k : ℕ) → k < 1
-      → Passes Quantifier.Any (After (ItemAt Beside item k) (CompareGives ComparisonOperator.Eq l))
-  passes_at Beside l item compared zero within = (boolean false, compared, tt)
-  passes_at Beside l item compared (suc k) within = absurd (omega (arith, within))
+  passes_at : (OtherSide : ExprType → Type 0) (l : Val) (item : Tree) → ComparedHere OtherSide l item (gives (boolean false)) → (k : ℕ) → k < 1
+      → Passes Quantifier.Any (After (ItemAt OtherSide item k) (CompareGives ComparisonOperator.Eq l))
+  passes_at OtherSide l item compared zero within = (boolean false, compared, tt)
+  passes_at OtherSide l item compared (suc k) within = absurd (omega (arith, within))
 
-  passes_alone : (Beside : ExprType → Type 0) (l : Val) (item : Tree) → ComparedHere Beside l item (gives (boolean false)) → AloneGives Beside l item (gives (boolean false))
-  passes_alone Beside l item compared = inr (record { each = passes_at Beside l item compared; is = refl })
+  passes_alone : (OtherSide : ExprType → Type 0) (l : Val) (item : Tree) → ComparedHere OtherSide l item (gives (boolean false)) → AloneGives OtherSide l item (gives (boolean false))
+  passes_alone OtherSide l item compared = inr (record { each = passes_at OtherSide l item compared; is = refl })
 
-  value_alone : (Beside : ExprType → Type 0) (l w : Val) (item : Tree) (o : Outcome) → AloneHere context Beside item (gives w) → CompareGives ComparisonOperator.Eq l w o → AloneGives Beside l item o
-  value_alone Beside l w item (gives (boolean true)) alone compares = decides_alone Beside l item (gives w, (alone, compares))
-  value_alone Beside l w item (gives (boolean false)) alone compares = passes_alone Beside l item (gives w, (alone, compares))
-  value_alone Beside l w item _ alone compares = absurd compares.1
+  value_alone : (OtherSide : ExprType → Type 0) (l w : Val) (item : Tree) (o : Outcome) → AloneHere context OtherSide item (gives w) → CompareGives ComparisonOperator.Eq l w o → AloneGives OtherSide l item o
+  value_alone OtherSide l w item (gives (boolean true)) alone compares = decides_alone OtherSide l item (gives w, (alone, compares))
+  value_alone OtherSide l w item (gives (boolean false)) alone compares = passes_alone OtherSide l item (gives w, (alone, compares))
+  value_alone OtherSide l w item _ alone compares = absurd compares.1
 
-  alone_gives : (Beside : ExprType → Type 0) (l : Val) (item : Tree) (o : Outcome) → ComparedHere Beside l item o → AloneGives Beside l item o
-  alone_gives Beside l item o (gives w, (alone, compares)) = value_alone Beside l w item o alone compares
-  alone_gives Beside l item o (overflow, (alone, same)) =
-      subst (λ (p : Outcome). AloneGives Beside l item p) (sym same)
+  alone_gives : (OtherSide : ExprType → Type 0) (l : Val) (item : Tree) (o : Outcome) → ComparedHere OtherSide l item o → AloneGives OtherSide l item o
+  alone_gives OtherSide l item o (gives w, (alone, compares)) = value_alone OtherSide l w item o alone compares
+  alone_gives OtherSide l item o (overflow, (alone, same)) =
+      subst (λ (p : Outcome). AloneGives OtherSide l item p) (sym same)
       (inl (record { place = 0; here = (overflow, ((overflow, (alone, refl)), refl)); earlier = λ k before. absurd (omega (arith, before)) }))
-  alone_gives Beside l item o (divides_by_zero, (alone, same)) =
-      subst (λ (p : Outcome). AloneGives Beside l item p) (sym same)
+  alone_gives OtherSide l item o (divides_by_zero, (alone, same)) =
+      subst (λ (p : Outcome). AloneGives OtherSide l item p) (sym same)
       (inl (record { place = 0; here = (divides_by_zero, ((divides_by_zero, (alone, refl)), refl)); earlier = λ k before. absurd (omega (arith, before)) }))
 
   -- a value beside which an item may stand is none of a collection
-  beside_single : (left : ExprType) (item : Tree) (type : ExprType) → IsItemBeside (slots_of context.row.schema) left (side_of item type) → ¬ (IsCollection left)
+  beside_single : (left : ExprType) (item : Tree) (type : ExprType) → IsItemFor (slots_of context.row.schema) left (side_of item type) → ¬ (IsCollection left)
   beside_single (collection of) item type (inl comparable) is = comparable
   beside_single (collection of) item type (inr number) is = number.1
   beside_single _ item type beside is = is
@@ -79,7 +79,7 @@ module _ (context : ContextModel) where
     pub left_means : MeansHere context left (gives l)
     pub item_type : ExprType
     pub item_typed : TypedHere context item item_type
-    pub beside : IsItemBeside (slots_of context.row.schema) left_type (side_of item item_type)
+    pub beside : IsItemFor (slots_of context.row.schema) left_type (side_of item item_type)
 
   pub one_compared : EndsOnceHere context → (left : Tree) (l : Val) (item : Tree) → SideItem left l item → (o p : Outcome)
       → ComparedHere (TypedHere context left) l item o → ComparedHere (TypedHere context left) l item p → o ≡ p

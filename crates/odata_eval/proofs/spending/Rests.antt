@@ -36,7 +36,7 @@ use Rattle.odata_eval.proofs.walking.Spines.{no_empty_call, only_now, TypedAll}
 use Rattle.odata_signatures.specs.OperatorTyped.{IsEquality}
 use Rattle.odata_syntax.specs.declared.node.LiteralKind.{LiteralKind}
 use Rattle.odata_signatures.specs.Reads.{OfEquality}
-use Rattle.odata_eval.proofs.walking.Operands.{BesideHere, IsOther, beside_here, no_number}
+use Rattle.odata_eval.proofs.walking.Operands.{ResolvedHere, IsOther, resolved_here, no_number}
 use Rattle.odata_eval.proofs.walking.Sides.{flags_alone}
 
 -- ---- a tree that costs nothing
@@ -110,7 +110,7 @@ module _ (context : ContextModel) where
       let free = others_free _ argument more typed.types typed.arguments_typed typed.call_typed.typed.arguments in
       no_rest_after place stands.children.middle argument (inl stands.children.left) _ (λ v. free) n costs
 
-  flags_free : (from to : ℕ) (left right : Tree) (type : ExprType) (i j : ℕ) → TypedHere context (node from to (has left right)) type → BesideHere context (TypedHere context left) right i j
+  flags_free : (from to : ℕ) (left right : Tree) (type : ExprType) (i j : ℕ) → TypedHere context (node from to (has left right)) type → ResolvedHere context (TypedHere context left) right i j
       → IsFree (CostsHere context right)
   flags_free from to left right type i j typed (inl read) = number_free context read.0 i j right read.2
   flags_free from to left right type i j typed (inr alone) =
@@ -165,7 +165,7 @@ module _ (context : ContextModel) where
   module _ (place : ℕ) (operator : BinaryOperator) (here : HasKind context.list place (NodeKind.Binary operator)) (ends : EndsOnceHere context)
       (l : ExprType → Val) (first : AnswersAtPlace context (place + 1) (λ type. Some (gives (l type)))) where
     -- what the right side costs after the left value
-    right_due : (left right : Tree) (type : ExprType) (i j rest : ℕ) (outcome : Outcome) → TypedHere context left type → BesideHere context (OfEquality operator (TypedHere context right)) left (place + 1) j
+    right_due : (left right : Tree) (type : ExprType) (i j rest : ℕ) (outcome : Outcome) → TypedHere context left type → ResolvedHere context (OfEquality operator (TypedHere context right)) left (place + 1) j
         → MeansHere context left outcome → CostThen outcome (λ v. RightCosts operator v (CostsHere context right)) rest → RightCosts operator (l type) (CostsHere context right) rest
     right_due left right type i j rest outcome typed (inl read) is costs =
         let value = text_then context (place + 1) j left read.0 outcome read.2 is (λ v. RightCosts operator v (CostsHere context right)) rest costs in
@@ -188,8 +188,8 @@ module _ (context : ContextModel) where
         let typed = stands.top.typed in
         let m = stands.children.middle in
         let first_there = left_here context place last from to operator left right stands in
-        let Beside : ExprType → Type 0 = OfEquality operator (TypedHere context left) in
-        let second_there = beside_here context Beside right m last (right_beside context Beside m m last right refl stands.children.right) in
+        let OtherSide : ExprType → Type 0 = OfEquality operator (TypedHere context left) in
+        let second_there = resolved_here context OtherSide right m last (right_beside context OtherSide m m last right refl stands.children.right) in
         record {
           stop = m;
           operand = left;

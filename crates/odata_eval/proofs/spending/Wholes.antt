@@ -11,7 +11,7 @@ use Rattle.odata_eval.proofs.spending.Free.{FreeThere, operand_free, sides_free}
 use Rattle.odata_eval.proofs.walking.Parts.{by_kind}
 use Rattle.odata_eval.proofs.walking.Extents.{left_here, right_stands}
 use Rattle.odata_signatures.specs.Reads.{OfEquality}
-use Rattle.odata_eval.proofs.walking.Operands.{beside_here}
+use Rattle.odata_eval.proofs.walking.Operands.{resolved_here}
 
 module _ (context : ContextModel) (place : ℕ) where
   -- two operands, at their indexes
@@ -20,5 +20,5 @@ module _ (context : ContextModel) (place : ℕ) where
   both_free operator here right_place is_right of_left of_right = by_kind context place (NodeKind.Binary operator) here (λ last tree. IsFree (CostsHere context tree))
       (λ left right last from to stands.
       let first = left_here context place last from to operator left right stands in
-      let second = beside_here context (OfEquality operator (TypedHere context left)) right right_place last (right_stands context place right_place last from to operator left right is_right stands) in
+      let second = resolved_here context (OfEquality operator (TypedHere context left)) right right_place last (right_stands context place right_place last from to operator left right is_right stands) in
       sides_free context operator left right (operand_free context (place + 1) of_left stands.children.middle left first) (operand_free context right_place of_right last right second) from to)

@@ -33,7 +33,7 @@ ands_further list count ands here k within =
       | inr after ↦ (let same : count ≡ k = omega arith in subst (λ (n : ℕ). HasOperator list n (BinaryOperator.Logical LogicalOperator.And)) same here)
     ]
 
--- what goes on from each place to the one before it goes up to the top
+-- what goes on from each node to the one before it goes up to the top
 up : (P : ℕ → Type 0) (d : ℕ) → ((i : ℕ) → i < d → P (i + 1) → P i) → P d → P 0
 up P zero step last = last
 up P (suc d) step last =
@@ -71,12 +71,12 @@ module _ (context : ContextModel) where
   and_walks : (place : ℕ) → HasOperator context.list place (BinaryOperator.Logical LogicalOperator.And) → IsClassAt context.list WalkClass.Logical place
   and_walks place here = walks_by context.list place (BinaryOperator.Logical LogicalOperator.And) WalkClass.Logical here refl
 
-  -- the next place down
+  -- the next node down
   pub next_stands : (place : ℕ) → HasOperator context.list place (BinaryOperator.Logical LogicalOperator.And) → TruthStands context place → TruthStands context (place + 1)
   next_stands place here stands = first_step context place WalkClass.Logical (λ leaf. cc) (and_walks place here) (typed_part context place IsBooleanOrNull stands)
 
   module _ (count : ℕ) (ands : AndsBefore context.list count) where
-    -- what decides in a place of the chain, or has a fault, is what the whole evaluates to
+    -- what decides at a node of the chain, or has a fault, is what the whole evaluates to
     pub decided_up : (left : Option Bool) → IsDecided LogicalOperator.And (truth_val left) → (place : ℕ) → place ≤ count → AnswersTruth context place (Ok left) → AnswersTruth context 0 (Ok left)
     decided_up left decided place within =
         up (λ k. AnswersTruth context k (Ok left)) place

@@ -16,12 +16,12 @@ use Rattle.odata_eval.specs.private.Place.{HasKind, IsRightOf, OperandStands, Pa
 use Rattle.odata_eval.specs.private.EvalContext.{OperandHere, StandsHere, TypedHere}
 use Rattle.odata_eval.specs.private.ContextModel.{ContextModel, environment_of}
 use Rattle.odata_eval.specs.private.WalkClass.{walk_of_operator}
-use Rattle.odata_checked_filter.specs.Stands.{AllStand, BesideStands, ItemsStand, NumberStands, SideBySide, Stands}
+use Rattle.odata_checked_filter.specs.Stands.{AllStand, ResolvedStands, ItemsStand, NumberStands, SideBySide, Stands}
 use Rattle.odata_syntax.specs.declared.node.LiteralKind.{LiteralKind}
 use Rattle.odata_signatures.specs.Typed.{Scope, Typed, with_variable}
 use Rattle.csdl_schema.specs.SchemaModel.{SchemaModel, slots_of, type_name_at}
 use Rattle.odata_eval.proofs.walking.Children.{body_stands, one_there}
-use Rattle.odata_eval.proofs.walking.Operands.{BesideHere, beside_here, beside_operand, number_there}
+use Rattle.odata_eval.proofs.walking.Operands.{ResolvedHere, resolved_here, resolved_operand, number_there}
 use Rattle.odata_eval.proofs.walking.Parts.{by_kind, found_there, some_there, there_found}
 use Rattle.odata_eval.proofs.walking.Spines.{AllowedBy, StandsAll, equality_walks, operands_allowed, plain_types}
 
@@ -39,10 +39,10 @@ module _ (schema : SchemaModel) (n : ℕ) (list : FlatTree) where
   number_further scope i j (node from to (literal LiteralKind.Str spelling)) number stands = let e : i + 1 ≡ j = stands.children in omega arith
   number_further scope i j _ number stands = absurd stands
 
-  beside_further : (scope : Scope) (i j : ℕ) (tree : Tree) (Beside : ExprType → Type 0) → (Stands schema n scope list i j tree → i < j)
-      → BesideStands schema n scope list Beside tree (λ a b. Stands schema n scope list a b tree) i j → i < j
-  beside_further scope i j tree Beside alone (inl read) = number_further scope i j tree read.0 read.2
-  beside_further scope i j tree Beside alone (inr none) = alone none.1
+  resolved_further : (scope : Scope) (i j : ℕ) (tree : Tree) (OtherSide : ExprType → Type 0) → (Stands schema n scope list i j tree → i < j)
+      → ResolvedStands schema n scope list OtherSide tree (λ a b. Stands schema n scope list a b tree) i j → i < j
+  resolved_further scope i j tree OtherSide alone (inl read) = number_further scope i j tree read.0 read.2
+  resolved_further scope i j tree OtherSide alone (inr none) = alone none.1
 
   mutual
     pub further_in : (scope : Scope) (i j : ℕ) (tree : Tree) → Stands schema n scope list i j tree → i < j
@@ -57,15 +57,15 @@ module _ (schema : SchemaModel) (n : ℕ) (list : FlatTree) where
     further_in scope i j (node from to (binary operator left right)) stands =
         let m = stands.children.middle in
         let k = stands.children.right.middle in
-        let a : i + 1 < m = beside_further scope (i + 1) m left _ (further_in scope (i + 1) m left) stands.children.left in
-        let b : m < k = beside_further scope m k right _ (further_in scope m k right) stands.children.right.left in
+        let a : i + 1 < m = resolved_further scope (i + 1) m left _ (further_in scope (i + 1) m left) stands.children.left in
+        let b : m < k = resolved_further scope m k right _ (further_in scope m k right) stands.children.right.left in
         let e : k ≡ j = stands.children.right.right in
         omega arith
     further_in scope i j (node from to (has left right)) stands =
         let m = stands.children.middle in
         let k = stands.children.right.middle in
         let a : i + 1 < m = further_in scope (i + 1) m left stands.children.left in
-        let b : m < k = beside_further scope m k right _ (further_in scope m k right) stands.children.right.left in
+        let b : m < k = resolved_further scope m k right _ (further_in scope m k right) stands.children.right.left in
         let e : k ≡ j = stands.children.right.right in
         omega arith
     further_in scope i j (node from to (in_path left path)) stands =
@@ -98,16 +98,16 @@ module _ (schema : SchemaModel) (n : ℕ) (list : FlatTree) where
         → ItemsStand schema n scope list (Typed (slots_of schema) (type_name_at schema n) scope left) i j items → i ≤ j
     listed_further_in scope i j left no_trees stand = let same : i ≡ j = stand in omega arith
     listed_further_in scope i j left (more_trees tree more) stand =
-        let a : i < stand.middle = beside_further scope i stand.middle tree _ (further_in scope i stand.middle tree) stand.left in
+        let a : i < stand.middle = resolved_further scope i stand.middle tree _ (further_in scope i stand.middle tree) stand.left in
         let b : stand.middle ≤ j = listed_further_in scope stand.middle j left more stand.right in
         omega arith
 
   -- beside anything
-  pub items_further_in : (scope : Scope) (i j : ℕ) (Beside : ExprType → Type 0) (items : Trees) → ItemsStand schema n scope list Beside i j items → i ≤ j
-  items_further_in scope i j Beside no_trees stand = let same : i ≡ j = stand in omega arith
-  items_further_in scope i j Beside (more_trees tree more) stand =
-      let a : i < stand.middle = beside_further scope i stand.middle tree Beside (further_in scope i stand.middle tree) stand.left in
-      let b : stand.middle ≤ j = items_further_in scope stand.middle j Beside more stand.right in
+  pub items_further_in : (scope : Scope) (i j : ℕ) (OtherSide : ExprType → Type 0) (items : Trees) → ItemsStand schema n scope list OtherSide i j items → i ≤ j
+  items_further_in scope i j OtherSide no_trees stand = let same : i ≡ j = stand in omega arith
+  items_further_in scope i j OtherSide (more_trees tree more) stand =
+      let a : i < stand.middle = resolved_further scope i stand.middle tree OtherSide (further_in scope i stand.middle tree) stand.left in
+      let b : stand.middle ≤ j = items_further_in scope stand.middle j OtherSide more stand.right in
       omega arith
 
 module _ (context : ContextModel) where
@@ -141,21 +141,21 @@ module _ (context : ContextModel) where
   operand_stops_there i j right tree operand is = one_stop (slice_get context.list.nodes i) j right (operand_stops_here i j tree operand) is
 
   -- what stands in line where one part stops
-  pub right_beside : (Beside : ExprType → Type 0) (right middle stop : ℕ) (tree : Tree) → middle ≡ right
-      → SideBySide (λ k. BesideHere context Beside tree middle k) (λ k. k ≡ stop) → BesideHere context Beside tree right stop
-  right_beside Beside right middle stop tree same side =
-      subst (λ (m : ℕ). BesideHere context Beside tree m stop) same (subst (λ (k : ℕ). BesideHere context Beside tree middle k) side.right side.left)
+  pub right_beside : (OtherSide : ExprType → Type 0) (right middle stop : ℕ) (tree : Tree) → middle ≡ right
+      → SideBySide (λ k. ResolvedHere context OtherSide tree middle k) (λ k. k ≡ stop) → ResolvedHere context OtherSide tree right stop
+  right_beside OtherSide right middle stop tree same side =
+      subst (λ (m : ℕ). ResolvedHere context OtherSide tree m stop) same (subst (λ (k : ℕ). ResolvedHere context OtherSide tree middle k) side.right side.left)
 
   module _ (place : ℕ) where
     pub left_here : (stop from to : ℕ) (operator : BinaryOperator) (l r : Tree) → (stands : StandsHere context place stop (node from to (binary operator l r)))
         → OperandHere context (place + 1) stands.children.middle l
     left_here stop from to operator l r stands =
-        beside_here context (OfEquality operator (TypedHere context r)) l (place + 1) stands.children.middle stands.children.left
+        resolved_here context (OfEquality operator (TypedHere context r)) l (place + 1) stands.children.middle stands.children.left
 
     -- the right operand stands where the left one says that it stops
     pub right_stands : (right stop from to : ℕ) (operator : BinaryOperator) (l r : Tree) → IsRightOf context.list place right
         → StandsHere context place stop (node from to (binary operator l r))
-        → BesideHere context (OfEquality operator (TypedHere context l)) r right stop
+        → ResolvedHere context (OfEquality operator (TypedHere context l)) r right stop
     right_stands right stop from to operator l r is stands =
         right_beside (OfEquality operator (TypedHere context l)) right stands.children.middle stop r
         (operand_stops_there (place + 1) stands.children.middle right l (left_here stop from to operator l r stands) is) stands.children.right
@@ -171,12 +171,12 @@ module _ (context : ContextModel) where
         pub right_part : OperandStands context right_place
         right_part = by_kind context place (NodeKind.Binary operator) here (λ stop tree. OperandStands context right_place)
             (λ left right stop from to stands.
-            beside_operand context (OfEquality operator (TypedHere context left)) right right_place stop (right_stands right_place stop from to operator left right is_right stands))
+            resolved_operand context (OfEquality operator (TypedHere context left)) right right_place stop (right_stands right_place stop from to operator left right is_right stands))
             part.stop part.tree part.stands
 
         -- one that is not read has a type that is allowed there
         right_allowed : (class : WalkClass) → walk_of_operator operator ≡ class → ¬ IsEquality operator → (stop from to : ℕ) (left right : Tree)
-            → StandsHere context place stop (node from to (binary operator left right)) → BesideHere context (OfEquality operator (TypedHere context left)) right right_place stop
+            → StandsHere context place stop (node from to (binary operator left right)) → ResolvedHere context (OfEquality operator (TypedHere context left)) right right_place stop
             → TypedStands context right_place (AllowedBy class)
         right_allowed class class_is other stop from to left right stands (inl read) = absurd (other read.1.beside.0)
         right_allowed class class_is other stop from to left right stands (inr alone) =

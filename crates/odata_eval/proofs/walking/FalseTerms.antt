@@ -45,7 +45,7 @@ use Rattle.odata_eval.specs.private.Place.{HasKind, HasOperator, IsRightOf}
 use Rattle.odata_eval.specs.private.EvalContext.{NumberHere}
 use Rattle.odata_eval.specs.private.ContextModel.{ContextModel, context_in}
 use Rattle.odata_eval.proofs.walking.Leaves.{literal_own, number_held}
-use Rattle.odata_eval.proofs.walking.Operands.{BesideHere, no_number}
+use Rattle.odata_eval.proofs.walking.Operands.{ResolvedHere, no_number}
 use Rattle.odata_eval.proofs.walking.Parts.{by_kind, found_there, kind_there}
 use Rattle.odata_eval.proofs.walking.Extents.{right_beside, stops_there}
 
@@ -188,7 +188,7 @@ module _ (filter : Filter) where
   NoneRead now operator i =
       IsEquality operator → (j : ℕ) (tree : Tree) (number : ℤ) → NumberHere (seen now) number i j tree → ⊥
 
-  stands_alone : (now : MomentParts) (operator : BinaryOperator) (Operand : ExprType → Type 0) (tree : Tree) (i j : ℕ) → NoneRead now operator i → BesideHere (seen now) (OfEquality operator Operand) tree i j
+  stands_alone : (now : MomentParts) (operator : BinaryOperator) (Operand : ExprType → Type 0) (tree : Tree) (i j : ℕ) → NoneRead now operator i → ResolvedHere (seen now) (OfEquality operator Operand) tree i j
       → ReadsNone (slots_of filter.schema) (OfEquality operator Operand) tree × StandsFor filter i j tree
   stands_alone now operator Operand tree i j none (inl read) = absurd (none read.1.beside.0 j tree read.0 read.2)
   stands_alone now operator Operand tree i j none (inr alone) = alone

@@ -16,8 +16,8 @@ use Rattle.odata_functions.specs.Comparable.{HaveEquality}
 use Rattle.odata_functions.specs.Comparison.{AreEqual}
 use Rattle.odata_functions.specs.DatumVal.{Reading, datum_val}
 use Rattle.odata_syntax.specs.declared.binary_operator.ComparisonOperator.{ComparisonOperator}
-use Rattle.odata_signatures.specs.CollectionTyped.{IsItemBeside}
-use Rattle.odata_signatures.specs.QuotedNumber.{NumberBeside}
+use Rattle.odata_signatures.specs.CollectionTyped.{IsItemFor}
+use Rattle.odata_signatures.specs.QuotedNumber.{ResolvedNumber}
 use Rattle.odata_signatures.specs.Laws.{OneType}
 use Rattle.odata_signatures.specs.Sides.{quoted_text, side_of, sides_of}
 use Rattle.odata_checked_filter.specs.Calls.{TakesMemory}
@@ -46,7 +46,7 @@ use Rattle.odata_meaning.specs.Costs.{CostAfter, CostThen, OthersCost, item_cost
 use Rattle.odata_eval.specs.private.Spending.{CostsHere}
 use Rattle.odata_eval.proofs.spending.Items.{ComparedHere, ItemDue, ItemsCostHere, ItemsDue, SideItem, due_first, item_due, one_compared}
 use Rattle.odata_eval.proofs.walking.Parts.{by_kind}
-use Rattle.odata_eval.proofs.walking.Operands.{AloneHere, HasNone, beside_here, beside_operand, beside_reports, no_number}
+use Rattle.odata_eval.proofs.walking.Operands.{AloneHere, HasNone, resolved_here, resolved_operand, resolved_reports, no_number}
 use Rattle.odata_eval.proofs.walking.Extents.{further, items_further_in, operand_further, operand_stops_there, stops_here, stops_there}
 use Rattle.odata_eval.proofs.walking.Spines.{TypedAll, child_takes, first_child, has_type}
 use Rattle.odata_eval.proofs.walking.WalkValues.{value_has}
@@ -73,43 +73,43 @@ paid_sum n own paid first item_own later sum = omega (arith, sum)
 module _ (context : ContextModel) where
   -- the outcomes of the items beside an operand, by their indexes
   abbrev pub ItemHere : (ExprType → Type 0) → Trees → ℕ → Outcome → Type 0
-  ItemHere Beside items = ItemMeans (slots_of context.row.schema) (type_name_at context.row.schema context.row.type_id) context.moment (value_of context.row) (environment_of context) Beside items
+  ItemHere OtherSide items = ItemMeans (slots_of context.row.schema) (type_name_at context.row.schema context.row.type_id) context.moment (value_of context.row) (environment_of context) OtherSide items
 
   abbrev pub ItemsHere : (ExprType → Type 0) → Val → Trees → Outcome → Type 0
-  ItemsHere Beside l items = ItemsGive l (length (list_of_trees items)) (ItemHere Beside items)
+  ItemsHere OtherSide l items = ItemsGive l (length (list_of_trees items)) (ItemHere OtherSide items)
 
   -- the value on the left, at the type of that
   abbrev pub left_at : Datum → ExprType → Val
   left_at left type = datum_val (reading_at (slots_of context.row.schema) type) left
 
-  abbrev AllBeside : ExprType → Trees → List ExprType → Type 0
-  AllBeside left items types = AllByRecursion (IsItemBeside (slots_of context.row.schema) left) (sides_of items types)
+  abbrev AllItemsFor : ExprType → Trees → List ExprType → Type 0
+  AllItemsFor left items types = AllByRecursion (IsItemFor (slots_of context.row.schema) left) (sides_of items types)
 
   -- what stands for items beside operands of some types
   abbrev pub ListedHere : (ExprType → Type 0) → ℕ → ℕ → Trees → Type 0
   ListedHere = ItemsStand context.row.schema context.row.type_id (scope_of (environment_of context)) context.list
 
-  pub listed_further : (Beside : ExprType → Type 0) (i j : ℕ) (items : Trees) → ListedHere Beside i j items → i ≤ j
-  listed_further Beside i j items = items_further_in context.row.schema context.row.type_id context.list (scope_of (environment_of context)) i j Beside items
+  pub listed_further : (OtherSide : ExprType → Type 0) (i j : ℕ) (items : Trees) → ListedHere OtherSide i j items → i ≤ j
+  listed_further OtherSide i j items = items_further_in context.row.schema context.row.type_id context.list (scope_of (environment_of context)) i j OtherSide items
 
-  pub no_more_listed : (Beside : ExprType → Type 0) (i j : ℕ) (tree : Tree) (more : Trees) → ListedHere Beside i j (more_trees tree more) → ¬ (i ≡ j)
-  no_more_listed Beside i j tree more stand same =
-      let a : i < stand.middle = operand_further context i stand.middle tree (beside_here context Beside tree i stand.middle stand.left) in
-      let b : stand.middle ≤ j = listed_further Beside stand.middle j more stand.right in
+  pub no_more_listed : (OtherSide : ExprType → Type 0) (i j : ℕ) (tree : Tree) (more : Trees) → ListedHere OtherSide i j (more_trees tree more) → ¬ (i ≡ j)
+  no_more_listed OtherSide i j tree more stand same =
+      let a : i < stand.middle = operand_further context i stand.middle tree (resolved_here context OtherSide tree i stand.middle stand.left) in
+      let b : stand.middle ≤ j = listed_further OtherSide stand.middle j more stand.right in
       omega arith
 
   -- the rest stands from where the first item stops
-  pub rest_listed : (Beside : ExprType → Type 0) (i j stop : ℕ) (tree : Tree) (more : Trees) → IsStopOf context.list i stop → ListedHere Beside i j (more_trees tree more) → ListedHere Beside stop j more
-  rest_listed Beside i j stop tree more stops stand =
-      let same : stand.middle ≡ stop = operand_stops_there context i stand.middle stop tree (beside_here context Beside tree i stand.middle stand.left) stops in
-      subst (λ (m : ℕ). ListedHere Beside m j more) same stand.right
+  pub rest_listed : (OtherSide : ExprType → Type 0) (i j stop : ℕ) (tree : Tree) (more : Trees) → IsStopOf context.list i stop → ListedHere OtherSide i j (more_trees tree more) → ListedHere OtherSide stop j more
+  rest_listed OtherSide i j stop tree more stops stand =
+      let same : stand.middle ≡ stop = operand_stops_there context i stand.middle stop tree (resolved_here context OtherSide tree i stand.middle stand.left) stops in
+      subst (λ (m : ℕ). ListedHere OtherSide m j more) same stand.right
 
   -- a tree of `in` before a list
   pub record ListThere (place stop : ℕ) (tree : Tree) : Type 0 where
     pub left : Tree
     pub items : Trees
     pub sides : SideBySide (λ middle. StandsHere context (place + 1) middle left) (λ middle. ListedHere (TypedHere context left) middle stop items)
-    pub typed : (type : ExprType) → TypedHere context tree type → (s : ExprType) × (types : List ExprType) × (TypedHere context left s × TypedAll context items types × AllBeside s items types)
+    pub typed : (type : ExprType) → TypedHere context tree type → (s : ExprType) × (types : List ExprType) × (TypedHere context left s × TypedAll context items types × AllItemsFor s items types)
     pub takes : (child : Tree) → Contains (list_of_trees items) child → TakesMemory child → TakesMemory tree
     pub means : (o : Outcome) → After (MeansHere context left) (λ l. ItemsHere (TypedHere context left) l items) o → MeansHere context tree o
     pub costs : (n : ℕ) → CostsHere context tree n → CostAfter (MeansHere context left) (CostsHere context left) (λ l. ItemsCostHere context (TypedHere context left) l items) n
@@ -144,7 +144,7 @@ module _ (context : ContextModel) where
     pub types : List ExprType
     pub stand : ListedHere (TypedHere context left_tree) at own items
     pub typed : TypedAll context items types
-    pub beside : AllBeside left_type items types
+    pub beside : AllItemsFor left_type items types
     pub takes : (child : Tree) → Contains (list_of_trees items) child → TakesMemory child → TakesMemory tree
     pub goes : (o : Outcome) → ItemsHere (TypedHere context left_tree) (left_at left left_type) items o → MeansHere context tree o
     pub left_means : MeansHere context left_tree (gives (left_at left left_type))
@@ -214,9 +214,9 @@ module _ (context : ContextModel) where
           }
 
   module _ (place own at : ℕ) (IsPaid : ℕ → Type 0) (left : Datum) (rest : ListLeft place own at IsPaid left) where
-    item_stands : (Beside : ExprType → Type 0) (items : Trees) → ListedHere Beside at own items → ¬ (at ≡ own) → OperandStands context at
-    item_stands Beside no_trees stand further = absurd (further stand)
-    item_stands Beside (more_trees item more) stand further = beside_operand context Beside item at stand.middle stand.left
+    item_stands : (OtherSide : ExprType → Type 0) (items : Trees) → ListedHere OtherSide at own items → ¬ (at ≡ own) → OperandStands context at
+    item_stands OtherSide no_trees stand further = absurd (further stand)
+    item_stands OtherSide (more_trees item more) stand further = resolved_operand context OtherSide item at stand.middle stand.left
 
     -- the next item
     pub next_item : PartStands context place → ¬ (at ≡ own) → OperandStands context at
@@ -226,9 +226,9 @@ module _ (context : ContextModel) where
         item_stands (TypedHere context it.left_tree) it.items it.stand further
 
     -- no item is left
-    none_left : (Beside : ExprType → Type 0) (l : Val) (items : Trees) → ListedHere Beside at own items → at ≡ own → ItemsHere Beside l items (gives (boolean false))
-    none_left Beside l no_trees stand end = inr (record { each = λ k within. absurd (omega (arith, within)); is = refl })
-    none_left Beside l (more_trees item more) stand end = absurd (no_more_listed Beside at own item more stand end)
+    none_left : (OtherSide : ExprType → Type 0) (l : Val) (items : Trees) → ListedHere OtherSide at own items → at ≡ own → ItemsHere OtherSide l items (gives (boolean false))
+    none_left OtherSide l no_trees stand end = inr (record { each = λ k within. absurd (omega (arith, within)); is = refl })
+    none_left OtherSide l (more_trees item more) stand end = absurd (no_more_listed OtherSide at own item more stand end)
 
     pub no_item : at ≡ own → AnswersDatum context place (Ok (datum.Bool false))
     no_item end = record {
@@ -239,14 +239,14 @@ module _ (context : ContextModel) where
     }
 
     -- a fault of the next item is the outcome
-    item_fault : (fault : EvalFault) (Beside : ExprType → Type 0) (left_type : ExprType) (whole item : Tree) (more : Trees) → (TakesMemory item → TakesMemory whole)
-        → ((o : Outcome) → ItemsHere Beside (left_at left left_type) (more_trees item more) o → MeansHere context whole o)
-        → Reports (TakesMemory item) (AloneHere context Beside item) (fault_outcome fault) → Reports (TakesMemory whole) (MeansHere context whole) (fault_outcome fault)
-    item_fault EvalFault.Overflow Beside left_type whole item more takes goes is =
+    item_fault : (fault : EvalFault) (OtherSide : ExprType → Type 0) (left_type : ExprType) (whole item : Tree) (more : Trees) → (TakesMemory item → TakesMemory whole)
+        → ((o : Outcome) → ItemsHere OtherSide (left_at left left_type) (more_trees item more) o → MeansHere context whole o)
+        → Reports (TakesMemory item) (AloneHere context OtherSide item) (fault_outcome fault) → Reports (TakesMemory whole) (MeansHere context whole) (fault_outcome fault)
+    item_fault EvalFault.Overflow OtherSide left_type whole item more takes goes is =
         goes overflow (inl (record { place = 0; here = (overflow, ((overflow, (is, refl)), refl)); earlier = λ k before. absurd (omega (arith, before)) }))
-    item_fault EvalFault.DivideByZero Beside left_type whole item more takes goes is =
+    item_fault EvalFault.DivideByZero OtherSide left_type whole item more takes goes is =
         goes divides_by_zero (inl (record { place = 0; here = (divides_by_zero, ((divides_by_zero, (is, refl)), refl)); earlier = λ k before. absurd (omega (arith, before)) }))
-    item_fault EvalFault.Memory Beside left_type whole item more takes goes is = takes is
+    item_fault EvalFault.Memory OtherSide left_type whole item more takes goes is = takes is
 
     faults_of : (fault : EvalFault) (left_tree : Tree) (left_type : ExprType) (whole : Tree) (items : Trees) (types : List ExprType) → ListedHere (TypedHere context left_tree) at own items
         → TypedAll context items types → ¬ (at ≡ own) → ((child : Tree) → Contains (list_of_trees items) child → TakesMemory child → TakesMemory whole)
@@ -256,7 +256,7 @@ module _ (context : ContextModel) where
     faults_of fault left_tree left_type whole (more_trees item more) [] stand typed further takes goes faults = absurd typed
     faults_of fault left_tree left_type whole (more_trees item more) (t ∷ types) stand typed further takes goes faults =
         item_fault fault (TypedHere context left_tree) left_type whole item more (takes item (first_child item (list_of_trees more))) goes
-        (beside_reports context (TypedHere context left_tree) item at stand.middle t (λ type. fault_outcome fault) stand.left typed.0 faults)
+        (resolved_reports context (TypedHere context left_tree) item at stand.middle t (λ type. fault_outcome fault) stand.left typed.0 faults)
 
     pub item_faults : ¬ (at ≡ own) → (fault : EvalFault) → AnswersAtPlace context at (λ type. fault_outcome fault) → AnswersAtPlace context place (λ type. fault_outcome fault)
     item_faults further fault faults = record {
@@ -287,7 +287,7 @@ module _ (context : ContextModel) where
         means : AloneHere context (TypedHere context left_tree) tree (gives (left_at item type_of))
         equality : HaveEquality (left_at left left_type) (left_at item type_of)
         typed : TypedAll context more types
-        beside : AllBeside left_type more types
+        beside : AllItemsFor left_type more types
         takes : (child : Tree) → Contains (list_of_trees more) child → TakesMemory child → TakesMemory whole
         goes : (o : Outcome) → ItemsHere (TypedHere context left_tree) (left_at left left_type) (more_trees tree more) o → MeansHere context whole o
         side : SideItem context left_tree (left_at left left_type) tree
@@ -295,13 +295,13 @@ module _ (context : ContextModel) where
 
       -- by its number, or by its type, it is compared with the left value
       item_equality : EndsOnceHere context → (left_tree : Tree) (s : ExprType) (l : Val) (tree : Tree) (t : ExprType) (v : Val) → TypedHere context left_tree s
-          → HasType (slots_of context.row.schema) s l → TypedHere context tree t → IsItemBeside (slots_of context.row.schema) s (side_of tree t)
+          → HasType (slots_of context.row.schema) s l → TypedHere context tree t → IsItemFor (slots_of context.row.schema) s (side_of tree t)
           → AloneHere context (TypedHere context left_tree) tree (gives v) → HaveEquality l v
       item_equality ends left_tree s l tree t v left_typed has typed beside (inl read) =
           let slots = slots_of context.row.schema in
           let root = type_name_at context.row.schema context.row.type_id in
           let reads = read.1 in
-          let number = subst (λ (u : ExprType). NumberBeside slots u (quoted_text tree) read.0)
+          let number = subst (λ (u : ExprType). ResolvedNumber slots u (quoted_text tree) read.0)
           (types_one slots root (scope_of (environment_of context)) left_tree reads.type_of s reads.beside left_typed) reads.number in
           let given : gives v ≡ gives (member read.0) = read.2 in
           let is : v ≡ member read.0 = cc in
@@ -314,7 +314,7 @@ module _ (context : ContextModel) where
 
       next_of : EndsOnceHere context → (left_tree : Tree) (left_type : ExprType) (whole : Tree) (items : Trees) (types : List ExprType) → TypedHere context left_tree left_type
           → HasType (slots_of context.row.schema) left_type (left_at left left_type)
-          → ListedHere (TypedHere context left_tree) at own items → TypedAll context items types → AllBeside left_type items types
+          → ListedHere (TypedHere context left_tree) at own items → TypedAll context items types → AllItemsFor left_type items types
           → ((child : Tree) → Contains (list_of_trees items) child → TakesMemory child → TakesMemory whole)
           → ((o : Outcome) → ItemsHere (TypedHere context left_tree) (left_at left left_type) items o → MeansHere context whole o)
           → MeansHere context left_tree (gives (left_at left left_type)) → ((n : ℕ) → CostsHere context whole n → ItemsDue context place n IsPaid left_tree (left_at left left_type) items) → NextItem left_tree left_type whole
@@ -322,7 +322,7 @@ module _ (context : ContextModel) where
       next_of ends left_tree left_type whole (more_trees tree more) [] left_typed has stand typed beside takes goes left_means due = absurd typed
       next_of ends left_tree left_type whole (more_trees tree more) (t ∷ types) left_typed has stand typed beside takes goes left_means due =
           let is : AloneHere context (TypedHere context left_tree) tree (gives (left_at item t)) =
-          beside_reports context (TypedHere context left_tree) tree at stand.middle t (λ type. Some (gives (left_at item type))) stand.left typed.0 answers in
+          resolved_reports context (TypedHere context left_tree) tree at stand.middle t (λ type. Some (gives (left_at item type))) stand.left typed.0 answers in
           record {
             tree = tree;
             more = more;
@@ -373,13 +373,13 @@ module _ (context : ContextModel) where
         }
 
         -- one that differs does not, and the others are left
-        differs_here : (Beside : ExprType → Type 0) (l v : Val) (tree : Tree) (more : Trees) → AloneHere context Beside tree (gives v) → HaveEquality l v → ¬ (AreEqual l v)
-            → After (ItemHere Beside (more_trees tree more) 0) (CompareGives ComparisonOperator.Eq l) (gives (boolean false))
-        differs_here Beside l v tree more means equality differs = (gives v, (means, (equality, ((λ no. absurd (cc)), (λ same. absurd (differs same))))))
+        differs_here : (OtherSide : ExprType → Type 0) (l v : Val) (tree : Tree) (more : Trees) → AloneHere context OtherSide tree (gives v) → HaveEquality l v → ¬ (AreEqual l v)
+            → After (ItemHere OtherSide (more_trees tree more) 0) (CompareGives ComparisonOperator.Eq l) (gives (boolean false))
+        differs_here OtherSide l v tree more means equality differs = (gives v, (means, (equality, ((λ no. absurd (cc)), (λ same. absurd (differs same))))))
 
-        passes_item : (Beside : ExprType → Type 0) (l v : Val) (tree : Tree) (more : Trees) → AloneHere context Beside tree (gives v) → HaveEquality l v → ¬ (AreEqual l v)
-            → Passes Quantifier.Any (After (ItemHere Beside (more_trees tree more) 0) (CompareGives ComparisonOperator.Eq l))
-        passes_item Beside l v tree more means equality differs = (boolean false, differs_here Beside l v tree more means equality differs, tt)
+        passes_item : (OtherSide : ExprType → Type 0) (l v : Val) (tree : Tree) (more : Trees) → AloneHere context OtherSide tree (gives v) → HaveEquality l v → ¬ (AreEqual l v)
+            → Passes Quantifier.Any (After (ItemHere OtherSide (more_trees tree more) 0) (CompareGives ComparisonOperator.Eq l))
+        passes_item OtherSide l v tree more means equality differs = (boolean false, differs_here OtherSide l v tree more means equality differs, tt)
 
         -- what is due of the next item, whose outcome as compared is known
         next_due : (whole left_tree : Tree) (left_type : ExprType) (next : NextItem left_tree left_type whole) (o : Outcome)
@@ -408,7 +408,7 @@ module _ (context : ContextModel) where
                 paid = it.paid + (item_cost (environment_of context) + it.item_own);
                 due = it.later;
                 sum = paid_sum n it.own it.paid (item_cost (environment_of context)) it.item_own it.later it.sum;
-                is_paid = pays next.stand.middle next.tree it.paid it.item_own (beside_here context (TypedHere context left_tree) next.tree at next.stand.middle next.stand.left) it.item_costs it.is_paid;
+                is_paid = pays next.stand.middle next.tree it.paid it.item_own (resolved_here context (TypedHere context left_tree) next.tree at next.stand.middle next.stand.left) it.item_costs it.is_paid;
                 asked = goes it.later it.follows_item;
               }
 
@@ -420,11 +420,11 @@ module _ (context : ContextModel) where
             let has = has_type context place part.stop part.tree part.stands in
             let there = rest.of_tree part.stop part.tree has.0 part.stands has.1 in
             let found = next_in ends part.tree there in
-            let Beside : ExprType → Type 0 = TypedHere context there.left_tree in
-            let first = beside_here context Beside found.tree at found.stand.middle found.stand.left in
+            let OtherSide : ExprType → Type 0 = TypedHere context there.left_tree in
+            let first = resolved_here context OtherSide found.tree at found.stand.middle found.stand.left in
             let middle_is : found.stand.middle ≡ stop = operand_stops_there context at found.stand.middle stop found.tree first is_stop in
             let later : at < found.stand.middle = operand_further context at found.stand.middle found.tree first in
-            let over : stop ≤ own = listed_further Beside stop own found.more (rest_listed Beside at own stop found.tree found.more is_stop found.stand) in
+            let over : stop ≤ own = listed_further OtherSide stop own found.more (rest_listed OtherSide at own stop found.tree found.more is_stop found.stand) in
             record {
               behind = let before : place < at = rest.behind in omega arith;
               within = over;
@@ -468,6 +468,6 @@ module _ (context : ContextModel) where
               tree = next.tree;
               more = next.more;
               last = next.stand.middle;
-              stands = beside_here context (TypedHere context it.left_tree) next.tree at next.stand.middle next.stand.left;
+              stands = resolved_here context (TypedHere context it.left_tree) next.tree at next.stand.middle next.stand.left;
               due = next_due whole it.left_tree it.left_type next (gives (boolean true)) (gives v, (next.means, (next.equality, ((λ yes. equal), (λ same. refl))))) n costs;
             }

@@ -11,12 +11,12 @@ use Rattle.csdl_schema.specs.ExprType.{ExprType, single, enumeration}
 use Rattle.csdl_schema.specs.SchemaModel.{Slots, slots_of, type_name_at}
 use Rattle.odata_signatures.specs.ExprTypes.{boolean_type, string_type}
 use Rattle.odata_signatures.specs.OperatorTyped.{IsEquality, OperatorTyped}
-use Rattle.odata_signatures.specs.QuotedNumber.{NumberBeside}
+use Rattle.odata_signatures.specs.QuotedNumber.{ResolvedNumber}
 use Rattle.odata_signatures.specs.Side.{Side}
 use Rattle.odata_signatures.specs.Reads.{OfEquality, ReadsNumber}
 use Rattle.odata_signatures.specs.Sides.{quoted_text}
 use Rattle.odata_checked_filter.specs.Calls.{TakesMemory}
-use Rattle.odata_checked_filter.specs.Stands.{BesideStands, HasValue, IsLiteralNode}
+use Rattle.odata_checked_filter.specs.Stands.{ResolvedStands, HasValue, IsLiteralNode}
 use Rattle.odata_checked_filter.specs.declared.checked_node.CheckedNode.{CheckedNode}
 use Rattle.odata_checked_filter.specs.declared.checked_node.NodeKind.{NodeKind}
 use Rattle.odata_filter_operations.specs.Outcome.{Outcome, gives}
@@ -60,11 +60,11 @@ one_kind o a b first second =
     let is : one.0 ≡ other.0 = cc in
     sym one.1.1 ∙ ap (λ (f : CheckedNode). f.kind) is ∙ other.1.1
 
--- nothing is read beside a text, nor what quotes none
-no_text : (slots : Slots) (type : ExprType) (quoted : Option (List ℕ)) (n : ℤ) → type ≡ string_type → ¬ NumberBeside slots type quoted n
-no_text slots type quoted n is number = subst (λ (t : ExprType). NumberBeside slots t quoted n) is number
+-- a text resolves nothing, nor is resolved what quotes none
+no_text : (slots : Slots) (type : ExprType) (quoted : Option (List ℕ)) (n : ℤ) → type ≡ string_type → ¬ ResolvedNumber slots type quoted n
+no_text slots type quoted n is number = subst (λ (t : ExprType). ResolvedNumber slots t quoted n) is number
 
-unquoted : (slots : Slots) (type : ExprType) (n : ℤ) → ¬ NumberBeside slots type None n
+unquoted : (slots : Slots) (type : ExprType) (n : ℤ) → ¬ ResolvedNumber slots type None n
 unquoted slots (single (enumeration name)) n number = number
 unquoted slots _ n number = number
 
@@ -148,19 +148,19 @@ module _ (context : ContextModel) where
     | inr number ↦ absurd (inner_number place class inner is number.0 operand.stop operand.tree number.1)
   ]
 
-  -- ---- beside an operand
+  -- ---- by the types of the other operand
 
-  -- what stands for a tree beside operands of some types
-  abbrev pub BesideHere : (ExprType → Type 0) → Tree → ℕ → ℕ → Type 0
-  BesideHere Beside tree =
-      BesideStands context.row.schema context.row.type_id (scope_of (environment_of context)) context.list Beside tree (λ i j. StandsHere context i j tree)
+  -- what stands for a tree where the other operand is of some types
+  abbrev pub ResolvedHere : (ExprType → Type 0) → Tree → ℕ → ℕ → Type 0
+  ResolvedHere OtherSide tree =
+      ResolvedStands context.row.schema context.row.type_id (scope_of (environment_of context)) context.list OtherSide tree (λ i j. StandsHere context i j tree)
 
-  pub beside_here : (Beside : ExprType → Type 0) (tree : Tree) (i j : ℕ) → BesideHere Beside tree i j → OperandHere context i j tree
-  beside_here Beside tree i j (inl read) = inr (read.0, read.2)
-  beside_here Beside tree i j (inr alone) = inl alone.1
+  pub resolved_here : (OtherSide : ExprType → Type 0) (tree : Tree) (i j : ℕ) → ResolvedHere OtherSide tree i j → OperandHere context i j tree
+  resolved_here OtherSide tree i j (inl read) = inr (read.0, read.2)
+  resolved_here OtherSide tree i j (inr alone) = inl alone.1
 
-  pub beside_operand : (Beside : ExprType → Type 0) (tree : Tree) (i j : ℕ) → BesideHere Beside tree i j → OperandStands context i
-  beside_operand Beside tree i j there = record { stop = j; tree = tree; stands = beside_here Beside tree i j there }
+  pub resolved_operand : (OtherSide : ExprType → Type 0) (tree : Tree) (i j : ℕ) → ResolvedHere OtherSide tree i j → OperandStands context i
+  resolved_operand OtherSide tree i j there = record { stop = j; tree = tree; stands = resolved_here OtherSide tree i j there }
 
   -- its outcomes there
   abbrev pub AloneHere : (ExprType → Type 0) → Tree → Outcome → Type 0
@@ -168,13 +168,13 @@ module _ (context : ContextModel) where
       ItemAlone (slots_of context.row.schema) (type_name_at context.row.schema context.row.type_id) context.moment (value_of context.row) (environment_of context)
 
   -- what is answered there is one of them
-  pub beside_reports : (Beside : ExprType → Type 0) (tree : Tree) (i j : ℕ) (type : ExprType) (reported : ExprType → Option Outcome) → BesideHere Beside tree i j → TypedHere context tree type
-      → AnswersAtPlace context i reported → Reports (TakesMemory tree) (AloneHere Beside tree) (reported type)
-  beside_reports Beside tree i j type reported (inl read) typed answers =
-      let P : Option Outcome → Type 0 = Reports (TakesMemory tree) (AloneHere Beside tree) in
+  pub resolved_reports : (OtherSide : ExprType → Type 0) (tree : Tree) (i j : ℕ) (type : ExprType) (reported : ExprType → Option Outcome) → ResolvedHere OtherSide tree i j → TypedHere context tree type
+      → AnswersAtPlace context i reported → Reports (TakesMemory tree) (AloneHere OtherSide tree) (reported type)
+  resolved_reports OtherSide tree i j type reported (inl read) typed answers =
+      let P : Option Outcome → Type 0 = Reports (TakesMemory tree) (AloneHere OtherSide tree) in
       subst P (sym (answers.of_number read.0 j tree type read.2)) (inl (read.0, read.1, refl))
-  beside_reports Beside tree i j type reported (inr alone) typed answers =
-      reports_there (reported type) (TakesMemory tree) (TakesMemory tree) (MeansHere context tree) (AloneHere Beside tree)
+  resolved_reports OtherSide tree i j type reported (inr alone) typed answers =
+      reports_there (reported type) (TakesMemory tree) (TakesMemory tree) (MeansHere context tree) (AloneHere OtherSide tree)
       (λ takes. takes) (λ o means. inr (alone.0, means)) (answers.of_tree j tree type alone.1 typed)
 
   -- the value that is answered where a number is

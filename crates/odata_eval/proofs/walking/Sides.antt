@@ -27,38 +27,38 @@ use Rattle.odata_eval.specs.private.ContextModel.{ContextModel}
 use Rattle.odata_eval.specs.private.WalkAnswer.{AnswersAtPlace, AnswersDatum}
 use Rattle.odata_eval.proofs.walking.Children.{two_children}
 use Rattle.odata_meaning.proofs.meaning.Reads.{number_flags, read_has}
-use Rattle.odata_eval.proofs.walking.Operands.{BesideHere, HasNone, beside_operand, fault_no_value, no_number, number_is}
+use Rattle.odata_eval.proofs.walking.Operands.{ResolvedHere, HasNone, resolved_operand, fault_no_value, no_number, number_is}
 use Rattle.odata_eval.proofs.walking.Parts.{by_kind, reports_there}
 use Rattle.odata_eval.proofs.walking.Extents.{further, right_beside, stops_here, stops_there}
 use Rattle.odata_eval.proofs.walking.Spines.{child_takes, fault_stays, has_type, second_child}
 use Rattle.odata_eval.proofs.walking.WalkValues.{value_has}
 use Rattle.odata_filter_operations.specs.Reports.{Reports}
 
--- beside no operand
+-- where there is no other operand
 abbrev pub NoOperand : Tree → ExprType → Type 0
 NoOperand left type = ⊥
 
--- a tree of two sides, both of which are evaluated, the right one perhaps as a number beside the left one: of which types
+-- a tree of two sides, both of which are evaluated, the right one perhaps resolved by the left one: of which types
 -- they are, and what is made of their values
-pub record OfSides (context : ContextModel) (place stop : ℕ) (Beside : Tree → ExprType → Type 0) (Makes : ExprType → ExprType → Type 0) (Gives : Val → Val → Outcome → Type 0)
+pub record OfSides (context : ContextModel) (place stop : ℕ) (OtherSide : Tree → ExprType → Type 0) (Makes : ExprType → ExprType → Type 0) (Gives : Val → Val → Outcome → Type 0)
     (tree : Tree) : Type 0 where
   pub left : Tree
   pub right : Tree
   pub middle : ℕ
   pub first : StandsHere context (place + 1) middle left
-  pub second : BesideHere context (Beside left) right middle stop
-  pub typed : ReadsNone (slots_of context.row.schema) (Beside left) right → (type : ExprType) → TypedHere context tree type
+  pub second : ResolvedHere context (OtherSide left) right middle stop
+  pub typed : ReadsNone (slots_of context.row.schema) (OtherSide left) right → (type : ExprType) → TypedHere context tree type
       → (s t : ExprType) × (TypedHere context left s × TypedHere context right t × Makes s t)
-  pub read : (n : ℤ) → (reads : ReadsNumber (slots_of context.row.schema) (Beside left) right n)
+  pub read : (n : ℤ) → (reads : ReadsNumber (slots_of context.row.schema) (OtherSide left) right n)
       → TypedHere context left reads.type_of × Makes reads.type_of reads.type_of × HasType (slots_of context.row.schema) reads.type_of (member n)
   pub takes : TakesMemory right → TakesMemory tree
-  pub means : ReadsNone (slots_of context.row.schema) (Beside left) right → (o : Outcome) → After (MeansHere context left) (λ l. After (MeansHere context right) (Gives l)) o → MeansHere context tree o
-  pub means_read : (n : ℤ) → ReadsNumber (slots_of context.row.schema) (Beside left) right n → (o : Outcome) → After (MeansHere context left) (λ l. Gives l (member n)) o → MeansHere context tree o
+  pub means : ReadsNone (slots_of context.row.schema) (OtherSide left) right → (o : Outcome) → After (MeansHere context left) (λ l. After (MeansHere context right) (Gives l)) o → MeansHere context tree o
+  pub means_read : (n : ℤ) → ReadsNumber (slots_of context.row.schema) (OtherSide left) right n → (o : Outcome) → After (MeansHere context left) (λ l. Gives l (member n)) o → MeansHere context tree o
 
 -- each tree that stands there is one
 abbrev pub AreOfSides : ContextModel → ℕ → (Tree → ExprType → Type 0) → (ExprType → ExprType → Type 0) → (Val → Val → Outcome → Type 0) → Type 0
-AreOfSides context place Beside Makes Gives =
-    HasNone context place × ((stop : ℕ) (tree : Tree) → StandsHere context place stop tree → OfSides context place stop Beside Makes Gives tree)
+AreOfSides context place OtherSide Makes Gives =
+    HasNone context place × ((stop : ℕ) (tree : Tree) → StandsHere context place stop tree → OfSides context place stop OtherSide Makes Gives tree)
 
 pub flags_alone : (context : ContextModel) (left right : Tree) → ReadsNone (slots_of context.row.schema) (TypedHere context left) right → (s t : ExprType) → TypedHere context left s
     → AreFlags s t ⊎ HasNumber (slots_of context.row.schema) s (quoted_text right) → AreFlags s t
@@ -106,8 +106,8 @@ path_sides context place here = (
       }),
 )
 
-module _ (context : ContextModel) (place : ℕ) (Beside : Tree → ExprType → Type 0) (Makes : ExprType → ExprType → Type 0) (Gives : Val → Val → Outcome → Type 0)
-    (are : AreOfSides context place Beside Makes Gives) where
+module _ (context : ContextModel) (place : ℕ) (OtherSide : Tree → ExprType → Type 0) (Makes : ExprType → ExprType → Type 0) (Gives : Val → Val → Outcome → Type 0)
+    (are : AreOfSides context place OtherSide Makes Gives) where
   pub next_there : PartStands context place → (right : ℕ) × IsRightOf context.list place right
   next_there part =
       let it = are.1 part.stop part.tree part.stands in
@@ -115,15 +115,15 @@ module _ (context : ContextModel) (place : ℕ) (Beside : Tree → ExprType → 
 
   module _ (right_place : ℕ) (is_right : IsRightOf context.list place right_place) where
     next_beside : (stop : ℕ) (tree : Tree) (stands : StandsHere context place stop tree)
-        → BesideHere context (Beside (are.1 stop tree stands).left) (are.1 stop tree stands).right right_place stop
+        → ResolvedHere context (OtherSide (are.1 stop tree stands).left) (are.1 stop tree stands).right right_place stop
     next_beside stop tree stands =
         let it = are.1 stop tree stands in
-        subst (λ (m : ℕ). BesideHere context (Beside it.left) it.right m stop) (stops_there context (place + 1) it.middle right_place it.left it.first is_right) it.second
+        subst (λ (m : ℕ). ResolvedHere context (OtherSide it.left) it.right m stop) (stops_there context (place + 1) it.middle right_place it.left it.first is_right) it.second
 
     pub next_part : PartStands context place → OperandStands context right_place
     next_part part =
         let it = are.1 part.stop part.tree part.stands in
-        beside_operand context (Beside it.left) it.right right_place part.stop (next_beside part.stop part.tree part.stands)
+        resolved_operand context (OtherSide it.left) it.right right_place part.stop (next_beside part.stop part.tree part.stands)
 
     pub next_further : PartStands context place → place < right_place
     next_further part =
@@ -138,7 +138,7 @@ module _ (context : ContextModel) (place : ℕ) (Beside : Tree → ExprType → 
 
       -- a fault of the second side is the outcome
       fault_reported : (fault : EvalFault) → AnswersAtPlace context right_place (λ type. fault_outcome fault) → (stop : ℕ) (tree : Tree) (type : ExprType) → TypedHere context tree type
-          → (it : OfSides context place stop Beside Makes Gives tree) → BesideHere context (Beside it.left) it.right right_place stop
+          → (it : OfSides context place stop OtherSide Makes Gives tree) → ResolvedHere context (OtherSide it.left) it.right right_place stop
           → Reports (TakesMemory tree) (MeansHere context tree) (fault_outcome fault)
       fault_reported fault second stop tree type typed it (inl read) = absurd (fault_no_value fault (member read.0) (second.of_number read.0 stop it.right type read.2))
       fault_reported fault second stop tree type typed it (inr alone) =
@@ -159,9 +159,9 @@ module _ (context : ContextModel) (place : ℕ) (Beside : Tree → ExprType → 
         abbrev Have : Type 0
         Have = (s t : ExprType) × (Makes s t × HasType (slots_of context.row.schema) s (made left s) × HasType (slots_of context.row.schema) t (made right t))
 
-        -- both values are of the types of their sides, a number of the type beside it
-        sides_have : (stop : ℕ) (tree : Tree) (type : ExprType) → TypedHere context tree type → (it : OfSides context place stop Beside Makes Gives tree)
-            → BesideHere context (Beside it.left) it.right right_place stop → Have
+        -- both values are of the types of their sides, a number of the other side's type
+        sides_have : (stop : ℕ) (tree : Tree) (type : ExprType) → TypedHere context tree type → (it : OfSides context place stop OtherSide Makes Gives tree)
+            → ResolvedHere context (OtherSide it.left) it.right right_place stop → Have
         sides_have stop tree type typed it (inl read) =
             let s = read.1.type_of in
             let known = it.read read.0 read.1 in (
@@ -193,8 +193,8 @@ module _ (context : ContextModel) (place : ℕ) (Beside : Tree → ExprType → 
             (given : (s t type : ExprType) → Makes s t → HasType (slots_of context.row.schema) s (made left s) → HasType (slots_of context.row.schema) t (made right t)
             → Gives (made left s) (made right t) (gives (made answer type))) where
           -- what is made of them is the outcome
-          sides_report : (stop : ℕ) (tree : Tree) (type : ExprType) → TypedHere context tree type → (it : OfSides context place stop Beside Makes Gives tree)
-              → BesideHere context (Beside it.left) it.right right_place stop → MeansHere context tree (gives (made answer type))
+          sides_report : (stop : ℕ) (tree : Tree) (type : ExprType) → TypedHere context tree type → (it : OfSides context place stop OtherSide Makes Gives tree)
+              → ResolvedHere context (OtherSide it.left) it.right right_place stop → MeansHere context tree (gives (made answer type))
           sides_report stop tree type typed it (inl read) =
               let s = read.1.type_of in
               let known = it.read read.0 read.1 in

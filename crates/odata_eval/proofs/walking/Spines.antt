@@ -45,7 +45,7 @@ use Rattle.odata_filter_operations.specs.CallGives.{CallGives}
 use Rattle.csdl_schema.specs.SchemaModel.{Slots, slots_of, type_name_at}
 use Rattle.edm_entities.specs.Row.{value_of}
 use Rattle.odata_eval.proofs.walking.Children.{only_child}
-use Rattle.odata_eval.proofs.walking.Operands.{BesideHere, fault_no_value, inner_number, tree_of_class, tree_operand}
+use Rattle.odata_eval.proofs.walking.Operands.{ResolvedHere, fault_no_value, inner_number, tree_of_class, tree_operand}
 use Rattle.odata_eval.proofs.walking.Parts.{by_kind, goes_there, some_there, reports_there, there_found}
 
 -- the walk takes the operator's node by its class
@@ -262,8 +262,8 @@ module _ (context : ContextModel) where
   equality_allows _ type equality = absurd equality
 
   binary_first : (place : ℕ) (operator : BinaryOperator) (stop from to : ℕ) (left right : Tree) → (stands : StandsHere context place stop (node from to (binary operator left right)))
-      → BesideHere context (OfEquality operator (TypedHere context right)) left (place + 1) stands.children.middle
-      → BesideHere context (OfEquality operator (TypedHere context left)) right stands.children.middle stands.children.right.middle
+      → ResolvedHere context (OfEquality operator (TypedHere context right)) left (place + 1) stands.children.middle
+      → ResolvedHere context (OfEquality operator (TypedHere context left)) right stands.children.middle stands.children.right.middle
       → FirstOperand context place (walk_of_operator operator) (node from to (binary operator left right))
   binary_first place operator stop from to left right stands (inl read) second = record {
     operand = equality_operand operator (place + 1) read.1.beside.0 (record { stop = stands.children.middle; tree = left; stands = inr (read.0, read.2) });
@@ -283,7 +283,7 @@ module _ (context : ContextModel) where
       (λ o given. inr (other.0, inr (alone.0, given))))
 
   -- so has `has`, of which the right operand may be read
-  flags_first : (place stop from to : ℕ) (left right : Tree) (i j : ℕ) → StandsHere context (place + 1) stop left → BesideHere context (TypedHere context left) right i j
+  flags_first : (place stop from to : ℕ) (left right : Tree) (i j : ℕ) → StandsHere context (place + 1) stop left → ResolvedHere context (TypedHere context left) right i j
       → FirstTree context place WalkClass.Eager (node from to (has left right))
   flags_first place stop from to left right i j stands (inl read) =
       after_first place WalkClass.Eager (node from to (has left right)) left stop (λ l. HasGives l (val.member read.0)) (first_child left (right ∷ [])) stands

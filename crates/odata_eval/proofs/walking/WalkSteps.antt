@@ -43,7 +43,7 @@ use Rattle.odata_meaning.specs.ReadGives.{GivesMember}
 use Rattle.odata_meaning.proofs.meaning.Reads.{equality_typed, number_comparable, read_has}
 use Rattle.odata_meaning.proofs.meaning.Progress.{decided_gives, join_gives, not_gives, undecided_goes}
 use Rattle.odata_eval.proofs.walking.Children.{only_child}
-use Rattle.odata_eval.proofs.walking.Operands.{BesideHere, HasNone, equality_boolean, no_number, not_both, number_is}
+use Rattle.odata_eval.proofs.walking.Operands.{ResolvedHere, HasNone, equality_boolean, no_number, not_both, number_is}
 use Rattle.odata_eval.proofs.walking.Parts.{by_kind, goes_there, some_reports, reports_there, type_there}
 use Rattle.odata_eval.proofs.walking.Extents.{right_stands}
 use Rattle.odata_eval.proofs.walking.Spines.{child_takes, fault_stays, second_child, types_alone}
@@ -133,7 +133,7 @@ module _ (context : ContextModel) (place : ℕ) where
     no_number_here = no_number context place (NodeKind.Binary operator) tt here
 
     -- an operator that is no equality reads nothing
-    by_itself : ¬ IsEquality operator → (Operand : ExprType → Type 0) (tree : Tree) (i j : ℕ) → BesideHere context (OfEquality operator Operand) tree i j
+    by_itself : ¬ IsEquality operator → (Operand : ExprType → Type 0) (tree : Tree) (i j : ℕ) → ResolvedHere context (OfEquality operator Operand) tree i j
         → ReadsNone (slots_of context.row.schema) (OfEquality operator Operand) tree × StandsHere context i j tree
     by_itself other Operand tree i j (inl read) = absurd (other read.1.beside.0)
     by_itself other Operand tree i j (inr alone) = alone
@@ -166,7 +166,7 @@ module _ (context : ContextModel) (place : ℕ) where
           (goes : (stop : ℕ) (whole : Tree) (s t type : ExprType) (Right : Outcome → Type 0) → StandsHere context place stop whole → TypedHere context whole type
           → Reports (TakesMemory whole) Right (beside t) → Reports (TakesMemory whole) (OperatorGives operator (TypedHere context whole) (l s) Right) (reported type)) where
         sides_report : (stop from to : ℕ) (a b : Tree) (type : ExprType) → StandsHere context place stop (node from to (binary operator a b)) → TypedHere context (node from to (binary operator a b)) type
-            → (m : ℕ) → BesideHere context (OfEquality operator (TypedHere context b)) a (place + 1) m → BesideHere context (OfEquality operator (TypedHere context a)) b right_place stop
+            → (m : ℕ) → ResolvedHere context (OfEquality operator (TypedHere context b)) a (place + 1) m → ResolvedHere context (OfEquality operator (TypedHere context a)) b right_place stop
             → Reports (TakesMemory (node from to (binary operator a b))) (MeansHere context (node from to (binary operator a b))) (reported type)
         sides_report stop from to a b type stands typed m (inl read) (inl other) = absurd (not_both context operator a b read.0 other.0 read.1 other.1)
         sides_report stop from to a b type stands typed m (inl read) (inr other) =
@@ -217,7 +217,7 @@ module _ (context : ContextModel) (place : ℕ) where
             × HasType (slots_of context.row.schema) left (l left) × HasType (slots_of context.row.schema) right (r right))
 
         sides_by : (stop from to : ℕ) (a b : Tree) (type : ExprType) → TypedHere context (node from to (binary operator a b)) type
-            → (m : ℕ) → BesideHere context (OfEquality operator (TypedHere context b)) a (place + 1) m → BesideHere context (OfEquality operator (TypedHere context a)) b right_place stop → AreSides type
+            → (m : ℕ) → ResolvedHere context (OfEquality operator (TypedHere context b)) a (place + 1) m → ResolvedHere context (OfEquality operator (TypedHere context a)) b right_place stop → AreSides type
         sides_by stop from to a b type typed m (inl read) (inl other) = absurd (not_both context operator a b read.0 other.0 read.1 other.1)
         sides_by stop from to a b type typed m (inl read) (inr other) =
             let slots = slots_of context.row.schema in

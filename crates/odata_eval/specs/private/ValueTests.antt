@@ -30,7 +30,7 @@ HasNoFault slots root tree =
     (now : MomentParts) (held : List ℕ → FieldVal) (o : Outcome) → Means slots root now (fields held) [] tree o
     → IsValue o
 
--- the nodes of the filter from the place up to the stop stand for the tree
+-- the nodes of the filter from one index up to the other stand for the tree
 abbrev pub StandsFor : Filter → ℕ → ℕ → Tree → Type 0
 StandsFor filter = Stands filter.schema filter.filtered [] filter.list
 
@@ -65,7 +65,7 @@ IsNoNumber _ = Unit {0}
 abbrev pub Refutes : ComparisonOperator → Val → Sieve → Type 0
 Refutes comparison right sieve = (value : Val) → Rejects sieve value → ¬ ComparesTrue comparison value right
 
--- what holds of the term holds of the chain from a place down
+-- what holds of the term holds of the chain from a node down
 pub record GoesUp (filter : Filter) (term at : ℕ) : Type 0 where
   pub no_fault : LeavesNoFault filter term → LeavesNoFault filter at
   pub decides : (slot : ℕ) (sieve : Sieve) → IsFalseAt filter term slot sieve → IsFalseAt filter at slot sieve

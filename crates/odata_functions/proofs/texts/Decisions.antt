@@ -89,7 +89,7 @@ before_one d s t (x ∷ before) behind n e size =
 behind_one : (d : ℕ) (s t : List ℕ) (n : ℕ) → StandsBehind (d ∷ s) t (suc n) → StandsBehind s t n
 behind_one d s t n b = before_one d s t b.before b.behind n b.split b.counted
 
--- the first place, or none
+-- the first index, or none
 abbrev First : List ℕ → List ℕ → Type 0
 First s t = ((n : ℕ) × StandsBehind s t n × ((k : ℕ) → k < n → ¬ StandsBehind s t k)) ⊎ ¬ HasPart s t
 

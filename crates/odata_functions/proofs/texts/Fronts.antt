@@ -1,4 +1,4 @@
--- Bytes that begin with others, place by place.
+-- Bytes that begin with others, byte by byte.
 use Rattle.std.proofs.Common.{◌≡◌, ◌∙◌, ℕ, ◌+◌, ◌<◌, ◌≤◌, List, ◌++◌, length, take, drop, arith, sym, ap}
 use Rattle.std.proofs.lemmas.List.{get_or_append_left, length-append, take-append-drop, take_all, take_more_same}
 use Rattle.std.specs.Prelude.{slice_index}

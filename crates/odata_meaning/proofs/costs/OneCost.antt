@@ -85,12 +85,12 @@ module _ (one : OneEach) (some : SomeEach) (all_end : TypedEndsOnce) (slots : Sl
       subst (λ (o : Outcome). IsOutcomeOf slots type o) (sym (end.only (gives v) means)) end.of_type
 
   -- an item compared with the left value
-  compared : (environment : Environment) (Beside : ExprType → Type 0) (left : ExprType) (l : Val) (listed_item : Tree) → HasType slots left l
-      → AtMostOne (ItemAlone slots root now entity environment Beside listed_item) → ItemEnds slots left (ItemAlone slots root now entity environment Beside listed_item)
-      → EndsAlone (After (ItemAlone slots root now entity environment Beside listed_item) (CompareGives ComparisonOperator.Eq l))
-  compared environment Beside left l listed_item of_l alone ends_so =
+  compared : (environment : Environment) (OtherSide : ExprType → Type 0) (left : ExprType) (l : Val) (listed_item : Tree) → HasType slots left l
+      → AtMostOne (ItemAlone slots root now entity environment OtherSide listed_item) → ItemEnds slots left (ItemAlone slots root now entity environment OtherSide listed_item)
+      → EndsAlone (After (ItemAlone slots root now entity environment OtherSide listed_item) (CompareGives ComparisonOperator.Eq l))
+  compared environment OtherSide left l listed_item of_l alone ends_so =
       let Equal : Val → Outcome → Type 0 = CompareGives ComparisonOperator.Eq l in
-      let Item : Outcome → Type 0 = ItemAlone slots root now entity environment Beside listed_item in
+      let Item : Outcome → Type 0 = ItemAlone slots root now entity environment OtherSide listed_item in
       let end = after_ends slots slots ends_so.0 boolean_type Item Equal ends_so.2
       (λ w of_w. compare_ends some slots ComparisonOperator.Eq left ends_so.0 boolean_type l w (ends_so.1, refl) of_l of_w) in
       record {
@@ -99,17 +99,17 @@ module _ (one : OneEach) (some : SomeEach) (all_end : TypedEndsOnce) (slots : Sl
         only = λ other is. After-one Item Equal alone (CompareGives-one ComparisonOperator.Eq l) other end.0 is end.1.0;
       }
 
-  items_once : (environment : Environment) (Beside : ExprType → Type 0) (left : ExprType) (l : Val) (listed : Trees) → HasType slots left l
-      → AllTrees (λ t. AtMostOne (ItemAlone slots root now entity environment Beside t)) listed
-      → AllTrees (λ t. ItemEnds slots left (ItemAlone slots root now entity environment Beside t)) listed
+  items_once : (environment : Environment) (OtherSide : ExprType → Type 0) (left : ExprType) (l : Val) (listed : Trees) → HasType slots left l
+      → AllTrees (λ t. AtMostOne (ItemAlone slots root now entity environment OtherSide t)) listed
+      → AllTrees (λ t. ItemEnds slots left (ItemAlone slots root now entity environment OtherSide t)) listed
       → AllTrees (λ t. Once (Costs slots root now entity environment t)) listed
-      → Once (ItemsCost slots root now entity environment Beside l listed)
-  items_once environment Beside left l no_trees of_l alone ends_so once = nothing_once
-  items_once environment Beside left l (more_trees listed_item more) of_l alone ends_so once =
+      → Once (ItemsCost slots root now entity environment OtherSide l listed)
+  items_once environment OtherSide left l no_trees of_l alone ends_so once = nothing_once
+  items_once environment OtherSide left l (more_trees listed_item more) of_l alone ends_so once =
       more_once (item_cost environment) _
-      (after_once (After (ItemAlone slots root now entity environment Beside listed_item) (CompareGives ComparisonOperator.Eq l)) (Costs slots root now entity environment listed_item)
-      (OthersCost Quantifier.Any (ItemsCost slots root now entity environment Beside l more)) (compared environment Beside left l listed_item of_l alone.0 ends_so.0) once.0
-      (λ w is. others_once Quantifier.Any (ItemsCost slots root now entity environment Beside l more) w (items_once environment Beside left l more of_l alone.1 ends_so.1 once.1)))
+      (after_once (After (ItemAlone slots root now entity environment OtherSide listed_item) (CompareGives ComparisonOperator.Eq l)) (Costs slots root now entity environment listed_item)
+      (OthersCost Quantifier.Any (ItemsCost slots root now entity environment OtherSide l more)) (compared environment OtherSide left l listed_item of_l alone.0 ends_so.0) once.0
+      (λ w is. others_once Quantifier.Any (ItemsCost slots root now entity environment OtherSide l more) w (items_once environment OtherSide left l more of_l alone.1 ends_so.1 once.1)))
 
   all_end_so : (environment : Environment) → IsFitting slots environment → (trees : Trees) (types : List ExprType) → AreTyped slots root (scope_of environment) trees types
       → AllTyped (λ t type. Ends slots type (Means slots root now entity environment t)) trees types
@@ -144,11 +144,11 @@ module _ (one : OneEach) (some : SomeEach) (all_end : TypedEndsOnce) (slots : Sl
         (ends environment fitting left typed.left typed.left_typed) (tree_once environment fitting left typed.left typed.left_typed)
         (λ l is. tree_once environment fitting path typed.right typed.right_typed)
     tree_once environment fitting (node start stop (in_list left listed)) type typed =
-        let Beside : ExprType → Type 0 = Typed slots root (scope_of environment) left in
+        let OtherSide : ExprType → Type 0 = Typed slots root (scope_of environment) left in
         after_once (Means slots root now entity environment left) (Costs slots root now entity environment left)
-        (λ l. ItemsCost slots root now entity environment Beside l listed)
+        (λ l. ItemsCost slots root now entity environment OtherSide l listed)
         (ends environment fitting left typed.left typed.left_typed) (tree_once environment fitting left typed.left typed.left_typed)
-        (λ l is. items_once environment Beside typed.left l listed (value_typed environment fitting left typed.left typed.left_typed l is)
+        (λ l is. items_once environment OtherSide typed.left l listed (value_typed environment fitting left typed.left typed.left_typed l is)
         (items_one one slots root now entity environment left listed)
         (items_end some slots slots (reads_have slots) root now entity environment left typed.left typed.left_typed listed typed.items typed.items_typed typed.makes.1
         (all_end_so environment fitting listed typed.items typed.items_typed))

@@ -108,19 +108,19 @@ within root now =
     )
 
 -- `t in (null,null)`, with `t` at a text
-abbrev Beside : List ℕ → ExprType → Type 0
-Beside root = Typed tagged_slots root (scope_of (At (text (codes "a")))) (named (codes "t"))
+abbrev OtherSide : List ℕ → ExprType → Type 0
+OtherSide root = Typed tagged_slots root (scope_of (At (text (codes "a")))) (named (codes "t"))
 
 null_differs : (root : List ℕ) (now : MomentParts)
-    → After (ItemAlone tagged_slots root now (tagged text_and_null) (At (text (codes "a"))) (Beside root) null_literal) (CompareGives ComparisonOperator.Eq (text (codes "a"))) (gives (boolean false))
-null_differs root now = (gives null, (inr (free (Beside root) null_literal, tt), (tt, (λ no. cc, λ no. absurd no))))
+    → After (ItemAlone tagged_slots root now (tagged text_and_null) (At (text (codes "a"))) (OtherSide root) null_literal) (CompareGives ComparisonOperator.Eq (text (codes "a"))) (gives (boolean false))
+null_differs root now = (gives null, (inr (free (OtherSide root) null_literal, tt), (tt, (λ no. cc, λ no. absurd no))))
 
 listed_is_false : (root : List ℕ) (now : MomentParts) → Means tagged_slots root now (tagged text_and_null) (At (text (codes "a"))) is_listed (gives (boolean false))
 listed_is_false root now = (
   gives (text (codes "a")),
   (
     refl,
-    (items_both tagged_slots root now (tagged text_and_null) (At (text (codes "a"))) (Beside root) (text (codes "a")) (trees_of_list (null_literal ∷ null_literal ∷ [])) (gives (boolean false))).1
+    (items_both tagged_slots root now (tagged text_and_null) (At (text (codes "a"))) (OtherSide root) (text (codes "a")) (trees_of_list (null_literal ∷ null_literal ∷ [])) (gives (boolean false))).1
         (gives (boolean false), (null_differs root now, (gives (boolean false), (null_differs root now, refl)))),
   ),
 )

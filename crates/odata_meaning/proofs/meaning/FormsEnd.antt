@@ -184,11 +184,11 @@ items_go_end some slots Item left l (more_trees tree more) of_l all =
     (λ w has. goes_on_ends slots Quantifier.Any (ItemsGo Item l more) w (truth_of slots boolean_type w (inl refl) has)
     (items_go_end some slots Item left l more of_l all.1))
 
-pub in_list_ends : SomeEach → (slots held : Slots) (root : List ℕ) (now : MomentParts) (entity : Val) (environment : Environment) (Beside : ExprType → Type 0) (left : ExprType) (l : Val) (trees : Trees)
-    (type : ExprType) → type ≡ boolean_type → HasType held left l → AllTrees (λ tree. ItemEnds held left (ItemAlone slots root now entity environment Beside tree)) trees
-    → Ends held type (ItemsGive l (length (list_of_trees trees)) (ItemMeans slots root now entity environment Beside trees))
-in_list_ends some slots held root now entity environment Beside left l trees type is of_l all =
-    let Given : Outcome → Type 0 = ItemsGive l (length (list_of_trees trees)) (ItemMeans slots root now entity environment Beside trees) in
+pub in_list_ends : SomeEach → (slots held : Slots) (root : List ℕ) (now : MomentParts) (entity : Val) (environment : Environment) (OtherSide : ExprType → Type 0) (left : ExprType) (l : Val) (trees : Trees)
+    (type : ExprType) → type ≡ boolean_type → HasType held left l → AllTrees (λ tree. ItemEnds held left (ItemAlone slots root now entity environment OtherSide tree)) trees
+    → Ends held type (ItemsGive l (length (list_of_trees trees)) (ItemMeans slots root now entity environment OtherSide trees))
+in_list_ends some slots held root now entity environment OtherSide left l trees type is of_l all =
+    let Given : Outcome → Type 0 = ItemsGive l (length (list_of_trees trees)) (ItemMeans slots root now entity environment OtherSide trees) in
     of_type held boolean_type type Given is
-    (both_ends held boolean_type Given (ItemsGo (ItemAlone slots root now entity environment Beside) l trees) (items_both slots root now entity environment Beside l trees)
-    (items_go_end some held (ItemAlone slots root now entity environment Beside) left l trees of_l all))
+    (both_ends held boolean_type Given (ItemsGo (ItemAlone slots root now entity environment OtherSide) l trees) (items_both slots root now entity environment OtherSide l trees)
+    (items_go_end some held (ItemAlone slots root now entity environment OtherSide) left l trees of_l all))

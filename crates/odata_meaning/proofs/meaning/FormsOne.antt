@@ -96,10 +96,10 @@ InGives-one l (items values) a b p q =
     MembersGive-one Quantifier.Any (CompareGives ComparisonOperator.Eq l) values (CompareGives-one ComparisonOperator.Eq l) a b p q
 InGives-one l _ a b p q = absurd p
 
-pub ItemsGive-one : (slots : Slots) (root : List ℕ) (now : MomentParts) (entity : Val) (environment : Environment) (Beside : ExprType → Type 0) (l : Val) (trees : Trees)
-    → AllTrees (λ tree. AtMostOne (ItemAlone slots root now entity environment Beside tree)) trees
-    → AtMostOne (ItemsGive l (length (list_of_trees trees)) (ItemMeans slots root now entity environment Beside trees))
-ItemsGive-one slots root now entity environment Beside l trees one =
-    both_one (ItemsGive l (length (list_of_trees trees)) (ItemMeans slots root now entity environment Beside trees))
-    (ItemsGo (ItemAlone slots root now entity environment Beside) l trees)
-    (items_both slots root now entity environment Beside l trees) (ItemsGo-one (ItemAlone slots root now entity environment Beside) l trees one)
+pub ItemsGive-one : (slots : Slots) (root : List ℕ) (now : MomentParts) (entity : Val) (environment : Environment) (OtherSide : ExprType → Type 0) (l : Val) (trees : Trees)
+    → AllTrees (λ tree. AtMostOne (ItemAlone slots root now entity environment OtherSide tree)) trees
+    → AtMostOne (ItemsGive l (length (list_of_trees trees)) (ItemMeans slots root now entity environment OtherSide trees))
+ItemsGive-one slots root now entity environment OtherSide l trees one =
+    both_one (ItemsGive l (length (list_of_trees trees)) (ItemMeans slots root now entity environment OtherSide trees))
+    (ItemsGo (ItemAlone slots root now entity environment OtherSide) l trees)
+    (items_both slots root now entity environment OtherSide l trees) (ItemsGo-one (ItemAlone slots root now entity environment OtherSide) l trees one)

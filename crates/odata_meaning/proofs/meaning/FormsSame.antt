@@ -62,15 +62,15 @@ items_go_same Item Also l (more_trees tree more) (more_trees other others) same 
     (λ w. goes_both Quantifier.Any (ItemsGo Item l more) (ItemsGo Also l others) w (items_go_same Item Also l more others same.1))
 items_go_same Item Also l _ _ same = absurd same
 
-module _ (slots : Slots) (root : List ℕ) (now : MomentParts) (entity : Val) (environment : Environment) (Beside Other : ExprType → Type 0) (l : Val) where
+module _ (slots : Slots) (root : List ℕ) (now : MomentParts) (entity : Val) (environment : Environment) (OtherSide Other : ExprType → Type 0) (l : Val) where
   abbrev Item : (ExprType → Type 0) → Tree → Outcome → Type 0
   Item Left = ItemAlone slots root now entity environment Left
 
   abbrev Given : (ExprType → Type 0) → Trees → Outcome → Type 0
   Given Left trees = ItemsGive l (length (list_of_trees trees)) (ItemMeans slots root now entity environment Left trees)
 
-  pub items_same : (trees others : Trees) → AllPaired (λ tree other. Both (Item Beside tree) (Item Other other)) trees others → Both (Given Beside trees) (Given Other others)
+  pub items_same : (trees others : Trees) → AllPaired (λ tree other. Both (Item OtherSide tree) (Item Other other)) trees others → Both (Given OtherSide trees) (Given Other others)
   items_same trees others same =
-      in_turn (Given Beside trees) (ItemsGo (Item Beside) l trees) (Given Other others) (items_both slots root now entity environment Beside l trees)
-      (in_turn (ItemsGo (Item Beside) l trees) (ItemsGo (Item Other) l others) (Given Other others) (items_go_same (Item Beside) (Item Other) l trees others same)
+      in_turn (Given OtherSide trees) (ItemsGo (Item OtherSide) l trees) (Given Other others) (items_both slots root now entity environment OtherSide l trees)
+      (in_turn (ItemsGo (Item OtherSide) l trees) (ItemsGo (Item Other) l others) (Given Other others) (items_go_same (Item OtherSide) (Item Other) l trees others same)
       (turned (Given Other others) (ItemsGo (Item Other) l others) (items_both slots root now entity environment Other l others)))

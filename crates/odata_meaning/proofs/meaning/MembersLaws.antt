@@ -35,7 +35,7 @@ comes_to_on known tags shape outcome related = λ root now o. (
 )
 
 -- nothing is read there
-pub free : (Beside : ExprType → Type 0) (tree : Tree) (n : ℤ) → ¬ ReadsNumber tagged_slots Beside tree n
+pub free : (OtherSide : ExprType → Type 0) (tree : Tree) (n : ℤ) → ¬ ReadsNumber tagged_slots OtherSide tree n
 free = unread tagged_slots (λ name. refl)
 
 -- what a body evaluates to with a member for its variable

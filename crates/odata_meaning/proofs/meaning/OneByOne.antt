@@ -136,22 +136,22 @@ members_both quantifier Body (item v more) =
     (after_both (Body v) (Body v) (GoesOn quantifier (MembersGive quantifier Body more)) (GoesOn quantifier (MembersGo quantifier Body more)) (itself (Body v))
     (λ w. goes_both quantifier (MembersGive quantifier Body more) (MembersGo quantifier Body more) w (members_both quantifier Body more)))
 
-module _ (slots : Slots) (root : List ℕ) (now : MomentParts) (entity : Val) (environment : Environment) (Beside : ExprType → Type 0) (l : Val) where
+module _ (slots : Slots) (root : List ℕ) (now : MomentParts) (entity : Val) (environment : Environment) (OtherSide : ExprType → Type 0) (l : Val) where
   abbrev Equal : (Outcome → Type 0) → Outcome → Type 0
   Equal Item = After Item (CompareGives ComparisonOperator.Eq l)
 
   abbrev Given : Trees → Outcome → Type 0
-  Given items = ItemsGive l (length (list_of_trees items)) (ItemMeans slots root now entity environment Beside items)
+  Given items = ItemsGive l (length (list_of_trees items)) (ItemMeans slots root now entity environment OtherSide items)
 
   abbrev Taken : Trees → Outcome → Type 0
-  Taken items = ItemsGo (ItemAlone slots root now entity environment Beside) l items
+  Taken items = ItemsGo (ItemAlone slots root now entity environment OtherSide) l items
 
   pub items_both : (items : Trees) → Both (Given items) (Taken items)
-  items_both no_trees = none_both Quantifier.Any (λ place. Equal (ItemMeans slots root now entity environment Beside no_trees place)) (λ k o is. is.1.0)
+  items_both no_trees = none_both Quantifier.Any (λ place. Equal (ItemMeans slots root now entity environment OtherSide no_trees place)) (λ k o is. is.1.0)
   items_both (more_trees tree more) =
-      let Item : Outcome → Type 0 = Equal (ItemAlone slots root now entity environment Beside tree) in
+      let Item : Outcome → Type 0 = Equal (ItemAlone slots root now entity environment OtherSide tree) in
       in_turn (Given (more_trees tree more)) (After Item (GoesOn Quantifier.Any (Given more))) (Taken (more_trees tree more))
-      (first_both Quantifier.Any (length (list_of_trees more)) (λ place. Equal (ItemMeans slots root now entity environment Beside (more_trees tree more) place)))
+      (first_both Quantifier.Any (length (list_of_trees more)) (λ place. Equal (ItemMeans slots root now entity environment OtherSide (more_trees tree more) place)))
       (after_both Item Item (GoesOn Quantifier.Any (Given more)) (GoesOn Quantifier.Any (Taken more)) (itself Item)
       (λ w. goes_both Quantifier.Any (Given more) (Taken more) w (items_both more)))
 

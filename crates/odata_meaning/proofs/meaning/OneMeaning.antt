@@ -12,7 +12,7 @@ use Rattle.odata_signatures.specs.LiteralValue.{LiteralValue}
 use Rattle.odata_signatures.specs.declared.function.Function.{Function}
 use Rattle.odata_signatures.specs.OperatorTyped.{NegationTyped, OperatorTyped}
 use Rattle.odata_syntax.specs.declared.binary_operator.BinaryOperator.{BinaryOperator}
-use Rattle.odata_signatures.specs.QuotedNumber.{NumberBeside}
+use Rattle.odata_signatures.specs.QuotedNumber.{ResolvedNumber}
 use Rattle.odata_signatures.specs.Reads.{OfEquality, ReadsNumber}
 use Rattle.odata_signatures.specs.Sides.{Between, quoted_text}
 use Rattle.odata_signatures.specs.Typed.{OperandTyped, OperandsTyped, Typed}
@@ -56,16 +56,16 @@ UnlessRead-one Reads Given Else one each other a b (inr (none, p)) (inl (n, of_n
 UnlessRead-one Reads Given Else one each other a b (inr (none, p)) (inr (also, q)) = other a b p q
 
 -- a text stands for one number of an enumeration at most
-NumberBeside-one : OneEach → (slots : Slots) (type : ExprType) (quoted : Option (List ℕ)) (m n : ℤ) → NumberBeside slots type quoted m → NumberBeside slots type quoted n → m ≡ n
-NumberBeside-one known slots (single (enumeration named)) (Some spelling) m n p q = known.numbers slots named spelling m n p q
-NumberBeside-one known slots (single (enumeration named)) None m n p q = absurd p
-NumberBeside-one known slots _ quoted m n p q = absurd p
+ResolvedNumber-one : OneEach → (slots : Slots) (type : ExprType) (quoted : Option (List ℕ)) (m n : ℤ) → ResolvedNumber slots type quoted m → ResolvedNumber slots type quoted n → m ≡ n
+ResolvedNumber-one known slots (single (enumeration named)) (Some spelling) m n p q = known.numbers slots named spelling m n p q
+ResolvedNumber-one known slots (single (enumeration named)) None m n p q = absurd p
+ResolvedNumber-one known slots _ quoted m n p q = absurd p
 
-ReadsNumber-one : OneEach → (slots : Slots) (Beside : ExprType → Type 0) (tree : Tree) → ((s t : ExprType) → Beside s → Beside t → s ≡ t)
-    → (m n : ℤ) → ReadsNumber slots Beside tree m → ReadsNumber slots Beside tree n → m ≡ n
-ReadsNumber-one known slots Beside tree one m n p q =
-    NumberBeside-one known slots p.type_of (quoted_text tree) m n p.number
-    (subst (λ (t : ExprType). NumberBeside slots t (quoted_text tree) n) (one q.type_of p.type_of q.beside p.beside) q.number)
+ReadsNumber-one : OneEach → (slots : Slots) (OtherSide : ExprType → Type 0) (tree : Tree) → ((s t : ExprType) → OtherSide s → OtherSide t → s ≡ t)
+    → (m n : ℤ) → ReadsNumber slots OtherSide tree m → ReadsNumber slots OtherSide tree n → m ≡ n
+ReadsNumber-one known slots OtherSide tree one m n p q =
+    ResolvedNumber-one known slots p.type_of (quoted_text tree) m n p.number
+    (subst (λ (t : ExprType). ResolvedNumber slots t (quoted_text tree) n) (one q.type_of p.type_of q.beside p.beside) q.number)
 
 SidesGive-one : (known : OneEach) (operator : BinaryOperator) (N : ExprType → Type 0) (Left Right : Outcome → Type 0) → ((s t : ExprType) → N s → N t → s ≡ t) → AtMostOne Left → AtMostOne Right
     → AtMostOne (SidesGive operator N Left Right)

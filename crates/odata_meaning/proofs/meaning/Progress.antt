@@ -20,12 +20,12 @@ use Rattle.odata_functions.specs.declared.arithmetic.ArithFault.{ArithFault}
 use Rattle.odata_functions.specs.declared.arithmetic.ArithFault.TheVariants.{Overflow, DivideByZero}
 use Rattle.odata_syntax.specs.declared.binary_operator.ArithmeticOperator.{ArithmeticOperator}
 use Rattle.odata_syntax.specs.declared.binary_operator.LogicalOperator.{LogicalOperator}
-use Rattle.odata_signatures.specs.CollectionTyped.{IsItemBeside}
+use Rattle.odata_signatures.specs.CollectionTyped.{IsItemFor}
 use Rattle.odata_signatures.specs.ExprTypes.{boolean_type, string_type}
 use Rattle.odata_signatures.specs.LiteralValue.{LiteralTyped, IntTyped}
 use Rattle.odata_signatures.specs.HasTyped.{HasTyped}
 use Rattle.odata_signatures.specs.OperatorTyped.{OperatorByTypes, NotTyped, OperatorTyped}
-use Rattle.odata_signatures.specs.QuotedNumber.{NumberBeside}
+use Rattle.odata_signatures.specs.QuotedNumber.{ResolvedNumber}
 use Rattle.odata_signatures.specs.Reads.{ReadsNumber}
 use Rattle.odata_signatures.specs.Sides.{Between, quoted_text, side_of, sides_of}
 use Rattle.odata_signatures.specs.Typed.{AreTyped, OperandsTyped, Scope, Typed}
@@ -191,7 +191,7 @@ sides_end some promotes slots operator NodeTyped left right type Left Right make
 
 -- a number that is read is a value of its type
 abbrev pub ReadsHave : Slots → Slots → Type 0
-ReadsHave slots held = (type : ExprType) (quoted : Option (List ℕ)) (n : ℤ) → NumberBeside slots type quoted n → HasType held type (member n)
+ReadsHave slots held = (type : ExprType) (quoted : Option (List ℕ)) (n : ℤ) → ResolvedNumber slots type quoted n → HasType held type (member n)
 
 pub binary_ends : (some : SomeEach) (promotes : Promotes) (slots held : Slots) → ReadsHave slots held → (root : List ℕ) (scope : Scope) (operator : BinaryOperator) (left right : Tree) (Left Right : Outcome → Type 0) (type : ExprType)
     → (typed : OperandsTyped (Typed slots root scope left) (Typed slots root scope right) (Between (OperatorTyped slots operator) left right) type)
@@ -261,7 +261,7 @@ flags_ends some slots held reads_have root scope left right Left Right type type
 
 -- each item beside the operand on the left
 item_ends : (some : SomeEach) (slots held : Slots) → ReadsHave slots held → (root : List ℕ) (now : MomentParts) (entity : Val) (environment : Environment) (left : Tree) (s : ExprType) (item : Tree) (t : ExprType)
-    → Typed slots root (scope_of environment) left s → Typed slots root (scope_of environment) item t → IsItemBeside slots s (side_of item t)
+    → Typed slots root (scope_of environment) left s → Typed slots root (scope_of environment) item t → IsItemFor slots s (side_of item t)
     → Ends held t (Means slots root now entity environment item)
     → ItemEnds held s (ItemAlone slots root now entity environment (Typed slots root (scope_of environment) left) item)
 item_ends some slots held reads_have root now entity environment left s item t of_left of_item (inl comparable) ends = (
@@ -288,7 +288,7 @@ item_ends some slots held reads_have root now entity environment left s item t o
 )
 
 pub items_end : (some : SomeEach) (slots held : Slots) → ReadsHave slots held → (root : List ℕ) (now : MomentParts) (entity : Val) (environment : Environment) (left : Tree) (s : ExprType) → Typed slots root (scope_of environment) left s
-    → (items : Trees) (types : List ExprType) → AreTyped slots root (scope_of environment) items types → AllByRecursion (IsItemBeside slots s) (sides_of items types)
+    → (items : Trees) (types : List ExprType) → AreTyped slots root (scope_of environment) items types → AllByRecursion (IsItemFor slots s) (sides_of items types)
     → AllTyped (λ tree t. Ends held t (Means slots root now entity environment tree)) items types
     → AllTrees (λ tree. ItemEnds held s (ItemAlone slots root now entity environment (Typed slots root (scope_of environment) left) tree)) items
 items_end some slots held reads_have root now entity environment left s of_left no_trees types typed are all = tt

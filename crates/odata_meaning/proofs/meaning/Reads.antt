@@ -11,41 +11,41 @@ use Rattle.odata_signatures.specs.ComparableTypes.{AreComparable}
 use Rattle.odata_signatures.specs.ExprTypes.{boolean_type, string_type}
 use Rattle.odata_signatures.specs.HasTyped.{AreFlags}
 use Rattle.odata_signatures.specs.OperatorTyped.{OperatorByTypes, IsEquality}
-use Rattle.odata_signatures.specs.QuotedNumber.{NumberBeside}
+use Rattle.odata_signatures.specs.QuotedNumber.{ResolvedNumber}
 use Rattle.odata_signatures.specs.Reads.{OfEquality, ReadsNumber}
 use Rattle.odata_signatures.specs.Sides.{quoted_text}
 use Rattle.odata_signatures.specs.Typed.{Scope, Typed}
 use Rattle.odata_meaning.specs.private.LawsBelow.{ReadLaws}
 use Rattle.odata_meaning.proofs.meaning.TypeValues.{member_has}
 
--- an enumeration, and a text beside it
+-- an enumeration, and a text that is resolved by it
 pub record IsBeside (type : ExprType) (quoted : Option (List ℕ)) : Type 0 where
   pub name : List ℕ
   pub spelling : List ℕ
   pub type_is : type ≡ single (enumeration name)
   pub quotes : quoted ≡ Some spelling
 
-pub beside : (slots : Slots) (type : ExprType) (quoted : Option (List ℕ)) (n : ℤ) → NumberBeside slots type quoted n → IsBeside type quoted
+pub beside : (slots : Slots) (type : ExprType) (quoted : Option (List ℕ)) (n : ℤ) → ResolvedNumber slots type quoted n → IsBeside type quoted
 beside slots (single (enumeration name)) (Some spelling) n number = record { name = name; spelling = spelling; type_is = refl; quotes = refl }
 beside slots (single (enumeration name)) None n number = absurd number
 beside slots _ quoted n number = absurd number
 
-string_unread : (slots : Slots) (type : ExprType) (quoted : Option (List ℕ)) (n : ℤ) → type ≡ string_type → ¬ NumberBeside slots type quoted n
-string_unread slots type quoted n is number = subst (λ (t : ExprType). NumberBeside slots t quoted n) is number
+string_unread : (slots : Slots) (type : ExprType) (quoted : Option (List ℕ)) (n : ℤ) → type ≡ string_type → ¬ ResolvedNumber slots type quoted n
+string_unread slots type quoted n is number = subst (λ (t : ExprType). ResolvedNumber slots t quoted n) is number
 
 -- the number is a value of the enumeration
-pub read_has : (slots : Slots) (type : ExprType) (quoted : Option (List ℕ)) (n : ℤ) → NumberBeside slots type quoted n → HasType slots type (val.member n)
+pub read_has : (slots : Slots) (type : ExprType) (quoted : Option (List ℕ)) (n : ℤ) → ResolvedNumber slots type quoted n → HasType slots type (val.member n)
 read_has slots (single (enumeration name)) (Some spelling) n number = member_has slots name n number.within
 read_has slots (single (enumeration name)) None n number = absurd number
 read_has slots _ quoted n number = absurd number
 
 -- which is compared with its like
-pub number_comparable : (slots : Slots) (type : ExprType) (quoted : Option (List ℕ)) (n : ℤ) → NumberBeside slots type quoted n → AreComparable type type
+pub number_comparable : (slots : Slots) (type : ExprType) (quoted : Option (List ℕ)) (n : ℤ) → ResolvedNumber slots type quoted n → AreComparable type type
 number_comparable slots (single (enumeration name)) (Some spelling) n number = refl
 number_comparable slots (single (enumeration name)) None n number = absurd number
 number_comparable slots _ quoted n number = absurd number
 
-pub number_flags : (slots : Slots) (type : ExprType) (quoted : Option (List ℕ)) (n : ℤ) → NumberBeside slots type quoted n → AreFlags type type
+pub number_flags : (slots : Slots) (type : ExprType) (quoted : Option (List ℕ)) (n : ℤ) → ResolvedNumber slots type quoted n → AreFlags type type
 number_flags slots (single (enumeration name)) (Some spelling) n number = refl
 number_flags slots (single (enumeration name)) None n number = absurd number
 number_flags slots _ quoted n number = absurd number
@@ -61,7 +61,7 @@ equality_compares (BinaryOperator.Comparison ComparisonOperator.Ne) left right t
 equality_compares _ left right type equality typed = absurd equality
 
 module _ (laws : ReadLaws) (slots : Slots) (root : List ℕ) (scope : Scope) where
-  -- beside its enumeration a text is compared by no type
+  -- a text that is resolved by an enumeration is compared by no type
   pub right_apart : (left right : Tree) (s t : ExprType) (n : ℤ) → Typed slots root scope left s → Typed slots root scope right t
       → ReadsNumber slots (Typed slots root scope left) right n → ¬ AreComparable s t
   right_apart left right s t n of_left of_right reads comparable =
@@ -91,12 +91,12 @@ module _ (laws : ReadLaws) (slots : Slots) (root : List ℕ) (scope : Scope) whe
 
   -- of two sides one is read at most
   pub one_side : (left right : Tree) (s : ExprType) (m n : ℤ) → Typed slots root scope left s
-      → ReadsNumber slots (Typed slots root scope left) right m → NumberBeside slots s (quoted_text right) m
+      → ReadsNumber slots (Typed slots root scope left) right m → ResolvedNumber slots s (quoted_text right) m
   one_side left right s m n of_left reads =
-      subst (λ (u : ExprType). NumberBeside slots u (quoted_text right) m) (laws.types slots root scope left reads.type_of s reads.beside of_left) reads.number
+      subst (λ (u : ExprType). ResolvedNumber slots u (quoted_text right) m) (laws.types slots root scope left reads.type_of s reads.beside of_left) reads.number
 
   pub not_both : (left right : Tree) (s t : ExprType) (m n : ℤ) → Typed slots root scope left s → Typed slots root scope right t
-      → NumberBeside slots t (quoted_text left) n → ¬ ReadsNumber slots (Typed slots root scope left) right m
+      → ResolvedNumber slots t (quoted_text left) n → ¬ ReadsNumber slots (Typed slots root scope left) right m
   not_both left right s t m n of_left of_right number reads =
       let is = beside slots t (quoted_text left) n number in
       let text : s ≡ string_type = laws.quotes slots root scope left is.spelling s is.quotes of_left in
@@ -116,6 +116,6 @@ module _ (laws : ReadLaws) (slots : Slots) (root : List ℕ) (scope : Scope) whe
       (equality_compares operator s t type reads.beside.0 typed)
 
   pub other_unread : (operator : BinaryOperator) (left right : Tree) (s t : ExprType) (n : ℤ) → Typed slots root scope left s → Typed slots root scope right t
-      → NumberBeside slots t (quoted_text left) n → (m : ℤ) → ¬ ReadsNumber slots (OfEquality operator (Typed slots root scope left)) right m
+      → ResolvedNumber slots t (quoted_text left) n → (m : ℤ) → ¬ ReadsNumber slots (OfEquality operator (Typed slots root scope left)) right m
   other_unread operator left right s t n of_left of_right number m reads =
       not_both left right s t m n of_left of_right number (record { type_of = reads.type_of; beside = reads.beside.1; number = reads.number })

@@ -5,7 +5,7 @@ use Rattle.csdl_schema.specs.ExprType.{ExprType}
 use Rattle.csdl_schema.specs.SchemaModel.{Slots}
 use Rattle.odata_syntax.specs.Tree.{Tree}
 use Rattle.odata_syntax.specs.declared.binary_operator.BinaryOperator.{BinaryOperator}
-use Rattle.odata_signatures.specs.QuotedNumber.{NumberBeside}
+use Rattle.odata_signatures.specs.QuotedNumber.{ResolvedNumber}
 use Rattle.odata_signatures.specs.Reads.{OfEquality, ReadsNumber}
 use Rattle.odata_signatures.specs.Sides.{quoted_text}
 use Rattle.odata_signatures.specs.Typed.{OperandTyped, OperandsTyped}
@@ -152,7 +152,7 @@ reads_go : (slots : Slots) (B C : ExprType → Type 0) (tree other : Tree) (n : 
 reads_go slots B C tree other n goes quotes reads = record {
   type_of = reads.type_of;
   beside = goes reads.type_of reads.beside;
-  number = subst (λ (quoted : Option (List ℕ)). NumberBeside slots reads.type_of quoted n) quotes reads.number;
+  number = subst (λ (quoted : Option (List ℕ)). ResolvedNumber slots reads.type_of quoted n) quotes reads.number;
 }
 
 pub reads_both : (slots : Slots) (B C : ExprType → Type 0) (tree other : Tree) → BothTyped B C → quoted_text tree ≡ quoted_text other

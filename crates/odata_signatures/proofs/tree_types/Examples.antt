@@ -64,7 +64,7 @@ named_one a b same = cc
 apart : AreComparable int32 string_type → ⊥
 apart compared = elim compared [ inl numbers ↦ absurd numbers.1 | inr same ↦ (let e : PrimitiveType.Int32 ≡ PrimitiveType.String = same in cc) ]
 
--- by their types, and as no literal beside an enumeration
+-- by their types, and as no enumeration literal without its type
 pub mixed_filter_untyped : MixedFilterUntyped
 mixed_filter_untyped type typed =
     let P : ExprType → Type 0 = λ (t : ExprType). OperatorTyped item_slots (BinaryOperator.Comparison ComparisonOperator.Eq) (quoting None t) (quoting (Some (codes "'a'")) typed.right) type in

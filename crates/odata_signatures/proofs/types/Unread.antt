@@ -5,17 +5,17 @@ use Rattle.csdl_schema.specs.SchemaModel.{Slots}
 use Rattle.odata_syntax.specs.declared.binary_operator.ComparisonOperator.{ComparisonOperator}
 use Rattle.odata_syntax.specs.declared.binary_operator.BinaryOperator.{BinaryOperator}
 use Rattle.odata_signatures.specs.OperatorTyped.{OfOneSide}
-use Rattle.odata_signatures.specs.QuotedNumber.{HasNumber, IsReadBeside}
+use Rattle.odata_signatures.specs.QuotedNumber.{HasNumber, IsResolvedBy}
 use Rattle.odata_signatures.specs.Side.{Side}
 use Rattle.odata_signatures.specs.Unread.{FlagsByTypes, ItemsByTypes, OperandsByTypes, TextsApart}
 
-is_read : (slots : Slots) (type : ExprType) (quoted : Option (List ℕ)) → HasNumber slots type quoted → IsReadBeside type quoted
+is_read : (slots : Slots) (type : ExprType) (quoted : Option (List ℕ)) → HasNumber slots type quoted → IsResolvedBy type quoted
 is_read slots (single (enumeration name)) (Some spelling) has = tt
 is_read slots (single (enumeration name)) None has = absurd has.1
 is_read slots _ quoted has = absurd has.1
 
 one_is_read : (slots : Slots) (operator : BinaryOperator) (left right : Side) → OfOneSide (HasNumber slots) operator left right
-    → OfOneSide IsReadBeside operator left right
+    → OfOneSide IsResolvedBy operator left right
 one_is_read slots operator left right has = (
   has.0,
   elim has.1 [ inl n ↦ inl (is_read slots left.type_of right.quoted n) | inr n ↦ inr (is_read slots right.type_of left.quoted n) ],

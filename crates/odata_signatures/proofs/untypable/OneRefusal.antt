@@ -18,7 +18,7 @@ use Rattle.odata_signatures.specs.declared.refusal.TypeFaultCode.{TypeFaultCode}
 use Rattle.odata_signatures.specs.CallTyped.{CallReason}
 use Rattle.odata_signatures.specs.declared.call.CallFault.{CallFault}
 use Rattle.odata_signatures.specs.ExprTypes.{IsBooleanOrNull}
-use Rattle.odata_signatures.specs.FirstUntypable.{code_of_call, BesideReason, IsFirstUntypable, IsNotBoolean, IsReason, IsTypeFault, LambdaReason, LiteralReason, OperandReason, PathReason, PropertyReason, SidesReason, StepReason}
+use Rattle.odata_signatures.specs.FirstUntypable.{code_of_call, UnresolvedReason, IsFirstUntypable, IsNotBoolean, IsReason, IsTypeFault, LambdaReason, LiteralReason, OperandReason, PathReason, PropertyReason, SidesReason, StepReason}
 use Rattle.odata_signatures.specs.HasTyping.{HasNoTyping, HasTree, HasTypeFault, IsRefusal}
 use Rattle.odata_signatures.specs.Laws.{OneUntypableStart}
 use Rattle.odata_signatures.specs.OperatorTyped.{OfOneSide}
@@ -87,9 +87,9 @@ operand_reason Lacks a b (inl x) (inr y) = absurd (y.0 x.0)
 operand_reason Lacks a b (inr x) (inl y) = absurd (x.0 y.0)
 operand_reason Lacks a b (inr x) (inr y) = x.1 ∙ sym y.1
 
-beside_reason : (Left : ExprType → Type 0) (Lacks : ExprType → Type 0) (a b : TypeFaultCode) → ((s t : ExprType) → Left s → Left t → s ≡ t)
-    → BesideReason Left Lacks a → BesideReason Left Lacks b → a ≡ b
-beside_reason Left Lacks a b one x y =
+unresolved_reason : (Left : ExprType → Type 0) (Lacks : ExprType → Type 0) (a b : TypeFaultCode) → ((s t : ExprType) → Left s → Left t → s ≡ t)
+    → UnresolvedReason Left Lacks a → UnresolvedReason Left Lacks b → a ≡ b
+unresolved_reason Left Lacks a b one x y =
     operand_reason (Lacks x.0) a b x.2 (subst (λ (t : ExprType). OperandReason (Lacks t) b) (one y.0 x.0 y.1 x.1) y.2)
 
 sides_reason : (Left Right : ExprType → Type 0) (Lacks : ExprType → ExprType → Type 0) (a b : TypeFaultCode) → ((s t : ExprType) → Left s → Left t → s ≡ t)
@@ -111,9 +111,9 @@ one_reason known slots root scope (node start stop (binary operator left right))
     sides_reason (Typed slots root scope left) (Typed slots root scope right) (λ l r. OfOneSide (LacksNumber slots) operator (side_of left l) (side_of right r)) a b
     (Typed-one known.call_type slots root scope left) (Typed-one known.call_type slots root scope right) x y
 one_reason known slots root scope (node start stop (has left right)) a b x y =
-    beside_reason (Typed slots root scope left) (λ l. LacksNumber slots l (quoted_text right)) a b (Typed-one known.call_type slots root scope left) x y
+    unresolved_reason (Typed slots root scope left) (λ l. LacksNumber slots l (quoted_text right)) a b (Typed-one known.call_type slots root scope left) x y
 one_reason known slots root scope (node start stop (in_list left items)) a b x y =
-    beside_reason (Typed slots root scope left) (λ l. OneLacksNumber slots l items) a b (Typed-one known.call_type slots root scope left) x y
+    unresolved_reason (Typed slots root scope left) (λ l. OneLacksNumber slots l items) a b (Typed-one known.call_type slots root scope left) x y
 one_reason known slots root scope (node start stop (in_path left path)) a b x y =
     let same : y.0 ≡ x.0 = Typed-one known.call_type slots root scope path y.0 x.0 y.1 x.1 in
     path_reason x.0 a b x.2 (subst (λ (t : ExprType). PathReason t b) same y.2)

@@ -3,12 +3,12 @@ use Rattle.std.proofs.Common.{inl, inr}
 use Rattle.csdl_schema.specs.SchemaModel.{Slots}
 use Rattle.odata_syntax.specs.declared.binary_operator.BinaryOperator.{BinaryOperator}
 use Rattle.odata_signatures.specs.OperatorTyped.{OfOneSide}
-use Rattle.odata_signatures.specs.QuotedNumber.{IsReadBeside, LacksNumber}
+use Rattle.odata_signatures.specs.QuotedNumber.{IsResolvedBy, LacksNumber}
 use Rattle.odata_signatures.specs.Side.{Side}
 use Rattle.odata_signatures.specs.Laws.{UnreadReason}
 
 one_is_read : (slots : Slots) (operator : BinaryOperator) (left right : Side) → OfOneSide (LacksNumber slots) operator left right
-    → OfOneSide IsReadBeside operator left right
+    → OfOneSide IsResolvedBy operator left right
 one_is_read slots operator left right lacks =
     (lacks.0, elim lacks.1 [ inl one ↦ inl one.read | inr one ↦ inr one.read ])
 

@@ -18,7 +18,7 @@ mutual
         → AreNested (start_of tree) (stop_of tree) (children_of (shape_of tree))
         → IsNested tree
 
-  -- trees one after another between two places
+  -- trees one after another between two offsets
   data AreNested : ℕ → ℕ → List Tree → Type 0 where
     no_more : {from to : ℕ} → from ≤ to → AreNested from to []
     one_more :
@@ -34,14 +34,14 @@ nested_solid (nested solid inner) = solid
 nested_children : {tree : Tree} → IsNested tree → AreNested (start_of tree) (stop_of tree) (children_of (shape_of tree))
 nested_children (nested solid inner) = inner
 
--- so they do between wider places
+-- so they do between wider offsets
 wider : {from to : ℕ} {trees : List Tree} → AreNested from to trees → (before behind : ℕ) → before ≤ from → to ≤ behind → AreNested before behind trees
 wider (no_more le) before behind h k = no_more (omega arith)
 wider (one_more {tree = tree} le n more) before behind h k = one_more (omega arith) n (wider more (stop_of tree) behind (omega arith) k)
 
 -- Derived trees.
 
--- a tree between two places
+-- a tree between two offsets
 record Nests (from to : ℕ) (tree : Tree) : Type 0 where
   starts : from ≤ start_of tree
   stops : stop_of tree ≤ to
@@ -155,7 +155,7 @@ enclosed_nests from to first last rs tree trees h r starts stops children =
       inner = subst (λ (k : List Tree). AreNested (start_of tree) (stop_of tree) k) (sym children) placed;
     }
 
--- the children of a tree that is nested between two places
+-- the children of a tree that is nested between two offsets
 inner_nested : (a b : ℕ) (tree : Tree) → Nests a b tree → AreNested a b (children_of (shape_of tree))
 inner_nested a b tree n = wider n.inner a b n.starts n.stops
 

@@ -283,7 +283,7 @@ stays needed own P k tight h = subst (λ b. Grouped b P k) (sym (no_lower own ne
 stood : (needed own : Level) (P : ℕ → Type 0) (k : ℕ) → needed ≤ own → Placed needed own P k → P k
 stood needed own P k tight h = subst (λ b. Grouped b P k) (no_lower own needed tight) h
 
--- what fits a tighter place fits a looser one
+-- what fits a tighter position fits a looser one
 placed_looser : (level : Level) (tree : Tree) (k : ℕ) → Placed (suc level) (tree_level tree) (λ j. FitTree tree j) k → Placed level (tree_level tree) (λ j. FitTree tree j) k
 placed_looser level tree k h = by (nat_lt (tree_level tree) level) (nat_lt (tree_level tree) (suc level)) refl refl h
   where
@@ -299,7 +299,7 @@ placed_looser level tree k h = by (nat_lt (tree_level tree) level) (nat_lt (tree
     by false true a_is b_is g = out k g
     by false false a_is b_is g = g
 
--- parentheses round a whole expression are those that its place may need
+-- parentheses round a whole expression are those that its position may need
 regrouped : (tree : Tree) (k : ℕ) → Behind (λ j. Placed or_level (tree_level tree) (λ i. FitTree tree i) j) k → Placed base_level (shape_level (shape_of tree)) (λ j. FitShape (shape_of tree) j) k
 regrouped tree zero h = absurd h
 regrouped (node start stop shape) (suc j) h = by (nat_lt (shape_level shape) base_level) (stood or_level (shape_level shape) (λ i. FitShape shape i) j (some_level (node start stop shape)) h)

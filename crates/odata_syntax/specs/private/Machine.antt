@@ -19,7 +19,7 @@ use Rattle.odata_syntax.specs.Grammar.{Level, or_level, unary_level, primary_lev
 -- What waits.
 
 -- an operation that waits for its last operand: an operator, `has` or `in` with the operand before it, or a sign by its
--- place
+-- offset
 pub data Operation : Type 0 where
   binary_behind : BinaryOperator → Tree → Operation
   has_behind : Tree → Operation

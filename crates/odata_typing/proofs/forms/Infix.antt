@@ -9,7 +9,7 @@ use Rattle.odata_signatures.specs.Reads.{OfEquality}
 use Rattle.odata_signatures.specs.Sides.{Between}
 use Rattle.odata_signatures.specs.Typed.{OperandsTyped, Scope, Typed}
 use Rattle.odata_checked_filter.specs.FlatTree.{FlatTree}
-use Rattle.odata_checked_filter.specs.Stands.{BesideStands, ChildrenStand, HasOwnValue, IsKindOf, Stands, text_of_shape}
+use Rattle.odata_checked_filter.specs.Stands.{ResolvedStands, ChildrenStand, HasOwnValue, IsKindOf, Stands, text_of_shape}
 use Rattle.odata_checked_filter.specs.declared.checked_node.NodeKind.{NodeKind}
 use Rattle.odata_typing.specs.private.Forms.{InfixTyped, IsInfix, infix_shape}
 
@@ -79,12 +79,12 @@ module _ (schema : SchemaModel) (n : ℕ) (scope : Scope) (list : FlatTree) wher
 
   -- what stands for the left operand and for the right one
   abbrev pub LeftStands : NodeKind → Tree → Tree → ℕ → ℕ → Type 0
-  LeftStands (NodeKind.Binary operator) left right i j = BesideStands schema n scope list (OfEquality operator (OfType right)) left (λ a b. Alone left a b) i j
+  LeftStands (NodeKind.Binary operator) left right i j = ResolvedStands schema n scope list (OfEquality operator (OfType right)) left (λ a b. Alone left a b) i j
   LeftStands _ left right i j = Alone left i j
 
   abbrev pub RightStands : NodeKind → Tree → Tree → ℕ → ℕ → Type 0
-  RightStands (NodeKind.Binary operator) left right i j = BesideStands schema n scope list (OfEquality operator (OfType left)) right (λ a b. Alone right a b) i j
-  RightStands NodeKind.Has left right i j = BesideStands schema n scope list (OfType left) right (λ a b. Alone right a b) i j
+  RightStands (NodeKind.Binary operator) left right i j = ResolvedStands schema n scope list (OfEquality operator (OfType left)) right (λ a b. Alone right a b) i j
+  RightStands NodeKind.Has left right i j = ResolvedStands schema n scope list (OfType left) right (λ a b. Alone right a b) i j
   RightStands _ left right i j = Alone right i j
 
   pub infix_stands :

@@ -5,7 +5,7 @@ use Rattle.odata_syntax.specs.Tree.{Tree}
 use Rattle.odata_syntax.specs.declared.binary_operator.BinaryOperator.{BinaryOperator}
 use Rattle.csdl_schema.specs.ExprType.{ExprType}
 use Rattle.csdl_schema.specs.SchemaModel.{SchemaModel}
-use Rattle.odata_signatures.specs.QuotedNumber.{IsReadBeside, LacksNumber, NumberBeside}
+use Rattle.odata_signatures.specs.QuotedNumber.{IsResolvedBy, LacksNumber, ResolvedNumber}
 use Rattle.odata_signatures.specs.Side.{Side, quoting}
 use Rattle.odata_signatures.specs.TypeThere.{IsTypeThere}
 use Rattle.odata_signatures.specs.TypeView.{expr_type}
@@ -35,9 +35,9 @@ use Rattle.odata_typing.proofs.flat.Closing.{more_within, put_changed, refused_t
 use Rattle.odata_typing.proofs.flat.Idle.{idle_between}
 use Rattle.odata_typing.proofs.flat.Kept.{IsOnward, kept_wider, same_more}
 use Rattle.odata_typing.proofs.forms.Infix.{LeftStands, RightStands, infix_kind, infix_stands, infix_text, infix_typed, infix_valued}
-use Rattle.odata_typing.proofs.beside.Given.{number_changes, number_given}
-use Rattle.odata_typing.proofs.beside.Infixes.{flags_unread, left_alone, left_read_typed, left_unread, right_alone, right_read_typed, right_unread, typed_types, types_typed, unknown_reason, unknown_untyped, unread_reason}
-use Rattle.odata_typing.proofs.beside.Numbers.{is_read, reading}
+use Rattle.odata_typing.proofs.resolved_operands.Given.{number_changes, number_given}
+use Rattle.odata_typing.proofs.resolved_operands.Infixes.{flags_unread, left_alone, left_read_typed, left_unread, right_alone, right_read_typed, right_unread, typed_types, types_typed, unknown_reason, unknown_untyped, unread_reason}
+use Rattle.odata_typing.proofs.resolved_operands.Numbers.{is_read, reading}
 use Rattle.odata_typing.proofs.placed.Quoted.{quoted_standing}
 use Rattle.odata_typing.proofs.untypable.Operands.{refused_between}
 
@@ -108,14 +108,14 @@ module _ (laws : LawsBelow) (context : CheckContext) (judged : Judged) (old new 
       (refused_between laws (slots_in context) (root_in context) (scope_of context) judged.node.now.span form l r left_type right_type code between two.left.typed two.right.typed none reason)
 
   -- what stands for an operand by itself, where neither is read
-  left_by_itself : (kind : NodeKind) → ¬ OneIsRead IsReadBeside kind (side_of l left_type) (side_of r right_type)
+  left_by_itself : (kind : NodeKind) → ¬ OneIsRead IsResolvedBy kind (side_of l left_type) (side_of r right_type)
       → Stands context.schema.now context.filtered_type (scope_of context) old.list (judged.number + 1) two.middle l
       → LeftStands context.schema.now context.filtered_type (scope_of context) old.list kind l r (judged.number + 1) two.middle
   left_by_itself (NodeKind.Binary operator) unread stands =
       inr (left_unread laws (slots_in context) (root_in context) (scope_of context) l r left_type right_type two.left.typed two.right.typed operator unread, stands)
   left_by_itself _ unread stands = stands
 
-  right_by_itself : (kind : NodeKind) → ¬ OneIsRead IsReadBeside kind (side_of l left_type) (side_of r right_type)
+  right_by_itself : (kind : NodeKind) → ¬ OneIsRead IsResolvedBy kind (side_of l left_type) (side_of r right_type)
       → Stands context.schema.now context.filtered_type (scope_of context) old.list two.middle judged.stop r
       → RightStands context.schema.now context.filtered_type (scope_of context) old.list kind l r two.middle judged.stop
   right_by_itself (NodeKind.Binary operator) unread stands =
@@ -127,7 +127,7 @@ module _ (laws : LawsBelow) (context : CheckContext) (judged : Judged) (old new 
   -- neither is read, so that the types alone count
   pub judged_between :
       (made : Option EdmType) (code : TypeFaultCode)
-      → ¬ OneIsRead IsReadBeside form (side_of l left_type) (side_of r right_type)
+      → ¬ OneIsRead IsResolvedBy form (side_of l left_type) (side_of r right_type)
       → InfixReason form right_type code
       → IfSome made (λ type. InfixByTypes form left_type right_type (expr_type context.schema.now type))
       → IfSome made (IsTypeThere context.schema.now)
@@ -162,13 +162,13 @@ module _ (laws : LawsBelow) (context : CheckContext) (judged : Judged) (old new 
       navigates = λ idle. idle;
     })
 
-    right_beside : (operand : ExprType) → NumberBeside (slots_in context) operand (quoted_text r) number
+    right_beside : (operand : ExprType) → ResolvedNumber (slots_in context) operand (quoted_text r) number
         → NumberStands context.schema.now context.filtered_type (scope_of context) (number_put old.list two.middle two.right.found number) number two.middle judged.stop r
     right_beside operand beside =
         let is = reading operand (quoted_text r) (is_read (slots_in context) operand (quoted_text r) number beside) in
         number_given context.schema.now context.filtered_type (scope_of context) old.list two.middle judged.stop r two.right.found is.spelling number is.quotes two.right.at two.right.stands
 
-    left_beside : (operand : ExprType) → NumberBeside (slots_in context) operand (quoted_text l) number
+    left_beside : (operand : ExprType) → ResolvedNumber (slots_in context) operand (quoted_text l) number
         → NumberStands context.schema.now context.filtered_type (scope_of context) (number_put old.list (judged.number + 1) two.left.found number) number (judged.number + 1) two.middle l
     left_beside operand beside =
         let is = reading operand (quoted_text l) (is_read (slots_in context) operand (quoted_text l) number beside) in
@@ -335,7 +335,7 @@ pub operator_unread :
     (ready : IsNodeReady context old judged) (two : AreTwo context old judged l r) (left right : EdmType) (made : Option EdmType)
     → left ≡ two.left.found.edm_type
     → right ≡ two.right.found.edm_type
-    → ((a b : Option (List ℕ)) → ¬ OneIsRead IsReadBeside (NodeKind.Binary operator) (quoting a (expr_type context.schema.now left)) (quoting b (expr_type context.schema.now right)))
+    → ((a b : Option (List ℕ)) → ¬ OneIsRead IsResolvedBy (NodeKind.Binary operator) (quoting a (expr_type context.schema.now left)) (quoting b (expr_type context.schema.now right)))
     → IfSome made (λ type. InfixByTypes (NodeKind.Binary operator) (expr_type context.schema.now left) (expr_type context.schema.now right) (expr_type context.schema.now type))
     → IfSome made (IsTypeThere context.schema.now)
     → IfNone made ((type : ExprType) → ¬ InfixByTypes (NodeKind.Binary operator) (expr_type context.schema.now left) (expr_type context.schema.now right) type)
@@ -348,8 +348,8 @@ operator_unread laws context judged old new operator l r result ready two left r
     let schema = context.schema.now in
     let form : NodeKind = NodeKind.Binary operator in
     judged_between laws context judged old new form l r result tt ready two made TypeFaultCode.OperandTypes
-    (subst (λ (t : EdmType). ¬ OneIsRead IsReadBeside form (side_of l (expr_type schema two.left.found.edm_type)) (side_of r (expr_type schema t))) same_right
-    (subst (λ (t : EdmType). ¬ OneIsRead IsReadBeside form (side_of l (expr_type schema t)) (side_of r (expr_type schema right))) same_left (unread (quoted_text l) (quoted_text r))))
+    (subst (λ (t : EdmType). ¬ OneIsRead IsResolvedBy form (side_of l (expr_type schema two.left.found.edm_type)) (side_of r (expr_type schema t))) same_right
+    (subst (λ (t : EdmType). ¬ OneIsRead IsResolvedBy form (side_of l (expr_type schema t)) (side_of r (expr_type schema right))) same_left (unread (quoted_text l) (quoted_text r))))
     refl
     (subst (λ (t : EdmType). IfSome made (λ type. InfixByTypes form (expr_type schema two.left.found.edm_type) (expr_type schema t) (expr_type schema type))) same_right
     (subst (λ (t : EdmType). IfSome made (λ type. InfixByTypes form (expr_type schema t) (expr_type schema right) (expr_type schema type))) same_left typed))

@@ -2,7 +2,7 @@
 use Rattle.std.proofs.Common.{◌≡◌, ◌∙◌, refl, sym, ap, subst, inr, ℕ, ◌<◌, ◌≤◌, ◌+◌, List, [], ◌∷◌, ◌++◌, Option, Some, slice_get, arith}
 use Rattle.csdl_schema.specs.ExprType.{ExprType}
 use Rattle.csdl_schema.specs.SchemaModel.{SchemaModel, Slots}
-use Rattle.odata_signatures.specs.CollectionTyped.{IsItemBeside}
+use Rattle.odata_signatures.specs.CollectionTyped.{IsItemFor}
 use Rattle.odata_signatures.specs.ComparableTypes.{AreComparable}
 use Rattle.odata_signatures.specs.Side.{Side, quoting}
 use Rattle.odata_signatures.specs.TypeView.{expr_type}
@@ -11,9 +11,9 @@ use Rattle.odata_checked_filter.specs.FlatTree.{FlatTree}
 use Rattle.odata_checked_filter.specs.ListChanges.{IsKeptOutside}
 use Rattle.odata_typing.specs.declared.in_list.ItemsFit.{ItemsFit}
 use Rattle.odata_typing.specs.declared.judged_list.Walk.{Walk}
-use Rattle.odata_typing.specs.private.Items.{AllBeside, AreItemsFit, AreItemsPut, IsItemPut, IsUnreadLeft, worse_fit}
+use Rattle.odata_typing.specs.private.Items.{AllItemsFor, AreItemsFit, AreItemsPut, IsItemPut, IsUnreadLeft, worse_fit}
 use Rattle.odata_typing.specs.private.Rows.{AreInRow, AreTypesThere, quoted_beside, quoted_in, row_sides}
-use Rattle.odata_typing.proofs.beside.Items.{fit_more, read_more, unread_fit, unread_refused}
+use Rattle.odata_typing.proofs.resolved_operands.Items.{fit_more, read_more, unread_fit, unread_refused}
 use Rattle.odata_typing.proofs.flat.Kept.{kept_on, kept_wider, same_kept}
 use Rattle.odata_typing.proofs.placed.Loops.{IsNext, IsSeen, next_of, seen_all, seen_more, sides_more, types_next}
 use Rattle.odata_typing.proofs.placed.Rows.{one_row, row_onward}
@@ -145,16 +145,16 @@ module _ (slots : Slots) (schema : SchemaModel) (left : ExprType) (list : FlatTr
       → FitSoFar slots schema left list first place last
       → last ≤ place
       → AreInRow list.nodes row first last
-      → AllBeside slots left (row_sides schema list first row)
+      → AllItemsFor slots left (row_sides schema list first row)
   fit_all place row so_far past are =
-      subst (λ (seen : List CheckedNode). AllBeside slots left (row_sides schema list first seen))
+      subst (λ (seen : List CheckedNode). AllItemsFor slots left (row_sides schema list first seen))
       (seen_all list.nodes so_far.seen so_far.rest row first place last so_far.is past are) so_far.fits.0
 
   -- the rest of the sides of a row, after those seen
   sides_split : (seen more : List CheckedNode) (found : CheckedNode) (from place : ℕ) → AreInRow list.nodes seen from place
-      → AllBeside slots left (row_sides schema list from (seen ++ found ∷ more)) → AllBeside slots left (quoting (quoted_in list place found) (expr_type schema found.edm_type) ∷ [])
+      → AllItemsFor slots left (row_sides schema list from (seen ++ found ∷ more)) → AllItemsFor slots left (quoting (quoted_in list place found) (expr_type schema found.edm_type) ∷ [])
   sides_split [] more found from place are all =
-      (subst (λ (k : ℕ). IsItemBeside slots left (quoting (quoted_in list k found) (expr_type schema found.edm_type))) are all.0, tt)
+      (subst (λ (k : ℕ). IsItemFor slots left (quoting (quoted_in list k found) (expr_type schema found.edm_type))) are all.0, tt)
   sides_split (s ∷ seen) more found from place are all = sides_split seen more found s.stop place are.2 all.1
 
   join_row : (seen more : List CheckedNode) (found : CheckedNode) (from place : ℕ) → AreInRow list.nodes seen from place → AreInRow list.nodes (found ∷ more) place last → AreInRow list.nodes (seen ++ found ∷ more) from last
@@ -167,7 +167,7 @@ module _ (slots : Slots) (schema : SchemaModel) (left : ExprType) (list : FlatTr
       → IsUnreadLeft left
       → ¬ AreComparable left (expr_type schema next.found.edm_type)
       → AreInRow list.nodes row first last
-      → ¬ AllBeside slots left (row_sides schema list first row)
+      → ¬ AllItemsFor slots left (row_sides schema list first row)
   fit_not place row so_far next unread differ are all =
       let side : Side = quoting (quoted_in list place next.found) (expr_type schema next.found.edm_type) in
       let whole : AreInRow list.nodes (so_far.seen ++ next.found ∷ next.more) first last =
@@ -175,4 +175,4 @@ module _ (slots : Slots) (schema : SchemaModel) (left : ExprType) (list : FlatTr
       let same : row ≡ so_far.seen ++ next.found ∷ next.more = one_row list.nodes row (so_far.seen ++ next.found ∷ next.more) first last are whole in
       (unread_refused slots left side (unread side.quoted) differ).0
       (sides_split so_far.seen next.more next.found first place so_far.is.before
-      (subst (λ (r : List CheckedNode). AllBeside slots left (row_sides schema list first r)) same all))
+      (subst (λ (r : List CheckedNode). AllItemsFor slots left (row_sides schema list first r)) same all))

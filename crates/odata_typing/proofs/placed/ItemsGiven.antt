@@ -3,7 +3,7 @@ use Rattle.std.proofs.Common.{◌≡◌, ◌∙◌, sym, ap, subst, inl, inr, �
 use Rattle.odata_syntax.specs.Tree.{Tree, trees_of_list}
 use Rattle.csdl_schema.specs.ExprType.{ExprType}
 use Rattle.csdl_schema.specs.SchemaModel.{SchemaModel, slots_of, type_name_at}
-use Rattle.odata_signatures.specs.QuotedNumber.{IsReadBeside, NumberBeside}
+use Rattle.odata_signatures.specs.QuotedNumber.{IsResolvedBy, ResolvedNumber}
 use Rattle.odata_signatures.specs.Side.{Side, quoting}
 use Rattle.odata_signatures.specs.TypeView.{expr_type}
 use Rattle.odata_signatures.specs.Sides.{quoted_text}
@@ -11,14 +11,14 @@ use Rattle.odata_signatures.specs.Typed.{Scope, Typed}
 use Rattle.odata_checked_filter.specs.declared.checked_node.CheckedNode.{CheckedNode}
 use Rattle.odata_checked_filter.specs.FlatTree.{FlatTree}
 use Rattle.odata_checked_filter.specs.ListChanges.{IsKeptOutside}
-use Rattle.odata_checked_filter.specs.Stands.{AllStand, BesideStands, ItemsStand, NumberStands, Stands}
+use Rattle.odata_checked_filter.specs.Stands.{AllStand, ResolvedStands, ItemsStand, NumberStands, Stands}
 use Rattle.odata_typing.specs.declared.judged_list.Walk.{Walk}
 use Rattle.odata_typing.specs.private.Items.{AreItemsRead, IsItemRead, IsUnreadLeft}
 use Rattle.odata_typing.specs.private.Judging.{IsStanding, StandInRow}
 use Rattle.odata_typing.specs.private.LawsBelow.{LawsBelow}
 use Rattle.odata_typing.specs.private.Rows.{AreInRow, quoted_in}
-use Rattle.odata_typing.proofs.beside.Given.{number_changes, number_given, number_kept}
-use Rattle.odata_typing.proofs.beside.Numbers.{is_read, reading, reads_none}
+use Rattle.odata_typing.proofs.resolved_operands.Given.{number_changes, number_given, number_kept}
+use Rattle.odata_typing.proofs.resolved_operands.Numbers.{is_read, reading, reads_none}
 use Rattle.odata_typing.proofs.flat.Kept.{IsOnward, kept_on, kept_wider, same_kept, standing_kept}
 use Rattle.odata_typing.proofs.placed.Quoted.{quoted_standing}
 use Rattle.odata_typing.proofs.placed.Rows.{row_onward}
@@ -50,19 +50,19 @@ nodes_after i j from to old new (found ∷ row) kept after are =
 
 module _ (laws : LawsBelow) (schema : SchemaModel) (n : ℕ) (scope : Scope) (l : Tree) (left : ExprType)
     (left_typed : Typed (slots_of schema) (type_name_at schema n) scope l left) where
-  abbrev BesideLeft : ExprType → Type 0
-  BesideLeft = Typed (slots_of schema) (type_name_at schema n) scope l
+  abbrev ResolvedLeft : ExprType → Type 0
+  ResolvedLeft = Typed (slots_of schema) (type_name_at schema n) scope l
 
-  one_left : (t : ExprType) → BesideLeft t → t ≡ left
+  one_left : (t : ExprType) → ResolvedLeft t → t ≡ left
   one_left t typed = laws.one_type (slots_of schema) (type_name_at schema n) scope l t left typed left_typed
 
-  -- after an operand beside which nothing is read, each by itself
+  -- after an operand that resolves nothing, each by itself
   pub items_alone : (list : FlatTree) (i j : ℕ) (trees : List Tree) → IsUnreadLeft left → AllStand schema n scope list i j (trees_of_list trees)
-      → ItemsStand schema n scope list BesideLeft i j (trees_of_list trees)
+      → ItemsStand schema n scope list ResolvedLeft i j (trees_of_list trees)
   items_alone list i j [] unread stand = stand
   items_alone list i j (tree ∷ trees) unread stand = record {
     middle = stand.middle;
-    left = inr (reads_none (slots_of schema) BesideLeft left tree one_left (unread (quoted_text tree)), stand.left);
+    left = inr (reads_none (slots_of schema) ResolvedLeft left tree one_left (unread (quoted_text tree)), stand.left);
     right = items_alone list stand.middle j trees unread stand.right;
   }
 
@@ -77,9 +77,9 @@ module _ (laws : LawsBelow) (schema : SchemaModel) (n : ℕ) (scope : Scope) (l 
       → quoted ≡ quoted_text tree
       → IsItemRead (slots_of schema) left (quoting quoted type) walk.list i found mid
       → IsKeptOutside m j mid new
-      → BesideStands schema n scope new BesideLeft tree (λ a b. Stands schema n scope new a b tree) i m
+      → ResolvedStands schema n scope new ResolvedLeft tree (λ a b. Stands schema n scope new a b tree) i m
   one_stands walk mid new i m j tree found quoted type first at quotes (inl read) kept =
-      let number : NumberBeside (slots_of schema) left (quoted_text tree) read.0 = subst (λ (q : Option (List ℕ)). NumberBeside (slots_of schema) left q read.0) quotes read.1 in
+      let number : ResolvedNumber (slots_of schema) left (quoted_text tree) read.0 = subst (λ (q : Option (List ℕ)). ResolvedNumber (slots_of schema) left q read.0) quotes read.1 in
       let is = reading left (quoted_text tree) (is_read (slots_of schema) left (quoted_text tree) read.0 number) in
       let given = number_given schema n scope walk.list i m tree found is.spelling read.0 is.quotes at first.stands in
       inl (
@@ -90,7 +90,7 @@ module _ (laws : LawsBelow) (schema : SchemaModel) (n : ℕ) (scope : Scope) (l 
   one_stands walk mid new i m j tree found quoted type first at quotes (inr none) kept =
       let there = subst (λ (list : FlatTree). Stands schema n scope list i m tree) (sym none.1) first.stands in
       inr (
-        reads_none (slots_of schema) BesideLeft left tree one_left (subst (λ (q : Option (List ℕ)). ¬ IsReadBeside left q) quotes none.0),
+        reads_none (slots_of schema) ResolvedLeft left tree one_left (subst (λ (q : Option (List ℕ)). ¬ IsResolvedBy left q) quotes none.0),
         laws.kept schema n scope mid new m j i m tree kept (inl (omega arith)) there,
       )
 
@@ -105,7 +105,7 @@ module _ (laws : LawsBelow) (schema : SchemaModel) (n : ℕ) (scope : Scope) (l 
       → StandInRow schema n scope walk trees i j
       → AreInRow walk.list.nodes row i j
       → AreItemsRead (slots_of schema) schema left walk.list i row new
-      → ItemsStand schema n scope new BesideLeft i j (trees_of_list trees) × IsKeptOutside i j walk.list new
+      → ItemsStand schema n scope new ResolvedLeft i j (trees_of_list trees) × IsKeptOutside i j walk.list new
   items_given walk new i j [] [] stand row read = (stand, subst (λ (list : FlatTree). IsKeptOutside i j walk.list list) (sym read) (same_kept i j walk.list))
   items_given walk new i j [] (found ∷ more) stand row read =
       let same : i ≡ j = stand in

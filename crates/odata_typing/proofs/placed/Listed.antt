@@ -19,7 +19,7 @@ use Rattle.odata_typing.specs.declared.in_list.ItemsFit.{ItemsFit}
 use Rattle.odata_typing.specs.declared.check_context.Judged.{Judged}
 use Rattle.odata_typing.specs.declared.check_context.CheckContext.{CheckContext}
 use Rattle.odata_typing.specs.declared.judged_list.Walk.{Walk}
-use Rattle.odata_typing.specs.private.Items.{AllBeside, AreItemsFit, AreItemsPut, AreListFit, IsUnreadLeft, OneLacks}
+use Rattle.odata_typing.specs.private.Items.{AllItemsFor, AreItemsFit, AreItemsPut, AreListFit, IsUnreadLeft, OneLacks}
 use Rattle.odata_typing.specs.private.Judging.{AreChildren, IsNodeJudged, IsStanding, StandInRow}
 use Rattle.odata_typing.specs.private.LawsBelow.{LawsBelow}
 use Rattle.odata_typing.specs.private.Rows.{AreInRow, AreTypesThere, row_sides}
@@ -29,7 +29,7 @@ use Rattle.odata_typing.specs.private.Walks.{list_put, truth_type, walk_put, wal
 use Rattle.odata_typing.proofs.flat.Closing.{more_within, put_changed, refused_tree, root_in, slots_in, unjudged}
 use Rattle.odata_typing.proofs.flat.Idle.{idle_list}
 use Rattle.odata_typing.proofs.flat.Kept.{IsOnward, kept_wider, same_more}
-use Rattle.odata_typing.proofs.beside.Items.{lacks_one, numbered_typed, one_lacks, unknown_untyped, unread_lacks_none}
+use Rattle.odata_typing.proofs.resolved_operands.Items.{lacks_one, numbered_typed, one_lacks, unknown_untyped, unread_lacks_none}
 use Rattle.odata_typing.proofs.placed.ItemsGiven.{items_alone, items_given}
 use Rattle.odata_typing.proofs.placed.Rows.{IsRowOf, row_of, types_of}
 use Rattle.odata_typing.proofs.untypable.Several.{refused_items}
@@ -101,13 +101,13 @@ module _ (laws : LawsBelow) (context : CheckContext) (judged : Judged) (old new 
       → new ≡ list_put old judged fit
       → IsNodeJudged context judged (in_list l (trees_of_list items)) old new result
   judged_unnumbered ItemsFit.All unread fits goes_on is =
-      let beside : AllBeside (slots_in context) left_type (sides_of (trees_of_list items) item_types) = subst (λ (sides : List Side). AllBeside (slots_in context) left_type sides) list.is.sides fits.1 in
+      let beside : AllItemsFor (slots_in context) left_type (sides_of (trees_of_list items) item_types) = subst (λ (sides : List Side). AllItemsFor (slots_in context) left_type sides) list.is.sides fits.1 in
       put_items old (more_within judged.number judged.stop old old (same_more old)) ready.ready.fresh (goes_on.1 refl) is list.left.stands
       (items_alone laws context.schema.now context.filtered_type (scope_of context) l left_type list.left.typed old.list list.middle judged.stop items unread list.is.stand)
       (fits.0, beside, refl)
   judged_unnumbered ItemsFit.Refused unread fits goes_on is =
       refuse_items old TypeFaultCode.OperandTypes (stops_else result _ goes_on (λ same. cc)) is
-      (λ type makes. fits (makes.0, subst (λ (sides : List Side). AllBeside (slots_in context) left_type sides) (sym list.is.sides) makes.1))
+      (λ type makes. fits (makes.0, subst (λ (sides : List Side). AllItemsFor (slots_in context) left_type sides) (sym list.is.sides) makes.1))
       (inr (unread_lacks_none (slots_in context) left_type items unread, refl))
   judged_unnumbered ItemsFit.Unknown unread fits goes_on is = absurd fits
   judged_unnumbered ItemsFit.OutOfMemory unread fits goes_on is = absurd fits
@@ -127,7 +127,7 @@ module _ (laws : LawsBelow) (context : CheckContext) (judged : Judged) (old new 
       let n = context.filtered_type in
       let scope = scope_of context in
       let slots = slots_in context in
-      let beside : AllBeside slots left_type (sides_of (trees_of_list items) item_types) = subst (λ (sides : List Side). AllBeside slots left_type sides) list.is.sides fits.0 in
+      let beside : AllItemsFor slots left_type (sides_of (trees_of_list items) item_types) = subst (λ (sides : List Side). AllItemsFor slots left_type sides) list.is.sides fits.0 in
       let given = items_given laws schema n scope l left_type list.left.typed old mid.list list.middle judged.stop items list.row list.stand list.is.in_row puts in
       let order : judged.number + 1 < list.middle = list.left.order in
       put_items mid
@@ -142,7 +142,7 @@ module _ (laws : LawsBelow) (context : CheckContext) (judged : Judged) (old new 
   judged_numbered mid ItemsFit.Refused single fits puts same goes_on is =
       let slots = slots_in context in
       refuse_items mid TypeFaultCode.OperandTypes (stops_else result _ goes_on (λ same. cc)) is
-      (λ type makes. fits.0 (subst (λ (sides : List Side). AllBeside slots left_type sides) (sym list.is.sides) makes.1))
+      (λ type makes. fits.0 (subst (λ (sides : List Side). AllItemsFor slots left_type sides) (sym list.is.sides) makes.1))
       (inr ((λ lacks. fits.1 (subst (λ (sides : List Side). OneLacks slots left_type sides) (sym list.is.sides) (lacks_one slots (root_in context) (scope_of context) left_type items item_types list.is.typed lacks))), refl))
   judged_numbered mid ItemsFit.Unknown single fits puts same goes_on is =
       let slots = slots_in context in

@@ -12,16 +12,16 @@ use Rattle.odata_checked_filter.specs.Stands.{IsKindOf, IsLiteralNode, Stands, t
 use Rattle.odata_typing.specs.private.Rows.{quoted_beside, quoted_in}
 
 -- of a literal's kind it goes by that
-beside_literal : (kind : LiteralKind) (place start stop : ℕ) (spelling : List ℕ) (text : Option (List ℕ)) → text ≡ Some spelling
+resolved_literal : (kind : LiteralKind) (place start stop : ℕ) (spelling : List ℕ) (text : Option (List ℕ)) → text ≡ Some spelling
     → quoted_beside (NodeKind.Literal kind place) text ≡ quoted_text (node start stop (literal kind spelling))
-beside_literal LiteralKind.Str place start stop spelling text at = at
-beside_literal LiteralKind.Null place start stop spelling text at = refl
-beside_literal LiteralKind.Bool place start stop spelling text at = refl
-beside_literal LiteralKind.Int place start stop spelling text at = refl
-beside_literal LiteralKind.Date place start stop spelling text at = refl
-beside_literal LiteralKind.Moment place start stop spelling text at = refl
-beside_literal LiteralKind.Guid place start stop spelling text at = refl
-beside_literal LiteralKind.EnumLit place start stop spelling text at = refl
+resolved_literal LiteralKind.Str place start stop spelling text at = at
+resolved_literal LiteralKind.Null place start stop spelling text at = refl
+resolved_literal LiteralKind.Bool place start stop spelling text at = refl
+resolved_literal LiteralKind.Int place start stop spelling text at = refl
+resolved_literal LiteralKind.Date place start stop spelling text at = refl
+resolved_literal LiteralKind.Moment place start stop spelling text at = refl
+resolved_literal LiteralKind.Guid place start stop spelling text at = refl
+resolved_literal LiteralKind.EnumLit place start stop spelling text at = refl
 
 -- a node that is no String literal's quotes nothing
 pub unquoted_else : (k : NodeKind) (text : Option (List ℕ)) → ((place : ℕ) → k ≢ NodeKind.Literal LiteralKind.Str place) → quoted_beside k text ≡ None
@@ -39,7 +39,7 @@ module _ (slots : Slots) (root : List ℕ) (scope : Scope) (start stop : ℕ) (t
   literal_quoted : (kind : LiteralKind) (spelling : List ℕ) (k : NodeKind) → IsLiteralNode kind k → text ≡ Some spelling
       → quoted_beside k text ≡ quoted_text (node start stop (literal kind spelling))
   literal_quoted kind spelling (NodeKind.Literal l place) is at =
-      ap (λ (m : LiteralKind). quoted_beside (NodeKind.Literal m place) text) is ∙ beside_literal kind place start stop spelling text at
+      ap (λ (m : LiteralKind). quoted_beside (NodeKind.Literal m place) text) is ∙ resolved_literal kind place start stop spelling text at
   literal_quoted kind spelling _ is at = absurd is
 
   -- of another kind it quotes nothing

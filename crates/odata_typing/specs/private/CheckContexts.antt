@@ -23,14 +23,14 @@ whole_tree context = listed_tree context.text.now context.nodes.now
 abbrev pub run_tree : CheckContext → ℕ → ℕ → Tree
 run_tree context from stop = listed_tree context.text.now (slice_range context.nodes.now from stop)
 
--- its nodes are an expression's, with their places, and have ranges of its text
+-- its nodes are an expression's, with their positions, and have ranges of its text
 pub record IsContext (context : CheckContext) : Type 0 where
   pub whole : IsWholeTree context.nodes.now
   pub places : ArePlaces context.nodes.now (places_of context.nodes.now)
   pub ranges : AreTextRanges context.text.now context.nodes.now
   pub expression : IsExpression (whole_tree context)
 
--- the walk has a place for each node and no fault so far, and the schema has the enumerations that variables are of
+-- the walk has an element for each node and no fault so far, and the schema has the enumerations that variables are of
 pub record IsReady (context : CheckContext) (walk : Walk) : Type 0 where
   pub source : walk.list.source ≡ context.text.now
   pub count : length walk.list.nodes ≡ length context.nodes.now
@@ -44,7 +44,7 @@ pub record IsNodeReady (context : CheckContext) (walk : Walk) (judged : Judged) 
   pub order : judged.number < judged.stop
   pub inside : judged.stop ≤ length walk.list.nodes
 
--- the node of an index, with its places
+-- the node of an index, with its position
 pub record IsNodeAt (context : CheckContext) (index : ℕ) (judged : Judged) : Type 0 where
   pub at : slice_get context.nodes.now index ≡ Some judged.node.now
   pub number : judged.number ≡ number_at (places_of context.nodes.now) index

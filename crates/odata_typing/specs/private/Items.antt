@@ -1,10 +1,10 @@
--- For private clauses: the items of a list, beside the operand before it.
+-- For private clauses: the items of a list, by the type of its left operand.
 use Rattle.std.specs.Prelude.{◌≡◌, ◌⊎◌, ℕ, ℤ, List, [], ◌∷◌, Option}
 use Rattle.std.specs.List.{AllByRecursion}
 use Rattle.csdl_schema.specs.ExprType.{ExprType}
 use Rattle.csdl_schema.specs.SchemaModel.{SchemaModel, Slots}
-use Rattle.odata_signatures.specs.CollectionTyped.{IsCollection, IsItemBeside}
-use Rattle.odata_signatures.specs.QuotedNumber.{IsReadBeside, LacksNumber, NumberBeside}
+use Rattle.odata_signatures.specs.CollectionTyped.{IsCollection, IsItemFor}
+use Rattle.odata_signatures.specs.QuotedNumber.{IsResolvedBy, LacksNumber, ResolvedNumber}
 use Rattle.odata_signatures.specs.Side.{Side, quoting}
 use Rattle.odata_signatures.specs.TypeView.{expr_type}
 use Rattle.odata_checked_filter.specs.declared.checked_node.CheckedNode.{CheckedNode}
@@ -13,30 +13,30 @@ use Rattle.odata_checked_filter.specs.ListChanges.{number_put}
 use Rattle.odata_typing.specs.declared.in_list.ItemsFit.{ItemsFit}
 use Rattle.odata_typing.specs.private.Rows.{quoted_in}
 
--- nothing is read beside a value of the type
+-- the type resolves no text
 abbrev pub IsUnreadLeft : ExprType → Type 0
-IsUnreadLeft left = (quoted : Option (List ℕ)) → ¬ IsReadBeside left quoted
+IsUnreadLeft left = (quoted : Option (List ℕ)) → ¬ IsResolvedBy left quoted
 
 -- one of the items is read and stands for no number
 abbrev pub OneLacks : Slots → ExprType → List Side → Type 0
 OneLacks slots left [] = ⊥
 OneLacks slots left (item ∷ items) = LacksNumber slots left item.quoted ⊎ OneLacks slots left items
 
-abbrev pub AllBeside : Slots → ExprType → List Side → Type 0
-AllBeside slots left items = AllByRecursion (IsItemBeside slots left) items
+abbrev pub AllItemsFor : Slots → ExprType → List Side → Type 0
+AllItemsFor slots left items = AllByRecursion (IsItemFor slots left) items
 
 -- what was found of items
 abbrev pub AreItemsFit : Slots → ExprType → List Side → ItemsFit → Type 0
-AreItemsFit slots left items ItemsFit.All = AllBeside slots left items × (¬ OneLacks slots left items)
-AreItemsFit slots left items ItemsFit.Refused = (¬ AllBeside slots left items) × (¬ OneLacks slots left items)
+AreItemsFit slots left items ItemsFit.All = AllItemsFor slots left items × (¬ OneLacks slots left items)
+AreItemsFit slots left items ItemsFit.Refused = (¬ AllItemsFor slots left items) × (¬ OneLacks slots left items)
 AreItemsFit slots left items ItemsFit.Unknown = OneLacks slots left items
 AreItemsFit slots left items ItemsFit.OutOfMemory = Unit {0}
 
 -- an item that is read has its number as its value then; nothing else has changed
 abbrev pub IsItemRead : Slots → ExprType → Side → FlatTree → ℕ → CheckedNode → FlatTree → Type 0
 IsItemRead slots left item old place found new =
-    ((n : ℤ) × NumberBeside slots left item.quoted n × (new ≡ number_put old place found n))
-    ⊎ ((¬ IsReadBeside left item.quoted) × (new ≡ old))
+    ((n : ℤ) × ResolvedNumber slots left item.quoted n × (new ≡ number_put old place found n))
+    ⊎ ((¬ IsResolvedBy left item.quoted) × (new ≡ old))
 
 -- so it is where the item may stand there
 abbrev pub IsItemPut : Slots → ExprType → Side → FlatTree → ℕ → CheckedNode → FlatTree → ItemsFit → Type 0
@@ -58,8 +58,8 @@ AreItemsPut slots schema left old place row new fit = Unit {0}
 
 -- the same of items of which none is read, with the operand, which may be no collection
 abbrev pub AreListFit : Slots → ExprType → List Side → ItemsFit → Type 0
-AreListFit slots left items ItemsFit.All = (¬ IsCollection left) × AllBeside slots left items
-AreListFit slots left items ItemsFit.Refused = ¬ ((¬ IsCollection left) × AllBeside slots left items)
+AreListFit slots left items ItemsFit.All = (¬ IsCollection left) × AllItemsFor slots left items
+AreListFit slots left items ItemsFit.Refused = ¬ ((¬ IsCollection left) × AllItemsFor slots left items)
 AreListFit slots left items fit = ⊥
 
 -- of two parts of a list the second alone counts if the first is as it should be; else the worse one

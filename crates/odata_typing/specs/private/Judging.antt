@@ -54,7 +54,7 @@ pub record AreLastTrees (context : CheckContext) (walk : Walk) (judged : Judged)
       AreChildren context walk judged
       (last_trees (child_count judged.node.now.kind judged.node.now.count) trees)
 
--- the tree stands in its places, and all else where it stood
+-- the tree stands at its nodes, and all else where it stood
 pub record IsPut (schema : SchemaModel) (n : ℕ) (scope : Scope) (i j : ℕ) (tree : Tree) (old new : Walk) : Type 0 where
   pub kept : IsKeptOutside i j old.list new.list
   pub stands : IsStanding schema n scope new i j tree
@@ -72,7 +72,7 @@ abbrev pub IsTreeJudged : CheckContext → ℕ → ℕ → Tree → Walk → Wal
 IsTreeJudged context i j tree old new result =
     IsJudged context.schema.now context.filtered_type (scope_of context) i j tree old new result
 
--- of a node of that shape, in its places
+-- of a node of that shape, at its index
 abbrev pub IsNodeJudged : CheckContext → Judged → Shape → Walk → Walk → Bool → Type 0
 IsNodeJudged context judged shape old new result =
     IsTreeJudged context judged.number judged.stop

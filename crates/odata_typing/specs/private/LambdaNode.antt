@@ -17,7 +17,7 @@ use Rattle.odata_typing.specs.private.Judging.{IsStanding}
 use Rattle.odata_typing.specs.private.CheckContexts.{IsNodeAt, IsNodeReady, IsRun, IsContext, name_of}
 use Rattle.odata_typing.specs.private.Variables.{scope_of}
 
--- the node of an index is a lambda operator's; what stands for its base stops where the places of its body begin, whose
+-- the node of an index is a lambda operator's; what stands for its base stops where those of its body begin, whose
 -- nodes are those from another index on
 pub record IsLambdaReady
     (context : CheckContext) (walk : Walk) (from index : ℕ) (judged : Judged) (quantifier : Quantifier) (base : Tree)

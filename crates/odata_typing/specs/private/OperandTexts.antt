@@ -4,7 +4,7 @@ use Rattle.std.specs.Option.{option_map}
 use Rattle.csdl_schema.specs.ExprType.{ExprType}
 use Rattle.csdl_schema.specs.SchemaModel.{SchemaModel, Slots}
 use Rattle.odata_signatures.specs.OperatorTyped.{IsEquality, OfOneSide}
-use Rattle.odata_signatures.specs.QuotedNumber.{IsReadBeside, LacksNumber, NumberBeside}
+use Rattle.odata_signatures.specs.QuotedNumber.{IsResolvedBy, LacksNumber, ResolvedNumber}
 use Rattle.odata_signatures.specs.Side.{Side, quoting}
 use Rattle.odata_signatures.specs.TypeView.{expr_type}
 use Rattle.odata_checked_filter.specs.declared.checked_node.NodeKind.{NodeKind}
@@ -29,19 +29,19 @@ OneIsRead Holds _ left right = ⊥
 -- the right operand is read as the number
 abbrev pub IsRightRead : Slots → NodeKind → Side → Side → ℤ → Type 0
 IsRightRead slots (NodeKind.Binary operator) left right n =
-    IsEquality operator × NumberBeside slots left.type_of right.quoted n
-IsRightRead slots NodeKind.Has left right n = NumberBeside slots left.type_of right.quoted n
+    IsEquality operator × ResolvedNumber slots left.type_of right.quoted n
+IsRightRead slots NodeKind.Has left right n = ResolvedNumber slots left.type_of right.quoted n
 IsRightRead slots _ left right n = ⊥
 
 -- the left one is, and not the right one
 abbrev pub IsLeftRead : Slots → NodeKind → Side → Side → ℤ → Type 0
 IsLeftRead slots (NodeKind.Binary operator) left right n =
-    IsEquality operator × (¬ IsReadBeside left.type_of right.quoted) × NumberBeside slots right.type_of left.quoted n
+    IsEquality operator × (¬ IsResolvedBy left.type_of right.quoted) × ResolvedNumber slots right.type_of left.quoted n
 IsLeftRead slots _ left right n = ⊥
 
 -- what is reported of the operands
 abbrev pub IsOperandRead : Slots → NodeKind → Side → Side → OperandRead → Type 0
-IsOperandRead slots form left right OperandRead.Neither = ¬ OneIsRead IsReadBeside form left right
+IsOperandRead slots form left right OperandRead.Neither = ¬ OneIsRead IsResolvedBy form left right
 IsOperandRead slots form left right (OperandRead.Left n) = IsLeftRead slots form left right n
 IsOperandRead slots form left right (OperandRead.Right n) = IsRightRead slots form left right n
 IsOperandRead slots form left right OperandRead.Unknown = OneIsRead (LacksNumber slots) form left right

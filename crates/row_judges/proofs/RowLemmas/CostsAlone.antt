@@ -70,21 +70,21 @@ module _ (slots : Slots) (root : List ℕ) (now : MomentParts) (e f : Val) (Pass
         (fun_ext (λ (type : ExprType). fun_ext (λ (v : Val). means_same slots root now e f Passed same (bound_over environment variable type v) body none.1)))
         ∙ ap (λ (X : ExprType → Val → ℕ → Type 0). LambdaCosts quantifier B Ns X) (fun_ext (λ (type : ExprType). fun_ext (λ (v : Val). costs_same (bound_over environment variable type v) body none.1))))
 
-    items_same : (environment : Environment) (Beside : ExprType → Type 0) (l : Val) (listed : Trees) → TreesNameNone Passed listed
-        → ItemsCost slots root now e environment Beside l listed ≡ ItemsCost slots root now f environment Beside l listed
-    items_same environment Beside l no_trees none = refl
-    items_same environment Beside l (more_trees tree more) none =
-        let Item : (Outcome → Type 0) → Outcome → Type 0 = λ M. After (UnlessRead (ReadsNumber slots Beside tree) GivesMember M) (CompareGives Eq l) in
+    items_same : (environment : Environment) (OtherSide : ExprType → Type 0) (l : Val) (listed : Trees) → TreesNameNone Passed listed
+        → ItemsCost slots root now e environment OtherSide l listed ≡ ItemsCost slots root now f environment OtherSide l listed
+    items_same environment OtherSide l no_trees none = refl
+    items_same environment OtherSide l (more_trees tree more) none =
+        let Item : (Outcome → Type 0) → Outcome → Type 0 = λ M. After (UnlessRead (ReadsNumber slots OtherSide tree) GivesMember M) (CompareGives Eq l) in
         let M = Means slots root now e environment tree in
         let N = Means slots root now f environment tree in
         let C = Costs slots root now e environment tree in
         let D = Costs slots root now f environment tree in
-        let G : Val → ℕ → Type 0 = λ v. OthersCost Any (ItemsCost slots root now e environment Beside l more) v in
-        let H : Val → ℕ → Type 0 = λ v. OthersCost Any (ItemsCost slots root now f environment Beside l more) v in
+        let G : Val → ℕ → Type 0 = λ v. OthersCost Any (ItemsCost slots root now e environment OtherSide l more) v in
+        let H : Val → ℕ → Type 0 = λ v. OthersCost Any (ItemsCost slots root now f environment OtherSide l more) v in
         let Others : (ℕ → Type 0) → Val → ℕ → Type 0 = λ X v. OthersCost Any X v in
         ap (λ (X : ℕ → Type 0). CostsMore (item_cost environment) X)
         (after_same (Item M) (Item N) C D G H (ap (λ (X : Outcome → Type 0). Item X) (means_same slots root now e f Passed same environment tree none.0)) (costs_same environment tree none.0)
-        (ap Others (items_same environment Beside l more none.1)))
+        (ap Others (items_same environment OtherSide l more none.1)))
 
     arguments_cost : (environment : Environment) (trees : Trees) → TreesNameNone Passed trees
         → ArgumentsCost slots root now e environment trees ≡ ArgumentsCost slots root now f environment trees

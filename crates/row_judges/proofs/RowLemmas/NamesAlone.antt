@@ -98,11 +98,11 @@ module _ (slots : Slots) (root : List ℕ) (now : MomentParts) (e f : Val) (Pass
         ∙ ap (λ (M : ExprType → Val → Outcome → Type 0). After (Means slots root now f environment base) (LambdaGives quantifier B M))
         (fun_ext (λ (type : ExprType). fun_ext (λ (v : Val). means_same (bound_over environment variable type v) body none.1)))
 
-    item_same : (environment : Environment) (Beside : ExprType → Type 0) (items : Trees) (place : ℕ) → TreesNameNone Passed items
-        → ItemMeans slots root now e environment Beside items place ≡ ItemMeans slots root now f environment Beside items place
-    item_same environment Beside no_trees place none = refl
-    item_same environment Beside (more_trees tree more) zero none = ap (λ (M : Outcome → Type 0). UnlessRead (ReadsNumber slots Beside tree) GivesMember M) (means_same environment tree none.0)
-    item_same environment Beside (more_trees tree more) (suc place) none = item_same environment Beside more place none.1
+    item_same : (environment : Environment) (OtherSide : ExprType → Type 0) (items : Trees) (place : ℕ) → TreesNameNone Passed items
+        → ItemMeans slots root now e environment OtherSide items place ≡ ItemMeans slots root now f environment OtherSide items place
+    item_same environment OtherSide no_trees place none = refl
+    item_same environment OtherSide (more_trees tree more) zero none = ap (λ (M : Outcome → Type 0). UnlessRead (ReadsNumber slots OtherSide tree) GivesMember M) (means_same environment tree none.0)
+    item_same environment OtherSide (more_trees tree more) (suc place) none = item_same environment OtherSide more place none.1
 
     arguments_same : (environment : Environment) (trees : Trees) (Goes : List Val → Outcome → Type 0) → TreesNameNone Passed trees
         → ArgumentsMean slots root now e environment trees Goes ≡ ArgumentsMean slots root now f environment trees Goes

@@ -2,7 +2,7 @@ use Rattle.std.proofs.Common.{◌≤◌, ◌+◌, ◌-◌}
 use Rattle.json_tokens.specs.private.Lexemes.{AsciiBetween}
 use Rattle.json_room.proofs.utf8.ascii_end.Given as goal
 
--- bytes of ASCII stand up to the place, which is past the last by less than one load
+-- bytes of ASCII stand up to the offset, which is past the last by less than one load
 abbrev pub invariant-loop-place : goal.invariant-loop-place
 invariant-loop-place l = (l.from ≤ l.place) × (l.place ≤ l.count + 16) × AsciiBetween l.bytes l.from l.place
 

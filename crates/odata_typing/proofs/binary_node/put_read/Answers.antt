@@ -1,5 +1,5 @@
 use Rattle.std.proofs.Common.{◌<◌, ℕ, subst, sym}
-use Rattle.odata_typing.proofs.beside.Given.{put_kept}
+use Rattle.odata_typing.proofs.resolved_operands.Given.{put_kept}
 use Rattle.odata_typing.proofs.binary_node.put_read.Goals as goal
 
 pub put_nameless-requires : goal.put_nameless-requires

@@ -1,5 +1,5 @@
 use Rattle.std.proofs.lemmas.Option.{slice_get_within}
-use Rattle.odata_typing.proofs.beside.Given.{put_kept, put_only}
+use Rattle.odata_typing.proofs.resolved_operands.Given.{put_kept, put_only}
 use Rattle.odata_typing.proofs.in_list.put_item.Goals as goal
 
 pub returns-then-put_number-clause-kept : goal.returns-then-put_number-clause-kept

@@ -4,10 +4,10 @@ use Rattle.odata_syntax.specs.Tree.{Tree, trees_of_list}
 use Rattle.csdl_schema.specs.ExprType.{ExprType, single, enumeration}
 use Rattle.odata_syntax.specs.declared.binary_operator.ComparisonOperator.{ComparisonOperator}
 use Rattle.csdl_schema.specs.SchemaModel.{SchemaModel, Slots}
-use Rattle.odata_signatures.specs.CollectionTyped.{InListTyped, IsCollection, IsItemBeside}
+use Rattle.odata_signatures.specs.CollectionTyped.{InListTyped, IsCollection, IsItemFor}
 use Rattle.odata_signatures.specs.ComparableTypes.{AreComparable}
 use Rattle.odata_signatures.specs.ExprTypes.{boolean_type, string_type}
-use Rattle.odata_signatures.specs.QuotedNumber.{IsReadBeside, LacksNumber}
+use Rattle.odata_signatures.specs.QuotedNumber.{IsResolvedBy, LacksNumber}
 use Rattle.odata_signatures.specs.Side.{Side, quoting}
 use Rattle.odata_signatures.specs.TypeView.{expr_type}
 use Rattle.odata_signatures.specs.Reads.{OneLacksNumber}
@@ -16,19 +16,19 @@ use Rattle.odata_signatures.specs.Typed.{AreTyped, Scope, Typed}
 use Rattle.odata_checked_filter.specs.FlatTree.{FlatTree}
 use Rattle.odata_checked_filter.specs.declared.checked_node.CheckedNode.{CheckedNode}
 use Rattle.odata_typing.specs.declared.in_list.ItemsFit.{ItemsFit}
-use Rattle.odata_typing.specs.private.Items.{AllBeside, AreItemsFit, AreItemsPut, AreItemsRead, IsItemPut, IsItemRead, IsUnreadLeft, OneLacks, worse_fit}
+use Rattle.odata_typing.specs.private.Items.{AllItemsFor, AreItemsFit, AreItemsPut, AreItemsRead, IsItemPut, IsItemRead, IsUnreadLeft, OneLacks, worse_fit}
 use Rattle.odata_typing.specs.private.LawsBelow.{LawsBelow}
 use Rattle.odata_typing.specs.private.Rows.{AreInRow, quoted_in}
-use Rattle.odata_typing.proofs.beside.Numbers.{is_read, reading}
+use Rattle.odata_typing.proofs.resolved_operands.Numbers.{is_read, reading}
 
 -- ---- one item
 
 -- one that goes by its type
-pub unread_fit : (slots : Slots) (left : ExprType) (item : Side) → ¬ IsReadBeside left item.quoted → AreComparable left item.type_of → AreItemsFit slots left (item ∷ []) ItemsFit.All
+pub unread_fit : (slots : Slots) (left : ExprType) (item : Side) → ¬ IsResolvedBy left item.quoted → AreComparable left item.type_of → AreItemsFit slots left (item ∷ []) ItemsFit.All
 unread_fit slots left item unread comparable =
     ((inl comparable, tt), (λ lacks. elim lacks [ inl one ↦ unread one.read | inr none ↦ none ]))
 
-pub unread_refused : (slots : Slots) (left : ExprType) (item : Side) → ¬ IsReadBeside left item.quoted → ¬ AreComparable left item.type_of → AreItemsFit slots left (item ∷ []) ItemsFit.Refused
+pub unread_refused : (slots : Slots) (left : ExprType) (item : Side) → ¬ IsResolvedBy left item.quoted → ¬ AreComparable left item.type_of → AreItemsFit slots left (item ∷ []) ItemsFit.Refused
 unread_refused slots left item unread differ = (
   (λ all. elim all.0 [ inl comparable ↦ differ comparable | inr number ↦ unread (is_read slots left item.quoted number.0 number.1) ]),
   (λ lacks. elim lacks [ inl one ↦ unread one.read | inr none ↦ none ]),
@@ -36,14 +36,14 @@ unread_refused slots left item unread differ = (
 
 -- ---- items, and one more
 
-beside_more : (slots : Slots) (left : ExprType) (items : List Side) (item : Side) → AllBeside slots left items → AllBeside slots left (item ∷ []) → AllBeside slots left (items ++ item ∷ [])
+beside_more : (slots : Slots) (left : ExprType) (items : List Side) (item : Side) → AllItemsFor slots left items → AllItemsFor slots left (item ∷ []) → AllItemsFor slots left (items ++ item ∷ [])
 beside_more slots left [] item all one = one
 beside_more slots left (x ∷ items) item all one = (all.0, beside_more slots left items item all.1 one)
 
-beside_front : (slots : Slots) (left : ExprType) (items : List Side) (item : Side) → AllBeside slots left (items ++ item ∷ []) → AllBeside slots left items × AllBeside slots left (item ∷ [])
-beside_front slots left [] item all = (tt, all)
-beside_front slots left (x ∷ items) item all =
-    let more = beside_front slots left items item all.1 in ((all.0, more.0), more.1)
+resolved_front : (slots : Slots) (left : ExprType) (items : List Side) (item : Side) → AllItemsFor slots left (items ++ item ∷ []) → AllItemsFor slots left items × AllItemsFor slots left (item ∷ [])
+resolved_front slots left [] item all = (tt, all)
+resolved_front slots left (x ∷ items) item all =
+    let more = resolved_front slots left items item all.1 in ((all.0, more.0), more.1)
 
 lacks_front : (slots : Slots) (left : ExprType) (items : List Side) (item : Side) → OneLacks slots left (items ++ item ∷ []) → OneLacks slots left items ⊎ OneLacks slots left (item ∷ [])
 lacks_front slots left [] item lacks = inr lacks
@@ -65,11 +65,11 @@ neither_lacks slots left items item front last lacks = elim (lacks_front slots l
 pub fit_more : (slots : Slots) (left : ExprType) (items : List Side) (item : Side) (fit own : ItemsFit) → AreItemsFit slots left items fit → AreItemsFit slots left (item ∷ []) own
     → AreItemsFit slots left (items ++ item ∷ []) (worse_fit fit own)
 fit_more slots left items item ItemsFit.All ItemsFit.All a b = (beside_more slots left items item a.0 b.0, neither_lacks slots left items item a.1 b.1)
-fit_more slots left items item ItemsFit.All ItemsFit.Refused a b = ((λ all. b.0 (beside_front slots left items item all).1), neither_lacks slots left items item a.1 b.1)
+fit_more slots left items item ItemsFit.All ItemsFit.Refused a b = ((λ all. b.0 (resolved_front slots left items item all).1), neither_lacks slots left items item a.1 b.1)
 fit_more slots left items item ItemsFit.All ItemsFit.Unknown a b = last_lacks slots left items item b
 fit_more slots left items item ItemsFit.All ItemsFit.OutOfMemory a b = tt
-fit_more slots left items item ItemsFit.Refused ItemsFit.All a b = ((λ all. a.0 (beside_front slots left items item all).0), neither_lacks slots left items item a.1 b.1)
-fit_more slots left items item ItemsFit.Refused ItemsFit.Refused a b = ((λ all. a.0 (beside_front slots left items item all).0), neither_lacks slots left items item a.1 b.1)
+fit_more slots left items item ItemsFit.Refused ItemsFit.All a b = ((λ all. a.0 (resolved_front slots left items item all).0), neither_lacks slots left items item a.1 b.1)
+fit_more slots left items item ItemsFit.Refused ItemsFit.Refused a b = ((λ all. a.0 (resolved_front slots left items item all).0), neither_lacks slots left items item a.1 b.1)
 fit_more slots left items item ItemsFit.Refused ItemsFit.Unknown a b = last_lacks slots left items item b
 fit_more slots left items item ItemsFit.Refused ItemsFit.OutOfMemory a b = tt
 fit_more slots left items item ItemsFit.Unknown own a b = front_lacks slots left items item a
@@ -137,11 +137,11 @@ unread_lacks_none slots left (tree ∷ trees) unread lacks = elim lacks [
 -- ---- the types
 
 pub numbered_typed : (slots : Slots) (l : Tree) (left : ExprType) (trees : List Tree) (types : List ExprType) → ¬ IsCollection left
-    → AllBeside slots left (sides_of (trees_of_list trees) types) → BeforeList (InListTyped slots) l (trees_of_list trees) left types boolean_type
+    → AllItemsFor slots left (sides_of (trees_of_list trees) types) → BeforeList (InListTyped slots) l (trees_of_list trees) left types boolean_type
 numbered_typed slots l left trees types other beside = (other, beside, refl)
 
 item_untyped : (laws : LawsBelow) (slots : Slots) (root : List ℕ) (scope : Scope) (left : ExprType) (tree : Tree) (type : ExprType) → Typed slots root scope tree type
-    → LacksNumber slots left (quoted_text tree) → ¬ IsItemBeside slots left (quoting (quoted_text tree) type)
+    → LacksNumber slots left (quoted_text tree) → ¬ IsItemFor slots left (quoting (quoted_text tree) type)
 item_untyped laws slots root scope left tree type typed lacks (inl comparable) =
     let is = reading left (quoted_text tree) lacks.read in
     let same : type ≡ string_type = laws.quotes slots root scope tree is.spelling type is.quotes typed in
@@ -149,10 +149,10 @@ item_untyped laws slots root scope left tree type typed lacks (inl comparable) =
     (subst (λ (t : ExprType). AreComparable (single (enumeration is.name)) t) same (subst (λ (t : ExprType). AreComparable t type) is.type_is comparable))
 item_untyped laws slots root scope left tree type typed lacks (inr number) = lacks.none number
 
--- beside a text that stands for no number nothing is typed
+-- next to a text that stands for no number nothing is typed
 lacks_untyped : (laws : LawsBelow) (slots : Slots) (root : List ℕ) (scope : Scope) (left : ExprType) (trees : List Tree) (types : List ExprType)
     → AreTyped slots root scope (trees_of_list trees) types → OneLacks slots left (sides_of (trees_of_list trees) types)
-    → ¬ AllBeside slots left (sides_of (trees_of_list trees) types)
+    → ¬ AllItemsFor slots left (sides_of (trees_of_list trees) types)
 lacks_untyped laws slots root scope left [] types typed lacks beside = lacks
 lacks_untyped laws slots root scope left (tree ∷ trees) [] typed lacks beside = lacks
 lacks_untyped laws slots root scope left (tree ∷ trees) (type ∷ types) typed lacks beside = elim lacks [

@@ -1,4 +1,4 @@
--- Nodes between two operands, one of which may be read beside the other.
+-- Nodes between two operands, one of which may be resolved by the other.
 use Rattle.std.proofs.Common.{◌≡◌, refl, subst, inl, inr, ℕ, ℤ, List, Option}
 use Rattle.odata_syntax.specs.Tree.{Tree, node}
 use Rattle.odata_syntax.specs.declared.binary_operator.BinaryOperator.{BinaryOperator}
@@ -8,7 +8,7 @@ use Rattle.odata_syntax.specs.declared.binary_operator.ComparisonOperator.{Compa
 use Rattle.odata_signatures.specs.ExprTypes.{boolean_type, string_type}
 use Rattle.odata_signatures.specs.HasTyped.{AreFlags}
 use Rattle.odata_signatures.specs.OperatorTyped.{OperatorByTypes, IsEquality, OperatorTyped}
-use Rattle.odata_signatures.specs.QuotedNumber.{HasNumber, IsReadBeside, LacksNumber, NumberBeside}
+use Rattle.odata_signatures.specs.QuotedNumber.{HasNumber, IsResolvedBy, LacksNumber, ResolvedNumber}
 use Rattle.odata_signatures.specs.FirstUntypable.{IsReason}
 use Rattle.odata_signatures.specs.Reads.{OfEquality, ReadsNone}
 use Rattle.odata_signatures.specs.Sides.{Between, quoted_text, side_of}
@@ -18,7 +18,7 @@ use Rattle.odata_checked_filter.specs.declared.checked_node.NodeKind.{NodeKind}
 use Rattle.odata_typing.specs.private.Forms.{InfixByTypes, InfixReason, InfixTyped, infix_shape}
 use Rattle.odata_typing.specs.private.LawsBelow.{LawsBelow}
 use Rattle.odata_typing.specs.private.OperandTexts.{IsLeftRead, IsRightRead, OneIsRead}
-use Rattle.odata_typing.proofs.beside.Numbers.{is_read, reading, reads_none, string_unread}
+use Rattle.odata_typing.proofs.resolved_operands.Numbers.{is_read, reading, reads_none, string_unread}
 
 -- ---- which operands are read
 
@@ -31,29 +31,29 @@ module _ (laws : LawsBelow) (slots : Slots) (root : List ℕ) (scope : Scope) (l
   one_right t typed = laws.one_type slots root scope r t right typed right_typed
 
   -- where none is
-  pub left_unread : (operator : BinaryOperator) → ¬ OneIsRead IsReadBeside (NodeKind.Binary operator) (side_of l left) (side_of r right)
+  pub left_unread : (operator : BinaryOperator) → ¬ OneIsRead IsResolvedBy (NodeKind.Binary operator) (side_of l left) (side_of r right)
       → ReadsNone slots (OfEquality operator (Typed slots root scope r)) l
   left_unread operator unread n reads =
       reads_none slots (OfEquality operator (Typed slots root scope r)) right l (λ t of_r. one_right t of_r.1) (λ read. unread (reads.beside.0, inr read)) n reads
 
-  pub right_unread : (operator : BinaryOperator) → ¬ OneIsRead IsReadBeside (NodeKind.Binary operator) (side_of l left) (side_of r right)
+  pub right_unread : (operator : BinaryOperator) → ¬ OneIsRead IsResolvedBy (NodeKind.Binary operator) (side_of l left) (side_of r right)
       → ReadsNone slots (OfEquality operator (Typed slots root scope l)) r
   right_unread operator unread n reads =
       reads_none slots (OfEquality operator (Typed slots root scope l)) left r (λ t of_l. one_left t of_l.1) (λ read. unread (reads.beside.0, inl read)) n reads
 
-  pub flags_unread : ¬ OneIsRead IsReadBeside NodeKind.Has (side_of l left) (side_of r right) → ReadsNone slots (Typed slots root scope l) r
+  pub flags_unread : ¬ OneIsRead IsResolvedBy NodeKind.Has (side_of l left) (side_of r right) → ReadsNone slots (Typed slots root scope l) r
   flags_unread unread = reads_none slots (Typed slots root scope l) left r one_left unread
 
   -- where one is, the other one is not
-  pub right_alone : (operator : BinaryOperator) → ¬ IsReadBeside left (quoted_text r) → ReadsNone slots (OfEquality operator (Typed slots root scope l)) r
+  pub right_alone : (operator : BinaryOperator) → ¬ IsResolvedBy left (quoted_text r) → ReadsNone slots (OfEquality operator (Typed slots root scope l)) r
   right_alone operator unread = reads_none slots (OfEquality operator (Typed slots root scope l)) left r (λ t of_l. one_left t of_l.1) unread
 
-  pub left_alone : (operator : BinaryOperator) (n : ℤ) → NumberBeside slots left (quoted_text r) n → ReadsNone slots (OfEquality operator (Typed slots root scope r)) l
+  pub left_alone : (operator : BinaryOperator) (n : ℤ) → ResolvedNumber slots left (quoted_text r) n → ReadsNone slots (OfEquality operator (Typed slots root scope r)) l
   left_alone operator n number =
       let is = reading left (quoted_text r) (is_read slots left (quoted_text r) n number) in
       let same : right ≡ string_type = laws.quotes slots root scope r is.spelling right is.quotes right_typed in
       reads_none slots (OfEquality operator (Typed slots root scope r)) right l (λ t of_r. one_right t of_r.1)
-      (λ read. string_unread (quoted_text l) (subst (λ (t : ExprType). IsReadBeside t (quoted_text l)) same read))
+      (λ read. string_unread (quoted_text l) (subst (λ (t : ExprType). IsResolvedBy t (quoted_text l)) same read))
 
 -- ---- the types
 
@@ -77,7 +77,7 @@ types_typed slots NodeKind.InPath l r left right type makes = makes
 types_typed slots _ l r left right type makes = absurd makes
 
 pub typed_types : (laws : LawsBelow) (slots : Slots) (form : NodeKind) (l r : Tree) (left right type : ExprType)
-    → ¬ OneIsRead IsReadBeside form (side_of l left) (side_of r right) → Between (InfixTyped slots form) l r left right type
+    → ¬ OneIsRead IsResolvedBy form (side_of l left) (side_of r right) → Between (InfixTyped slots form) l r left right type
     → InfixByTypes form left right type
 typed_types laws slots (NodeKind.Binary operator) l r left right type unread typed = (laws.operands slots operator (side_of l left) (side_of r right) type unread).0 typed
 typed_types laws slots NodeKind.Has l r left right type unread typed = (laws.flags slots (side_of l left) (side_of r right) type unread).0 typed
@@ -101,15 +101,15 @@ apart_left laws _ name type equality typed = equality
 
 module _ (laws : LawsBelow) (slots : Slots) (root : List ℕ) (scope : Scope) (l r : Tree) (left right : ExprType)
     (left_typed : Typed slots root scope l left) (right_typed : Typed slots root scope r right) where
-  -- beside a text that is read no other is
-  other_unread : (tree : Tree) (type beside : ExprType) (quoting : Tree) → Typed slots root scope tree type → IsReadBeside beside (quoted_text tree)
-      → ¬ IsReadBeside type (quoted_text quoting)
+  -- where one operand is resolved, the other is not
+  other_unread : (tree : Tree) (type beside : ExprType) (quoting : Tree) → Typed slots root scope tree type → IsResolvedBy beside (quoted_text tree)
+      → ¬ IsResolvedBy type (quoted_text quoting)
   other_unread tree type beside quoting typed read other =
       let is = reading beside (quoted_text tree) read in
       let same : type ≡ string_type = laws.quotes slots root scope tree is.spelling type is.quotes typed in
-      string_unread (quoted_text quoting) (subst (λ (t : ExprType). IsReadBeside t (quoted_text quoting)) same other)
+      string_unread (quoted_text quoting) (subst (λ (t : ExprType). IsResolvedBy t (quoted_text quoting)) same other)
 
-  has_read : (type : ExprType) (quoted : Option (List ℕ)) → HasNumber slots type quoted → IsReadBeside type quoted
+  has_read : (type : ExprType) (quoted : Option (List ℕ)) → HasNumber slots type quoted → IsResolvedBy type quoted
   has_read type quoted number = is_read slots type quoted number.0 number.1
 
   right_unknown : (operator : BinaryOperator) (type : ExprType) → IsEquality operator → LacksNumber slots left (quoted_text r)
@@ -164,7 +164,7 @@ module _ (laws : LawsBelow) (slots : Slots) (root : List ℕ) (scope : Scope) (l
   unknown_reason start stop _ lacks = absurd lacks
 
   -- and the reason where none is read
-  pub unread_reason : (start stop : ℕ) (form : NodeKind) (code : TypeFaultCode) → ¬ OneIsRead IsReadBeside form (side_of l left) (side_of r right)
+  pub unread_reason : (start stop : ℕ) (form : NodeKind) (code : TypeFaultCode) → ¬ OneIsRead IsResolvedBy form (side_of l left) (side_of r right)
       → InfixReason form right code → IsReason slots root scope (node start stop (infix_shape form l r)) code
   unread_reason start stop (NodeKind.Binary operator) code unread reason =
       (left, right, left_typed, right_typed, inr (λ lacks. unread (lacks.0, elim lacks.1 [ inl one ↦ inl one.read | inr one ↦ inr one.read ]), reason))
