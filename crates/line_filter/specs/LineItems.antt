@@ -1,5 +1,5 @@
 -- The lines of bytes, as items that are judged one by one.
-use Rattle.std.specs.Prelude.{◌≡◌, ℕ, ◌<◌, ◌≤◌, ◌↔◌, List, ◌++◌, length, Bool, true, false}
+use Rattle.std.specs.Prelude.{◌≡◌, ℕ, ◌<◌, ◌≤◌, ◌↔◌, List, ◌++◌, length}
 use Rattle.line_filter.specs.declared.judge.Judgment.{Judgment}
 use Rattle.line_filter.specs.declared.line_class.LineClass.{LineClass}
 use Rattle.line_filter.specs.Kept.{Sieve, Items}
@@ -27,11 +27,6 @@ lines judge bytes = record {
   sieve = line_sieve judge;
   CameWhole = λ before. (rest : List ℕ) × (bytes ≡ text_of_lines before ++ rest);
 }
-
--- of a line that is kept, and of one that is left out
-abbrev pub judgment_where : {F : Type 0} → Bool → Judgment F
-judgment_where true = Judgment.Kept
-judgment_where false = Judgment.LeftOut
 
 -- two judges say the same of every line
 abbrev pub SaysTheSame : {F : Type 0} → LineJudge F → LineJudge F → Type 0

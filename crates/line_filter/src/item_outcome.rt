@@ -1,11 +1,11 @@
-ghost use Rattle.std.specs.Prelude.{◌≡◌, ◌≤◌, ◌++◌, Ok, true, IfOk, OnOk, OnErr};
+ghost use Rattle.std.specs.Prelude.{◌≡◌, ◌++◌, Ok, true, IfOk, OnOk, OnErr};
 ghost use Rattle.line_filter.specs.declared.judge.Judgment.{Judgment as JudgmentModel};
 ghost use Rattle.line_filter.specs.declared.line_class.LineClass.{LineClass as LineClassModel};
 ghost use Rattle.line_filter.specs.CallLogs.{StaysWell, FailsLast};
 ghost use Rattle.line_filter.specs.Lines.{text_of_line};
 ghost use Rattle.line_filter.specs.Growth.{WritesFront};
 ghost use Rattle.line_filter.specs.private.HeldBack.{WritesBut};
-ghost use Rattle.line_filter.specs.private.Walk.{count_where, outcome_of, text_where, text_where_kept};
+ghost use Rattle.line_filter.specs.private.Walk.{outcome_of, text_where, text_where_kept};
 
 use super::device::{NotWritten, Writes};
 use super::judge::Judgment;
@@ -17,7 +17,7 @@ use std::alloc::AllocError;
 use std::io::Write;
 
 /// Writes the text and then LF.
-fn keep<W: Write, T: Writes<W>>(
+pub fn keep<W: Write, T: Writes<W>>(
     out: &mut W,
     held: &mut Vec<u8>,
     text: &[u8],
@@ -34,7 +34,7 @@ fn keep<W: Write, T: Writes<W>>(
 }
 
 /// Writes the text and then LF, where its item is kept.
-pub fn keep_where<W: Write, T: Writes<W>>(
+fn keep_where<W: Write, T: Writes<W>>(
     is_kept: bool,
     text: &[u8],
     out: &mut W,
@@ -53,15 +53,6 @@ pub fn keep_where<W: Write, T: Writes<W>>(
     } else {
         Ok(())
     }
-}
-
-/// One for an item that is kept, and none for one that is left out.
-#[inline(always)]
-pub fn count_where(is_kept: bool) -> u64
-    ensures count { result ≡ count_where is_kept }
-    ensures few { result ≤ 1 }
-{
-    if is_kept { 1 } else { 0 }
 }
 
 /// What the item of this number counts, of which that was found, or why the run stops at it. Where it is kept, the text

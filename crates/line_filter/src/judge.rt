@@ -1,6 +1,6 @@
 ghost use Rattle.std.specs.Prelude.{◌≤◌, length, take, IfOk, IfSome, IsTrue};
 ghost use Rattle.std.specs.Str.{IsAscii};
-ghost use Rattle.line_filter.specs.LineItems.{LineJudge, SaysTheSame, judgment_where};
+ghost use Rattle.line_filter.specs.LineItems.{LineJudge, SaysTheSame};
 ghost use Rattle.line_filter.specs.Lines.{IsBlank};
 ghost use Rattle.line_filter.specs.Places.{ItemJudge};
 
@@ -22,13 +22,17 @@ pub trait Judge {
     // What may be said of a line. It depends on the line alone.
     ghost says: { Self → LineJudge Self.Fault };
 
-    /// Says whether the line at the front of the bytes is kept, where it decides at once. Otherwise it is `None`, and
-    /// `judge` says. `count` is the line's length; the bytes after it decide nothing. A blank line is left to
-    /// `judge`'s caller.
-    fn keeps(&mut self, bytes: &[u8], count: usize, is_ascii: bool) -> Option<bool>
+    /// Judges the line at the front of the bytes, where it can at once. Otherwise it is `None`, and `judge` judges the
+    /// line. `count` is the line's length; the bytes after it decide nothing. A blank line is left to `judge`'s caller.
+    fn judge_at_front(
+        &mut self,
+        bytes: &[u8],
+        count: usize,
+        is_ascii: bool,
+    ) -> Option<Judgment<Self::Fault>>
         requires ascii { IsTrue is_ascii → IsAscii (take count bytes.now) }
         requires within { count ≤ length bytes.now }
-        ensures said { IfSome result (λ kept. says self.old (take count bytes.now) (judgment_where kept)) }
+        ensures said { IfSome result (says self.old (take count bytes.now)) }
         ensures not_blank { IfSome result (λ _. ¬ IsBlank (take count bytes.now)) }
         ensures same { SaysTheSame (says self.old) (says self.new) };
 

@@ -66,9 +66,8 @@ pub(crate) fn find_at_front<J: Judge>(
     if line.len() > LONGEST_LINE {
         return Ok(LineClass::TooLong);
     }
-    match judge.keeps(bytes, line.len(), false) {
-        Some(true) => Ok(LineClass::Judged(Judgment::Kept)),
-        Some(false) => Ok(LineClass::Judged(Judgment::LeftOut)),
+    match judge.judge_at_front(bytes, line.len(), false) {
+        Some(judgment) => Ok(LineClass::Judged(judgment)),
         None => find(judge, line),
     }
 }

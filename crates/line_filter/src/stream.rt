@@ -11,8 +11,8 @@ ghost use Rattle.line_filter.specs.private.Reading.{IsUnread, ReadsOn};
 ghost use Rattle.line_filter.specs.private.Walk.{GoesOn, IsUnwritten, fault_stop};
 
 use super::device::{NotWritten, Reads, Writes};
-use super::item_outcome::{count_where, keep_where, settle};
-use super::judge::Judge;
+use super::item_outcome::{keep, settle};
+use super::judge::{Judge, Judgment};
 use super::line_class::find;
 use super::line_reader::{LineFault, LineReader, Next};
 use super::output::release;
@@ -60,6 +60,13 @@ fn fault_stop<F>(fault: LineFault, line: u64) -> RunStop<F>
     }
 }
 
+/// What a run returns where the line of this number is at fault.
+fn stop_at<F>(line: u64, fault: F) -> RunStop<F>
+    ensures { result ≡ RunStop.Fault line fault }
+{
+    RunStop::Fault { line, fault }
+}
+
 /// Judges the lines one by one as they come, up to the first fault. The end of the kept text may be held back.
 fn judge_stream<R: Read, S: Reads<R>, J: Judge, W: Write, T: Writes<W>>(
     judge: &mut J,
@@ -96,14 +103,20 @@ fn judge_stream<R: Read, S: Reads<R>, J: Judge, W: Write, T: Writes<W>>(
             Next::Fault(fault) => return Ok(Err(fault_stop(fault, lines + 1))),
         }
         let line = reader.line();
-        match judge.keeps(reader.front(), line.len(), reader.is_line_ascii()) {
-            Some(is_kept) => {
-                keep_where::<W, T>(is_kept, line, out, held)?;
+        match judge.judge_at_front(reader.front(), line.len(), reader.is_line_ascii()) {
+            Some(Judgment::Kept) => {
+                keep::<W, T>(out, held, line)?;
                 lines += 1;
                 tally.rows += 1;
-                tally.kept += count_where(is_kept);
+                tally.kept += 1;
                 continue;
             }
+            Some(Judgment::LeftOut) => {
+                lines += 1;
+                tally.rows += 1;
+                continue;
+            }
+            Some(Judgment::Fault(fault)) => return Ok(Err(stop_at(lines + 1, fault))),
             None => {}
         }
         let found = find(judge, line);

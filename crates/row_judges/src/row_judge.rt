@@ -6,7 +6,6 @@ ghost use Rattle.csdl_schema.specs.PathSet.{PropertyPath};
 ghost use Rattle.csdl_schema.specs.SchemaModel.{type_name_at};
 ghost use Rattle.edm_entities.specs.Fits.{Fits};
 ghost use Rattle.edm_entities.specs.Row.{slots_for, value_of};
-ghost use Rattle.line_filter.specs.LineItems.{judgment_where};
 ghost use Rattle.odata_checked_filter.specs.Calls.{TakesMemory};
 ghost use Rattle.odata_checked_filter.specs.Filter.{tree_of_filter};
 ghost use Rattle.odata_meaning.specs.MeansOn.{IsTheOutcome};
@@ -170,14 +169,19 @@ pub(crate) fn judged_by(verdict: Verdict) -> Judgment<BadRow>
     }
 }
 
-/// Whether a row with that verdict is kept.
+/// What is kept of rows by a filter's answers, where these say something of their rows.
 #[inline(always)]
-pub(crate) fn is_kept(verdict: Verdict) -> bool
-    ensures { judgment_reported (Ok verdict) ≡ Some (judgment_where result) }
+pub(crate) fn judgment_at_once(answer: Result<Verdict, EvalFault>) -> Option<Judgment<BadRow>>
+    ensures { result ≡ judgment_reported (answer_reported answer) }
 {
-    match verdict {
-        Verdict::True => true,
-        Verdict::False | Verdict::Null => false,
+    match answer {
+        Ok(verdict) => Some(judged_by(verdict)),
+        Err(fault) => match fault {
+            EvalFault::Overflow | EvalFault::DivideByZero => {
+                Some(Judgment::Fault(BadRow::NoValue(fault)))
+            }
+            EvalFault::Memory => None,
+        },
     }
 }
 

@@ -1,15 +1,13 @@
-ghost use Rattle.std.specs.Prelude.{◌≡◌, ◌≤◌, length, take, IfSome};
-ghost use Rattle.line_filter.specs.LineItems.{judgment_where};
+ghost use Rattle.std.specs.Prelude.{◌≡◌};
 ghost use Rattle.row_judges.specs.RowJudgment.{JudgesRow};
 
 use crate::bad_row::BadRow;
 use crate::row_judge::{RowJudge, judged_by, judgment_of, reported_fault};
 use crate::row_verdict::row_plan_of;
-use crate::rows_in_place::{begin_after, copy_with_room, reads_copy, type_rows_of};
+use crate::rows_in_place::{begin_after, read_at_front, type_rows_of};
 use edm_entities::{RowPlan, RowReader};
-use edm_rows::{Reading, TypeRows};
+use edm_rows::TypeRows;
 use edm_values::Moment;
-use json_room::has_room;
 use line_filter::{Judge, Judgment};
 use odata_typing::Checked;
 use std::alloc::{AllocError, Global};
@@ -24,8 +22,6 @@ pub struct RowLineJudge<'c, 's> {
     type_rows: TypeRows<'s>,
     /// How many lines were not read where they stand.
     unread: u64,
-    /// Whether the filter had a fault on a line that was read there.
-    has_fault: bool,
     /// The last line that had no room after it, in a copy that has.
     room: Vec<u8>,
 }
@@ -66,26 +62,8 @@ impl<'c, 's> RowLineJudge<'c, 's> {
             plan: row_plan_of(alloc, checked),
             reader: RowReader::new(alloc),
             unread: 0,
-            has_fault: false,
             room: Vec::new(alloc),
         }
-    }
-}
-
-impl RowLineJudge<'_, '_> {
-    /// Whether the line at the front of the bytes is kept, read in a copy where it has no room after it.
-    #[inline(never)]
-    fn keeps_copy(&mut self, bytes: &[u8], count: usize) -> Option<bool>
-        requires within { count ≤ length bytes.now }
-        ensures said { IfSome result (λ kept. JudgesRow self.old.filter self.old.moment (take count bytes.now)
-            (judgment_where kept)) }
-        ensures same { self.new ≡ self.old }
-    {
-        if has_room(bytes, count) || !copy_with_room(&bytes[..count], &mut self.room) {
-            return None;
-        }
-        self.rows
-            .keeps_in_place(&mut self.type_rows, self.room.as_slice(), count, false)
     }
 }
 
@@ -95,33 +73,18 @@ impl Judge for RowLineJudge<'_, '_> {
     ghost says = { λ judge. JudgesRow judge.filter judge.moment };
 
     #[inline(always)]
-    fn keeps(&mut self, bytes: &[u8], count: usize, is_ascii: bool) -> Option<bool> {
-        match self.type_rows.read(bytes, count, is_ascii) {
-            Reading::Row => match self.rows.keeps_held(&self.type_rows) {
-                Some(is_kept) => Some(is_kept),
-                None => {
-                    self.has_fault = true;
-                    None
-                }
-            },
-            Reading::LeftOut => {
-                self.rows.leaves_out(&self.type_rows);
-                Some(false)
-            }
-            Reading::Unread => self.keeps_copy(bytes, count),
-        }
+    fn judge_at_front(
+        &mut self,
+        bytes: &[u8],
+        count: usize,
+        is_ascii: bool,
+    ) -> Option<Judgment<BadRow>> {
+        let reading = read_at_front(&mut self.type_rows, &mut self.room, bytes, count, is_ascii);
+        self.rows.judge_reading(&self.type_rows, reading)
     }
 
     #[inline(never)]
     fn judge(&mut self, line: &[u8]) -> Result<Judgment<BadRow>, AllocError> {
-        // The filter has a fault on this line, which is a row: it is read once more to report that.
-        if self.has_fault {
-            self.has_fault = false;
-            if reads_copy(&mut self.type_rows, &mut self.room, line) {
-                return judgment_of(self.rows.judge_held(&self.type_rows));
-            }
-            return judgment_of(self.rows.judge_by_tree(line));
-        }
         // The first unread line begins the row that later lines fill. A second one is most likely at fault.
         self.unread = self.unread.saturating_add(1);
         if self.unread == 2 {

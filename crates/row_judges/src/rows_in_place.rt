@@ -4,22 +4,23 @@ ghost use Rattle.std.specs.Str.{IsAscii};
 ghost use Rattle.edm_entities.specs.RowReading.{IsLineBut};
 ghost use Rattle.edm_values.specs.declared.sieve.Sieve.{Sieve};
 ghost use Rattle.edm_rows.specs.RowsOfType.{IsLeftOut, IsSameButKept, IsSameReader, names_unkept, row_held};
-ghost use Rattle.line_filter.specs.LineItems.{judgment_where};
+ghost use Rattle.line_filter.specs.Lines.{IsBlank};
 ghost use Rattle.edm_rows.specs.HeldSchema.{schema_in};
 ghost use Rattle.row_judges.specs.FilterRows.{KeepsNames};
 ghost use Rattle.row_judges.specs.RowAnswer.{ReportsRow};
 ghost use Rattle.row_judges.specs.RowJudgment.{JudgesRow};
-ghost use Rattle.row_judges.specs.private.RowsInPlace.{AreRowsOf, IsSameButSieves, IsTestAt};
+ghost use Rattle.row_judges.specs.private.RowsInPlace.{AreRowsOf, IsRead, IsSameButSieves, IsTestAt};
+ghost use Rattle.row_judges.specs.private.ValueAnswer.{answer_reported};
 
 use crate::bad_row::BadRow;
 use crate::no_verdict::NoVerdict;
-use crate::row_judge::{RowJudge, is_kept, reported};
+use crate::row_judge::{RowJudge, judgment_at_once, reported};
 use crate::row_verdict::{names_whole_row, plan_of};
 use edm_entities::{RowReader, what_fits_has_its_type};
 use edm_rows::{HeldSchema, Reading, TypeRows};
-use json_room::ROOM;
+use json_room::{ROOM, has_room};
 use line_filter::Judgment;
-use odata_eval::{Verdict, slot_sieves};
+use odata_eval::{EvalFault, Verdict, slot_sieves};
 use odata_meaning::typed_trees_end_once;
 use odata_typing::Checked;
 use std::alloc::{AllocError, Global};
@@ -138,6 +139,44 @@ fn take_room(line: &[u8], room: &mut Vec<u8>) -> bool
     room.extend_from_slice(line).is_ok() && room.extend_from_slice(&[b'\n'; ROOM]).is_ok()
 }
 
+/// What is read of a row in a copy that has room after it.
+#[inline(never)]
+fn read_copy(rows: &mut TypeRows<'_>, room: &mut Vec<u8>, row: &[u8]) -> Reading
+    ensures same { IsSameReader rows.old rows.new }
+    ensures read { IsRead result row.now rows.new }
+{
+    if !rows.has_row() || !copy_with_room(row, room) {
+        return Reading::Unread;
+    }
+    rows.read(room.as_slice(), row.len(), false)
+}
+
+/// What is read of the line of that length at the front of the bytes, in a copy where it has no room after it.
+#[inline(always)]
+pub(crate) fn read_at_front(
+    rows: &mut TypeRows<'_>,
+    room: &mut Vec<u8>,
+    bytes: &[u8],
+    count: usize,
+    is_ascii: bool,
+) -> Reading
+    requires within { count ≤ length bytes.now }
+    requires ascii { IsTrue is_ascii → IsAscii (take count bytes.now) }
+    ensures same { IsSameReader rows.old rows.new }
+    ensures read { IsRead result (take count bytes.now) rows.new }
+{
+    match rows.read(bytes, count, is_ascii) {
+        Reading::Row => Reading::Row,
+        Reading::LeftOut => Reading::LeftOut,
+        Reading::Unread => {
+            if has_room(bytes, count) {
+                return Reading::Unread;
+            }
+            read_copy(rows, room, &bytes[..count])
+        }
+    }
+}
+
 /// Whether a row is held once it was read in a copy that has room after it.
 pub(crate) fn reads_copy(rows: &mut TypeRows<'_>, room: &mut Vec<u8>, row: &[u8]) -> bool
     ensures same { IsSameReader rows.old rows.new }
@@ -145,56 +184,47 @@ pub(crate) fn reads_copy(rows: &mut TypeRows<'_>, room: &mut Vec<u8>, row: &[u8]
     ensures ready { IsTrue result → rows.new.is_ready ≡ true }
     ensures row { IsTrue result → IsLineBut row.now (names_unkept rows.new) (row_held rows.new) }
 {
-    if !rows.has_row() || !copy_with_room(row, room) {
-        return false;
-    }
-    match rows.read(room.as_slice(), row.len(), false) {
+    match read_copy(rows, room, row) {
         Reading::Row => true,
         Reading::LeftOut | Reading::Unread => false,
     }
 }
 
 impl RowJudge<'_, '_> {
-    /// Whether the line of that length at the front of the bytes is kept, where the reader decides.
+    /// Judges the line of which that was read last, where the reader is sure of it.
     #[inline(always)]
-    pub(crate) fn keeps_in_place(
+    pub(crate) fn judge_reading(
         &self,
-        rows: &mut TypeRows<'_>,
-        bytes: &[u8],
-        count: usize,
-        is_ascii: bool,
-    ) -> Option<bool>
-        requires rows { AreRowsOf self.now.checked.now rows.old }
-        requires within { count ≤ length bytes.now }
-        requires ascii { IsTrue is_ascii → IsAscii (take count bytes.now) }
-        ensures rows { AreRowsOf self.now.checked.now rows.new }
-        ensures said { IfSome result (λ kept. JudgesRow self.now.checked.now self.now.moment.now (take count bytes.now)
-            (judgment_where kept)) }
+        rows: &TypeRows<'_>,
+        reading: Reading,
+    ) -> Option<Judgment<BadRow>>
+        requires rows { AreRowsOf self.now.checked.now rows.now }
+        requires read { (line : List ℕ) × IsRead reading line rows.now }
+        ensures said { (line : List ℕ) → IsRead reading line rows.now
+            → IfSome result (JudgesRow self.now.checked.now self.now.moment.now line) }
+        ensures not_blank { (line : List ℕ) → IsRead reading line rows.now → IfSome result (λ _. ¬ IsBlank line) }
     {
-        match rows.read(bytes, count, is_ascii) {
-            Reading::Row => self.keeps_held(rows),
+        match reading {
+            Reading::Row => judgment_at_once(self.answer_held(rows)),
             Reading::LeftOut => {
                 self.leaves_out(rows);
-                Some(false)
+                Some(Judgment::LeftOut)
             }
             Reading::Unread => None,
         }
     }
 
-    /// Whether the row that was read last is kept, where its verdict comes without a fault.
+    /// The filter's answer to the row that was read last.
     #[inline(never)]
-    pub(crate) fn keeps_held(&self, rows: &TypeRows<'_>) -> Option<bool>
-        requires rows { AreRowsOf self.now.checked.now rows.now }
+    pub(crate) fn answer_held(&self, rows: &TypeRows<'_>) -> Result<Verdict, EvalFault>
+        requires rows { KeepsNames self.now.checked.now rows.now }
         requires ready { rows.now.is_ready ≡ true }
         requires whole { rows.now.is_whole ≡ true }
         ensures { (line : List ℕ) → IsLineBut line (names_unkept rows.now) (row_held rows.now)
-            → IfSome result (λ kept. JudgesRow self.now.checked.now self.now.moment.now line (judgment_where kept)) }
+            → ReportsRow self.now.checked.now self.now.moment.now line (answer_reported result) }
     {
         let entity = rows.entity();
-        match self.judge_entity(&entity) {
-            Ok(verdict) => Some(is_kept(verdict)),
-            Err(_) => None,
-        }
+        self.judge_entity(&entity)
     }
 
     /// Judges the row that was read last.
@@ -206,8 +236,7 @@ impl RowJudge<'_, '_> {
         ensures { (line : List ℕ) → IsLineBut line (names_unkept rows.now) (row_held rows.now)
             → ReportsRow self.now.checked.now self.now.moment.now line result }
     {
-        let entity = rows.entity();
-        reported(self.judge_entity(&entity))
+        reported(self.answer_held(rows))
     }
 
     /// A law: the filter leaves out each line of which a slot's sieve rejects the value.
@@ -216,7 +245,7 @@ impl RowJudge<'_, '_> {
         requires rows { AreRowsOf self.now.checked.now rows.now }
         requires whole { rows.now.is_whole ≡ true }
         ensures { (line : List ℕ) → IsLeftOut line rows.now
-            → JudgesRow self.now.checked.now self.now.moment.now line (judgment_where false) }
+            → JudgesRow self.now.checked.now self.now.moment.now line Judgment.LeftOut }
     {
         typed_trees_end_once();
         what_fits_has_its_type();

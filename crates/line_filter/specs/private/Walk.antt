@@ -44,11 +44,6 @@ text_where false text = []
 abbrev pub text_where_kept : {F E : Type 0} → Result (LineClass F) E → List ℕ → List ℕ
 text_where_kept found text = text_where (is_kept_by found) text
 
--- how many items that is
-abbrev pub count_where : Bool → ℕ
-count_where true = 1
-count_where false = 0
-
 -- the stop is reported of no writer
 abbrev pub IsUnwritten : {F : Type 0} → RunStop F → Type 0
 IsUnwritten RunStop.Write = ⊥

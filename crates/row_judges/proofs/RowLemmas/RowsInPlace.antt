@@ -1,5 +1,5 @@
 -- From what a reader of rows in place says of a line to what is said of it by the filter.
-use Rattle.std.proofs.Common.{◌≡◌, ◌≢◌, inl, inr, ℕ, Bool, true, false, List, [], Option, Some, None, Result, Ok, slice_get, map, refl, sym, ap, ◌∙◌, subst, IfSome}
+use Rattle.std.proofs.Common.{◌≡◌, ◌≢◌, inl, inr, ℕ, Bool, true, false, List, [], Some, Result, Ok, Err, slice_get, map, refl, sym, ap, ◌∙◌, subst, IfSome}
 use Rattle.std.specs.Prelude.{◌↔◌, All}
 use Rattle.serde_json.specs.Data.{Data}
 use Rattle.edm_values.specs.MomentParts.{IsMoment, MomentParts}
@@ -14,14 +14,15 @@ use Rattle.edm_entities.specs.Row.{slots_for}
 use Rattle.edm_entities.specs.RowReading.{IsLineBut}
 use Rattle.edm_row_plans.specs.PassedNames.{Names}
 use Rattle.edm_rows.specs.RowsOfType.{IsLeftOut, IsSameButKept, IsSameReader, RowsOfType, names_unkept, row_held}
+use Rattle.edm_rows.specs.declared.type_rows.Reading.{Reading}
 use Rattle.edm_values.specs.declared.sieve.Sieve.{Sieve}
-use Rattle.line_filter.specs.LineItems.{judgment_where}
+use Rattle.line_filter.specs.declared.judge.Judgment.{Judgment}
 use Rattle.line_filter.specs.Lines.{IsBlank}
 use Rattle.odata_checked_filter.specs.Filter.{Filter, IsFilter, slots_for_filter, tree_of_filter}
 use Rattle.odata_meaning.specs.EndsOnce.{TypedEndsOnce}
 use Rattle.odata_meaning.specs.MeansOn.{IsTheOutcome}
 use Rattle.odata_eval.specs.CostsOn.{KeepsBound}
-use Rattle.odata_eval.specs.VerdictView.{outcome_reported, reported_outcome, verdict_val}
+use Rattle.odata_eval.specs.VerdictView.{outcome_reported, reported_outcome}
 use Rattle.odata_eval.specs.declared.stop.EvalStop.{EvalStop}
 use Rattle.odata_eval.specs.declared.verdict.Verdict.{Verdict}
 use Rattle.odata_filter_operations.specs.Outcome.{Outcome, gives}
@@ -30,7 +31,7 @@ use Rattle.row_judges.specs.RowAnswer.{PassesNone, ReportsRow, judgment_reported
 use Rattle.row_judges.specs.RowCosts.{ReportsRowWithin}
 use Rattle.row_judges.specs.RowJudgment.{FilterMeans, JudgesRow}
 use Rattle.row_judges.specs.FilterRows.{KeepsNames}
-use Rattle.row_judges.specs.private.RowsInPlace.{AreRowsOf, IsSameButSieves, IsTestAt}
+use Rattle.row_judges.specs.private.RowsInPlace.{AreRowsOf, IsRead, IsSameButSieves, IsTestAt}
 use Rattle.row_judges.specs.private.ValueAnswer.{answer_reported}
 use Rattle.row_judges.specs.private.BoundedJudge.{stop_reported}
 use Rattle.row_judges.proofs.RowLemmas.CostsBut.{kept_costs}
@@ -94,6 +95,24 @@ unkept_less old new kept named others name left = (others name (λ same. named (
 pub sieves_same : (rows : RowsOfType) → IsSameButSieves rows rows
 sieves_same rows = record { schema = refl; type_id = refl; expansion = refl; is_whole = refl; kept = refl }
 
+-- ---- what is read of a line
+
+pub reader_further : (first old new : RowsOfType) → IsSameReader first old → IsSameReader old new → IsSameReader first new
+reader_further first old new before same = record {
+  schema = same.schema ∙ before.schema;
+  type_id = same.type_id ∙ before.type_id;
+  expansion = same.expansion ∙ before.expansion;
+  is_whole = same.is_whole ∙ before.is_whole;
+  kept = same.kept ∙ before.kept;
+  sieves = same.sieves ∙ before.sieves;
+}
+
+pub is_read : (reading : Reading) (line : List ℕ) (rows : RowsOfType) → (reading ≢ Reading.Unread → rows.is_whole ≡ true) → (reading ≡ Reading.Row → rows.is_ready ≡ true)
+    → (reading ≡ Reading.Row → IsLineBut line (names_unkept rows) (row_held rows)) → (reading ≡ Reading.LeftOut → IsLeftOut line rows) → IsRead reading line rows
+is_read Reading.Unread line rows whole ready row left_out = tt
+is_read Reading.Row line rows whole ready row left_out = (whole (λ e. cc), ready refl, row refl)
+is_read Reading.LeftOut line rows whole ready row left_out = (whole (λ e. cc), left_out refl)
+
 module _ (filter : Filter) where
   -- readers of one type that keep the same keep what the filter names alike
   pub names_again : (old new : RowsOfType) → new.schema ≡ old.schema → new.type_id ≡ old.type_id → new.expansion ≡ old.expansion → new.is_whole ≡ old.is_whole → new.kept ≡ old.kept → KeepsNames filter old → KeepsNames filter new
@@ -123,17 +142,23 @@ module _ (filter : Filter) where
   module _ (now : MomentParts) where
     -- ---- lines that are judged
 
-    abbrev Says : List ℕ → Bool → Type 0
-    Says line kept = JudgesRow filter now line (judgment_where kept)
+    -- what is said of a line by the filter's answer to its row
+    pub answer_said : (line : List ℕ) (answer : Result Verdict EvalFault) → ReportsRow filter now line (answer_reported answer) → IfSome (judgment_reported (answer_reported answer)) (JudgesRow filter now line)
+    answer_said line (Ok Verdict.True) reported = row_judged filter now line (Ok Verdict.True) Judgment.Kept reported refl
+    answer_said line (Ok Verdict.False) reported = row_judged filter now line (Ok Verdict.False) Judgment.LeftOut reported refl
+    answer_said line (Ok Verdict.Null) reported = row_judged filter now line (Ok Verdict.Null) Judgment.LeftOut reported refl
+    answer_said line (Err EvalFault.Overflow) reported = reported
+    answer_said line (Err EvalFault.DivideByZero) reported = reported
+    answer_said line (Err EvalFault.Memory) reported = tt
 
-    -- a line that is judged is not blank
-    pub said_not_blank : (line : List ℕ) (kept : Bool) → Says line kept → ¬ IsBlank line
-    said_not_blank line true said = json_not_blank line said.json said.is_json
-    said_not_blank line false said = json_not_blank line said.json said.is_json
-
-    pub decided_not_blank : (line : List ℕ) (decided : Option Bool) → IfSome decided (Says line) → IfSome decided (λ kept. ¬ IsBlank line)
-    decided_not_blank line (Some kept) said = said_not_blank line kept said
-    decided_not_blank line None said = tt
+    -- such a line is not blank
+    pub answer_not_blank : (line : List ℕ) (answer : Result Verdict EvalFault) → ReportsRow filter now line (answer_reported answer) → IfSome (judgment_reported (answer_reported answer)) (λ judgment. ¬ IsBlank line)
+    answer_not_blank line (Ok Verdict.True) reported = json_not_blank line reported.json reported.is_json
+    answer_not_blank line (Ok Verdict.False) reported = json_not_blank line reported.json reported.is_json
+    answer_not_blank line (Ok Verdict.Null) reported = json_not_blank line reported.json reported.is_json
+    answer_not_blank line (Err EvalFault.Overflow) reported = json_not_blank line reported.json reported.is_json
+    answer_not_blank line (Err EvalFault.DivideByZero) reported = json_not_blank line reported.json reported.is_json
+    answer_not_blank line (Err EvalFault.Memory) reported = tt
 
     -- ---- a row that is held
 
@@ -155,11 +180,6 @@ module _ (filter : Filter) where
           let costs = kept_costs filter now line (names_unkept rows) (row_held rows) names.schema names.type_id paths_same names.keeps read in
           row_within filter now line read.json most (stop_reported answer) read.is_json (answer_within_row filter now read.json (row_held rows) most answer costs outcome bound)
 
-      -- by the verdict on the held row its line is kept or left out
-      pub held_said : (line : List ℕ) (verdict : Verdict) (kept : Bool) → IsLineBut line (names_unkept rows) (row_held rows) → IsTheOutcome (row_held rows) now (tree_of_filter filter) (gives (verdict_val verdict))
-          → judgment_reported (Ok verdict) ≡ Some (judgment_where kept) → Says line kept
-      held_said line verdict kept read outcome is = row_judged filter now line (Ok verdict) (judgment_where kept) (held_reported line (Ok verdict) read outcome) is
-
     module _ (rows : RowsOfType) (of : AreRowsOf filter rows) (whole : rows.is_whole ≡ true) where
       -- ---- a row that is left out
 
@@ -176,7 +196,7 @@ module _ (filter : Filter) where
           (subst (λ (n : ℕ). slice_get (property_names filter.schema n) slot ≡ Some name) of.names.type_id (subst (λ (s : SchemaModel). slice_get (property_names s rows.type_id) slot ≡ Some name) of.names.schema at))
 
       -- of whatever the line fits, the filter is false and nothing else
-      pub left_out_said : TypedEndsOnce → FitsHasType → IsFilter filter → IsMoment now.civil now.offset_minutes → (line : List ℕ) → IsLeftOut line rows → Says line false
+      pub left_out_said : TypedEndsOnce → FitsHasType → IsFilter filter → IsMoment now.civil now.offset_minutes → (line : List ℕ) → IsLeftOut line rows → JudgesRow filter now line Judgment.LeftOut
       left_out_said ends has_type is_filter is_moment line left =
           let slots = slots_of filter.schema in
           let root = type_name_at filter.schema filter.filtered in

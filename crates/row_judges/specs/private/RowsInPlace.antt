@@ -1,6 +1,8 @@
 -- For private clauses: the reader by which a filter's rows are read where they stand.
-use Rattle.std.specs.Prelude.{◌≡◌, ℕ, slice_get, IfSome}
-use Rattle.edm_rows.specs.RowsOfType.{RowsOfType}
+use Rattle.std.specs.Prelude.{◌≡◌, ℕ, List, slice_get, true, IfSome}
+use Rattle.edm_entities.specs.RowReading.{IsLineBut}
+use Rattle.edm_rows.specs.RowsOfType.{IsLeftOut, RowsOfType, names_unkept, row_held}
+use Rattle.edm_rows.specs.declared.type_rows.Reading.{Reading}
 use Rattle.edm_values.specs.declared.sieve.Sieve.{Sieve}
 use Rattle.csdl_schema.specs.SchemaModel.{HasDistinctNames, properties_at}
 use Rattle.odata_checked_filter.specs.Filter.{Filter}
@@ -16,6 +18,13 @@ pub record AreRowsOf (filter : Filter) (rows : RowsOfType) : Type 0 where
   pub names : KeepsNames filter rows
   pub tests : (slot : ℕ) → IfSome (slice_get rows.sieves slot) (IsTestAt filter slot)
   pub distinct : HasDistinctNames (properties_at filter.schema filter.filtered)
+
+-- what is said of a line by what became of it
+abbrev pub IsRead : Reading → List ℕ → RowsOfType → Type 0
+IsRead Reading.Unread line rows = Unit {0}
+IsRead Reading.Row line rows =
+    (rows.is_whole ≡ true) × (rows.is_ready ≡ true) × IsLineBut line (names_unkept rows) (row_held rows)
+IsRead Reading.LeftOut line rows = (rows.is_whole ≡ true) × IsLeftOut line rows
 
 -- only the sieves have changed
 pub record IsSameButSieves (old new : RowsOfType) : Type 0 where

@@ -1,19 +1,21 @@
-use Rattle.std.proofs.Common.{◌≡◌, ◌≤◌, ◌+◌, ◌++◌, ◌∷◌, ℕ, List, length, take, ◌⊎◌, arith, sym, ap, ◌∙◌, subst}
+use Rattle.std.proofs.Common.{◌≡◌, ◌≤◌, ◌+◌, ◌++◌, ◌∷◌, ℕ, List, length, take, Result, Ok, ◌⊎◌, arith, refl, sym, ap, ◌∙◌, subst}
 use Rattle.std.specs.Prelude.{IfSome}
-use Rattle.line_filter.specs.LineItems.{judgment_where, lines}
+use Rattle.line_filter.specs.LineItems.{lines}
 use Rattle.line_filter.specs.Lines.{longest_line}
 use Rattle.line_filter.specs.LineSource.{left_of, GivesLine, IsOver, WhereKnown}
 use Rattle.line_filter.specs.Kept.{StopsWith}
 use Rattle.line_filter.specs.LineStreams.{LacksLine, ReadsUntil}
 use Rattle.line_filter.specs.private.Giving.{Gives, bytes_to_come}
 use Rattle.line_filter.specs.private.HeldBack.{WritesBut}
+use Rattle.line_filter.specs.declared.judge.Judgment.{Judgment}
+use Rattle.line_filter.specs.declared.line_class.LineClass.{LineClass}
 use Rattle.line_filter.specs.declared.run_stop.RunStop.{RunStop}
 use Rattle.line_filter.proofs.DeviceLaws.Called.{stays_well_refl, stays_well_trans}
 use Rattle.line_filter.proofs.DeviceLaws.Unread.{going_read, reads_well_refl, reads_well_more, reads_on}
 use Rattle.line_filter.proofs.ItemLaws.Passing.{outcome_counts}
 use Rattle.line_filter.proofs.ItemLaws.Stopping.{outcome_of-of_item}
 use Rattle.line_filter.proofs.LineLaws.Found.{SaysTheSame-refl, SaysTheSame-trans, found-same}
-use Rattle.line_filter.proofs.RunLaws.AtOnce.{found_at_once, HasCome-at_once, HasCome-failed_at_once}
+use Rattle.line_filter.proofs.RunLaws.AtOnce.{found_at_once, HasCome-at_fault, HasCome-kept, HasCome-left_out}
 use Rattle.line_filter.proofs.RunLaws.Called.{reads_of_item, reads_reported}
 use Rattle.line_filter.proofs.RunLaws.Streams.{HasCome-none, HasCome-written, HasCome-unwritten, HasCome-end, HasCome-fault, HasCome-more, HasCome-stopped, HasCome-failed}
 use Rattle.line_filter.proofs.WriteLaws.HeldBack.{OnErr-from}
@@ -89,7 +91,7 @@ returns-in_err-one-clause-err g c =
     let first = subst (λ (l : List ℕ). GivesLine r s l) (sym c.line-line.ensures) given.first in
     let not_over = λ (over : IsOver c.loop-fault.reader). let ends = c.in_ok-next_line.ensures.again.over over in absurd {A = ⊥} (cc) in
     let came = HasCome-written says a r (IsOver c.loop-fault.reader → ⊥) u (g.W.Write.contents c.loop-fault.out) v c.loop-fault.held.items c.next_line.new.held.items c.loop-fault.lines c.loop-fault.tally i.4 c.in_ok-next_line.ensures.ok in
-    let same = SaysTheSame-trans says (g.J.Judge.says c.loop-fault.judge) (g.J.Judge.says c.keeps.new.self) i.3 c.keeps.ensures.same in
+    let same = SaysTheSame-trans says (g.J.Judge.says c.loop-fault.judge) (g.J.Judge.says c.judge_at_front.new.self) i.3 c.judge_at_front.ensures.same in
     let finds = found-same _ _ line c.find-found.result same c.find-found.ensures.found in
     let failed = c.in_err-one.ensures in
     OnErr-from c.from_residual-in_err-one.result _
@@ -105,8 +107,8 @@ overflow_add-tally-in-Ok g c =
     let counts = outcome_counts _ _ _ (sym c.in_ok-one.ensures.outcome ∙ c.in-Ok.is) in
     omega (arith, i.0, i.1, i.2, counts.0, counts.1, c.requires.few)
 
-pub returns-in_err-keep_where-in-Some-clause-err : goal.returns-in_err-keep_where-in-Some-clause-err
-returns-in_err-keep_where-in-Some-clause-err g c =
+pub returns-in_err-keep-in-Some-Kept-clause-err : goal.returns-in_err-keep-in-Some-Kept-clause-err
+returns-in_err-keep-in-Some-Kept-clause-err g c =
     let i = c.loop-fault.invariant in
     let says = g.J.Judge.says c.args.judge.now in
     let a = left_of g.R.Read.remaining c.args.reader.now in
@@ -116,20 +118,19 @@ returns-in_err-keep_where-in-Some-clause-err g c =
     let v = g.W.Write.contents c.next_line.new.out in
     let line = c.line-line.result.now in
     let front = c.front.result.now in
-    let kept = c.in-Some.is_kept in
     let given = subst (Gives g.R.Read.remaining c.loop-fault.reader c.next_line.new.reader) c.in-Line.is c.in_ok-next_line.ensures.given in
     let first = subst (λ (l : List ℕ). GivesLine r s l) (sym c.line-line.ensures) given.first in
     let not_over = λ (over : IsOver c.loop-fault.reader). let ends = c.in_ok-next_line.ensures.again.over over in absurd {A = ⊥} (cc) in
     let came = HasCome-written says a r (IsOver c.loop-fault.reader → ⊥) u (g.W.Write.contents c.loop-fault.out) v c.loop-fault.held.items c.next_line.new.held.items c.loop-fault.lines c.loop-fault.tally i.4 c.in_ok-next_line.ensures.ok in
-    let is : take (length line) front ≡ line = ap (λ (l : List ℕ). take (length l) front) c.line-line.ensures ∙ c.front.ensures ∙ sym c.line-line.ensures in
+    let front_is : take (length line) front ≡ line = ap (λ (l : List ℕ). take (length l) front) c.line-line.ensures ∙ c.front.ensures ∙ sym c.line-line.ensures in
     let short : length line ≤ longest_line = subst (λ (l : List ℕ). length l ≤ longest_line) (sym c.line-line.ensures) given.short in
-    let finds = found_at_once says front line (length line) kept is short c.in-Some.ensures.not_blank ((i.3 (take (length line) front) (judgment_where kept)).1 c.in-Some.ensures.said) in
-    let failed = c.in_err-keep_where-in-Some.ensures in
-    OnErr-from c.from_residual-in_err-keep_where-in-Some.result _
-    (HasCome-failed_at_once says line (IsOver c.loop-fault.reader → ⊥) u v (g.W.Write.contents c.keep_where.new.out) c.next_line.new.held.items c.keep_where.new.held.items c.loop-fault.lines c.loop-fault.tally not_over a r s came first kept finds failed.kept failed.err)
+    let finds = found_at_once says (g.J.Judge.says c.loop-fault.judge) front line c.judge_at_front.result c.in-Some-Kept.field-0 Judgment.Kept i.3 c.in-Some-Kept.is c.in-Some-Kept.field-0-is front_is short c.judge_at_front.ensures.said c.judge_at_front.ensures.not_blank in
+    let found : Result (LineClass g.row.J-Fault.Denot) ℕ = Ok (LineClass.Judged Judgment.Kept) in
+    OnErr-from c.from_residual-in_err-keep-in-Some-Kept.result _
+    (HasCome-failed says line (IsOver c.loop-fault.reader → ⊥) u v (g.W.Write.contents c.keep.new.out) c.next_line.new.held.items c.keep.new.held.items c.loop-fault.lines c.loop-fault.tally found finds not_over a r s came first refl c.in_err-keep-in-Some-Kept.ensures.err)
 
-pub loop-fault-preserved-in-Some : goal.loop-fault-preserved-in-Some
-loop-fault-preserved-in-Some g c =
+pub loop-fault-preserved-in-Some-Kept : goal.loop-fault-preserved-in-Some-Kept
+loop-fault-preserved-in-Some-Kept g c =
     let i = c.loop-fault.invariant in
     let says = g.J.Judge.says c.args.judge.now in
     let a = left_of g.R.Read.remaining c.args.reader.now in
@@ -139,32 +140,92 @@ loop-fault-preserved-in-Some g c =
     let v = g.W.Write.contents c.next_line.new.out in
     let line = c.line-line.result.now in
     let front = c.front.result.now in
-    let kept = c.in-Some.is_kept in
     let given = subst (Gives g.R.Read.remaining c.loop-fault.reader c.next_line.new.reader) c.in-Line.is c.in_ok-next_line.ensures.given in
     let first = subst (λ (l : List ℕ). GivesLine r s l) (sym c.line-line.ensures) given.first in
-    let whole = subst (λ (l : List ℕ). IsOver c.next_line.new.reader ⊎ WhereKnown r s (λ rest after. rest ≡ l ++ 10 ∷ after)) (sym c.line-line.ensures) given.whole in
     let not_over = λ (over : IsOver c.loop-fault.reader). let ends = c.in_ok-next_line.ensures.again.over over in absurd {A = ⊥} (cc) in
     let came = HasCome-written says a r (IsOver c.loop-fault.reader → ⊥) u (g.W.Write.contents c.loop-fault.out) v c.loop-fault.held.items c.next_line.new.held.items c.loop-fault.lines c.loop-fault.tally i.4 c.in_ok-next_line.ensures.ok in
-    let is : take (length line) front ≡ line = ap (λ (l : List ℕ). take (length l) front) c.line-line.ensures ∙ c.front.ensures ∙ sym c.line-line.ensures in
+    let front_is : take (length line) front ≡ line = ap (λ (l : List ℕ). take (length l) front) c.line-line.ensures ∙ c.front.ensures ∙ sym c.line-line.ensures in
     let short : length line ≤ longest_line = subst (λ (l : List ℕ). length l ≤ longest_line) (sym c.line-line.ensures) given.short in
-    let finds = found_at_once says front line (length line) kept is short c.in-Some.ensures.not_blank ((i.3 (take (length line) front) (judgment_where kept)).1 c.in-Some.ensures.said) in
-    let wrote = c.in_ok-keep_where-in-Some.ensures in
-    let n = c.count_where.result in
-    let few : n ≤ 1 = c.count_where.ensures.few in
+    let finds = found_at_once says (g.J.Judge.says c.loop-fault.judge) front line c.judge_at_front.result c.in-Some-Kept.field-0 Judgment.Kept i.3 c.in-Some-Kept.is c.in-Some-Kept.field-0-is front_is short c.judge_at_front.ensures.said c.judge_at_front.ensures.not_blank in
+    let whole = subst (λ (l : List ℕ). IsOver c.next_line.new.reader ⊎ WhereKnown r s (λ rest after. rest ≡ l ++ 10 ∷ after)) (sym c.line-line.ensures) given.whole in
+    let wrote = c.in_ok-keep-in-Some-Kept.ensures in
     let fewer = given.fewer in
     let lines_fit : c.loop-fault.lines + 1 + bytes_to_come c.next_line.new.reader ≤ bytes_to_come c.args.reader.now = omega (arith, i.0, fewer) in
     let rows_fit : c.loop-fault.tally.rows + 1 ≤ c.loop-fault.lines + 1 = omega (arith, i.1) in
-    let kept_fit : c.loop-fault.tally.kept + n ≤ c.loop-fault.lines + 1 = omega (arith, i.2, few) in (
+    let kept_fit : c.loop-fault.tally.kept + 1 ≤ c.loop-fault.lines + 1 = omega (arith, i.2) in (
       lines_fit,
       rows_fit,
       kept_fit,
-      SaysTheSame-trans _ _ _ i.3 c.keeps.ensures.same,
-      HasCome-at_once says line (IsOver c.loop-fault.reader → ⊥) u v (g.W.Write.contents c.keep_where.new.out) c.next_line.new.held.items c.keep_where.new.held.items c.loop-fault.lines c.loop-fault.tally not_over a r s came first kept finds
-          (IsOver c.next_line.new.reader) whole wrote.ok n c.count_where.ensures.count,
+      SaysTheSame-trans _ _ _ i.3 c.judge_at_front.ensures.same,
+      HasCome-kept says line (IsOver c.loop-fault.reader → ⊥) u v c.next_line.new.held.items c.loop-fault.lines c.loop-fault.tally not_over a r s came first finds (IsOver c.next_line.new.reader) whole (g.W.Write.contents c.keep.new.out) c.keep.new.held.items wrote.ok,
       reads_well_more g.S.Reads.calls g.R.Read.remaining c.args.reader.now c.loop-fault.reader c.next_line.new.reader i.5 c.in_ok-next_line.ensures.reads (going_read c.next_line.new.reader given.going),
       stays_well_trans _ (g.T.Writes.calls c.next_line.new.out) _ (stays_well_trans _ (g.T.Writes.calls c.loop-fault.out) _ i.6 c.in_ok-next_line.ensures.well) wrote.well,
       λ is_unread. absurd (going_read c.next_line.new.reader given.going is_unread),
     )
+
+pub loop-fault-preserved-in-Some-LeftOut : goal.loop-fault-preserved-in-Some-LeftOut
+loop-fault-preserved-in-Some-LeftOut g c =
+    let i = c.loop-fault.invariant in
+    let says = g.J.Judge.says c.args.judge.now in
+    let a = left_of g.R.Read.remaining c.args.reader.now in
+    let r = left_of g.R.Read.remaining c.loop-fault.reader in
+    let s = left_of g.R.Read.remaining c.next_line.new.reader in
+    let u = g.W.Write.contents c.args.out.now in
+    let v = g.W.Write.contents c.next_line.new.out in
+    let line = c.line-line.result.now in
+    let front = c.front.result.now in
+    let given = subst (Gives g.R.Read.remaining c.loop-fault.reader c.next_line.new.reader) c.in-Line.is c.in_ok-next_line.ensures.given in
+    let first = subst (λ (l : List ℕ). GivesLine r s l) (sym c.line-line.ensures) given.first in
+    let not_over = λ (over : IsOver c.loop-fault.reader). let ends = c.in_ok-next_line.ensures.again.over over in absurd {A = ⊥} (cc) in
+    let came = HasCome-written says a r (IsOver c.loop-fault.reader → ⊥) u (g.W.Write.contents c.loop-fault.out) v c.loop-fault.held.items c.next_line.new.held.items c.loop-fault.lines c.loop-fault.tally i.4 c.in_ok-next_line.ensures.ok in
+    let front_is : take (length line) front ≡ line = ap (λ (l : List ℕ). take (length l) front) c.line-line.ensures ∙ c.front.ensures ∙ sym c.line-line.ensures in
+    let short : length line ≤ longest_line = subst (λ (l : List ℕ). length l ≤ longest_line) (sym c.line-line.ensures) given.short in
+    let finds = found_at_once says (g.J.Judge.says c.loop-fault.judge) front line c.judge_at_front.result c.in-Some-LeftOut.field-0 Judgment.LeftOut i.3 c.in-Some-LeftOut.is c.in-Some-LeftOut.field-0-is front_is short c.judge_at_front.ensures.said c.judge_at_front.ensures.not_blank in
+    let whole = subst (λ (l : List ℕ). IsOver c.next_line.new.reader ⊎ WhereKnown r s (λ rest after. rest ≡ l ++ 10 ∷ after)) (sym c.line-line.ensures) given.whole in
+    let fewer = given.fewer in
+    let lines_fit : c.loop-fault.lines + 1 + bytes_to_come c.next_line.new.reader ≤ bytes_to_come c.args.reader.now = omega (arith, i.0, fewer) in
+    let rows_fit : c.loop-fault.tally.rows + 1 ≤ c.loop-fault.lines + 1 = omega (arith, i.1) in
+    let kept_fit : c.loop-fault.tally.kept ≤ c.loop-fault.lines + 1 = omega (arith, i.2) in (
+      lines_fit,
+      rows_fit,
+      kept_fit,
+      SaysTheSame-trans _ _ _ i.3 c.judge_at_front.ensures.same,
+      HasCome-left_out says line (IsOver c.loop-fault.reader → ⊥) u v c.next_line.new.held.items c.loop-fault.lines c.loop-fault.tally not_over a r s came first finds (IsOver c.next_line.new.reader) whole,
+      reads_well_more g.S.Reads.calls g.R.Read.remaining c.args.reader.now c.loop-fault.reader c.next_line.new.reader i.5 c.in_ok-next_line.ensures.reads (going_read c.next_line.new.reader given.going),
+      stays_well_trans _ (g.T.Writes.calls c.loop-fault.out) _ i.6 c.in_ok-next_line.ensures.well,
+      λ is_unread. absurd (going_read c.next_line.new.reader given.going is_unread),
+    )
+
+pub returns-in-Some-Fault-clause-ok : goal.returns-in-Some-Fault-clause-ok
+returns-in-Some-Fault-clause-ok g c =
+    let i = c.loop-fault.invariant in
+    let says = g.J.Judge.says c.args.judge.now in
+    let a = left_of g.R.Read.remaining c.args.reader.now in
+    let r = left_of g.R.Read.remaining c.loop-fault.reader in
+    let s = left_of g.R.Read.remaining c.next_line.new.reader in
+    let u = g.W.Write.contents c.args.out.now in
+    let v = g.W.Write.contents c.next_line.new.out in
+    let line = c.line-line.result.now in
+    let front = c.front.result.now in
+    let given = subst (Gives g.R.Read.remaining c.loop-fault.reader c.next_line.new.reader) c.in-Line.is c.in_ok-next_line.ensures.given in
+    let first = subst (λ (l : List ℕ). GivesLine r s l) (sym c.line-line.ensures) given.first in
+    let not_over = λ (over : IsOver c.loop-fault.reader). let ends = c.in_ok-next_line.ensures.again.over over in absurd {A = ⊥} (cc) in
+    let came = HasCome-written says a r (IsOver c.loop-fault.reader → ⊥) u (g.W.Write.contents c.loop-fault.out) v c.loop-fault.held.items c.next_line.new.held.items c.loop-fault.lines c.loop-fault.tally i.4 c.in_ok-next_line.ensures.ok in
+    let front_is : take (length line) front ≡ line = ap (λ (l : List ℕ). take (length l) front) c.line-line.ensures ∙ c.front.ensures ∙ sym c.line-line.ensures in
+    let short : length line ≤ longest_line = subst (λ (l : List ℕ). length l ≤ longest_line) (sym c.line-line.ensures) given.short in
+    let finds = found_at_once says (g.J.Judge.says c.loop-fault.judge) front line c.judge_at_front.result c.in-Some-Fault.field-0 (Judgment.Fault c.in-Some-Fault.fault) i.3 c.in-Some-Fault.is c.in-Some-Fault.field-0-is front_is short c.judge_at_front.ensures.said c.judge_at_front.ensures.not_blank in
+    subst (λ (stop : RunStop g.row.J-Fault.Denot). IfSome a (λ bytes. (text : List ℕ) × WritesBut u v c.next_line.new.held.items text × StopsWith (lines says bytes) (LacksLine says bytes c.next_line.new.reader.waiting (g.R.Read.remaining c.next_line.new.reader.reader)) text stop)) (sym c.stop_at.ensures)
+    (HasCome-at_fault says line (IsOver c.loop-fault.reader → ⊥) u v c.next_line.new.held.items c.loop-fault.lines c.loop-fault.tally not_over a r s came first c.in-Some-Fault.fault finds c.next_line.new.reader.waiting (g.R.Read.remaining c.next_line.new.reader.reader))
+
+pub returns-in-Some-Fault-clause-reads : goal.returns-in-Some-Fault-clause-reads
+returns-in-Some-Fault-clause-reads g c =
+    let i = c.loop-fault.invariant in
+    let calls = g.S.Reads.calls in
+    let remaining = g.R.Read.remaining in
+    let given = subst (Gives remaining c.loop-fault.reader c.next_line.new.reader) c.in-Line.is c.in_ok-next_line.ensures.given in
+    let reads = reads_on calls remaining c.args.reader.now c.loop-fault.reader c.next_line.new.reader i.5 c.in_ok-next_line.ensures.reads in
+    subst (λ (stop : RunStop g.row.J-Fault.Denot). ReadsUntil calls remaining c.args.reader.now c.next_line.new.reader stop) (sym c.stop_at.ensures)
+    (reads_of_item calls remaining c.args.reader.now c.next_line.new.reader (RunStop.Fault (c.loop-fault.lines + 1) c.in-Some-Fault.fault) tt (reads.well (going_read c.next_line.new.reader given.going)))
 
 pub loop-fault-preserved : goal.loop-fault-preserved
 loop-fault-preserved g c =
@@ -184,7 +245,7 @@ loop-fault-preserved g c =
     let whole = subst (λ (l : List ℕ). IsOver c.next_line.new.reader ⊎ WhereKnown r s (λ rest after. rest ≡ l ++ 10 ∷ after)) (sym c.line-line.ensures) given.whole in
     let not_over = λ (over : IsOver c.loop-fault.reader). let ends = c.in_ok-next_line.ensures.again.over over in absurd {A = ⊥} (cc) in
     let came = HasCome-written says a r (IsOver c.loop-fault.reader → ⊥) u (g.W.Write.contents c.loop-fault.out) v c.loop-fault.held.items c.next_line.new.held.items c.loop-fault.lines c.loop-fault.tally i.4 c.in_ok-next_line.ensures.ok in
-    let same = SaysTheSame-trans says (g.J.Judge.says c.loop-fault.judge) (g.J.Judge.says c.keeps.new.self) i.3 c.keeps.ensures.same in
+    let same = SaysTheSame-trans says (g.J.Judge.says c.loop-fault.judge) (g.J.Judge.says c.judge_at_front.new.self) i.3 c.judge_at_front.ensures.same in
     let finds = found-same _ _ line c.find-found.result same c.find-found.ensures.found in
     let fewer = given.fewer in
     let lines_fit : c.loop-fault.lines + 1 + bytes_to_come c.next_line.new.reader ≤ bytes_to_come c.args.reader.now = omega (arith, i.0, fewer) in
@@ -216,7 +277,7 @@ returns-in-Err-clause-ok g c =
     let first = subst (λ (l : List ℕ). GivesLine r s l) (sym c.line-line.ensures) given.first in
     let not_over = λ (over : IsOver c.loop-fault.reader). let ends = c.in_ok-next_line.ensures.again.over over in absurd {A = ⊥} (cc) in
     let came = HasCome-written says a r (IsOver c.loop-fault.reader → ⊥) u (g.W.Write.contents c.loop-fault.out) v c.loop-fault.held.items c.next_line.new.held.items c.loop-fault.lines c.loop-fault.tally i.4 c.in_ok-next_line.ensures.ok in
-    let same = SaysTheSame-trans says (g.J.Judge.says c.loop-fault.judge) (g.J.Judge.says c.keeps.new.self) i.3 c.keeps.ensures.same in
+    let same = SaysTheSame-trans says (g.J.Judge.says c.loop-fault.judge) (g.J.Judge.says c.judge_at_front.new.self) i.3 c.judge_at_front.ensures.same in
     let finds = found-same _ _ line c.find-found.result same c.find-found.ensures.found in
     HasCome-stopped says line (IsOver c.loop-fault.reader → ⊥) u v (g.W.Write.contents c.settle.new.out) c.next_line.new.held.items c.settle.new.held.items c.loop-fault.lines c.loop-fault.tally c.find-found.result finds not_over
     c.next_line.new.reader.waiting (g.R.Read.remaining c.next_line.new.reader.reader) a r s c.in-Err.stop came first settled.ok (sym settled.outcome ∙ c.in-Err.is)

@@ -1,27 +1,7 @@
-use Rattle.std.proofs.Common.{List, sym, ap, ◌∙◌, subst, IfSome}
-use Rattle.csdl_schema.specs.ExpansionView.{StepModel, paths_in}
-use Rattle.edm_entities.specs.Row.{Row}
-use Rattle.odata_checked_filter.specs.Filter.{tree_of_filter}
-use Rattle.odata_meaning.specs.MeansOn.{IsTheOutcome}
-use Rattle.odata_eval.specs.VerdictView.{reported_outcome}
+use Rattle.std.proofs.Common.{sym, subst}
 use Rattle.row_judges.specs.RowAnswer.{ReportsRow}
-use Rattle.row_judges.proofs.RowLemmas.RowsInPlace.{held_reported}
 use Rattle.row_judges.proofs.row_judge.RowJudge.judge_held.Goals as goal
-
-pub judge_entity-requires : goal.judge_entity-requires
-judge_entity-requires c =
-    let is = c.entity-entity.ensures in
-    record {
-      schema = ap (λ (r : Row). r.schema) is ∙ c.requires.rows.schema;
-      type_id = ap (λ (r : Row). r.type_id) is ∙ c.requires.rows.type_id;
-      expansion = λ path. ap (λ (r : Row). paths_in r.expansion path) is ∙ ap (λ (steps : List StepModel). paths_in steps path) (c.requires.rows.whole c.requires.whole);
-    }
 
 pub returns : goal.returns
 returns c line read =
-    let filter = c.args.self.now.checked.now in
-    let now = c.args.self.now.moment.now in
-    let answer = c.judge_entity.result in
-    subst (ReportsRow filter now line) (sym c.reported.ensures)
-    (held_reported filter now c.args.rows.now c.requires.rows c.requires.whole line answer read
-    (subst (λ (r : Row). IfSome (reported_outcome answer) (IsTheOutcome r now (tree_of_filter filter))) c.entity-entity.ensures c.judge_entity.ensures.outcome))
+    subst (ReportsRow c.args.self.now.checked.now c.args.self.now.moment.now line) (sym c.reported.ensures) (c.answer_held.ensures line read)

@@ -1,4 +1,4 @@
-use Rattle.std.proofs.Common.{rules, Option, Result, Ok, Err, IfSome, IfOk, sym, subst}
+use Rattle.std.proofs.Common.{Option, Result, Ok, Err, IfSome, IfOk, sym, subst}
 use Rattle.std.specs.declared.alloc.AllocError.{AllocError}
 use Rattle.line_filter.specs.declared.judge.Judgment.{Judgment}
 use Rattle.odata_filter_operations.specs.declared.fault.EvalFault.{EvalFault}
@@ -13,12 +13,6 @@ use Rattle.row_judges.proofs.RowLemmas.RowJudges.{line_judged}
 use Rattle.row_judges.proofs.RowLemmas.RowsInPlace.{rows_again}
 use Rattle.row_judges.proofs.row_line_judge.RowLineJudgeJudge.judge.Goals.{in-Some-Ok, in-Some-Err, in-None}
 use Rattle.row_judges.proofs.row_line_judge.RowLineJudgeJudge.judge.Goals as goal
-
-pub invariant_of-self : goal.invariant_of-self
-invariant_of-self c = (c.self.invariant.0, rows_again c.self.inside.rows.checked.now c.self.inside.type_rows c.reads_copy.new.rows c.reads_copy.ensures.same c.self.invariant.1)
-
-pub invariant_of-self-then-self : goal.invariant_of-self-then-self
-invariant_of-self-then-self c = (c.self.invariant.0, rows_again c.self.inside.rows.checked.now c.self.inside.type_rows c.reads_copy.new.rows c.reads_copy.ensures.same c.self.invariant.1)
 
 pub invariant_of-self-2 : goal.invariant_of-self-2
 invariant_of-self-2 c = (c.self.invariant.0, rows_again c.self.inside.rows.checked.now c.self.inside.type_rows c.begin_after.new.rows c.begin_after.ensures c.self.invariant.1)
@@ -44,30 +38,10 @@ returns-clause-said c =
     ] in
     subst (λ (f : FilterNow). IfOk c.match-judge_read.judged (JudgesRow f.filter f.moment line)) c.self.view_is right
 
-pub judge_held-requires-clause-rows : goal.judge_held-requires-clause-rows
-judge_held-requires-clause-rows c = (rows_again c.self.inside.rows.checked.now c.self.inside.type_rows c.reads_copy.new.rows c.reads_copy.ensures.same c.self.invariant.1).names
-
-pub returns-then-reads_copy-clause-said : goal.returns-then-reads_copy-clause-said
-returns-then-reads_copy-clause-said c =
-    let filter = c.self.inside.rows.checked.now in
-    let now = c.self.inside.rows.moment.now in
-    let line = c.args.line.now in
-    let reported : ReportsRow filter now line c.judge_held.result = c.judge_held.ensures line (search rules) in
-    subst (λ (f : FilterNow). IfOk c.judgment_of.result (JudgesRow f.filter f.moment line)) c.self.view_is
-    (line_judged filter now line c.judge_held.result c.judgment_of.result reported c.judgment_of.ensures)
-
-pub returns-then-self-clause-said : goal.returns-then-self-clause-said
-returns-then-self-clause-said c =
-    let filter = c.self.inside.rows.checked.now in
-    let now = c.self.inside.rows.moment.now in
-    let line = c.args.line.now in
-    subst (λ (f : FilterNow). IfOk c.judgment_of-then-self.result (JudgesRow f.filter f.moment line)) c.self.view_is
-    (line_judged filter now line c.judge_by_tree.result c.judgment_of-then-self.result c.judge_by_tree.ensures c.judgment_of-then-self.ensures)
-
 pub returns-then-self-eq2-clause-said : goal.returns-then-self-eq2-clause-said
 returns-then-self-eq2-clause-said c =
     let filter = c.self.inside.rows.checked.now in
     let now = c.self.inside.rows.moment.now in
     let line = c.args.line.now in
-    subst (λ (f : FilterNow). IfOk c.judgment_of-then-self-eq2.result (JudgesRow f.filter f.moment line)) c.self.view_is
-    (line_judged filter now line c.judge_by_tree-then-self-eq2.result c.judgment_of-then-self-eq2.result c.judge_by_tree-then-self-eq2.ensures c.judgment_of-then-self-eq2.ensures)
+    subst (λ (f : FilterNow). IfOk c.judgment_of.result (JudgesRow f.filter f.moment line)) c.self.view_is
+    (line_judged filter now line c.judge_by_tree.result c.judgment_of.result c.judge_by_tree.ensures c.judgment_of.ensures)
