@@ -10,7 +10,7 @@ ghost use Rattle.odata_eval.specs.private.WalkAnswer.{AnswersTruth};
 
 use super::eval_context::EvalContext;
 use super::kept_arithmetic::arithmetic_compared_at;
-use super::kept_terms::kept_truth_at;
+use super::kept_terms::{compared_with_literal, kept_truth_at};
 use super::logical::decides;
 use super::walk::term_at;
 use super::walk_operand::{WalkClass, is_class_at, right_of};
@@ -67,16 +67,16 @@ fn plain_term_at(context: &EvalContext<'_, '_, '_>, place: usize) -> Option<bool
     requires stands { TruthStands context.now place }
     ensures { IfSome result (λ truth. AnswersTruth context.now place (Ok (Some truth))) }
 {
-    if let Some(truth) = kept_truth_at(context, place) {
-        return Some(truth);
-    }
     let NodeKind::Binary { operator } = context.node(place).kind else {
-        return None;
+        return kept_truth_at(context, place);
     };
     let BinaryOperator::Comparison(comparison) = operator else {
         return None;
     };
     let _nodes = context.nodes();
+    if let Some(truth) = compared_with_literal(context, place, comparison) {
+        return Some(truth);
+    }
     if is_class_at(context, place + 1, WalkClass::Numeric) {
         arithmetic_compared_at(context, place, comparison)
     } else {

@@ -32,8 +32,9 @@ pub(crate) fn arithmetic_compared_at(
     let Some(right) = found_number_at(context, right_place) else {
         return None;
     };
+    let _nodes = context.nodes();
     let top = place + 1;
-    let bottom = spine_bottom(context, top, WalkClass::Numeric);
+    let bottom = spine_bottom(context, top + 1, WalkClass::Numeric);
     let Some(first) = found_number_at(context, bottom) else {
         return None;
     };

@@ -51,11 +51,14 @@ fn plain_at<'e>(context: &EvalContext<'e, '_, '_>, place: usize) -> Option<&'e V
     ensures answers { IfSome result (λ value. AnswersKept context.now place value.now) }
     ensures leaf { IfSome result (λ value. IsClassAt context.now.list Class.Leaf place) }
 {
-    match context.node(place).kind {
-        NodeKind::Property { slot } => Some(context.property(slot)),
-        NodeKind::Literal { value, .. } => Some(context.literal(value)),
-        _ => None,
+    let kind = context.node(place).kind;
+    if let NodeKind::Literal { value, .. } = kind {
+        return Some(context.literal(value));
     }
+    if let NodeKind::Property { slot } = kind {
+        return Some(context.property(slot));
+    }
+    None
 }
 
 /// What a kept record has in the slot of a step.

@@ -34,7 +34,7 @@ pub(crate) fn kept_truth_at(context: &EvalContext<'_, '_, '_>, place: usize) -> 
 
 /// Whether a comparison of a property with a literal is true.
 #[inline(always)]
-fn compared_with_literal(
+pub(crate) fn compared_with_literal(
     context: &EvalContext<'_, '_, '_>,
     place: usize,
     comparison: ComparisonOperator,

@@ -48,6 +48,14 @@ use Rattle.odata_eval.proofs.walking.Children.{only_child}
 use Rattle.odata_eval.proofs.walking.Operands.{ResolvedHere, fault_no_value, inner_number, tree_of_class, tree_operand}
 use Rattle.odata_eval.proofs.walking.Parts.{by_kind, goes_there, some_there, reports_there, there_found}
 
+-- what is said of the first one, and of those after it, is said of each
+pub with_first : (P : ℕ → Type 0) (first end : ℕ) → P first → ((k : ℕ) → k < end → first + 1 ≤ k → P k) → (k : ℕ) → k < end → first ≤ k → P k
+with_first P first end at_first later k before from =
+    elim (cases_lt first k) [
+      | inl after ↦ later k before (omega arith)
+      | inr at ↦ (let same : first ≡ k = omega arith in subst P same at_first)
+    ]
+
 -- the walk takes the operator's node by its class
 pub walks_by : (list : FlatTree) (place : ℕ) (operator : BinaryOperator) (class : WalkClass) → HasKind list place (NodeKind.Binary operator)
     → walk_of_operator operator ≡ class → IsClassAt list class place

@@ -19,6 +19,13 @@ overflow_add-place c =
     let same = c.nodes-nodes.ensures in
     search rules
 
+pub compared_with_literal-requires : goal.compared_with_literal-requires
+compared_with_literal-requires c = record {
+  stands = typed_part c.args.context.now c.args.place IsBooleanOrNull c.requires.stands;
+  here = there_found (λ (f : CheckedNode). f.kind ≡ NodeKind.Binary (BinaryOperator.Comparison c.in-Comparison.comparison)) (slice_get c.args.context.now.list.nodes c.args.place) c.node.result.now c.node.ensures
+      (c.in-Binary.is ∙ ap NodeKind.Binary c.in-Comparison.is);
+}
+
 pub arithmetic_compared_at-requires : goal.arithmetic_compared_at-requires
 arithmetic_compared_at-requires c = record {
   stands = typed_part c.args.context.now c.args.place IsBooleanOrNull c.requires.stands;

@@ -1,7 +1,7 @@
-use Rattle.std.proofs.Common.{◌≡◌, ℕ, ◌<◌, ◌≤◌, ◌+◌, ◌-◌, None, Ok, arith, subst}
+use Rattle.std.proofs.Common.{◌≡◌, ℕ, ◌<◌, ◌≤◌, ◌+◌, ◌-◌, None, Ok, arith, length, rules, subst}
 use Rattle.odata_syntax.specs.declared.binary_operator.BinaryOperator.{BinaryOperator}
 use Rattle.odata_eval.specs.declared.walk_operand.WalkClass.{WalkClass}
-use Rattle.odata_eval.specs.private.Place.{PartStands}
+use Rattle.odata_eval.specs.private.Place.{IsClassAt, PartStands}
 use Rattle.odata_eval.specs.private.WalkAnswer.{AnswersNumber}
 use Rattle.odata_eval.proofs.spending.Budgets.{takes_nothing}
 use Rattle.odata_eval.proofs.spending.Free.{leaf_free, numeric_free}
@@ -9,9 +9,9 @@ use Rattle.odata_eval.proofs.spending.Rests.{free_spends}
 use Rattle.odata_eval.proofs.spending.Wholes.{both_free}
 use Rattle.odata_eval.proofs.walking.AndChains.{left_side}
 use Rattle.odata_eval.proofs.walking.Compared.{numbers_compared}
-use Rattle.odata_eval.proofs.walking.Extents.{right_further, right_part, right_there}
-use Rattle.odata_eval.proofs.walking.Operands.{tree_of_class}
-use Rattle.odata_eval.proofs.walking.Spines.{at_top, part_down}
+use Rattle.odata_eval.proofs.walking.Extents.{right_part, right_there}
+use Rattle.odata_eval.proofs.walking.Operands.{operand_inside, tree_of_class}
+use Rattle.odata_eval.proofs.walking.Spines.{at_top, part_down, with_first}
 use Rattle.odata_eval.proofs.kept_arithmetic.arithmetic_compared_at.Goals as goal
 
 pub right_of-right_place-requires : goal.right_of-right_place-requires
@@ -24,8 +24,15 @@ found_number_at-requires c = record {
 
 pub overflow_add-top : goal.overflow_add-top
 overflow_add-top c =
-    let behind = right_further c.args.context.now c.args.place (BinaryOperator.Comparison c.args.comparison) c.requires.here c.requires.stands c.right_of-right_place.result c.right_of-right_place.ensures in
-    omega (arith, behind, c.right_of-right_place.type_inv)
+    let within : c.args.place + 1 < length c.args.context.now.list.nodes = operand_inside c.args.context.now (c.args.place + 1) (left_side c.args.context.now c.args.place (BinaryOperator.Comparison c.args.comparison) c.requires.here c.requires.stands) in
+    let same = c.nodes-nodes.ensures in
+    search rules
+
+pub overflow_add-top-2 : goal.overflow_add-top-2
+overflow_add-top-2 c =
+    let within : c.args.place + 1 < length c.args.context.now.list.nodes = operand_inside c.args.context.now (c.args.place + 1) (left_side c.args.context.now c.args.place (BinaryOperator.Comparison c.args.comparison) c.requires.here c.requires.stands) in
+    let same = c.nodes-nodes.ensures in
+    search rules
 
 pub found_number_at-requires-2 : goal.found_number_at-requires-2
 found_number_at-requires-2 c =
@@ -33,7 +40,8 @@ found_number_at-requires-2 c =
     tree_of_class c.args.context.now (c.args.place + 1) WalkClass.Numeric (λ leaf. cc) c.requires.numeric
     (left_side c.args.context.now c.args.place (BinaryOperator.Comparison c.args.comparison) c.requires.here c.requires.stands) in
     record {
-      stands = part_down c.args.context.now WalkClass.Numeric (λ leaf. cc) (c.args.place + 1) c.spine_bottom-bottom.result c.spine_bottom-bottom.ensures.below left c.spine_bottom-bottom.ensures.spine;
+      stands = part_down c.args.context.now WalkClass.Numeric (λ leaf. cc) (c.args.place + 1) c.spine_bottom-bottom.result (omega (arith, c.spine_bottom-bottom.ensures.below)) left
+          (with_first (IsClassAt c.args.context.now.list WalkClass.Numeric) (c.args.place + 1) c.spine_bottom-bottom.result c.requires.numeric c.spine_bottom-bottom.ensures.spine);
     }
 
 pub calculation_at-requires : goal.calculation_at-requires
@@ -45,9 +53,10 @@ calculation_at-requires c =
     let above : c.args.place + 1 < l.at = omega arith in
     let within : l.at ≤ c.spine_bottom-bottom.result = l.invariant.within in
     let e : l.at ≡ l.at - 1 + 1 = omega arith in
+    let spine = with_first (IsClassAt c.args.context.now.list WalkClass.Numeric) (c.args.place + 1) c.spine_bottom-bottom.result c.requires.numeric c.spine_bottom-bottom.ensures.spine in
     record {
-      stands = tree_of_class c.args.context.now (l.at - 1) WalkClass.Numeric (λ leaf. cc) (c.spine_bottom-bottom.ensures.spine (l.at - 1) (omega arith) (omega arith))
-          (part_down c.args.context.now WalkClass.Numeric (λ leaf. cc) (c.args.place + 1) (l.at - 1) (omega arith) left (λ i before from. c.spine_bottom-bottom.ensures.spine i (omega arith) from));
+      stands = tree_of_class c.args.context.now (l.at - 1) WalkClass.Numeric (λ leaf. cc) (spine (l.at - 1) (omega arith) (omega arith))
+          (part_down c.args.context.now WalkClass.Numeric (λ leaf. cc) (c.args.place + 1) (l.at - 1) (omega arith) left (λ i before from. spine i (omega arith) from));
       left = subst (λ (k : ℕ). AnswersNumber c.args.context.now k (Ok l.number)) e l.invariant.answers;
     }
 
