@@ -4,9 +4,9 @@ pub use Rattle.std.proofs.alloc.Global.TheLaws.{lowers as global_lowers, lowered
 pub use Rattle.odfilter_c.specs.declared.c_types.Bytes.{Bytes}
 pub use Rattle.odfilter_c.specs.contracts.c_types.Bytes.{the_row as BytesRow}
 pub use Rattle.odfilter_c.proofs.c_types.Bytes.TheLaws.{lowers as bytes_lowers, lowered as bytes_val, the_row_laws as bytes_laws}
-pub use Rattle.odfilter_c.specs.declared.c_types.Room.{Room}
-pub use Rattle.odfilter_c.specs.contracts.c_types.Room.{the_row as RoomRow}
-pub use Rattle.odfilter_c.proofs.c_types.Room.TheLaws.{lowers as room_lowers, lowered as room_val, the_row_laws as room_laws}
+pub use Rattle.odfilter_c.specs.declared.c_types.Buffer.{Buffer}
+pub use Rattle.odfilter_c.specs.contracts.c_types.Buffer.{the_row as BufferRow}
+pub use Rattle.odfilter_c.proofs.c_types.Buffer.TheLaws.{lowers as buffer_lowers, lowered as buffer_val, the_row_laws as buffer_laws}
 pub use Rattle.odfilter_c.specs.declared.handle.Handle.{Handle}
 pub use Rattle.odfilter_c.specs.contracts.handle.Handle.{the_row as HandleRow}
 pub use Rattle.odfilter_c.specs.declared.owned.Owned.{Owned}

@@ -2,10 +2,10 @@
 use Rattle.std.specs.Prelude.{◌≡◌, ℕ, List, [], ◌∷◌}
 use base.Fml.{Fml, fsep, feq, fex}
 use denote.RawPtr.{Ptr}
-use Rattle.odfilter_c.specs.Loans.{Loan, lent_fault, lent_handle, lent_judge, lent_bytes, lent_room, lent_made, lent_answer, left_judge, left_room, left_made, left_answer, unless_null, holds, of_optional, of_bytes}
+use Rattle.odfilter_c.specs.Loans.{Loan, borrowed_fault, borrowed_handle, borrowed_judge, borrowed_bytes, borrowed_buffer, borrowed_made, borrowed_answer, left_judge, left_buffer, left_made, left_answer, unless_null, holds, of_optional, of_bytes}
 use Rattle.odfilter_c.specs.declared.c_types.Answer.{Answer}
 use Rattle.odfilter_c.specs.declared.c_types.Bytes.{Bytes}
-use Rattle.odfilter_c.specs.declared.c_types.Room.{Room}
+use Rattle.odfilter_c.specs.declared.c_types.Buffer.{Buffer}
 use Rattle.odfilter_c.specs.declared.handle.Handle.{Handle}
 use Rattle.odfilter_c.specs.declared.owned.Owned.{Owned}
 use Rattle.odfilter_c.specs.UrlCalls.{ChecksUrl}
@@ -14,98 +14,98 @@ use Rattle.odfilter_c.specs.Costs.{ReportsNodeCount, ReportsLambdaDepth, Reports
 use Rattle.odfilter_c.specs.Sentences.{ReportsSentenceFor, ReportsSentence}
 
 -- what `odfilter_check_url` borrows: a handle, bytes, a buffer, the new handle's variable and the answer
-abbrev pub lent_to_check_url : Loan → Ptr → Bytes → Room → Ptr → Ptr → Fml
-lent_to_check_url l given query text made answer =
-    fsep (lent_handle l given) (fsep (lent_bytes l query) (fsep (lent_room l text)
-    (fsep (lent_made l made) (lent_answer l answer))))
+abbrev pub borrowed_by_check_url : Loan → Ptr → Bytes → Buffer → Ptr → Ptr → Fml
+borrowed_by_check_url l given query text made answer =
+    fsep (borrowed_handle l given) (fsep (borrowed_bytes l query) (fsep (borrowed_buffer l text)
+    (fsep (borrowed_made l made) (borrowed_answer l answer))))
 
 -- what it leaves: all unchanged and the status 1 where an address may not be null and is, else what `ChecksUrl` says
-abbrev pub left_by_check_url : Loan → Ptr → Bytes → Room → Ptr → Ptr → ℕ → Fml
+abbrev pub left_by_check_url : Loan → Ptr → Bytes → Buffer → Ptr → Ptr → ℕ → Fml
 left_by_check_url l given query text made answer result = unless_null (given ∷ text.at ∷ made ∷ answer ∷ [])
-    (fsep (feq ℕ result 1) (lent_to_check_url l given query text made answer))
+    (fsep (feq ℕ result 1) (borrowed_by_check_url l given query text made answer))
     (fex (List ℕ) (λ text'. fex Owned (λ made'. fex Answer (λ answer'.
-    fsep (left_room l text text') (fsep (left_made l made made') (fsep (left_answer l answer answer')
+    fsep (left_buffer l text text') (fsep (left_made l made made') (fsep (left_answer l answer answer')
     (holds (of_bytes query.at query.length l.bytes
-    ((text' ≡ l.room) × ((made' ≡ l.made) × ((answer' ≡ l.answer) × (result ≡ 1))))
-    (λ bytes. ChecksUrl l.handle bytes l.room text' made' answer' result)))))))))
+    ((text' ≡ l.buffer) × ((made' ≡ l.made) × ((answer' ≡ l.answer) × (result ≡ 1))))
+    (λ bytes. ChecksUrl l.handle bytes l.buffer text' made' answer' result)))))))))
 
 -- what `odfilter_canonical` borrows: a handle, a buffer and the answer
-abbrev pub lent_to_canonical : Loan → Ptr → Room → Ptr → Fml
-lent_to_canonical l filter text answer = fsep (lent_handle l filter) (fsep (lent_room l text) (lent_answer l answer))
+abbrev pub borrowed_by_canonical : Loan → Ptr → Buffer → Ptr → Fml
+borrowed_by_canonical l filter text answer = fsep (borrowed_handle l filter) (fsep (borrowed_buffer l text) (borrowed_answer l answer))
 
 -- what it leaves: all unchanged and the status 1 where an address may not be null and is, else what `ReportsCanonical`
 -- says
-abbrev pub left_by_canonical : Loan → Ptr → Room → Ptr → ℕ → Fml
+abbrev pub left_by_canonical : Loan → Ptr → Buffer → Ptr → ℕ → Fml
 left_by_canonical l filter text answer result = unless_null (filter ∷ text.at ∷ answer ∷ [])
-    (fsep (feq ℕ result 1) (lent_to_canonical l filter text answer))
+    (fsep (feq ℕ result 1) (borrowed_by_canonical l filter text answer))
     (fex (List ℕ) (λ text'. fex Answer (λ answer'.
-    fsep (left_room l text text') (fsep (left_answer l answer answer')
-    (holds (ReportsCanonical l.handle l.room text' answer' result))))))
+    fsep (left_buffer l text text') (fsep (left_answer l answer answer')
+    (holds (ReportsCanonical l.handle l.buffer text' answer' result))))))
 
 -- what `odfilter_explain` borrows: a handle, a buffer and the answer
-abbrev pub lent_to_explain : Loan → Ptr → Room → Ptr → Fml
-lent_to_explain l filter text answer = fsep (lent_handle l filter) (fsep (lent_room l text) (lent_answer l answer))
+abbrev pub borrowed_by_explain : Loan → Ptr → Buffer → Ptr → Fml
+borrowed_by_explain l filter text answer = fsep (borrowed_handle l filter) (fsep (borrowed_buffer l text) (borrowed_answer l answer))
 
 -- what it leaves: all unchanged and the status 1 where an address may not be null and is, else what `ReportsNodes` says
-abbrev pub left_by_explain : Loan → Ptr → Room → Ptr → ℕ → Fml
+abbrev pub left_by_explain : Loan → Ptr → Buffer → Ptr → ℕ → Fml
 left_by_explain l filter text answer result = unless_null (filter ∷ text.at ∷ answer ∷ [])
-    (fsep (feq ℕ result 1) (lent_to_explain l filter text answer))
+    (fsep (feq ℕ result 1) (borrowed_by_explain l filter text answer))
     (fex (List ℕ) (λ text'. fex Answer (λ answer'.
-    fsep (left_room l text text') (fsep (left_answer l answer answer')
-    (holds (ReportsNodes l.handle l.room text' answer' result))))))
+    fsep (left_buffer l text text') (fsep (left_answer l answer answer')
+    (holds (ReportsNodes l.handle l.buffer text' answer' result))))))
 
 -- what `odfilter_node_count` borrows: a handle and the answer
-abbrev pub lent_to_node_count : Loan → Ptr → Ptr → Fml
-lent_to_node_count l filter answer = fsep (lent_handle l filter) (lent_answer l answer)
+abbrev pub borrowed_by_node_count : Loan → Ptr → Ptr → Fml
+borrowed_by_node_count l filter answer = fsep (borrowed_handle l filter) (borrowed_answer l answer)
 
 -- what it leaves: all unchanged and the status 1 where an address may not be null and is, else what `ReportsNodeCount`
 -- says
 abbrev pub left_by_node_count : Loan → Ptr → Ptr → ℕ → Fml
 left_by_node_count l filter answer result = unless_null (filter ∷ answer ∷ [])
-    (fsep (feq ℕ result 1) (lent_to_node_count l filter answer))
+    (fsep (feq ℕ result 1) (borrowed_by_node_count l filter answer))
     (fex Answer (λ answer'.
     fsep (left_answer l answer answer') (holds (ReportsNodeCount l.handle answer' result))))
 
 -- what `odfilter_lambda_depth` borrows: a handle and the answer
-abbrev pub lent_to_lambda_depth : Loan → Ptr → Ptr → Fml
-lent_to_lambda_depth l filter answer = fsep (lent_handle l filter) (lent_answer l answer)
+abbrev pub borrowed_by_lambda_depth : Loan → Ptr → Ptr → Fml
+borrowed_by_lambda_depth l filter answer = fsep (borrowed_handle l filter) (borrowed_answer l answer)
 
 -- what it leaves: all unchanged and the status 1 where an address may not be null and is, else what
 -- `ReportsLambdaDepth` says
 abbrev pub left_by_lambda_depth : Loan → Ptr → Ptr → ℕ → Fml
 left_by_lambda_depth l filter answer result = unless_null (filter ∷ answer ∷ [])
-    (fsep (feq ℕ result 1) (lent_to_lambda_depth l filter answer))
+    (fsep (feq ℕ result 1) (borrowed_by_lambda_depth l filter answer))
     (fex Answer (λ answer'.
     fsep (left_answer l answer answer') (holds (ReportsLambdaDepth l.handle answer' result))))
 
 -- what `odfilter_property_paths` borrows: a handle, a buffer and the answer
-abbrev pub lent_to_property_paths : Loan → Ptr → Room → Ptr → Fml
-lent_to_property_paths l filter paths answer =
-    fsep (lent_handle l filter) (fsep (lent_room l paths) (lent_answer l answer))
+abbrev pub borrowed_by_property_paths : Loan → Ptr → Buffer → Ptr → Fml
+borrowed_by_property_paths l filter paths answer =
+    fsep (borrowed_handle l filter) (fsep (borrowed_buffer l paths) (borrowed_answer l answer))
 
 -- what it leaves: all unchanged and the status 1 where an address may not be null and is, else what `ReportsPaths` says
-abbrev pub left_by_property_paths : Loan → Ptr → Room → Ptr → ℕ → Fml
+abbrev pub left_by_property_paths : Loan → Ptr → Buffer → Ptr → ℕ → Fml
 left_by_property_paths l filter paths answer result = unless_null (filter ∷ paths.at ∷ answer ∷ [])
-    (fsep (feq ℕ result 1) (lent_to_property_paths l filter paths answer))
+    (fsep (feq ℕ result 1) (borrowed_by_property_paths l filter paths answer))
     (fex (List ℕ) (λ paths'. fex Answer (λ answer'.
-    fsep (left_room l paths paths') (fsep (left_answer l answer answer')
-    (holds (ReportsPaths l.handle l.room paths' answer' result))))))
+    fsep (left_buffer l paths paths') (fsep (left_answer l answer answer')
+    (holds (ReportsPaths l.handle l.buffer paths' answer' result))))))
 
 -- what `odfilter_fault_text` borrows: a handle, bytes, a buffer, a fault's answer and the answer
-abbrev pub lent_to_fault_text : Loan → Ptr → Bytes → Room → Ptr → Ptr → Fml
-lent_to_fault_text l given text sentence fault answer =
-    fsep (lent_handle l given) (fsep (lent_bytes l text) (fsep (lent_room l sentence)
-    (fsep (lent_fault l fault) (lent_answer l answer))))
+abbrev pub borrowed_by_fault_text : Loan → Ptr → Bytes → Buffer → Ptr → Ptr → Fml
+borrowed_by_fault_text l given text sentence fault answer =
+    fsep (borrowed_handle l given) (fsep (borrowed_bytes l text) (fsep (borrowed_buffer l sentence)
+    (fsep (borrowed_fault l fault) (borrowed_answer l answer))))
 
 -- what it leaves: all unchanged and the status 1 where an address other than the type's is null, else what
 -- `ReportsSentence` says, or with a type `ReportsSentenceFor`
-abbrev pub left_by_fault_text : Loan → Ptr → ℕ → Bytes → Room → Ptr → Ptr → ℕ → Fml
+abbrev pub left_by_fault_text : Loan → Ptr → ℕ → Bytes → Buffer → Ptr → Ptr → ℕ → Fml
 left_by_fault_text l given status text sentence fault answer result = unless_null (sentence.at ∷ fault ∷ answer ∷ [])
-    (fsep (feq ℕ result 1) (lent_to_fault_text l given text sentence fault answer))
+    (fsep (feq ℕ result 1) (borrowed_by_fault_text l given text sentence fault answer))
     (fex (List ℕ) (λ sentence'. fex Answer (λ answer'.
-    fsep (left_room l sentence sentence') (fsep (left_answer l answer answer')
+    fsep (left_buffer l sentence sentence') (fsep (left_answer l answer answer')
     (holds (of_optional given
-    (of_bytes text.at text.length l.bytes ((sentence' ≡ l.room) × ((answer' ≡ l.answer) × (result ≡ 1)))
-    (λ bytes. ReportsSentence status bytes l.room sentence' l.fault answer' result))
-    (of_bytes text.at text.length l.bytes ((sentence' ≡ l.room) × ((answer' ≡ l.answer) × (result ≡ 1)))
-    (λ bytes. ReportsSentenceFor l.handle status bytes l.room sentence' l.fault answer' result))))))))
+    (of_bytes text.at text.length l.bytes ((sentence' ≡ l.buffer) × ((answer' ≡ l.answer) × (result ≡ 1)))
+    (λ bytes. ReportsSentence status bytes l.buffer sentence' l.fault answer' result))
+    (of_bytes text.at text.length l.bytes ((sentence' ≡ l.buffer) × ((answer' ≡ l.answer) × (result ≡ 1)))
+    (λ bytes. ReportsSentenceFor l.handle status bytes l.buffer sentence' l.fault answer' result))))))))

@@ -13,7 +13,7 @@ use mir.Syntax.{static}
 use Rattle.std.specs.Ptr.{if_non_null}
 use Rattle.odfilter_c.specs.declared.c_types.Answer.{Answer}
 use Rattle.odfilter_c.specs.declared.c_types.Bytes.{Bytes}
-use Rattle.odfilter_c.specs.declared.c_types.Room.{Room}
+use Rattle.odfilter_c.specs.declared.c_types.Buffer.{Buffer}
 use Rattle.odfilter_c.specs.declared.handle.Handle.{Handle}
 use Rattle.odfilter_c.specs.declared.owned.Owned.{Owned}
 use Rattle.odfilter_c.specs.contracts.c_types.Answer.{the_row as AnswerRow}
@@ -29,8 +29,8 @@ pub record Loan : Type 0 where
   pub bytes : List ℕ
   pub judge : Handle
   pub judge_name : GName
-  pub room : List ℕ
-  pub room_name : GName
+  pub buffer : List ℕ
+  pub buffer_name : GName
   pub made : Owned
   pub made_name : GName
   pub answer : Answer
@@ -38,8 +38,8 @@ pub record Loan : Type 0 where
   pub fault : Answer
 
 -- a value that may change
-abbrev pub lent_place : (R : RattleType) → Lft → GName → Ptr → R.Denot → Fml
-lent_place R κ γ p x = if_non_null p ((MutRef static κ R).own_val
+abbrev pub borrowed_place : (R : RattleType) → Lft → GName → Ptr → R.Denot → Fml
+borrowed_place R κ γ p x = if_non_null p ((MutRef static κ R).own_val
     (record { ref_ptr = (block_of p, count_of p); ghost_name = γ; now = x }) (ptr_val p ∷ []))
 
 -- and what is left of it: the last value is x
@@ -47,51 +47,51 @@ abbrev pub left_place : (R : RattleType) → Lft → GName → Ptr → R.Denot �
 left_place R κ γ p x = fsep (fres γ (R.coded.code x)) (fbor κ (Body (mem R) (block_of p) (count_of p) γ))
 
 -- a handle that is read
-abbrev pub lent_handle : Loan → Ptr → Fml
-lent_handle l p = if_non_null p ((ShrRef static l.lifetime HandleRow).own_val
+abbrev pub borrowed_handle : Loan → Ptr → Fml
+borrowed_handle l p = if_non_null p ((ShrRef static l.lifetime HandleRow).own_val
     (record { ref_ptr = (block_of p, count_of p); now = l.handle }) (ptr_val p ∷ []))
 
 -- bytes that are read
-abbrev pub lent_bytes : Loan → Bytes → Fml
-lent_bytes l s = if_non_null s.at ((ShrSlice static l.lifetime u8).own_val
+abbrev pub borrowed_bytes : Loan → Bytes → Fml
+borrowed_bytes l s = if_non_null s.at ((ShrSlice static l.lifetime u8).own_val
     (record { ref_ptr = (block_of s.at, count_of s.at); now = l.bytes })
     (slice_val (block_of s.at, count_of s.at) s.length ∷ []))
 
 -- a handle that may change
-abbrev pub lent_judge : Loan → Ptr → Fml
-lent_judge l p = lent_place HandleRow l.lifetime l.judge_name p l.judge
+abbrev pub borrowed_judge : Loan → Ptr → Fml
+borrowed_judge l p = borrowed_place HandleRow l.lifetime l.judge_name p l.judge
 
 abbrev pub left_judge : Loan → Ptr → Handle → Fml
 left_judge l p x = left_place HandleRow l.lifetime l.judge_name p x
 
 -- buffers
-abbrev pub lent_room : Loan → Room → Fml
-lent_room l s = if_non_null s.at ((MutSlice static l.lifetime u8).own_val
-    (record { ref_ptr = (block_of s.at, count_of s.at); ghost_name = l.room_name; now = l.room })
+abbrev pub borrowed_buffer : Loan → Buffer → Fml
+borrowed_buffer l s = if_non_null s.at ((MutSlice static l.lifetime u8).own_val
+    (record { ref_ptr = (block_of s.at, count_of s.at); ghost_name = l.buffer_name; now = l.buffer })
     (slice_val (block_of s.at, count_of s.at) s.length ∷ []))
 
-abbrev pub left_room : Loan → Room → List ℕ → Fml
-left_room l s xs = fsep
-    (fsep (finally u8 l.room_name xs) (feq ℕ (length xs) (length l.room)))
-    (fbor l.lifetime (Held u8 (length l.room) (block_of s.at) (count_of s.at) l.room_name))
+abbrev pub left_buffer : Loan → Buffer → List ℕ → Fml
+left_buffer l s xs = fsep
+    (fsep (finally u8 l.buffer_name xs) (feq ℕ (length xs) (length l.buffer)))
+    (fbor l.lifetime (Held u8 (length l.buffer) (block_of s.at) (count_of s.at) l.buffer_name))
 
 -- the variable of a handle that is made
-abbrev pub lent_made : Loan → Ptr → Fml
-lent_made l p = lent_place OwnedRow l.lifetime l.made_name p l.made
+abbrev pub borrowed_made : Loan → Ptr → Fml
+borrowed_made l p = borrowed_place OwnedRow l.lifetime l.made_name p l.made
 
 abbrev pub left_made : Loan → Ptr → Owned → Fml
 left_made l p x = left_place OwnedRow l.lifetime l.made_name p x
 
 -- an answer
-abbrev pub lent_answer : Loan → Ptr → Fml
-lent_answer l p = lent_place AnswerRow l.lifetime l.answer_name p l.answer
+abbrev pub borrowed_answer : Loan → Ptr → Fml
+borrowed_answer l p = borrowed_place AnswerRow l.lifetime l.answer_name p l.answer
 
 abbrev pub left_answer : Loan → Ptr → Answer → Fml
 left_answer l p x = left_place AnswerRow l.lifetime l.answer_name p x
 
 -- an answer that is read
-abbrev pub lent_fault : Loan → Ptr → Fml
-lent_fault l p = if_non_null p ((ShrRef static l.lifetime AnswerRow).own_val
+abbrev pub borrowed_fault : Loan → Ptr → Fml
+borrowed_fault l p = if_non_null p ((ShrRef static l.lifetime AnswerRow).own_val
     (record { ref_ptr = (block_of p, count_of p); now = l.fault }) (ptr_val p ∷ []))
 
 -- P of the bytes; at a null address they are an empty text, and with another length than 0 N holds

@@ -13,7 +13,7 @@ pub struct Bytes {
 /// A buffer for a text.
 #[repr(C)]
 #[derive(Drop)]
-pub struct Room {
+pub struct Buffer {
     pub at: *mut u8,
     pub length: usize,
 }

@@ -4,11 +4,11 @@ ghost use Rattle.odfilter_c.specs.Answers.{empty_answer};
 ghost use Rattle.odfilter_c.specs.Costs.{ArePaths, ArePathsOf, ReportsLines, lines_of};
 ghost use Rattle.odfilter_c.specs.FilterCalls.{IsNoText};
 
+use crate::buffer::write_text;
 use crate::c_types::Answer;
 use crate::call_answers::report_fault;
 use crate::call_fault::Fault;
 use crate::handle::{FilterHandle, Handle};
-use crate::room::write_text;
 use std::alloc::{AllocError, Global};
 
 /// An answer of a number.

@@ -3,23 +3,23 @@ ghost use types.Logic.{sem};
 ghost use base.Fml.{flft};
 ghost use denote.RawPtr.{Testable};
 ghost use Rattle.odfilter_c.specs.Loans.{Loan};
-ghost use Rattle.odfilter_c.specs.Exports.{lent_to_read_schema, left_by_read_schema};
-ghost use Rattle.odfilter_c.specs.Exports.{lent_to_find_type, left_by_find_type};
-ghost use Rattle.odfilter_c.specs.Exports.{lent_to_check, left_by_check};
-ghost use Rattle.odfilter_c.specs.Exports.{lent_to_check_query, left_by_check_query};
-ghost use Rattle.odfilter_c.specs.Exports.{lent_to_needs_moment, left_by_needs_moment};
-ghost use Rattle.odfilter_c.specs.Exports.{lent_to_new_judge, left_by_new_judge};
-ghost use Rattle.odfilter_c.specs.Exports.{lent_to_set_moment, left_by_set_moment};
-ghost use Rattle.odfilter_c.specs.Exports.{lent_to_set_bound, left_by_set_bound};
-ghost use Rattle.odfilter_c.specs.Exports.{lent_to_judge, left_by_judge};
-ghost use Rattle.odfilter_c.specs.Exports.{lent_to_filter_lines, left_by_filter_lines};
-ghost use Rattle.odfilter_c.specs.Exports.{lent_to_path, left_by_path};
-ghost use Rattle.odfilter_c.specs.Exports.{lent_to_free, left_by_free};
-ghost use Rattle.odfilter_c.specs.Exports.{lent_to_version, left_by_version};
-ghost use Rattle.odfilter_c.specs.Exports.{lent_to_status_name, left_by_status_name};
-ghost use Rattle.odfilter_c.specs.Exports.{lent_to_fault_name, left_by_fault_name};
+ghost use Rattle.odfilter_c.specs.Exports.{borrowed_by_read_schema, left_by_read_schema};
+ghost use Rattle.odfilter_c.specs.Exports.{borrowed_by_find_type, left_by_find_type};
+ghost use Rattle.odfilter_c.specs.Exports.{borrowed_by_check, left_by_check};
+ghost use Rattle.odfilter_c.specs.Exports.{borrowed_by_check_query, left_by_check_query};
+ghost use Rattle.odfilter_c.specs.Exports.{borrowed_by_needs_moment, left_by_needs_moment};
+ghost use Rattle.odfilter_c.specs.Exports.{borrowed_by_new_judge, left_by_new_judge};
+ghost use Rattle.odfilter_c.specs.Exports.{borrowed_by_set_moment, left_by_set_moment};
+ghost use Rattle.odfilter_c.specs.Exports.{borrowed_by_set_bound, left_by_set_bound};
+ghost use Rattle.odfilter_c.specs.Exports.{borrowed_by_judge, left_by_judge};
+ghost use Rattle.odfilter_c.specs.Exports.{borrowed_by_filter_lines, left_by_filter_lines};
+ghost use Rattle.odfilter_c.specs.Exports.{borrowed_by_path, left_by_path};
+ghost use Rattle.odfilter_c.specs.Exports.{borrowed_by_free, left_by_free};
+ghost use Rattle.odfilter_c.specs.Exports.{borrowed_by_version, left_by_version};
+ghost use Rattle.odfilter_c.specs.Exports.{borrowed_by_status_name, left_by_status_name};
+ghost use Rattle.odfilter_c.specs.Exports.{borrowed_by_fault_name, left_by_fault_name};
 
-use crate::c_types::{Answer, Bytes, Room};
+use crate::c_types::{Answer, Buffer, Bytes};
 use crate::handle::Handle;
 use crate::owned::Owned;
 use crate::{handle_calls, null_calls};
@@ -31,14 +31,14 @@ use std::slice::{from_raw_parts, from_raw_parts_mut};
 pub unsafe extern "C" fn odfilter_read_schema(
     alloc: Global,
     document: Bytes,
-    names: Room,
+    names: Buffer,
     schema: *mut Owned,
     answer: *mut Answer,
 ) -> u32
     ghost loan: { Loan }
     requires testable { (Testable document.at) × (Testable names.at) × (Testable schema) × (Testable answer) }
-    requires* lent { sem 𝓛 (flft loan.lifetime loan.share)
-        ∗ sem 𝓛 (lent_to_read_schema loan document names schema answer) }
+    requires* borrowed { sem 𝓛 (flft loan.lifetime loan.share)
+        ∗ sem 𝓛 (borrowed_by_read_schema loan document names schema answer) }
     ensures* { sem 𝓛 (flft loan.lifetime loan.share)
         ∗ sem 𝓛 (left_by_read_schema loan document names schema answer result) }
 {
@@ -84,7 +84,7 @@ pub unsafe extern "C" fn odfilter_find_type(
 ) -> u32
     ghost loan: { Loan }
     requires testable { (Testable schema) × (Testable name.at) × (Testable made) }
-    requires* lent { sem 𝓛 (flft loan.lifetime loan.share) ∗ sem 𝓛 (lent_to_find_type loan schema name made) }
+    requires* borrowed { sem 𝓛 (flft loan.lifetime loan.share) ∗ sem 𝓛 (borrowed_by_find_type loan schema name made) }
     ensures* { sem 𝓛 (flft loan.lifetime loan.share) ∗ sem 𝓛 (left_by_find_type loan schema name made result) }
 {
     if schema.is_null() {
@@ -125,7 +125,7 @@ pub unsafe extern "C" fn odfilter_check(
 ) -> u32
     ghost loan: { Loan }
     requires testable { (Testable given) × (Testable text.at) × (Testable made) × (Testable answer) }
-    requires* lent { sem 𝓛 (flft loan.lifetime loan.share) ∗ sem 𝓛 (lent_to_check loan given text made answer) }
+    requires* borrowed { sem 𝓛 (flft loan.lifetime loan.share) ∗ sem 𝓛 (borrowed_by_check loan given text made answer) }
     ensures* { sem 𝓛 (flft loan.lifetime loan.share) ∗ sem 𝓛 (left_by_check loan given text made answer result) }
 {
     if given.is_null() {
@@ -171,7 +171,8 @@ pub unsafe extern "C" fn odfilter_check_query(
 ) -> u32
     ghost loan: { Loan }
     requires testable { (Testable given) × (Testable query.at) × (Testable made) × (Testable answer) }
-    requires* lent { sem 𝓛 (flft loan.lifetime loan.share) ∗ sem 𝓛 (lent_to_check_query loan given query made answer) }
+    requires* borrowed { sem 𝓛 (flft loan.lifetime loan.share)
+        ∗ sem 𝓛 (borrowed_by_check_query loan given query made answer) }
     ensures* { sem 𝓛 (flft loan.lifetime loan.share) ∗ sem 𝓛 (left_by_check_query loan given query made answer result) }
 {
     if given.is_null() {
@@ -211,7 +212,7 @@ pub unsafe extern "C" fn odfilter_check_query(
 pub unsafe extern "C" fn odfilter_needs_moment(filter: *const u8, answer: *mut Answer) -> u32
     ghost loan: { Loan }
     requires testable { (Testable filter) × (Testable answer) }
-    requires* lent { sem 𝓛 (flft loan.lifetime loan.share) ∗ sem 𝓛 (lent_to_needs_moment loan filter answer) }
+    requires* borrowed { sem 𝓛 (flft loan.lifetime loan.share) ∗ sem 𝓛 (borrowed_by_needs_moment loan filter answer) }
     ensures* { sem 𝓛 (flft loan.lifetime loan.share) ∗ sem 𝓛 (left_by_needs_moment loan filter answer result) }
 {
     if filter.is_null() {
@@ -228,7 +229,7 @@ pub unsafe extern "C" fn odfilter_needs_moment(filter: *const u8, answer: *mut A
 pub unsafe extern "C" fn odfilter_new_judge(alloc: Global, judge: *mut Owned) -> u32
     ghost loan: { Loan }
     requires testable { (Testable judge) }
-    requires* lent { sem 𝓛 (flft loan.lifetime loan.share) ∗ sem 𝓛 (lent_to_new_judge loan judge) }
+    requires* borrowed { sem 𝓛 (flft loan.lifetime loan.share) ∗ sem 𝓛 (borrowed_by_new_judge loan judge) }
     ensures* { sem 𝓛 (flft loan.lifetime loan.share) ∗ sem 𝓛 (left_by_new_judge loan judge result) }
 {
     if judge.is_null() {
@@ -242,7 +243,7 @@ pub unsafe extern "C" fn odfilter_new_judge(alloc: Global, judge: *mut Owned) ->
 pub unsafe extern "C" fn odfilter_set_moment(judge: *mut u8, moment: Bytes) -> u32
     ghost loan: { Loan }
     requires testable { (Testable judge) × (Testable moment.at) }
-    requires* lent { sem 𝓛 (flft loan.lifetime loan.share) ∗ sem 𝓛 (lent_to_set_moment loan judge moment) }
+    requires* borrowed { sem 𝓛 (flft loan.lifetime loan.share) ∗ sem 𝓛 (borrowed_by_set_moment loan judge moment) }
     ensures* { sem 𝓛 (flft loan.lifetime loan.share) ∗ sem 𝓛 (left_by_set_moment loan judge moment result) }
 {
     if judge.is_null() {
@@ -265,7 +266,7 @@ pub unsafe extern "C" fn odfilter_set_moment(judge: *mut u8, moment: Bytes) -> u
 pub unsafe extern "C" fn odfilter_set_bound(judge: *mut u8, most: u64) -> u32
     ghost loan: { Loan }
     requires testable { (Testable judge) }
-    requires* lent { sem 𝓛 (flft loan.lifetime loan.share) ∗ sem 𝓛 (lent_to_set_bound loan judge) }
+    requires* borrowed { sem 𝓛 (flft loan.lifetime loan.share) ∗ sem 𝓛 (borrowed_by_set_bound loan judge) }
     ensures* { sem 𝓛 (flft loan.lifetime loan.share) ∗ sem 𝓛 (left_by_set_bound loan judge most result) }
 {
     if judge.is_null() {
@@ -284,7 +285,8 @@ pub unsafe extern "C" fn odfilter_judge(
 ) -> u32
     ghost loan: { Loan }
     requires testable { (Testable filter) × (Testable judge) × (Testable row.at) × (Testable answer) }
-    requires* lent { sem 𝓛 (flft loan.lifetime loan.share) ∗ sem 𝓛 (lent_to_judge loan filter judge row answer) }
+    requires* borrowed { sem 𝓛 (flft loan.lifetime loan.share)
+        ∗ sem 𝓛 (borrowed_by_judge loan filter judge row answer) }
     ensures* { sem 𝓛 (flft loan.lifetime loan.share) ∗ sem 𝓛 (left_by_judge loan filter judge row answer result) }
 {
     if filter.is_null() {
@@ -323,14 +325,14 @@ pub unsafe extern "C" fn odfilter_filter_lines(
     filter: *const u8,
     judge: *mut u8,
     rows: Bytes,
-    kept: Room,
+    kept: Buffer,
     answer: *mut Answer,
 ) -> u32
     ghost loan: { Loan }
     requires testable { (Testable filter) × (Testable judge) × (Testable rows.at) × (Testable kept.at)
         × (Testable answer) }
-    requires* lent { sem 𝓛 (flft loan.lifetime loan.share)
-        ∗ sem 𝓛 (lent_to_filter_lines loan filter judge rows kept answer) }
+    requires* borrowed { sem 𝓛 (flft loan.lifetime loan.share)
+        ∗ sem 𝓛 (borrowed_by_filter_lines loan filter judge rows kept answer) }
     ensures* { sem 𝓛 (flft loan.lifetime loan.share)
         ∗ sem 𝓛 (left_by_filter_lines loan filter judge rows kept answer result) }
 {
@@ -371,10 +373,10 @@ pub unsafe extern "C" fn odfilter_filter_lines(
 
 /// Writes the path of the fault that a judge stores.
 #[unsafe(no_mangle)]
-pub unsafe extern "C" fn odfilter_path(judge: *const u8, path: Room, answer: *mut Answer) -> u32
+pub unsafe extern "C" fn odfilter_path(judge: *const u8, path: Buffer, answer: *mut Answer) -> u32
     ghost loan: { Loan }
     requires testable { (Testable judge) × (Testable path.at) × (Testable answer) }
-    requires* lent { sem 𝓛 (flft loan.lifetime loan.share) ∗ sem 𝓛 (lent_to_path loan judge path answer) }
+    requires* borrowed { sem 𝓛 (flft loan.lifetime loan.share) ∗ sem 𝓛 (borrowed_by_path loan judge path answer) }
     ensures* { sem 𝓛 (flft loan.lifetime loan.share) ∗ sem 𝓛 (left_by_path loan judge path answer result) }
 {
     if judge.is_null() {
@@ -400,7 +402,7 @@ pub unsafe extern "C" fn odfilter_path(judge: *const u8, path: Room, answer: *mu
 pub unsafe extern "C" fn odfilter_free(alloc: Global, handle: *mut Owned) -> u32
     ghost loan: { Loan }
     requires testable { (Testable handle) }
-    requires* lent { sem 𝓛 (flft loan.lifetime loan.share) ∗ sem 𝓛 (lent_to_free loan handle) }
+    requires* borrowed { sem 𝓛 (flft loan.lifetime loan.share) ∗ sem 𝓛 (borrowed_by_free loan handle) }
     ensures* { sem 𝓛 (flft loan.lifetime loan.share) ∗ sem 𝓛 (left_by_free loan handle result) }
 {
     if handle.is_null() {
@@ -411,10 +413,10 @@ pub unsafe extern "C" fn odfilter_free(alloc: Global, handle: *mut Owned) -> u32
 
 /// Writes the version.
 #[unsafe(no_mangle)]
-pub unsafe extern "C" fn odfilter_version(text: Room, answer: *mut Answer) -> u32
+pub unsafe extern "C" fn odfilter_version(text: Buffer, answer: *mut Answer) -> u32
     ghost loan: { Loan }
     requires testable { (Testable text.at) × (Testable answer) }
-    requires* lent { sem 𝓛 (flft loan.lifetime loan.share) ∗ sem 𝓛 (lent_to_version loan text answer) }
+    requires* borrowed { sem 𝓛 (flft loan.lifetime loan.share) ∗ sem 𝓛 (borrowed_by_version loan text answer) }
     ensures* { sem 𝓛 (flft loan.lifetime loan.share) ∗ sem 𝓛 (left_by_version loan text answer result) }
 {
     if text.at.is_null() {
@@ -428,10 +430,10 @@ pub unsafe extern "C" fn odfilter_version(text: Room, answer: *mut Answer) -> u3
 
 /// Writes the name of a status.
 #[unsafe(no_mangle)]
-pub unsafe extern "C" fn odfilter_status_name(status: u32, text: Room, answer: *mut Answer) -> u32
+pub unsafe extern "C" fn odfilter_status_name(status: u32, text: Buffer, answer: *mut Answer) -> u32
     ghost loan: { Loan }
     requires testable { (Testable text.at) × (Testable answer) }
-    requires* lent { sem 𝓛 (flft loan.lifetime loan.share) ∗ sem 𝓛 (lent_to_status_name loan text answer) }
+    requires* borrowed { sem 𝓛 (flft loan.lifetime loan.share) ∗ sem 𝓛 (borrowed_by_status_name loan text answer) }
     ensures* { sem 𝓛 (flft loan.lifetime loan.share) ∗ sem 𝓛 (left_by_status_name loan status text answer result) }
 {
     if text.at.is_null() {
@@ -454,12 +456,12 @@ pub unsafe extern "C" fn odfilter_status_name(status: u32, text: Room, answer: *
 pub unsafe extern "C" fn odfilter_fault_name(
     status: u32,
     fault: u32,
-    text: Room,
+    text: Buffer,
     answer: *mut Answer,
 ) -> u32
     ghost loan: { Loan }
     requires testable { (Testable text.at) × (Testable answer) }
-    requires* lent { sem 𝓛 (flft loan.lifetime loan.share) ∗ sem 𝓛 (lent_to_fault_name loan text answer) }
+    requires* borrowed { sem 𝓛 (flft loan.lifetime loan.share) ∗ sem 𝓛 (borrowed_by_fault_name loan text answer) }
     ensures* { sem 𝓛 (flft loan.lifetime loan.share) ∗ sem 𝓛 (left_by_fault_name loan status fault text answer result) }
 {
     if text.at.is_null() {

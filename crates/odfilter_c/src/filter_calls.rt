@@ -1,7 +1,8 @@
 //! Filters, and what is asked of them.
 ghost use Rattle.std.specs.Prelude.{◌≡◌, MatchResult, string_bytes};
 ghost use Rattle.odata_checked_filter.specs.Filter.{IsFilter, filter_in};
-ghost use Rattle.odfilter_c.specs.FilterCalls.{IsCanonicalOf, IsExplanationOf, IsFilterIn, IsFilterMade, IsFilterOfQuery};
+ghost use Rattle.odfilter_c.specs.FilterCalls.{IsCanonicalOf, IsExplanationOf, IsFilterIn};
+ghost use Rattle.odfilter_c.specs.FilterCalls.{IsFilterMade, IsFilterOfQuery};
 ghost use Rattle.row_judges.specs.RowAnswer.{IsPlanOfFilter};
 ghost use Rattle.odfilter_c.specs.HeldType.{IsPlanOfType};
 ghost use Rattle.odfilter_c.specs.FilterCalls.{IsNoFilter, IsNoQueryFilter, IsNoText, IsNotMade};

@@ -3,15 +3,15 @@ ghost use types.Logic.{sem};
 ghost use base.Fml.{flft};
 ghost use denote.RawPtr.{Testable};
 ghost use Rattle.odfilter_c.specs.Loans.{Loan};
-ghost use Rattle.odfilter_c.specs.FilterExports.{lent_to_check_url, left_by_check_url};
-ghost use Rattle.odfilter_c.specs.FilterExports.{lent_to_canonical, left_by_canonical};
-ghost use Rattle.odfilter_c.specs.FilterExports.{lent_to_explain, left_by_explain};
-ghost use Rattle.odfilter_c.specs.FilterExports.{lent_to_node_count, left_by_node_count};
-ghost use Rattle.odfilter_c.specs.FilterExports.{lent_to_lambda_depth, left_by_lambda_depth};
-ghost use Rattle.odfilter_c.specs.FilterExports.{lent_to_property_paths, left_by_property_paths};
-ghost use Rattle.odfilter_c.specs.FilterExports.{lent_to_fault_text, left_by_fault_text};
+ghost use Rattle.odfilter_c.specs.FilterExports.{borrowed_by_check_url, left_by_check_url};
+ghost use Rattle.odfilter_c.specs.FilterExports.{borrowed_by_canonical, left_by_canonical};
+ghost use Rattle.odfilter_c.specs.FilterExports.{borrowed_by_explain, left_by_explain};
+ghost use Rattle.odfilter_c.specs.FilterExports.{borrowed_by_node_count, left_by_node_count};
+ghost use Rattle.odfilter_c.specs.FilterExports.{borrowed_by_lambda_depth, left_by_lambda_depth};
+ghost use Rattle.odfilter_c.specs.FilterExports.{borrowed_by_property_paths, left_by_property_paths};
+ghost use Rattle.odfilter_c.specs.FilterExports.{borrowed_by_fault_text, left_by_fault_text};
 
-use crate::c_types::{Answer, Bytes, Room};
+use crate::c_types::{Answer, Buffer, Bytes};
 use crate::handle::Handle;
 use crate::owned::Owned;
 use crate::{handle_calls, null_calls};
@@ -24,15 +24,15 @@ pub unsafe extern "C" fn odfilter_check_url(
     alloc: Global,
     given: *const u8,
     query: Bytes,
-    text: Room,
+    text: Buffer,
     made: *mut Owned,
     answer: *mut Answer,
 ) -> u32
     ghost loan: { Loan }
     requires testable { (Testable given) × (Testable query.at) × (Testable text.at) × (Testable made)
         × (Testable answer) }
-    requires* lent { sem 𝓛 (flft loan.lifetime loan.share)
-        ∗ sem 𝓛 (lent_to_check_url loan given query text made answer) }
+    requires* borrowed { sem 𝓛 (flft loan.lifetime loan.share)
+        ∗ sem 𝓛 (borrowed_by_check_url loan given query text made answer) }
     ensures* { sem 𝓛 (flft loan.lifetime loan.share)
         ∗ sem 𝓛 (left_by_check_url loan given query text made answer result) }
 {
@@ -78,12 +78,12 @@ pub unsafe extern "C" fn odfilter_check_url(
 pub unsafe extern "C" fn odfilter_canonical(
     alloc: Global,
     filter: *const u8,
-    text: Room,
+    text: Buffer,
     answer: *mut Answer,
 ) -> u32
     ghost loan: { Loan }
     requires testable { (Testable filter) × (Testable text.at) × (Testable answer) }
-    requires* lent { sem 𝓛 (flft loan.lifetime loan.share) ∗ sem 𝓛 (lent_to_canonical loan filter text answer) }
+    requires* borrowed { sem 𝓛 (flft loan.lifetime loan.share) ∗ sem 𝓛 (borrowed_by_canonical loan filter text answer) }
     ensures* { sem 𝓛 (flft loan.lifetime loan.share) ∗ sem 𝓛 (left_by_canonical loan filter text answer result) }
 {
     if filter.is_null() {
@@ -110,12 +110,12 @@ pub unsafe extern "C" fn odfilter_canonical(
 pub unsafe extern "C" fn odfilter_explain(
     alloc: Global,
     filter: *const u8,
-    text: Room,
+    text: Buffer,
     answer: *mut Answer,
 ) -> u32
     ghost loan: { Loan }
     requires testable { (Testable filter) × (Testable text.at) × (Testable answer) }
-    requires* lent { sem 𝓛 (flft loan.lifetime loan.share) ∗ sem 𝓛 (lent_to_explain loan filter text answer) }
+    requires* borrowed { sem 𝓛 (flft loan.lifetime loan.share) ∗ sem 𝓛 (borrowed_by_explain loan filter text answer) }
     ensures* { sem 𝓛 (flft loan.lifetime loan.share) ∗ sem 𝓛 (left_by_explain loan filter text answer result) }
 {
     if filter.is_null() {
@@ -142,7 +142,7 @@ pub unsafe extern "C" fn odfilter_explain(
 pub unsafe extern "C" fn odfilter_node_count(filter: *const u8, answer: *mut Answer) -> u32
     ghost loan: { Loan }
     requires testable { (Testable filter) × (Testable answer) }
-    requires* lent { sem 𝓛 (flft loan.lifetime loan.share) ∗ sem 𝓛 (lent_to_node_count loan filter answer) }
+    requires* borrowed { sem 𝓛 (flft loan.lifetime loan.share) ∗ sem 𝓛 (borrowed_by_node_count loan filter answer) }
     ensures* { sem 𝓛 (flft loan.lifetime loan.share) ∗ sem 𝓛 (left_by_node_count loan filter answer result) }
 {
     if filter.is_null() {
@@ -159,7 +159,7 @@ pub unsafe extern "C" fn odfilter_node_count(filter: *const u8, answer: *mut Ans
 pub unsafe extern "C" fn odfilter_lambda_depth(filter: *const u8, answer: *mut Answer) -> u32
     ghost loan: { Loan }
     requires testable { (Testable filter) × (Testable answer) }
-    requires* lent { sem 𝓛 (flft loan.lifetime loan.share) ∗ sem 𝓛 (lent_to_lambda_depth loan filter answer) }
+    requires* borrowed { sem 𝓛 (flft loan.lifetime loan.share) ∗ sem 𝓛 (borrowed_by_lambda_depth loan filter answer) }
     ensures* { sem 𝓛 (flft loan.lifetime loan.share) ∗ sem 𝓛 (left_by_lambda_depth loan filter answer result) }
 {
     if filter.is_null() {
@@ -176,12 +176,13 @@ pub unsafe extern "C" fn odfilter_lambda_depth(filter: *const u8, answer: *mut A
 pub unsafe extern "C" fn odfilter_property_paths(
     alloc: Global,
     filter: *const u8,
-    paths: Room,
+    paths: Buffer,
     answer: *mut Answer,
 ) -> u32
     ghost loan: { Loan }
     requires testable { (Testable filter) × (Testable paths.at) × (Testable answer) }
-    requires* lent { sem 𝓛 (flft loan.lifetime loan.share) ∗ sem 𝓛 (lent_to_property_paths loan filter paths answer) }
+    requires* borrowed { sem 𝓛 (flft loan.lifetime loan.share)
+        ∗ sem 𝓛 (borrowed_by_property_paths loan filter paths answer) }
     ensures* { sem 𝓛 (flft loan.lifetime loan.share) ∗ sem 𝓛 (left_by_property_paths loan filter paths answer result) }
 {
     if filter.is_null() {
@@ -210,15 +211,15 @@ pub unsafe extern "C" fn odfilter_fault_text(
     given: *const u8,
     status: u32,
     text: Bytes,
-    sentence: Room,
+    sentence: Buffer,
     fault: *const Answer,
     answer: *mut Answer,
 ) -> u32
     ghost loan: { Loan }
     requires testable { (Testable given) × (Testable text.at) × (Testable sentence.at) × (Testable fault)
         × (Testable answer) }
-    requires* lent { sem 𝓛 (flft loan.lifetime loan.share)
-        ∗ sem 𝓛 (lent_to_fault_text loan given text sentence fault answer) }
+    requires* borrowed { sem 𝓛 (flft loan.lifetime loan.share)
+        ∗ sem 𝓛 (borrowed_by_fault_text loan given text sentence fault answer) }
     ensures* { sem 𝓛 (flft loan.lifetime loan.share)
         ∗ sem 𝓛 (left_by_fault_text loan given status text sentence fault answer result) }
 {

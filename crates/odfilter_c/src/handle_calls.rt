@@ -8,6 +8,7 @@ ghost use Rattle.odfilter_c.specs.Costs.{ReportsLambdaDepth, ReportsNodeCount, R
 ghost use Rattle.odfilter_c.specs.RowReports.{FiltersLines, JudgesNext, JudgesOne, MakesJudge, MakesJudgeOf};
 ghost use Rattle.odfilter_c.specs.RowReports.{SetsBound, SetsMoment, ReportsNeed, ReportsPath};
 
+use crate::buffer::report_bytes;
 use crate::c_types::Answer;
 use crate::call_answers::{give, report_fault};
 use crate::call_fault::Fault;
@@ -18,7 +19,6 @@ use crate::judge_calls::{judge_of, judge_with, last_path, put_moment, report_nex
 use crate::line_calls::report_rows;
 use crate::name_calls::{VERSION, name_of_fault, name_of_status};
 use crate::owned::Owned;
-use crate::room::report_bytes;
 use crate::schema_calls::{report_names, schema_of, type_of};
 use crate::sentence_calls::{sentence_for, sentence_of};
 use crate::url_calls::{found_for, report_found};

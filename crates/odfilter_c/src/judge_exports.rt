@@ -3,8 +3,8 @@ ghost use types.Logic.{sem};
 ghost use base.Fml.{flft};
 ghost use denote.RawPtr.{Testable};
 ghost use Rattle.odfilter_c.specs.Loans.{Loan};
-ghost use Rattle.odfilter_c.specs.JudgeExports.{lent_to_new_judge_of, left_by_new_judge_of};
-ghost use Rattle.odfilter_c.specs.JudgeExports.{lent_to_judge_next, left_by_judge_next};
+ghost use Rattle.odfilter_c.specs.JudgeExports.{borrowed_by_new_judge_of, left_by_new_judge_of};
+ghost use Rattle.odfilter_c.specs.JudgeExports.{borrowed_by_judge_next, left_by_judge_next};
 
 use crate::c_types::{Answer, Bytes};
 use crate::handle::Handle;
@@ -22,7 +22,7 @@ pub unsafe extern "C" fn odfilter_new_judge_of(
 ) -> u32
     ghost loan: { Loan }
     requires testable { (Testable filter) × (Testable judge) }
-    requires* lent { sem 𝓛 (flft loan.lifetime loan.share) ∗ sem 𝓛 (lent_to_new_judge_of loan filter judge) }
+    requires* borrowed { sem 𝓛 (flft loan.lifetime loan.share) ∗ sem 𝓛 (borrowed_by_new_judge_of loan filter judge) }
     ensures* { sem 𝓛 (flft loan.lifetime loan.share) ∗ sem 𝓛 (left_by_new_judge_of loan filter judge result) }
 {
     if filter.is_null() {
@@ -39,7 +39,7 @@ pub unsafe extern "C" fn odfilter_new_judge_of(
 pub unsafe extern "C" fn odfilter_judge_next(judge: *mut u8, row: Bytes, answer: *mut Answer) -> u32
     ghost loan: { Loan }
     requires testable { (Testable judge) × (Testable row.at) × (Testable answer) }
-    requires* lent { sem 𝓛 (flft loan.lifetime loan.share) ∗ sem 𝓛 (lent_to_judge_next loan judge row answer) }
+    requires* borrowed { sem 𝓛 (flft loan.lifetime loan.share) ∗ sem 𝓛 (borrowed_by_judge_next loan judge row answer) }
     ensures* { sem 𝓛 (flft loan.lifetime loan.share) ∗ sem 𝓛 (left_by_judge_next loan judge row answer result) }
 {
     if judge.is_null() {

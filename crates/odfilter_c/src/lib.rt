@@ -9,6 +9,7 @@
 //! ```
 #![tactic(auto)]
 
+mod buffer;
 mod c_types;
 mod call_answers;
 mod call_fault;
@@ -25,9 +26,8 @@ mod name_calls;
 mod null_calls;
 mod owned;
 mod raw;
-mod room;
 mod schema_calls;
 mod sentence_calls;
 mod url_calls;
 
-pub use c_types::{Answer, Bytes, Room};
+pub use c_types::{Answer, Buffer, Bytes};

@@ -2,12 +2,12 @@
 ghost use Rattle.odfilter_c.specs.RowCalls.{IsRunAt, IsRunOver};
 ghost use Rattle.odfilter_c.specs.RowReports.{FiltersBy, FiltersLines, ReportsStop, ReportsTally};
 
+use crate::buffer::write_text;
 use crate::c_types::Answer;
 use crate::call_answers::report_fault;
 use crate::call_fault::{Fault, measured};
 use crate::handle::{FilterHandle, Handle, JudgeHandle};
 use crate::judge_calls::{keep_fault, moment_for};
-use crate::room::write_text;
 use edm_values::Moment;
 use odata_filter::{RunFault, Tally, filter_slice};
 use odata_typing::Checked;
@@ -55,10 +55,10 @@ fn run_over(held: &FilterHandle, judge: &JudgeHandle, rows: &[u8]) -> Run
 }
 
 /// Reports how many rows a run kept, with their lines, or how large a buffer these need.
-fn report_tally(tally: &Tally, kept: &[u8], room: &mut [u8], answer: &mut Answer) -> u32
-    ensures { ReportsTally tally.now kept.now room.old room.new answer.new result }
+fn report_tally(tally: &Tally, kept: &[u8], buffer: &mut [u8], answer: &mut Answer) -> u32
+    ensures { ReportsTally tally.now kept.now buffer.old buffer.new answer.new result }
 {
-    if !write_text(room, kept) {
+    if !write_text(buffer, kept) {
         return report_fault(&Fault::TooSmall { wanted: kept.len() }, answer);
     }
     *answer = measured(kept.len());
@@ -68,10 +68,10 @@ fn report_tally(tally: &Tally, kept: &[u8], room: &mut [u8], answer: &mut Answer
 }
 
 /// Reports where a run stopped, with the lines that it kept before, if the buffer takes them.
-fn report_stop(fault: &Fault, kept: &[u8], room: &mut [u8], answer: &mut Answer) -> u32
-    ensures { ReportsStop fault.now kept.now room.old room.new answer.new result }
+fn report_stop(fault: &Fault, kept: &[u8], buffer: &mut [u8], answer: &mut Answer) -> u32
+    ensures { ReportsStop fault.now kept.now buffer.old buffer.new answer.new result }
 {
-    write_text(room, kept);
+    write_text(buffer, kept);
     *answer = fault.answer();
     answer.length = kept.len();
     fault.status()
@@ -82,19 +82,19 @@ fn report_kept_lines(
     held: &FilterHandle,
     judge: &mut JudgeHandle,
     rows: &[u8],
-    room: &mut [u8],
+    buffer: &mut [u8],
     answer: &mut Answer,
 ) -> u32
-    ensures { FiltersBy held.now judge.old judge.new rows.now room.old room.new answer.new result }
+    ensures { FiltersBy held.now judge.old judge.new rows.now buffer.old buffer.new answer.new result }
 {
     let Run { outcome, kept } = run_over(held, judge, rows);
     match outcome {
         Ok(tally) => {
             judge.last = None;
-            report_tally(&tally, &kept, room, answer)
+            report_tally(&tally, &kept, buffer, answer)
         }
         Err(fault) => {
-            let status = report_stop(&fault, &kept, room, answer);
+            let status = report_stop(&fault, &kept, buffer, answer);
             keep_fault(fault, judge);
             status
         }
@@ -106,14 +106,14 @@ pub(crate) fn report_rows(
     filter: &Handle,
     handle: &mut Handle,
     rows: &[u8],
-    room: &mut [u8],
+    buffer: &mut [u8],
     answer: &mut Answer,
 ) -> u32
-    ensures { FiltersLines filter.now handle.old handle.new rows.now room.old room.new answer.new result }
+    ensures { FiltersLines filter.now handle.old handle.new rows.now buffer.old buffer.new answer.new result }
 {
     match (filter, handle) {
         (Handle::Filter(held), Handle::Judge(judge)) => report_kept_lines(
-            held, judge, rows, room, answer,
+            held, judge, rows, buffer, answer,
         ),
         _ => report_fault(&Fault::OtherKind, answer),
     }

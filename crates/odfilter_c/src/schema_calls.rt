@@ -4,10 +4,10 @@ ghost use Rattle.csdl_schema.specs.SchemaModel.{HoldsType, IsEntityAt};
 ghost use Rattle.odfilter_c.specs.SchemaCalls.{IsNoSchema, IsNoType, IsSchemaOf, IsTypeOf, first_name, second_name};
 ghost use Rattle.odfilter_c.specs.Reports.{ReportsNames};
 
+use crate::buffer::write_both;
 use crate::c_types::Answer;
 use crate::call_fault::Fault;
 use crate::handle::{Handle, SchemaHandle, TypeHandle};
-use crate::room::write_both;
 use csdl_schema::{Expansion, Schema, SchemaFault, TypeId};
 use edm_entities::RowPlan;
 use odata_filter::Numbered;
@@ -103,8 +103,8 @@ fn second_name(fault: &SchemaFault) -> &str
 }
 
 /// Reports a schema's fault, and its names if the buffer takes both.
-pub(crate) fn report_names(fault: &SchemaFault, room: &mut [u8], answer: &mut Answer)
-    ensures { ReportsNames fault.now room.old room.new answer.new }
+pub(crate) fn report_names(fault: &SchemaFault, buffer: &mut [u8], answer: &mut Answer)
+    ensures { ReportsNames fault.now buffer.old buffer.new answer.new }
 {
     let first = first_name(fault).as_bytes();
     let second = second_name(fault).as_bytes();
@@ -112,5 +112,5 @@ pub(crate) fn report_names(fault: &SchemaFault, room: &mut [u8], answer: &mut An
     answer.fault = u32::from(fault.number());
     answer.first = first.len();
     answer.length = first.len() + second.len();
-    write_both(room, first, second);
+    write_both(buffer, first, second);
 }

@@ -3,10 +3,10 @@ ghost use Rattle.std.specs.Prelude.{◌≡◌, MatchResult};
 ghost use Rattle.odata_text.specs.Find.{found_model};
 ghost use Rattle.odfilter_c.specs.UrlCalls.{IsFoundFor, IsNotFound, ReportsFound};
 
+use crate::buffer::write_text;
 use crate::c_types::Answer;
 use crate::call_fault::Fault;
 use crate::handle::Handle;
-use crate::room::write_text;
 use odata_text::{FindFault, FoundFilter, find_filter};
 use std::alloc::Global;
 

@@ -1,8 +1,8 @@
 -- `new_judge` meets its contract: the addresses are tested one by one, and the call borrows what they point to.
 use Rattle.odfilter_c.proofs.Steps.{◌≡◌, ℕ, ◌<◌, ◌^◌, List, [], ◌∷◌, ◌++◌, refl, lit<, w32, w64, Bor, MutBor, proved, leaves, SProp, ent, id⊢, sem, Fml, Lft, Share, ftrue, feq, fsep, fex, flft, Val, vint, vptr, vnull, fact, tables, WpFn, Ura, Logic, Memory, Routine, Calls, Loops, Fun, FmC, Triple, Contract, Item, ‵, raw, ◌⊛◌, some, later, prop, at_ret, Sq, ◌$◌, ◌∵◌, !, qed, move, keep, drop, use1, use2, split, join, fsplit, fjoin, fpack, feq_i, pick, await, by, enter, of_opd, lit, bin, addr, stop, fld, no_more, and_then, first, blocks, branches, skips, exec, returns, returns_within, agg, sub, whole, alloc_all, pass_all, free_all, look_at, get, get_in, through, sets, lands_last, sets_last, any_q, after_seq, Wp, post, assign, place, rv_opd, copy, env, u32, yes, uint_Makes, uint_Lawful, uint_vals, uint_Tells, Typed, Is, shows, Ptr, RawPtr, block_ptr, null_ptr, ptr_val, Testable, tests_null, rawptr_vals, rawptr_Tells, rawptr_Lawful, slice_val, owns, types_at, plain, nothing, owned, heard, peeks, calls_at_last, lasts, on_entry, triple_of, Stays, walk_of, stay_dropped, Goes-dropped, framed, usize}
-use Rattle.odfilter_c.proofs.Types.{Global, GlobalRow, global_val, global_lowers, global_laws, Bytes, BytesRow, bytes_val, bytes_lowers, bytes_laws, Room, RoomRow, room_val, room_lowers, room_laws, Handle, HandleRow, Owned, OwnedRow, Answer, AnswerRow}
-use Rattle.odfilter_c.specs.Loans.{Loan, lent_fault, lent_handle, lent_judge, lent_bytes, lent_room, lent_made, lent_answer, left_judge, left_room, left_made, left_answer, unless_null, holds, of_optional, of_bytes}
-use Rattle.odfilter_c.specs.Exports.{lent_to_new_judge, left_by_new_judge}
+use Rattle.odfilter_c.proofs.Types.{Global, GlobalRow, global_val, global_lowers, global_laws, Bytes, BytesRow, bytes_val, bytes_lowers, bytes_laws, Buffer, BufferRow, buffer_val, buffer_lowers, buffer_laws, Handle, HandleRow, Owned, OwnedRow, Answer, AnswerRow}
+use Rattle.odfilter_c.specs.Loans.{Loan, borrowed_fault, borrowed_handle, borrowed_judge, borrowed_bytes, borrowed_buffer, borrowed_made, borrowed_answer, left_judge, left_buffer, left_made, left_answer, unless_null, holds, of_optional, of_bytes}
+use Rattle.odfilter_c.specs.Exports.{borrowed_by_new_judge, left_by_new_judge}
 use Rattle.odfilter_c.specs.RowReports.{MakesJudge}
 use Rattle.odfilter_c.specs.contracts.handle_calls.new_judge as g
 use Rattle.odfilter_c.proofs.handle_calls.new_judge.Symbol.{name as #call}
@@ -31,7 +31,7 @@ module _ {M : Type 1} {𝓤 : Ura M} (𝓛 : Logic 𝓤) (at_mem : Memory → SP
   Post alloc judge = W.post (bound alloc judge)
 
   abbrev Given : Global → Ptr → List (Item 𝓤)
-  Given alloc judge = ‵ (flft l.lifetime l.share) ∷ ‵ (lent_to_new_judge l judge) ∷ ‵ (GlobalRow.own_val alloc (global_val alloc ∷ [])) ∷ []
+  Given alloc judge = ‵ (flft l.lifetime l.share) ∷ ‵ (borrowed_by_new_judge l judge) ∷ ‵ (GlobalRow.own_val alloc (global_val alloc ∷ [])) ∷ []
 
   abbrev Runs : Global → Ptr → SProp 𝓤
   Runs alloc judge = WpFn 𝓤 H C Λ code.function (global_val alloc ∷ ptr_val judge ∷ []) (Post alloc judge)
@@ -40,7 +40,7 @@ module _ {M : Type 1} {𝓤 : Ura M} (𝓛 : Logic 𝓤) (at_mem : Memory → SP
   good p = (rawptr_Lawful 𝓛).typed p _ refl
 
   -- a call with a null pointer ends with all that was borrowed
-  none : (alloc : Global) (judge : Ptr) → ent 𝓤 (sem 𝓛 (fsep (feq ℕ 1 1) (lent_to_new_judge l judge))) (sem 𝓛 (left_by_new_judge l judge 1)) → Sq 𝓛 (Given alloc judge) (prop (Post alloc judge (vint w32 1)))
+  none : (alloc : Global) (judge : Ptr) → ent 𝓤 (sem 𝓛 (fsep (feq ℕ 1 1) (borrowed_by_new_judge l judge))) (sem 𝓛 (left_by_new_judge l judge 1)) → Sq 𝓛 (Given alloc judge) (prop (Post alloc judge (vint w32 1)))
   none alloc judge e =
       move ! (2 ∷ []) $ drop ! $ move ! (1 ∷ []) $ feq_i ! ℕ 1 1 refl $ fjoin ! $ use1 𝓛 (‵ (left_by_new_judge l judge 1)) e $ move ! (1 ∷ 0 ∷ []) $ join ! $
       owned ! u32 _ (uint_Makes 𝓛 w32) 1 _ (refl, lit< tt) $ nothing ! $ nothing ! $ fjoin ! $ nothing ! $ fjoin ! $ nothing ! $
@@ -82,7 +82,7 @@ odfilter_new_judge_spec 𝓤 𝓛 𝓜 𝓡 wired =
     proved 𝓛 f.ended stayed c 𝓜 𝓡 (Goes-dropped 𝓛 0 (plain (λ _. GlobalRow)) yes (λ κs x w. refl), (Goes-dropped 𝓛 0 (plain (λ _. RawPtr)) yes (λ κs x w. refl), tt))
     f.Key.name code.function (code.unfolded 𝓤 𝓛.H 𝓜 𝓡 wired)
     (λ κs. ((λ g. global_val g ∷ []), (rawptr_vals, tt))) (λ κs. (global_lowers.val_is, (rawptr_Tells, tt))) (λ κs qs bounds a l are.
-    qed 𝓛 ((‵ ftrue ⊛ ‵ (owns (types_at f.signature.params κs) a (global_val a.0 ∷ [], (rawptr_vals a.1.0, tt)))) ∷ (raw (fact 𝓤 (Testable a.1.0)) ⊛ (‵ (flft l.lifetime l.share) ⊛ ‵ (lent_to_new_judge l a.1.0))) ∷ []) ∵
+    qed 𝓛 ((‵ ftrue ⊛ ‵ (owns (types_at f.signature.params κs) a (global_val a.0 ∷ [], (rawptr_vals a.1.0, tt)))) ∷ (raw (fact 𝓤 (Testable a.1.0)) ⊛ (‵ (flft l.lifetime l.share) ⊛ ‵ (borrowed_by_new_judge l a.1.0))) ∷ []) ∵
     split ! $ drop ! $ fsplit ! $ move ! (1 ∷ []) $ drop ! $ move ! (1 ∷ []) $
     split ! $ heard ! _ (λ may. split ! $
     runs 𝓛 𝓜.mem 𝓡.returns 𝓣.C 𝓣.Λ (framed 𝓤 𝓛.H 𝓜 𝓣) (met 𝓤 𝓛 𝓜 𝓡 (code.calls-odfilter_c::handle_calls::new_judge 𝓡.env wired)) l a.0 a.1.0 ((global_laws.lawful 𝓛).typed a.0 _ are.0) may))
