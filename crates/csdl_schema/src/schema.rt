@@ -1,7 +1,8 @@
 ghost use Rattle.std.specs.Prelude.{ℤ, ◌≡◌, ◌<◌, ◌↔◌, drop, length, map, slice_get, Some, IsTrue, IfSome, option_map};
 ghost use Rattle.csdl_schema.specs.SchemaModel.{enumeration_at, enumeration_named, index_named, is_enumeration, is_structured, name_of_kind, properties_at, slot_named, AreSlotsInOrder, HasDistinctNames, HoldsType, IsEntityAt, IsEnumerationByName, IsOneByName};
+ghost use Rattle.edm_enumerations.specs.EnumerationModel.{member_of};
 ghost use Rattle.csdl_schema.specs.PropertyView.{AreFirstOf, IsReadAs};
-ghost use Rattle.csdl_schema.specs.EnumerationText.{IsValueIn, IsOfUnderlying};
+ghost use Rattle.csdl_schema.specs.EnumerationText.{has_flags, members_in, IsValueIn, IsOfUnderlying};
 
 use super::chain::Chain;
 use super::ids::{EnumId, TypeId};
@@ -111,6 +112,39 @@ impl Schema {
         match enumeration_at(&self.types, id.index()) {
             Some(enumeration) => enumeration.value_of(text),
             None => None,
+        }
+    }
+
+    /// Returns how many members the enumeration has; 0 where the schema has no such enumeration.
+    pub fn enum_members(&self, id: EnumId) -> usize
+        ensures { result ≡ length (members_in (enumeration_at self.now id)) }
+    {
+        match enumeration_at(&self.types, id.index()) {
+            Some(enumeration) => enumeration.len(),
+            None => 0,
+        }
+    }
+
+    /// Returns the member of an enumeration at an index: its name and its number. `None` after the last one, and where
+    /// the schema has no such enumeration.
+    pub fn enum_member(&self, id: EnumId, place: usize) -> Option<(&str, i64)>
+        ensures { option_map (λ m. member_of m.0.now m.1) result
+            ≡ slice_get (members_in (enumeration_at self.now id)) place }
+    {
+        match enumeration_at(&self.types, id.index()) {
+            Some(enumeration) => enumeration.member_at(place),
+            None => None,
+        }
+    }
+
+    /// Whether a value of the enumeration may combine several members (CSDL JSON 4.01, section 10.2).
+    /// `false` where the schema has no such enumeration.
+    pub fn enum_is_flags(&self, id: EnumId) -> bool
+        ensures { result ≡ has_flags (enumeration_at self.now id) }
+    {
+        match enumeration_at(&self.types, id.index()) {
+            Some(enumeration) => enumeration.is_flags(),
+            None => false,
         }
     }
 

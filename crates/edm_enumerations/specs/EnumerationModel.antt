@@ -8,6 +8,9 @@ pub record MemberModel : Type 0 where
   pub name : List ℕ
   pub number : ℤ
 
+abbrev pub member_of : List ℕ → ℤ → MemberModel
+member_of name number = record { name = name; number = number }
+
 -- an enumeration: the type of its numbers, whether it is one of flags, and its members, which are found by name
 pub record EnumerationModel : Type 0 where
   pub underlying : PrimitiveType

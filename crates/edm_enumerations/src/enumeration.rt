@@ -1,6 +1,6 @@
-ghost use Rattle.std.specs.Prelude.{◌≡◌, ℤ, pos, [], IfOk, OnOk, OnErr, IfSome, string_bytes};
+ghost use Rattle.std.specs.Prelude.{◌≡◌, ℤ, pos, [], IfOk, OnOk, OnErr, IfSome, length, option_map, slice_get, string_bytes};
 ghost use Rattle.edm_values.specs.NumberTypes.{IsNumberType, IsNumberOf};
-ghost use Rattle.edm_enumerations.specs.EnumerationModel.{number_in, with_member};
+ghost use Rattle.edm_enumerations.specs.EnumerationModel.{member_of, number_in, with_member};
 ghost use Rattle.edm_enumerations.specs.EnumerationValue.{EnumerationValue, JoinsTo, PieceNumber, pieces_of};
 
 use super::pieces::{spelled_number, without_outer_spaces};
@@ -87,6 +87,23 @@ impl Enumeration {
         ensures { result ≡ self.now.is_flags }
     {
         self.is_flags
+    }
+
+    /// Returns how many members there are.
+    pub fn len(&self) -> usize
+        ensures { result ≡ length self.now.members }
+    {
+        self.numbers_by_name.len()
+    }
+
+    /// Returns the member at an index, in the order of the document: its name and its number.
+    pub fn member_at(&self, place: usize) -> Option<(&str, i64)>
+        ensures { option_map (λ m. member_of m.0.now m.1) result ≡ slice_get self.now.members place }
+    {
+        match self.numbers_by_name.get_index(place) {
+            Some((name, number)) => Some((name.as_str(), *number)),
+            None => None,
+        }
     }
 
     /// Returns the number of the member of that name.

@@ -56,6 +56,7 @@ pub mod Means
 pub mod MeansOn
 pub mod NameGives
 pub mod OneByOne
+pub mod OneOutcome
 pub mod OperatorGives
 pub mod ReadGives
 pub mod SameMeaning

@@ -15,6 +15,7 @@ ghost use Rattle.odata_meaning.specs.ComesTo.{ComesTo, ComesToIn, false_and_miss
 ghost use Rattle.odata_meaning.specs.ComesToMembers.{ComesToOn, all_alike, is_null, named, null_literal, one_div_zero};
 ghost use Rattle.odata_meaning.specs.ComesToMembers.{over_tags, text_and_null};
 ghost use Rattle.odata_meaning.specs.OneByOne.{ComparedOneByOne, ItemsOneByOne, MembersOneByOne};
+ghost use Rattle.odata_meaning.specs.OneOutcome.{ValuesHaveOneOutcome};
 ghost use Rattle.odata_filter_operations.specs.Outcome.{gives, divides_by_zero};
 ghost use Rattle.odata_meaning.specs.SomeCosts.{CostsOnTags, fault_first, is_listed};
 ghost use Rattle.odata_meaning.specs.UnreadMeans.{FlagsAlone, ItemsAlone, OperandsAlone};
@@ -110,6 +111,13 @@ pub fn entities_end_once_at_paths()
 {
     typed_trees_end_once_at_paths();
     values_have_types_at_paths();
+}
+
+/// A law: a comparison, a function and a step to a property have one outcome at most. That is of the same values.
+pub fn values_have_one_outcome()
+    ensures { ValuesHaveOneOutcome }
+{
+    laws_below();
 }
 
 /// A law: members and items taken one by one evaluate to what the definitions say by their indexes. They are the

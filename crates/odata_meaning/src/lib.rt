@@ -15,5 +15,5 @@ pub use laws::{
     canonical_texts_keep_outcomes, entities_end_once_at_paths, first_run_comes_to, members_come_to,
     members_cost, one_by_one, typed_trees_cost_once_on_entities, typed_trees_end_once,
     typed_trees_end_once_at_paths, typed_trees_end_once_on_entities, unread_operands_stand_alone,
-    values_have_types_at_paths,
+    values_have_one_outcome, values_have_types_at_paths,
 };
