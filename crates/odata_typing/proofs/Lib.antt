@@ -1,3 +1,4 @@
+pub mod Common
 pub mod resolved_operands
 pub mod bodies
 pub mod calls

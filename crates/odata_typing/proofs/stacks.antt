@@ -1,5 +1,4 @@
 pub mod Again
-pub mod BodyRuns
 pub mod Bound
 pub mod Children
 pub mod FirstFault

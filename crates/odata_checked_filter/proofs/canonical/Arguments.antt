@@ -5,7 +5,7 @@ use Rattle.std.proofs.lemmas.List.Sums.{sum_by-append}
 use Rattle.odata_syntax.specs.CanonicalText.{IsCanonicalText, further_text, tree_level, tree_text, trees_text}
 use Rattle.odata_syntax.specs.NormalForm.{AreNormalForms}
 use Rattle.odata_syntax.specs.Tree.{Shape, Tree, Trees, call, more_trees, no_trees, node}
-use Rattle.csdl_schema.specs.SchemaModel.{SchemaModel}
+use Rattle.csdl_schema.specs.SchemaModel.{SchemaModel, Slots}
 use Rattle.odata_signatures.specs.Typed.{Scope}
 use Rattle.odata_checked_filter.specs.declared.canonical_text.PrintTask.{PrintTask}
 use Rattle.odata_checked_filter.specs.declared.canonical_text.PrintTask.TheVariants.{Close, Further, Operand}
@@ -13,9 +13,11 @@ use Rattle.odata_checked_filter.specs.declared.checked_node.NodeKind.{NodeKind}
 use Rattle.odata_checked_filter.specs.FlatTree.{FlatTree}
 use Rattle.odata_checked_filter.specs.private.Layout.{AllLie}
 use Rattle.odata_checked_filter.specs.private.CanonicalText.{AllThere, AreFurtherPut, ArePieceTexts, ArePiecesOf, GoesOn, HasTreeAt, IsCallAt, IsCallOf, IsPieceOf, IsPieceText, Piece, StandsThere, WritesNode, WritesTask, arguments_of, comma_before, further, operand, task_weight, plain, stop_at, weight}
+use Rattle.odata_checked_filter.proofs.flat.Places.{above, below}
 use Rattle.odata_checked_filter.proofs.flat.Standing.{lie_onward, lies_nonempty}
-use Rattle.odata_checked_filter.proofs.canonical.Kinds.{Matches, shape_there}
-use Rattle.odata_checked_filter.proofs.canonical.Leaves.{above, below, place_of, stop_is, ungrouped}
+use Rattle.odata_checked_filter.proofs.canonical.Kinds.{form_here}
+use Rattle.odata_checked_filter.proofs.flat.KindForms.{HasForm, call_form, now_form}
+use Rattle.odata_checked_filter.proofs.canonical.Leaves.{place_of, stop_is, ungrouped}
 
 -- ---- arguments on the stack
 
@@ -97,15 +99,13 @@ further_goes list i j (further trees) of =
       are = has.are;
       whole = λ rest texts. let w = has.whole rest texts in (w.0, w.1, w.3);
     }
-further_goes list i j (plain text) of = absurd of
-further_goes list i j (operand level tree) of = absurd of
+further_goes list i j _ of = absurd of
 
 further_light : (list : FlatTree) (i j : ℕ) (piece : Piece) → IsPieceOf list (Further i j) piece → weight list (arguments_of list i j) ≤ 4 * (j - i)
 further_light list i j (further trees) of =
     let has = arguments_there of.schema of.filtered of.scope list i j trees of.stand in
     has.light
-further_light list i j (plain text) of = absurd of
-further_light list i j (operand level tree) of = absurd of
+further_light list i j _ of = absurd of
 
 pub within_list : (schema : SchemaModel) (n : ℕ) (scope : Scope) (list : FlatTree) (i j : ℕ) (trees : Trees) → AllLie schema n scope list i j trees → i < j → i < length list.nodes
 within_list schema n scope list i j no_trees stand some = let e : i ≡ j = stand in absurd (omega arith)
@@ -114,8 +114,7 @@ within_list schema n scope list i j (more_trees tree trees) stand some = place_o
 -- the first of further arguments is there
 pub further_there : (list : FlatTree) (i j : ℕ) (piece : Piece) → IsPieceOf list (Further i j) piece → i < j → i < length list.nodes
 further_there list i j (further trees) of = within_list of.schema of.filtered of.scope list i j trees of.stand
-further_there list i j (plain text) of = absurd of
-further_there list i j (operand level tree) of = absurd of
+further_there list i j _ of = absurd of
 
 pub further_task : (list : FlatTree) (i j : ℕ) (piece : Piece) (before after : List ℕ) (tasks new : List PrintTask)
     → IsPieceOf list (Further i j) piece → AreFurtherPut list i j before after tasks new → WritesTask list (Further i j) [] before after tasks new
@@ -138,10 +137,11 @@ closing_weight list tasks = sum_by-append (task_weight list) (Close ∷ []) task
 
 -- ---- a call
 
-called_shape : (kind : NodeKind) (called : List ℕ) (shape : Shape) → IsCallOf kind called → Matches kind shape → (arguments : Trees) × (shape ≡ call called arguments)
-called_shape NodeKind.Now called shape is m = (m.0, m.1 ∙ ap (λ (t : List ℕ). call t m.0) (sym is))
-called_shape (NodeKind.Call function) called shape is m = (m.0, m.1 ∙ ap (λ (t : List ℕ). call t m.0) (sym is))
-called_shape _ called shape is m = absurd is
+called_shape : (slots : Slots) (root : List ℕ) (scope : Scope) (shape : Shape) (kind : NodeKind) (called : List ℕ) → HasForm slots root scope shape kind → IsCallOf kind called
+    → (arguments : Trees) × (shape ≡ call called arguments)
+called_shape slots root scope shape kind called (now_form {arguments = arguments} named) is = (arguments, ap (λ (t : List ℕ). call t arguments) (sym named ∙ sym is))
+called_shape slots root scope shape kind called (call_form {arguments = arguments} named other) is = (arguments, ap (λ (t : List ℕ). call t arguments) (sym named ∙ sym is))
+called_shape slots root scope shape kind called _ is = absurd is
 
 -- what is known of a call that stands there
 record IsCallThere (list : FlatTree) (i : ℕ) (called : List ℕ) (tree : Tree) : Type 0 where
@@ -153,7 +153,7 @@ record IsCallThere (list : FlatTree) (i : ℕ) (called : List ℕ) (tree : Tree)
 
 call_there : (list : FlatTree) (i : ℕ) (called : List ℕ) (tree : Tree) → IsCallAt list i called → StandsThere list i tree → IsCallThere list i called tree
 call_there list i called (node start stop shape) is there =
-    let m = called_shape is.found.kind called shape is.is (shape_there list i is.found is.found.kind start stop shape is.at refl there) in
+    let m = called_shape _ _ _ shape is.found.kind called (form_here list i is.found is.found.kind start stop shape is.at refl there) is.is in
     let P : Shape → Type 0 = λ (s : Shape). StandsThere list i (node start stop s) in
     let here = subst P m.1 there in
     let stops : stop_at list i ≡ here.stop = stop_is here.schema here.filtered here.scope list i here.stop (node start stop (call called m.0)) here.stands in

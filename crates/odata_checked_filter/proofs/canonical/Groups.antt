@@ -9,11 +9,12 @@ use Rattle.odata_checked_filter.specs.declared.canonical_text.PrintTask.{PrintTa
 use Rattle.odata_checked_filter.specs.declared.canonical_text.PrintTask.TheVariants.{Close, Operand}
 use Rattle.odata_checked_filter.specs.declared.checked_node.CheckedNode.{CheckedNode}
 use Rattle.odata_checked_filter.specs.FlatTree.{FlatTree}
-use Rattle.odata_checked_filter.specs.private.CanonicalText.{GoesOn, IsPieceOf, IsPieceText, Piece, StandsThere, WritesNode, WritesTask, closing, further, opening, operand, plain}
+use Rattle.odata_checked_filter.specs.private.CanonicalText.{GoesOn, IsPieceOf, IsPieceText, Piece, StandsThere, WritesNode, WritesTask, closing, opening, operand, plain}
 use Rattle.odata_checked_filter.specs.private.KindTexts.{kind_level}
+use Rattle.odata_checked_filter.proofs.flat.Places.{above, below}
 use Rattle.odata_checked_filter.proofs.canonical.Arguments.{closing_weight}
 use Rattle.odata_checked_filter.proofs.canonical.Kinds.{level_there}
-use Rattle.odata_checked_filter.proofs.canonical.Leaves.{above, below, in_group, ungrouped}
+use Rattle.odata_checked_filter.proofs.canonical.Leaves.{in_group, ungrouped}
 
 lower : (a b : ℕ) → nat_lt a b ≡ true → a < b
 lower a b h = grind (arith, nat_tests)
@@ -44,8 +45,6 @@ module _ (list : FlatTree) (i : ℕ) (found : CheckedNode) (at : slice_get list.
   bare_goes : (needed : ℕ) (tasks : List PrintTask) (text : List ℕ) → needed ≤ kind_level found.kind
       → ((tree : Tree) → StandsThere list i tree → GoesOn list tasks text (IsCanonicalText tree))
       → (piece : Piece) → IsPieceOf list (Operand i needed) piece → GoesOn list tasks text (IsPieceText piece)
-  bare_goes needed tasks text fits goes (plain spelled) of = absurd of
-  bare_goes needed tasks text fits goes (further trees) of = absurd of
   bare_goes needed tasks text fits goes (operand level tree) of =
       let g = goes tree of.there in
       let within : level ≤ kind_level found.kind = subst (λ (n : ℕ). n ≤ kind_level found.kind) of.same fits in
@@ -54,12 +53,11 @@ module _ (list : FlatTree) (i : ℕ) (found : CheckedNode) (at : slice_get list.
         are = g.are;
         whole = λ rest texts. bare level tree (text ++ rest) within of.there (g.whole rest texts);
       }
+  bare_goes needed tasks text fits goes _ of = absurd of
 
   group_goes : (needed : ℕ) (tasks : List PrintTask) (text : List ℕ) → kind_level found.kind < needed
       → ((tree : Tree) → StandsThere list i tree → GoesOn list tasks text (IsCanonicalText tree))
       → (piece : Piece) → IsPieceOf list (Operand i needed) piece → GoesOn list (Close ∷ tasks) (40 ∷ text) (IsPieceText piece)
-  group_goes needed tasks text tight goes (plain spelled) of = absurd of
-  group_goes needed tasks text tight goes (further trees) of = absurd of
   group_goes needed tasks text tight goes (operand level tree) of =
       let g = goes tree of.there in
       let over : kind_level found.kind < level = subst (λ (n : ℕ). kind_level found.kind < n) of.same tight in
@@ -73,6 +71,7 @@ module _ (list : FlatTree) (i : ℕ) (found : CheckedNode) (at : slice_get list.
             subst (λ (t : List ℕ). IsPieceText (operand level tree) (40 ∷ t)) (sym same)
             (group level tree (text ++ texts.front) over of.there (g.whole texts.front texts.is_front));
       }
+  group_goes needed tasks text tight goes _ of = absurd of
 
   bare_written : (needed : ℕ) (next : List PrintTask) (before after : List ℕ) (tasks new : List PrintTask)
       → needed ≤ kind_level found.kind → WritesNode list i next before after tasks new

@@ -1,6 +1,5 @@
 -- What the walk that writes canonical text writes of a node without children.
-use Rattle.std.proofs.lemmas.Bool.Decides.{nat_tests}
-use Rattle.std.proofs.Common.{◌≡◌, ◌∙◌, ℕ, ◌<◌, ◌≤◌, List, [], ◌∷◌, ◌++◌, Option, Some, Result, Ok, Err, OnOk, append-nil, slice_get, false, true, refl, sym, subst, ap, arith, unwrap_or, option_map, length}
+use Rattle.std.proofs.Common.{◌≡◌, ◌∙◌, ℕ, ◌<◌, List, [], ◌∷◌, ◌++◌, Option, Some, Result, Ok, Err, OnOk, append-nil, slice_get, false, true, refl, sym, subst, ap, arith, unwrap_or, option_map, length}
 use Rattle.std.specs.Prelude.{codes, if◌then◌else◌, is_ok, nat_lt}
 use Rattle.odata_text.specs.LiteralSpelling.{IsLiteralSpelling}
 use Rattle.odata_syntax.specs.LiteralText.{IsAppended}
@@ -9,7 +8,7 @@ use Rattle.odata_syntax.specs.Grammar.{Level}
 use Rattle.odata_syntax.specs.NormalForm.{literal_token}
 use Rattle.odata_syntax.specs.Tree.{Shape, Tree, it, literal, name, node}
 use Rattle.odata_syntax.specs.declared.node.LiteralKind.{LiteralKind}
-use Rattle.csdl_schema.specs.SchemaModel.{SchemaModel}
+use Rattle.csdl_schema.specs.SchemaModel.{SchemaModel, Slots}
 use Rattle.odata_checked_filter.specs.declared.canonical_text.PrintTask.{PrintTask}
 use Rattle.odata_checked_filter.specs.declared.canonical_text.PrintTask.TheVariants.{Operand}
 use Rattle.odata_checked_filter.specs.declared.checked_node.CheckedNode.{CheckedNode}
@@ -17,9 +16,11 @@ use Rattle.odata_checked_filter.specs.declared.checked_node.NodeKind.{NodeKind}
 use Rattle.odata_checked_filter.specs.FlatTree.{FlatTree}
 use Rattle.odata_checked_filter.specs.private.Layout.{Lies}
 use Rattle.odata_signatures.specs.Typed.{Scope}
-use Rattle.odata_checked_filter.specs.private.CanonicalText.{HasTreeAt, IsPieceOf, IsTextAdded, Piece, StandsThere, WritesNode, further, operand, plain, stop_at}
-use Rattle.odata_checked_filter.proofs.canonical.Kinds.{Matches, shape_there}
-use Rattle.odata_checked_filter.proofs.flat.Places.{found_before}
+use Rattle.odata_checked_filter.specs.private.CanonicalText.{HasTreeAt, IsPieceOf, IsTextAdded, Piece, StandsThere, WritesNode, operand, stop_at}
+use Rattle.odata_checked_filter.specs.Stands.{text_of_shape}
+use Rattle.odata_checked_filter.proofs.canonical.Kinds.{form_here}
+use Rattle.odata_checked_filter.proofs.flat.KindForms.{HasForm, it_form, literal_form, property_form, variable_form}
+use Rattle.odata_checked_filter.proofs.flat.Places.{found_before, same_found}
 
 pub on_ok : {A E P Q : Type 0} (r : Result A E) → (P → Q) → OnOk r P → OnOk r Q
 on_ok (Ok x) f given = f given
@@ -46,12 +47,6 @@ there_within list i has = place_of has.1.schema has.1.filtered has.1.scope list 
 
 -- ---- groups
 
-pub below : (a b : ℕ) → b ≤ a → nat_lt a b ≡ false
-below a b h = grind (arith, nat_tests)
-
-pub above : (a b : ℕ) → a < b → nat_lt a b ≡ true
-above a b h = grind (arith, nat_tests)
-
 pub ungrouped : (needed own : Level) (text : List ℕ) → nat_lt own needed ≡ false → grouped needed own text ≡ text
 ungrouped needed own text loose = rw loose refl
 
@@ -60,34 +55,30 @@ in_group needed own text tight = rw tight refl
 
 -- ---- a leaf
 
-same_text : (texts : List (List ℕ)) (i : ℕ) (a b : List ℕ) → slice_get texts i ≡ Some a → slice_get texts i ≡ Some b → a ≡ b
-same_text texts i a b first second = cc
-
 literal_there : (list : FlatTree) (i : ℕ) (found : CheckedNode) (kind : LiteralKind) (value : ℕ) (spelling text : List ℕ) (tree : Tree)
     → slice_get list.nodes i ≡ Some found → found.kind ≡ NodeKind.Literal kind value → slice_get list.texts i ≡ Some spelling
     → IsLiteralSpelling (literal_token kind) spelling text → StandsThere list i tree
     → IsCanonicalText tree text
 literal_there list i found kind value spelling text (node start stop shape) at is beside spelled there =
-    let m = shape_there list i found (NodeKind.Literal kind value) start stop shape at is there in
-    let P : Shape → Type 0 = λ (s : Shape). StandsThere list i (node start stop s) → IsCanonicalText (node start stop s) text in
-    let T : List ℕ → Type 0 = λ (t : List ℕ). IsLiteralSpelling (literal_token kind) t text in
-    subst P (sym m.1)
-    (λ here.
-    let same : spelling ≡ m.0 = same_text list.texts i spelling m.0 beside here.stands.top.text_at in
-    record {
-      normal = node start stop (literal kind text);
-      is_normal = (literal kind text, (text, subst T same spelled, refl), refl);
-      printed = refl;
-    })
-    there
+    by _ _ _ shape (form_here list i found (NodeKind.Literal kind value) start stop shape at is there) there.stands.top.text_at
+  where
+    by : (slots : Slots) (root : List ℕ) (scope : Scope) (shape : Shape) → HasForm slots root scope shape (NodeKind.Literal kind value)
+        → slice_get list.texts i ≡ Some (text_of_shape shape) → IsCanonicalText (node start stop shape) text
+    by slots root scope shape (literal_form {spelling = own}) text_at =
+        let same : spelling ≡ own = same_found (slice_get list.texts i) spelling own beside text_at in
+        record {
+          normal = node start stop (literal kind text);
+          is_normal = (literal kind text, (text, subst (λ (t : List ℕ). IsLiteralSpelling (literal_token kind) t text) same spelled, refl), refl);
+          printed = refl;
+        }
 
 it_there : (list : FlatTree) (i : ℕ) (found : CheckedNode) (tree : Tree)
     → slice_get list.nodes i ≡ Some found → found.kind ≡ NodeKind.It → StandsThere list i tree
     → IsCanonicalText tree (codes "$it")
-it_there list i found (node start stop shape) at is there =
-    let m = shape_there list i found NodeKind.It start stop shape at is there in
-    let P : Shape → Type 0 = λ (s : Shape). IsCanonicalText (node start stop s) (codes "$it") in
-    subst P (sym m) (record { normal = node start stop it; is_normal = (it, refl, refl); printed = refl })
+it_there list i found (node start stop shape) at is there = by _ _ _ shape (form_here list i found NodeKind.It start stop shape at is there)
+  where
+    by : (slots : Slots) (root : List ℕ) (scope : Scope) (shape : Shape) → HasForm slots root scope shape NodeKind.It → IsCanonicalText (node start stop shape) (codes "$it")
+    by slots root scope shape it_form = record { normal = node start stop it; is_normal = (it, refl, refl); printed = refl }
 
 -- a name is that of a property or of a variable
 abbrev pub IsNamed : NodeKind → Type 0
@@ -95,24 +86,21 @@ IsNamed (NodeKind.Property slot) = Unit {0}
 IsNamed (NodeKind.Variable level) = Unit {0}
 IsNamed _ = ⊥
 
-named_shape : (kind : NodeKind) (shape : Shape) → IsNamed kind → Matches kind shape → (asked : List ℕ) × (shape ≡ name asked)
-named_shape (NodeKind.Property slot) shape named is = is
-named_shape (NodeKind.Variable level) shape named is = is
-named_shape _ shape named is = absurd named
-
 name_there : (list : FlatTree) (i : ℕ) (found : CheckedNode) (spelling : List ℕ) (tree : Tree)
     → slice_get list.nodes i ≡ Some found → IsNamed found.kind → slice_get list.texts i ≡ Some spelling
     → StandsThere list i tree → IsCanonicalText tree spelling
 name_there list i found spelling (node start stop shape) at named beside there =
-    let m = named_shape found.kind shape named (shape_there list i found found.kind start stop shape at refl there) in
-    let P : Shape → Type 0 = λ (s : Shape). StandsThere list i (node start stop s) → IsCanonicalText (node start stop s) spelling in
-    subst P (sym m.1)
-    (λ here. record {
-      normal = node start stop (name m.0);
-      is_normal = (name m.0, refl, refl);
-      printed = same_text list.texts i spelling m.0 beside here.stands.top.text_at;
-    })
-    there
+    by _ _ _ shape found.kind (form_here list i found found.kind start stop shape at refl there) named there.stands.top.text_at
+  where
+    named_text : (asked : List ℕ) → slice_get list.texts i ≡ Some asked → IsCanonicalText (node start stop (name asked)) spelling
+    named_text asked text_at =
+        record { normal = node start stop (name asked); is_normal = (name asked, refl, refl); printed = same_found (slice_get list.texts i) spelling asked beside text_at }
+
+    by : (slots : Slots) (root : List ℕ) (scope : Scope) (shape : Shape) (kind : NodeKind) → HasForm slots root scope shape kind → IsNamed kind
+        → slice_get list.texts i ≡ Some (text_of_shape shape) → IsCanonicalText (node start stop shape) spelling
+    by slots root scope shape kind (property_form {asked = asked} free at) named text_at = named_text asked text_at
+    by slots root scope shape kind (variable_form {asked = asked} bound) named text_at = named_text asked text_at
+    by slots root scope shape kind _ named text_at = absurd named
 
 -- the text of a node was written, and nothing of it waits
 whole_written : (list : FlatTree) (i : ℕ) (text before after : List ℕ) (tasks : List PrintTask)
@@ -155,6 +143,5 @@ name_written list i found before after tasks at named text =
 
 -- an operand's tree stands there
 pub operand_there : (list : FlatTree) (i needed : ℕ) (piece : Piece) → IsPieceOf list (Operand i needed) piece → HasTreeAt list i
-operand_there list i needed (plain text) is = absurd is
-operand_there list i needed (further trees) is = absurd is
 operand_there list i needed (operand level tree) is = (tree, is.there)
+operand_there list i needed _ is = absurd is

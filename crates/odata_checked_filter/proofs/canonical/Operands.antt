@@ -11,24 +11,26 @@ use Rattle.odata_syntax.specs.Tree.{Shape, Tree, Trees, any_item, binary, count,
 use Rattle.odata_syntax.specs.declared.binary_operator.BinaryOperator.{BinaryOperator}
 use Rattle.odata_syntax.specs.declared.node.LiteralKind.{LiteralKind}
 use Rattle.odata_signatures.specs.declared.function.Function.{Function}
-use Rattle.csdl_schema.specs.SchemaModel.{SchemaModel}
+use Rattle.csdl_schema.specs.SchemaModel.{SchemaModel, Slots}
 use Rattle.odata_signatures.specs.Typed.{Scope, with_variable}
 use Rattle.odata_checked_filter.specs.declared.canonical_text.PrintTask.{PrintTask}
 use Rattle.odata_checked_filter.specs.declared.canonical_text.PrintTask.TheVariants.{Close, Joint}
 use Rattle.odata_checked_filter.specs.declared.checked_node.CheckedNode.{CheckedNode}
 use Rattle.odata_checked_filter.specs.declared.checked_node.NodeKind.{NodeKind}
 use Rattle.odata_checked_filter.specs.FlatTree.{FlatTree}
-use Rattle.odata_checked_filter.specs.private.Layout.{AllLie, Lies}
+use Rattle.odata_checked_filter.specs.private.Layout.{AllLie, ChildrenLie, Lies}
 use Rattle.odata_checked_filter.specs.Stands.{text_of_shape}
 use Rattle.odata_checked_filter.specs.private.CanonicalText.{HasTreeAt, IsJointAt, StandsThere, WritesNode, arguments_of, behind_kind, node_weight, operand, operand_of, plain, stop_at}
 use Rattle.odata_checked_filter.specs.private.KindTexts.{IsJoining, first_level, joint_text, quantifier_joint}
-use Rattle.odata_checked_filter.proofs.flat.Children.{body_there, one_there, two_there}
+use Rattle.odata_checked_filter.proofs.flat.Places.{below}
+use Rattle.odata_checked_filter.proofs.flat.Children.{body_there, two_there}
+use Rattle.odata_checked_filter.proofs.flat.KindForms.{HasForm, any_form, binary_form, count_form, has_form, lambda_form, list_form, member_form, path_form}
 use Rattle.odata_checked_filter.proofs.flat.Standing.{lie_onward, lies_nonempty}
 use Rattle.odata_checked_filter.proofs.canonical.Arguments.{arguments_there, closing_weight, within_list}
 use Rattle.odata_checked_filter.proofs.canonical.Joints.{Joins, joins_written}
-use Rattle.odata_checked_filter.proofs.canonical.Kinds.{shape_there}
-use Rattle.odata_checked_filter.proofs.canonical.Leaves.{below, place_of, stop_is, ungrouped}
-use Rattle.odata_checked_filter.proofs.canonical.Signs.{HasChild, child_there}
+use Rattle.odata_checked_filter.proofs.canonical.Kinds.{form_here}
+use Rattle.odata_checked_filter.proofs.canonical.Leaves.{place_of, stop_is, ungrouped}
+use Rattle.odata_checked_filter.proofs.canonical.Signs.{HasChild, only_child_there}
 
 -- what the node that stands there has after its first operand
 joint_here : (list : FlatTree) (i : ℕ) (found : CheckedNode) (kind : NodeKind) (start stop : ℕ) (shape : Shape)
@@ -47,55 +49,29 @@ joint_here list i found kind start stop shape at is joining there = record {
 -- ---- a step, `$count`, `any()`
 
 -- a form whose text is that of its one operand and this
-record IsOnly (spelled : List ℕ) (of : Tree → Shape) : Type 0 where
-  text : (b : Tree) → shape_text (of b) ≡ tree_text b ++ spelled
-  normal : (b n : Tree) → IsNormalForm b n → IsNormalShape (of b) (of n)
-  child : (list : FlatTree) (i start stop : ℕ) (b : Tree) → StandsThere list i (node start stop (of b)) → HasChild list i b
-
-member_only : (asked : List ℕ) → IsOnly (47 ∷ asked) (λ b. member b asked)
-member_only asked = record {
-  text = λ b. refl;
-  normal = λ b n is. (n, is, refl);
-  child = λ list i start stop b there. child_there list i (node start stop (member b asked)) b there (one_there there.schema there.filtered there.scope list (i + 1) there.stop b there.stands.children);
+only_joins : (list : FlatTree) (i start stop : ℕ) (spelled : List ℕ) (of : Tree → Shape) (base : Tree)
+    → ((b : Tree) → shape_text (of b) ≡ tree_text b ++ spelled)
+    → ((b n : Tree) → IsNormalForm b n → IsNormalShape (of b) (of n))
+    → HasChild list i base → IsJointAt list i spelled → Joins list i (node start stop (of base)) 0 []
+only_joins list i start stop spelled of base text normal child joint = record {
+  first = base;
+  there = child.there;
+  spelled = spelled;
+  is_joint = joint;
+  pieces = [];
+  are = tt;
+  whole = λ n rest is none. record {
+    normal = node start stop (of n);
+    is_normal = (of n, normal base n is, refl);
+    printed =
+        ap (λ (t : List ℕ). t ++ (spelled ++ rest)) (ungrouped 0 (tree_level n) (tree_text n) (below (tree_level n) 0 (omega arith)))
+        ∙ ap (λ (r : List ℕ). tree_text n ++ (spelled ++ r)) none
+        ∙ ap (λ (r : List ℕ). tree_text n ++ r) (append-nil spelled)
+        ∙ sym (text n);
+  };
+  second = λ more. absurd (omega (arith, child.ends, more));
+  lighter = omega (arith, child.lighter);
 }
-
-count_only : IsOnly (codes "/$count") count
-count_only = record {
-  text = λ b. refl;
-  normal = λ b n is. (n, is, refl);
-  child = λ list i start stop b there. child_there list i (node start stop (count b)) b there (one_there there.schema there.filtered there.scope list (i + 1) there.stop b there.stands.children);
-}
-
-any_only : IsOnly (codes "/any()") any_item
-any_only = record {
-  text = λ b. refl;
-  normal = λ b n is. (n, is, refl);
-  child = λ list i start stop b there. child_there list i (node start stop (any_item b)) b there (one_there there.schema there.filtered there.scope list (i + 1) there.stop b there.stands.children);
-}
-
-only_joins : (list : FlatTree) (i start stop : ℕ) (spelled : List ℕ) (of : Tree → Shape) (base : Tree) → IsOnly spelled of
-    → IsJointAt list i spelled → StandsThere list i (node start stop (of base)) → Joins list i (node start stop (of base)) 0 []
-only_joins list i start stop spelled of base is joint there =
-    let child = is.child list i start stop base there in
-    record {
-      first = base;
-      there = child.there;
-      spelled = spelled;
-      is_joint = joint;
-      pieces = [];
-      are = tt;
-      whole = λ n rest normal none. record {
-        normal = node start stop (of n);
-        is_normal = (of n, is.normal base n normal, refl);
-        printed =
-            ap (λ (t : List ℕ). t ++ (spelled ++ rest)) (ungrouped 0 (tree_level n) (tree_text n) (below (tree_level n) 0 (omega arith)))
-            ∙ ap (λ (r : List ℕ). tree_text n ++ (spelled ++ r)) none
-            ∙ ap (λ (r : List ℕ). tree_text n ++ r) (append-nil spelled)
-            ∙ sym (is.text n);
-      };
-      second = λ more. absurd (omega (arith, child.ends, more));
-      lighter = omega (arith, child.lighter);
-    }
 
 -- ---- two operands
 
@@ -130,51 +106,28 @@ both_there list i tree left right there inner m stands behind =
           (lies_nonempty there.schema there.filtered inner list m there.stop right behind);
     }
 
--- a form whose text is those of its operands, whose places need these levels, and this between them
-record IsPair (spelled : List ℕ) (low high : Level) (of : Tree → Tree → Shape) : Type 0 where
-  text : (a b : Tree) → shape_text (of a b) ≡ grouped low (tree_level a) (tree_text a) ++ (spelled ++ grouped high (tree_level b) (tree_text b))
-  normal : (a b x y : Tree) → IsNormalForm a x → IsNormalForm b y → IsNormalShape (of a b) (of x y)
-  children : (list : FlatTree) (i start stop : ℕ) (a b : Tree) → StandsThere list i (node start stop (of a b)) → HasBoth list i a b
-
 operator_text : (operator : BinaryOperator) (a c : List ℕ) → a ++ (32 ∷ (operator_word operator ++ (32 ∷ c))) ≡ a ++ ((32 ∷ (operator_word operator ++ 32 ∷ [])) ++ c)
 operator_text operator a c = ap (λ (t : List ℕ). a ++ (32 ∷ t)) (sym (append_assoc (operator_word operator) (32 ∷ []) c))
 
-operator_pair : (operator : BinaryOperator) → IsPair (32 ∷ (operator_word operator ++ 32 ∷ [])) (operator_level operator) (operator_level operator + 1) (binary operator)
-operator_pair operator = record {
-  text = λ a b.
-      let first = grouped (operator_level operator) (tree_level a) (tree_text a) in
-      let next : operator_level operator + 1 ≡ suc (operator_level operator) = add-one (operator_level operator) in
-      ap (λ (n : ℕ). first ++ (32 ∷ (operator_word operator ++ (32 ∷ grouped n (tree_level b) (tree_text b))))) (sym next)
-      ∙ operator_text operator first (grouped (operator_level operator + 1) (tree_level b) (tree_text b));
-  normal = λ a b x y first second. (x, y, first, second, refl);
-  children = λ list i start stop a b there.
-      let sides = two_there there.schema there.filtered there.scope list (i + 1) there.stop a b there.stands.children in
-      both_there list i (node start stop (binary operator a b)) a b there there.scope sides.middle sides.left sides.right;
-}
+binary_text : (operator : BinaryOperator) (a b : Tree)
+    → shape_text (binary operator a b) ≡ grouped (operator_level operator) (tree_level a) (tree_text a)
+    ++ ((32 ∷ (operator_word operator ++ 32 ∷ [])) ++ grouped (operator_level operator + 1) (tree_level b) (tree_text b))
+binary_text operator a b =
+    let first = grouped (operator_level operator) (tree_level a) (tree_text a) in
+    let next : operator_level operator + 1 ≡ suc (operator_level operator) = add-one (operator_level operator) in
+    ap (λ (n : ℕ). first ++ (32 ∷ (operator_word operator ++ (32 ∷ grouped n (tree_level b) (tree_text b))))) (sym next)
+    ∙ operator_text operator first (grouped (operator_level operator + 1) (tree_level b) (tree_text b))
 
-has_pair : IsPair (codes " has ") primary_level base_level has
-has_pair = record {
-  text = λ a b. refl;
-  normal = λ a b x y first second. (x, y, first, second, refl);
-  children = λ list i start stop a b there.
-      let sides = two_there there.schema there.filtered there.scope list (i + 1) there.stop a b there.stands.children in
-      both_there list i (node start stop (has a b)) a b there there.scope sides.middle sides.left sides.right;
-}
-
-path_pair : IsPair (codes " in ") primary_level path_level in_path
-path_pair = record {
-  text = λ a b. refl;
-  normal = λ a b x y first second. (x, y, first, second, refl);
-  children = λ list i start stop a b there.
-      let sides = two_there there.schema there.filtered there.scope list (i + 1) there.stop a b there.stands.children in
-      both_there list i (node start stop (in_path a b)) a b there there.scope sides.middle sides.left sides.right;
-}
-
-pair_joins : (list : FlatTree) (i start stop : ℕ) (spelled : List ℕ) (low high : Level) (of : Tree → Tree → Shape) (left right : Tree) → IsPair spelled low high of
-    → IsJointAt list i spelled → StandsThere list i (node start stop (of left right))
-    → Joins list i (node start stop (of left right)) low (operand_of (stop_at list (i + 1)) high)
-pair_joins list i start stop spelled low high of left right is joint there =
-    let both = is.children list i start stop left right there in
+-- a form whose text is those of its operands, whose places need these levels, and this between them
+pair_joins : (list : FlatTree) (i start stop : ℕ) (spelled : List ℕ) (low high : Level) (of : Tree → Tree → Shape) (left right : Tree)
+    → ((a b : Tree) → shape_text (of a b) ≡ grouped low (tree_level a) (tree_text a) ++ (spelled ++ grouped high (tree_level b) (tree_text b)))
+    → ((a b x y : Tree) → IsNormalForm a x → IsNormalForm b y → IsNormalShape (of a b) (of x y))
+    → (there : StandsThere list i (node start stop (of left right)))
+    → ChildrenLie there.schema there.filtered there.scope list (i + 1) there.stop (has left right)
+    → IsJointAt list i spelled → Joins list i (node start stop (of left right)) low (operand_of (stop_at list (i + 1)) high)
+pair_joins list i start stop spelled low high of left right text normal there stand joint =
+    let sides = two_there there.schema there.filtered there.scope list (i + 1) there.stop left right stand in
+    let both = both_there list i (node start stop (of left right)) left right there there.scope sides.middle sides.left sides.right in
     record {
       first = left;
       there = both.first;
@@ -182,13 +135,13 @@ pair_joins list i start stop spelled low high of left right is joint there =
       is_joint = joint;
       pieces = operand high right ∷ [];
       are = (record { same = refl; there = both.second }, tt);
-      whole = λ n rest normal texts.
+      whole = λ n rest is texts.
           let r = texts.is_back in
           let same : rest ≡ grouped high (tree_level r.0) (tree_text r.0) = texts.whole ∙ ap (λ (t : List ℕ). t ++ texts.back) texts.is_front ∙ r.2 in
           record {
             normal = node start stop (of n r.0);
-            is_normal = (of n r.0, is.normal left right n r.0 normal r.1, refl);
-            printed = ap (λ (t : List ℕ). grouped low (tree_level n) (tree_text n) ++ (spelled ++ t)) same ∙ sym (is.text n r.0);
+            is_normal = (of n r.0, normal left right n r.0 is r.1, refl);
+            printed = ap (λ (t : List ℕ). grouped low (tree_level n) (tree_text n) ++ (spelled ++ t)) same ∙ sym (text n r.0);
           };
       second = λ more. place_of both.second.schema both.second.filtered both.second.scope list (stop_at list (i + 1)) both.second.stop right both.second.stands;
       lighter = omega (arith, both.lighter);
@@ -301,79 +254,54 @@ lambda_joins list i start stop quantifier base variable body joint there =
 -- ---- each kind
 
 module _ (list : FlatTree) (i : ℕ) (found : CheckedNode) (at : slice_get list.nodes i ≡ Some found) where
-  joins : (kind : NodeKind) (tree : Tree) → found.kind ≡ kind → IsJoining kind → StandsThere list i tree
-      → Joins list i tree (first_level kind) (behind_kind list kind (stop_at list (i + 1)) (stop_at list i))
-  joins (NodeKind.Member slot) (node start stop shape) is joining there =
-      let m = shape_there list i found (NodeKind.Member slot) start stop shape at is there in
-      let P : Shape → Type 0 = λ (s : Shape). StandsThere list i (node start stop s) → Joins list i (node start stop s) 0 [] in
-      subst P (sym m.2)
-      (λ here. only_joins list i start stop (47 ∷ m.1) (λ b. member b m.1) m.0 (member_only m.1)
-      (joint_here list i found (NodeKind.Member slot) start stop (member m.0 m.1) at is tt here) here) there
-  joins NodeKind.Count (node start stop shape) is joining there =
-      let m = shape_there list i found NodeKind.Count start stop shape at is there in
-      let P : Shape → Type 0 = λ (s : Shape). StandsThere list i (node start stop s) → Joins list i (node start stop s) 0 [] in
-      subst P (sym m.1)
-      (λ here. only_joins list i start stop (codes "/$count") count m.0 count_only
-      (joint_here list i found NodeKind.Count start stop (count m.0) at is tt here) here) there
-  joins NodeKind.AnyItem (node start stop shape) is joining there =
-      let m = shape_there list i found NodeKind.AnyItem start stop shape at is there in
-      let P : Shape → Type 0 = λ (s : Shape). StandsThere list i (node start stop s) → Joins list i (node start stop s) 0 [] in
-      subst P (sym m.1)
-      (λ here. only_joins list i start stop (codes "/any()") any_item m.0 any_only
-      (joint_here list i found NodeKind.AnyItem start stop (any_item m.0) at is tt here) here) there
-  joins (NodeKind.Binary operator) (node start stop shape) is joining there =
-      let m = shape_there list i found (NodeKind.Binary operator) start stop shape at is there in
-      let behind = operand_of (stop_at list (i + 1)) (operator_level operator + 1) in
-      let P : Shape → Type 0 = λ (s : Shape). StandsThere list i (node start stop s) → Joins list i (node start stop s) (operator_level operator) behind in
-      subst P (sym m.2)
-      (λ here. pair_joins list i start stop (32 ∷ (operator_word operator ++ 32 ∷ [])) (operator_level operator) (operator_level operator + 1) (binary operator) m.0 m.1
-      (operator_pair operator) (joint_here list i found (NodeKind.Binary operator) start stop (binary operator m.0 m.1) at is tt here) here) there
-  joins NodeKind.Has (node start stop shape) is joining there =
-      let m = shape_there list i found NodeKind.Has start stop shape at is there in
-      let behind = operand_of (stop_at list (i + 1)) base_level in
-      let P : Shape → Type 0 = λ (s : Shape). StandsThere list i (node start stop s) → Joins list i (node start stop s) primary_level behind in
-      subst P (sym m.2)
-      (λ here. pair_joins list i start stop (codes " has ") primary_level base_level has m.0 m.1 has_pair
-      (joint_here list i found NodeKind.Has start stop (has m.0 m.1) at is tt here) here) there
-  joins NodeKind.InPath (node start stop shape) is joining there =
-      let m = shape_there list i found NodeKind.InPath start stop shape at is there in
-      let behind = operand_of (stop_at list (i + 1)) path_level in
-      let P : Shape → Type 0 = λ (s : Shape). StandsThere list i (node start stop s) → Joins list i (node start stop s) primary_level behind in
-      subst P (sym m.2)
-      (λ here. pair_joins list i start stop (codes " in ") primary_level path_level in_path m.0 m.1 path_pair
-      (joint_here list i found NodeKind.InPath start stop (in_path m.0 m.1) at is tt here) here) there
-  joins NodeKind.InList (node start stop shape) is joining there =
-      let m = shape_there list i found NodeKind.InList start stop shape at is there in
-      let behind = Close ∷ arguments_of list (stop_at list (i + 1)) (stop_at list i) in
-      let P : Shape → Type 0 = λ (s : Shape). StandsThere list i (node start stop s) → Joins list i (node start stop s) primary_level behind in
-      subst P (sym m.2)
-      (λ here. list_joins list i start stop m.0 m.1 (joint_here list i found NodeKind.InList start stop (in_list m.0 m.1) at is tt here) here) there
-  joins (NodeKind.Lambda quantifier) (node start stop shape) is joining there =
-      let m = shape_there list i found (NodeKind.Lambda quantifier) start stop shape at is there in
-      let behind = Close ∷ operand_of (stop_at list (i + 1)) 0 in
-      let P : Shape → Type 0 = λ (s : Shape). StandsThere list i (node start stop s) → Joins list i (node start stop s) 0 behind in
-      subst P (sym m.3)
-      (λ here. lambda_joins list i start stop quantifier m.0 m.1 m.2
-      (joint_here list i found (NodeKind.Lambda quantifier) start stop (lambda quantifier m.0 m.1 m.2) at is tt here) here) there
-  joins _ tree is joining there = absurd joining
+  -- by its form
+  form_joins : (slots : Slots) (root : List ℕ) (scope : Scope) (start stop : ℕ) (shape : Shape) (kind : NodeKind) → HasForm slots root scope shape kind
+      → IsJoining kind → (there : StandsThere list i (node start stop shape)) → IsJointAt list i (joint_text kind (text_of_shape shape))
+      → Joins list i (node start stop shape) (first_level kind) (behind_kind list kind (stop_at list (i + 1)) (stop_at list i))
+  form_joins slots root scope start stop shape kind (member_form {base = base} {asked = asked} owner typed named) joining there =
+      only_joins list i start stop (47 ∷ asked) (λ b. member b asked) base (λ b. refl) (λ b n is. (n, is, refl))
+      (only_child_there list i start stop (λ b. member b asked) base there there.stands.children)
+  form_joins slots root scope start stop shape kind (count_form {base = base}) joining there =
+      only_joins list i start stop (codes "/$count") count base (λ b. refl) (λ b n is. (n, is, refl)) (only_child_there list i start stop count base there there.stands.children)
+  form_joins slots root scope start stop shape kind (any_form {base = base}) joining there =
+      only_joins list i start stop (codes "/any()") any_item base (λ b. refl) (λ b n is. (n, is, refl)) (only_child_there list i start stop any_item base there there.stands.children)
+  form_joins slots root scope start stop shape kind (binary_form {operator = operator} {left = left} {right = right}) joining there =
+      pair_joins list i start stop (32 ∷ (operator_word operator ++ 32 ∷ [])) (operator_level operator) (operator_level operator + 1) (binary operator) left right
+      (binary_text operator) (λ a b x y first second. (x, y, first, second, refl)) there there.stands.children
+  form_joins slots root scope start stop shape kind (has_form {left = left} {right = right}) joining there =
+      pair_joins list i start stop (codes " has ") primary_level base_level has left right
+      (λ a b. refl) (λ a b x y first second. (x, y, first, second, refl)) there there.stands.children
+  form_joins slots root scope start stop shape kind (path_form {left = left} {path = path}) joining there =
+      pair_joins list i start stop (codes " in ") primary_level path_level in_path left path
+      (λ a b. refl) (λ a b x y first second. (x, y, first, second, refl)) there there.stands.children
+  form_joins slots root scope start stop shape kind (list_form {left = left} {items = items}) joining there = λ joint. list_joins list i start stop left items joint there
+  form_joins slots root scope start stop shape kind (lambda_form {quantifier = quantifier} {base = base} {variable = variable} {body = body}) joining there =
+      λ joint. lambda_joins list i start stop quantifier base variable body joint there
+  form_joins slots root scope start stop shape kind _ joining there = absurd joining
+
+  joins : (tree : Tree) → IsJoining found.kind → StandsThere list i tree
+      → Joins list i tree (first_level found.kind) (behind_kind list found.kind (stop_at list (i + 1)) (stop_at list i))
+  joins (node start stop shape) joining there =
+      form_joins _ _ _ start stop shape found.kind (form_here list i found found.kind start stop shape at refl there) joining there
+      (joint_here list i found found.kind start stop shape at refl joining there)
 
   pub joined_written : (text : List ℕ) (tasks new : List PrintTask) → HasTreeAt list i → IsJoining found.kind
       → new ≡ tasks ++ (behind_kind list found.kind (stop_at list (i + 1)) (stop_at list i) ++ Joint i ∷ [])
       → WritesNode list i (operand_of (i + 1) (first_level found.kind)) text text tasks new
   joined_written text tasks new tree joining pushed =
       joins_written list i (first_level found.kind) (behind_kind list found.kind (stop_at list (i + 1)) (stop_at list i)) text tasks new
-      (λ t there. joins found.kind t refl joining there) tree.0 tree.1 pushed
+      (λ t there. joins t joining there) tree.0 tree.1 pushed
 
   -- the first operand is there
   pub first_within : HasTreeAt list i → IsJoining found.kind → i + 1 < length list.nodes
   first_within tree joining =
-      let j = joins found.kind tree.0 refl joining tree.1 in
+      let j = joins tree.0 joining tree.1 in
       place_of j.there.schema j.there.filtered j.there.scope list (i + 1) j.there.stop j.first j.there.stands
 
   -- and so is the second one, or the first item of a list
   pub second_within : HasTreeAt list i → IsJoining found.kind → stop_at list (i + 1) < stop_at list i → stop_at list (i + 1) < length list.nodes
   second_within tree joining =
-      let j = joins found.kind tree.0 refl joining tree.1 in
+      let j = joins tree.0 joining tree.1 in
       j.second
 
 -- a node that is none of these has a first operand

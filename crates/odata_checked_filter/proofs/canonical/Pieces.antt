@@ -1,5 +1,5 @@
 -- What the walk that writes canonical text has still to write, step by step.
-use Rattle.std.proofs.Common.{◌≡◌, ◌∙◌, ℕ, ◌+◌, ◌-◌, ◌<◌, List, [], ◌∷◌, ◌++◌, Option, Some, None, length, slice_get, take, append-nil, append_assoc, refl, sym, subst, ap, arith}
+use Rattle.std.proofs.Common.{◌≡◌, ◌∙◌, ℕ, ◌+◌, ◌-◌, ◌<◌, List, [], ◌∷◌, ◌++◌, Option, Some, None, slice_get, take, append-nil, append_assoc, refl, sym, subst, ap, arith}
 use Rattle.std.specs.Prelude.{MatchOption}
 use Rattle.std.specs.Option.{option_to_list}
 use Rattle.std.proofs.lemmas.List.Sums.{sum_by-append}
@@ -9,11 +9,11 @@ use Rattle.odata_checked_filter.specs.declared.canonical_text.PrintTask.{PrintTa
 use Rattle.odata_checked_filter.specs.declared.canonical_text.PrintTask.TheVariants.{Close, Joint, Operand}
 use Rattle.odata_checked_filter.specs.declared.checked_node.CheckedNode.{CheckedNode}
 use Rattle.odata_checked_filter.specs.FlatTree.{FlatTree}
-use Rattle.odata_checked_filter.specs.private.CanonicalText.{ArePieceTexts, ArePiecesOf, GoesOn, IsBehind, IsJointAt, IsPending, IsPieceOf, IsPieceText, Piece, StandsThere, WritesTask, behind_of, further, operand, task_weight, plain, spread, weight}
+use Rattle.odata_checked_filter.specs.private.CanonicalText.{ArePieceTexts, ArePiecesOf, GoesOn, IsBehind, IsJointAt, IsPending, IsPieceOf, IsPieceText, Piece, StandsThere, WritesTask, behind_of, operand, task_weight, plain, spread, weight}
 use Rattle.odata_checked_filter.specs.private.KindTexts.{joint_text}
-use Rattle.odata_checked_filter.proofs.canonical.Leaves.{below, ungrouped}
+use Rattle.odata_checked_filter.proofs.canonical.Leaves.{ungrouped}
 use Rattle.odata_checked_filter.proofs.canonical.Spreads.{on_stack}
-use Rattle.odata_checked_filter.proofs.flat.Places.{found_before, same_found}
+use Rattle.odata_checked_filter.proofs.flat.Places.{below, same_found}
 
 -- ---- pieces of two lists of parts
 
@@ -181,18 +181,11 @@ plain_task list task text before after tasks heavy written is = record {
 
 close_text : (list : FlatTree) (piece : Piece) → IsPieceOf list Close piece → IsPieceText piece (41 ∷ [])
 close_text list (plain text) is = sym is
-close_text list (further trees) is = absurd is
-close_text list (operand level tree) is = absurd is
+close_text list _ is = absurd is
 
 pub close_task : (list : FlatTree) (before after : List ℕ) (tasks : List PrintTask)
     → after ≡ before ++ 41 ∷ [] → WritesTask list Close [] before after tasks tasks
 close_task list before after tasks written = plain_task list Close (41 ∷ []) before after tasks (omega arith) written (close_text list)
-
--- the node of a joint is there
-pub joint_there : (list : FlatTree) (i : ℕ) (piece : Piece) → IsPieceOf list (Joint i) piece → i < length list.nodes
-joint_there list i (plain text) is = found_before list.nodes i is.found is.at
-joint_there list i (further trees) is = absurd is
-joint_there list i (operand level tree) is = absurd is
 
 joint_same : (list : FlatTree) (i : ℕ) (found : CheckedNode) (beside text : List ℕ) → slice_get list.nodes i ≡ Some found → slice_get list.texts i ≡ Some beside
     → IsJointAt list i text → joint_text found.kind beside ≡ text
@@ -204,8 +197,7 @@ joint_same list i found beside text at text_at is =
 joint_is : (list : FlatTree) (i : ℕ) (found : CheckedNode) (beside : List ℕ) → slice_get list.nodes i ≡ Some found → slice_get list.texts i ≡ Some beside
     → (piece : Piece) → IsPieceOf list (Joint i) piece → IsPieceText piece (joint_text found.kind beside)
 joint_is list i found beside at text_at (plain text) is = joint_same list i found beside text at text_at is
-joint_is list i found beside at text_at (further trees) is = absurd is
-joint_is list i found beside at text_at (operand level tree) is = absurd is
+joint_is list i found beside at text_at _ is = absurd is
 
 pub joint_task : (list : FlatTree) (i : ℕ) (found : CheckedNode) (beside before after : List ℕ) (tasks : List PrintTask)
     → slice_get list.nodes i ≡ Some found → slice_get list.texts i ≡ Some beside → after ≡ before ++ joint_text found.kind beside

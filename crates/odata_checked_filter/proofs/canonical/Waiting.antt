@@ -4,7 +4,7 @@ use Rattle.odata_checked_filter.specs.declared.canonical_text.PrintTask.{PrintTa
 use Rattle.odata_checked_filter.specs.declared.canonical_text.PrintTask.TheVariants.{Joint}
 use Rattle.odata_checked_filter.specs.declared.checked_node.CheckedNode.{CheckedNode}
 use Rattle.odata_checked_filter.specs.FlatTree.{FlatTree}
-use Rattle.odata_checked_filter.specs.private.CanonicalText.{HasTreeAt, IsPieceOf, IsTextAdded, Piece, WritesNode, WritesTask, behind_kind, behind_of, first_operand, further, operand, operand_of, plain, spread, stop_at}
+use Rattle.odata_checked_filter.specs.private.CanonicalText.{HasTreeAt, IsPieceOf, IsTextAdded, Piece, WritesNode, WritesTask, behind_kind, behind_of, first_operand, operand_of, plain, spread, stop_at}
 use Rattle.odata_checked_filter.specs.private.KindTexts.{IsJoining, first_level, joint_text}
 use Rattle.odata_checked_filter.proofs.canonical.Leaves.{IsNamed, name_written}
 use Rattle.odata_checked_filter.proofs.canonical.Operands.{first_within, joined_written, second_within}
@@ -14,8 +14,7 @@ use Rattle.odata_checked_filter.proofs.canonical.Spreads.{behind_found, on_stack
 -- the first operand of a joint's node is there
 pub joint_first : (list : FlatTree) (i : ℕ) (piece : Piece) → IsPieceOf list (Joint i) piece → i + 1 < length list.nodes
 joint_first list i (plain text) is = first_within list i is.found is.at is.there is.joining
-joint_first list i (further trees) is = absurd is
-joint_first list i (operand level tree) is = absurd is
+joint_first list i _ is = absurd is
 
 -- and so is the second one, or the first item of a list
 pub joint_second : (list : FlatTree) (i second stop : ℕ) (piece : Piece) → IsPieceOf list (Joint i) piece
@@ -24,8 +23,7 @@ joint_second list i second stop (plain text) is first last more =
     subst (λ (n : ℕ). n < length list.nodes) (sym first)
     (second_within list i is.found is.at is.there is.joining
     (subst (λ (n : ℕ). n < stop_at list i) first (subst (λ (n : ℕ). second < n) last more)))
-joint_second list i second stop (further trees) is first last more = absurd is
-joint_second list i second stop (operand level tree) is first last more = absurd is
+joint_second list i second stop _ is first last more = absurd is
 
 -- its text was written, and the operands after it were put on the stack
 pub joint_written : (list : FlatTree) (i second stop : ℕ) (found : CheckedNode) (beside before after : List ℕ) (old new : List PrintTask)

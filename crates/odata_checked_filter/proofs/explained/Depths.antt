@@ -1,21 +1,21 @@
 -- A node lies as deep as many nodes before it stop after it.
-use Rattle.std.proofs.Common.{◌≡◌, refl, sym, ap, ◌∙◌, ℕ, ◌<◌, ◌≤◌, ◌+◌, List, [], ◌∷◌, ◌++◌, true, false, append-nil, append_assoc, drop, length, length-append, nat_lt, arith}
-use Rattle.std.specs.List.{AllByRecursion}
-use Rattle.std.proofs.lemmas.Bool.Decides.{nat_tests}
+use Rattle.std.proofs.Common.{◌≡◌, refl, sym, ap, ◌∙◌, ℕ, ◌<◌, ◌≤◌, ◌+◌, List, [], ◌∷◌, ◌++◌, append-nil, append_assoc, drop, length, length-append, nat_lt, arith}
+use Rattle.std.specs.List.{AllByRecursion, flat_map}
 use Rattle.std.proofs.lemmas.List.Elements.{filter-append}
-use Rattle.odata_syntax.specs.Tree.{Tree, Trees, node, Shape, literal, it, name, member, count, negation, logical_not, binary, has, in_list, in_path, call, any_item, lambda, no_trees, more_trees}
+use Rattle.odata_syntax.specs.Spans.{children_of, list_of_trees}
+use Rattle.odata_syntax.specs.Tree.{Tree, Trees, node, Shape, member, count, negation, logical_not, binary, has, in_list, in_path, call, any_item, lambda, no_trees, more_trees}
 use Rattle.csdl_schema.specs.SchemaModel.{SchemaModel}
 use Rattle.odata_checked_filter.specs.declared.checked_node.CheckedNode.{CheckedNode}
 use Rattle.odata_checked_filter.specs.Depths.{depths, depths_among, depths_below}
 use Rattle.odata_checked_filter.specs.FlatTree.{FlatTree}
-use Rattle.odata_checked_filter.specs.private.Layout.{AllLie, ChildrenLie, Lies, OfAnyValue}
+use Rattle.odata_checked_filter.specs.private.LambdaLines.{AreInLine, StandsBetween}
+use Rattle.odata_checked_filter.specs.private.Layout.{OfAnyValue}
 use Rattle.odata_checked_filter.specs.Stands.{IsTop}
-use Rattle.odata_signatures.specs.Typed.{Scope, with_variable}
-use Rattle.csdl_schema.specs.ExprType.{single}
+use Rattle.odata_signatures.specs.Typed.{Scope}
 use Rattle.odata_checked_filter.specs.private.Explanation.{still_around}
-use Rattle.odata_checked_filter.proofs.flat.Children.{body_there, one_there, two_there}
-use Rattle.odata_checked_filter.proofs.flat.Places.{drop_at}
-use Rattle.odata_checked_filter.proofs.flat.Standing.{lie_onward, lies_nonempty}
+use Rattle.odata_checked_filter.proofs.flat.Below.{alone_flat, both_flat, by_children, children_line}
+use Rattle.odata_checked_filter.proofs.flat.Places.{above, below, drop_at}
+use Rattle.odata_checked_filter.proofs.flat.Standing.{between_onward, line_onward}
 
 -- the depths that the walk reports of nodes from an index on, by where those before them stop
 abbrev pub reported_depths : ℕ → List CheckedNode → List ℕ → List ℕ
@@ -41,23 +41,17 @@ one_more : (j : ℕ) (stops : List ℕ) → StopBehind j stops → StopBehind j 
 one_more j [] all = (omega arith, tt)
 one_more j (stop ∷ stops) all = (all.0, one_more j stops all.1)
 
-lt_true : (a b : ℕ) → a < b → nat_lt a b ≡ true
-lt_true a b below = grind (arith, nat_tests)
-
-not_below_itself : (a : ℕ) → nat_lt a a ≡ false
-not_below_itself a = grind (arith, nat_tests)
-
 -- all of them are around a place before that
 all_around : (i j : ℕ) (stops : List ℕ) → i < j → StopBehind j stops → still_around i stops ≡ stops
 all_around i j [] before all = refl
 all_around i j (stop ∷ stops) before all =
     let h : j ≤ stop = all.0 in
     let behind : i < stop = omega arith in
-    rw (lt_true i stop behind) (ap (λ (xs : List ℕ). stop ∷ xs) (all_around i j stops before all.1))
+    rw (above i stop behind) (ap (λ (xs : List ℕ). stop ∷ xs) (all_around i j stops before all.1))
 
 -- where a node stops, it is not around
 stopped_alone : (j : ℕ) → still_around j (j ∷ []) ≡ []
-stopped_alone j = rw (not_below_itself j) refl
+stopped_alone j = rw (below j j (omega arith)) refl
 
 passed : (j : ℕ) (stops : List ℕ) → still_around j (stops ++ j ∷ []) ≡ still_around j stops
 passed j stops =
@@ -100,89 +94,52 @@ both_reported :
 both_reported list i m j stops first second here behind =
     here ∙ ap (λ (xs : List ℕ). first ++ xs) behind ∙ sym (append_assoc first second (reported_depths j (drop j list.nodes) stops))
 
--- the walk reports the depths of the nodes of a tree, and then those after it
-mutual
-  pub tree_reported :
-      (schema : SchemaModel) (n : ℕ) (scope : Scope) (list : FlatTree) (i j : ℕ) (tree : Tree) (stops : List ℕ)
-      → Lies schema n scope list i j tree
-      → StopBehind j stops
-      → reported_depths i (drop i list.nodes) stops ≡ depths (length stops) tree ++ reported_depths j (drop j list.nodes) stops
-  tree_reported schema n scope list i j (node start stop shape) stops stands all =
-      closed list i j stops (depths_below (length stops + 1) shape)
-      (top_reported schema n scope list i j start stop shape stops stands.top (lies_nonempty schema n scope list i j (node start stop shape) stands) all)
-      (below_reported schema n scope list (i + 1) j shape (stops ++ j ∷ []) (length stops + 1) (one_longer stops j) stands.children (one_more j stops all))
+-- ---- the depths of a tree's nodes, by its children
 
-  below_reported :
-      (schema : SchemaModel) (n : ℕ) (scope : Scope) (list : FlatTree) (i j : ℕ) (shape : Shape) (stops : List ℕ) (around : ℕ)
-      → length stops ≡ around
-      → ChildrenLie schema n scope list i j shape
-      → StopBehind j stops
-      → reported_depths i (drop i list.nodes) stops ≡ depths_below around shape ++ reported_depths j (drop j list.nodes) stops
-  below_reported schema n scope list i j (literal kind spelling) stops around deep stand all = ap (λ (k : ℕ). reported_depths k (drop k list.nodes) stops) stand
-  below_reported schema n scope list i j it stops around deep stand all = ap (λ (k : ℕ). reported_depths k (drop k list.nodes) stops) stand
-  below_reported schema n scope list i j (name asked) stops around deep stand all = ap (λ (k : ℕ). reported_depths k (drop k list.nodes) stops) stand
-  below_reported schema n scope list i j (member base asked) stops around deep stand all =
-      rw (← deep) (tree_reported schema n scope list i j base stops (one_there schema n scope list i j base stand) all)
-  below_reported schema n scope list i j (count base) stops around deep stand all =
-      rw (← deep) (tree_reported schema n scope list i j base stops (one_there schema n scope list i j base stand) all)
-  below_reported schema n scope list i j (any_item base) stops around deep stand all =
-      rw (← deep) (tree_reported schema n scope list i j base stops (one_there schema n scope list i j base stand) all)
-  below_reported schema n scope list i j (negation operand) stops around deep stand all =
-      rw (← deep) (tree_reported schema n scope list i j operand stops (one_there schema n scope list i j operand stand) all)
-  below_reported schema n scope list i j (logical_not operand) stops around deep stand all =
-      rw (← deep) (tree_reported schema n scope list i j operand stops (one_there schema n scope list i j operand stand) all)
-  below_reported schema n scope list i j (binary operator left right) stops around deep stands all =
-      let stand = two_there schema n scope list i j left right stands in
-      let m = stand.middle in
-      let last : m < j = lies_nonempty schema n scope list m j right stand.right in
-      rw (← deep)
-      (both_reported list i m j stops (depths (length stops) left) (depths (length stops) right)
-      (tree_reported schema n scope list i m left stops stand.left (earlier_too m j stops (omega arith) all))
-      (tree_reported schema n scope list m j right stops stand.right all))
-  below_reported schema n scope list i j (has left right) stops around deep stands all =
-      let stand = two_there schema n scope list i j left right stands in
-      let m = stand.middle in
-      let last : m < j = lies_nonempty schema n scope list m j right stand.right in
-      rw (← deep)
-      (both_reported list i m j stops (depths (length stops) left) (depths (length stops) right)
-      (tree_reported schema n scope list i m left stops stand.left (earlier_too m j stops (omega arith) all))
-      (tree_reported schema n scope list m j right stops stand.right all))
-  below_reported schema n scope list i j (in_list left items) stops around deep stand all =
-      let m = stand.middle in
-      let last : m ≤ j = lie_onward schema n scope list m j items stand.right in
-      rw (← deep)
-      (both_reported list i m j stops (depths (length stops) left) (depths_among (length stops) items)
-      (tree_reported schema n scope list i m left stops stand.left (earlier_too m j stops last all))
-      (among_reported schema n scope list m j items stops stand.right all))
-  below_reported schema n scope list i j (in_path left path) stops around deep stands all =
-      let stand = two_there schema n scope list i j left path stands in
-      let m = stand.middle in
-      let last : m < j = lies_nonempty schema n scope list m j path stand.right in
-      rw (← deep)
-      (both_reported list i m j stops (depths (length stops) left) (depths (length stops) path)
-      (tree_reported schema n scope list i m left stops stand.left (earlier_too m j stops (omega arith) all))
-      (tree_reported schema n scope list m j path stops stand.right all))
-  below_reported schema n scope list i j (call asked arguments) stops around deep stand all =
-      rw (← deep) (among_reported schema n scope list i j arguments stops stand all)
-  below_reported schema n scope list i j (lambda quantifier base variable body) stops around deep stands all =
-      let stand = body_there schema n scope list i j base variable body stands in
-      let m = stand.middle in
-      let inner = with_variable scope variable (single stand.right.member_type) in
-      let last : m < j = lies_nonempty schema n inner list m j body stand.right.body in
-      rw (← deep)
-      (both_reported list i m j stops (depths (length stops) base) (depths (length stops) body)
-      (tree_reported schema n scope list i m base stops stand.left (earlier_too m j stops (omega arith) all))
-      (tree_reported schema n inner list m j body stops stand.right.body all))
+among_depths : (around : ℕ) (trees : Trees) → depths_among around trees ≡ flat_map (depths around) (list_of_trees trees)
+among_depths around no_trees = refl
+among_depths around (more_trees tree trees) = ap (λ (xs : List ℕ). depths around tree ++ xs) (among_depths around trees)
 
-  among_reported :
-      (schema : SchemaModel) (n : ℕ) (scope : Scope) (list : FlatTree) (i j : ℕ) (trees : Trees) (stops : List ℕ)
-      → AllLie schema n scope list i j trees
-      → StopBehind j stops
-      → reported_depths i (drop i list.nodes) stops ≡ depths_among (length stops) trees ++ reported_depths j (drop j list.nodes) stops
-  among_reported schema n scope list i j no_trees stops stand all = ap (λ (k : ℕ). reported_depths k (drop k list.nodes) stops) stand
-  among_reported schema n scope list i j (more_trees tree trees) stops stand all =
-      let m = stand.middle in
-      let last : m ≤ j = lie_onward schema n scope list m j trees stand.right in
-      both_reported list i m j stops (depths (length stops) tree) (depths_among (length stops) trees)
-      (tree_reported schema n scope list i m tree stops stand.left (earlier_too m j stops last all))
-      (among_reported schema n scope list m j trees stops stand.right all)
+below_depths : (around : ℕ) (shape : Shape) → depths_below around shape ≡ flat_map (depths around) (children_of shape)
+below_depths around (member base asked) = alone_flat (depths around) base
+below_depths around (count base) = alone_flat (depths around) base
+below_depths around (negation operand) = alone_flat (depths around) operand
+below_depths around (logical_not operand) = alone_flat (depths around) operand
+below_depths around (any_item base) = alone_flat (depths around) base
+below_depths around (binary operator left right) = both_flat (depths around) left right
+below_depths around (has left right) = both_flat (depths around) left right
+below_depths around (in_path left path) = both_flat (depths around) left path
+below_depths around (lambda quantifier base variable body) = both_flat (depths around) base body
+below_depths around (in_list left items) = ap (λ (xs : List ℕ). depths around left ++ xs) (among_depths around items)
+below_depths around (call asked arguments) = among_depths around arguments
+below_depths around _ = refl
+
+-- ---- the walk reports the depths of the nodes of a tree, and then those after it
+
+abbrev HasDepths : Tree → Type 0
+HasDepths tree =
+    (list : FlatTree) (i j : ℕ) (stops : List ℕ) → StandsBetween list i j tree → StopBehind j stops
+    → reported_depths i (drop i list.nodes) stops ≡ depths (length stops) tree ++ reported_depths j (drop j list.nodes) stops
+
+line_reported :
+    (trees : List Tree) → AllByRecursion HasDepths trees
+    → (list : FlatTree) (i j : ℕ) (stops : List ℕ) → AreInLine list i j trees → StopBehind j stops
+    → reported_depths i (drop i list.nodes) stops ≡ flat_map (depths (length stops)) trees ++ reported_depths j (drop j list.nodes) stops
+line_reported [] reported list i j stops line all = ap (λ (k : ℕ). reported_depths k (drop k list.nodes) stops) line
+line_reported (tree ∷ trees) reported list i j stops line all =
+    both_reported list i line.middle j stops (depths (length stops) tree) (flat_map (depths (length stops)) trees)
+    (reported.0 list i line.middle stops line.left (earlier_too line.middle j stops (line_onward list line.middle j trees line.right) all))
+    (line_reported trees reported.1 list line.middle j stops line.right all)
+
+node_reported : (start stop : ℕ) (shape : Shape) → AllByRecursion HasDepths (children_of shape) → HasDepths (node start stop shape)
+node_reported start stop shape reported list i j stops between all =
+    let line = children_line between.schema between.filtered list between.scope (i + 1) j shape between.stands.children in
+    let deep : flat_map (depths (length (stops ++ j ∷ []))) (children_of shape) ≡ depths_below (length stops + 1) shape =
+    ap (λ (k : ℕ). flat_map (depths k) (children_of shape)) (one_longer stops j) ∙ sym (below_depths (length stops + 1) shape) in
+    closed list i j stops (depths_below (length stops + 1) shape)
+    (top_reported between.schema between.filtered between.scope list i j start stop shape stops between.stands.top (between_onward list i j (node start stop shape) between) all)
+    (line_reported (children_of shape) reported list (i + 1) j (stops ++ j ∷ []) line (one_more j stops all)
+    ∙ ap (λ (xs : List ℕ). xs ++ reported_depths j (drop j list.nodes) (stops ++ j ∷ [])) deep)
+
+pub tree_reported : (tree : Tree) → HasDepths tree
+tree_reported = by_children HasDepths node_reported

@@ -1,8 +1,7 @@
 -- The lines of the nodes up to a place.
-use Rattle.std.proofs.Common.{◌≡◌, refl, sym, ap, ◌∙◌, subst, inl, inr, ℕ, zero, suc, ◌*◌, ◌+◌, List, [], ◌∷◌, ◌++◌, Some, append-nil, append_assoc, drop, length, length-append, slice_get, arith}
-use Rattle.std.specs.Prelude.{codes, replicate}
+use Rattle.std.proofs.Common.{◌≡◌, refl, sym, ap, ◌∙◌, subst, inl, inr, ℕ, zero, suc, ◌+◌, List, [], ◌∷◌, ◌++◌, Some, append-nil, append_assoc, drop, length, length-append, slice_get, arith}
 use Rattle.std.specs.List.{flat_map}
-use Rattle.std.proofs.lemmas.List.{drop_all, flat_map_more, replicate-append-replicate}
+use Rattle.std.proofs.lemmas.List.{drop_all, flat_map_more}
 use Rattle.std.proofs.lemmas.Option.{none-some}
 use Rattle.odata_syntax.specs.Tree.{Tree, node, shape_of}
 use Rattle.csdl_schema.specs.SchemaModel.{SchemaModel, slots_of, type_name_at}
@@ -15,6 +14,7 @@ use Rattle.odata_checked_filter.specs.private.Layout.{Lies}
 use Rattle.odata_checked_filter.specs.Stands.{text_of_shape, variable_names}
 use Rattle.odata_signatures.specs.Typed.{Scope}
 use Rattle.odata_checked_filter.specs.private.Explanation.{IsLinePut, kind_label, listed_line, still_around}
+use Rattle.odata_checked_filter.proofs.flat.KindForms.{form_there}
 use Rattle.odata_checked_filter.proofs.flat.Lying.{filter_lies}
 use Rattle.odata_checked_filter.proofs.flat.Numbered.{IsNumbered, count_of, numbered, type_at}
 use Rattle.odata_checked_filter.proofs.flat.Places.{drop_at, get_front, get_last, get_parts, same_found}
@@ -35,7 +35,8 @@ pub begun : (filter : Filter) (text : List ℕ) → IsFilter filter → text ≡
 begun filter text is empty =
     let nodes = filter.list.nodes in
     let tree = tree_of_filter filter in
-    let reported = tree_reported filter.schema filter.filtered [] filter.list 0 (length nodes) tree [] (filter_lies filter is) tt in
+    let reported = tree_reported tree filter.list 0 (length nodes) []
+    (record { schema = filter.schema; filtered = filter.filtered; scope = []; stands = filter_lies filter is }) tt in
     let none : reported_depths (length nodes) (drop (length nodes) nodes) [] ≡ [] =
     ap (λ (rest : List CheckedNode). reported_depths (length nodes) rest []) (drop_all (length nodes) nodes (omega arith)) in
     record {
@@ -56,11 +57,10 @@ called :
     → slice_get filter.list.texts k ≡ Some beside
     → kind_label found.kind beside ≡ node_label (variable_names scope) (shape_of tree)
 called filter scope k j (node start stop shape) found beside stands here text =
-    let top = stands.top in
-    let same : top.found ≡ found = same_found (slice_get filter.list.nodes k) top.found found top.stands_at here in
-    let spelled : text_of_shape shape ≡ beside = same_found (slice_get filter.list.texts k) (text_of_shape shape) beside top.text_at text in
-    sym (ap (λ (f : CheckedNode). kind_label f.kind (text_of_shape shape)) same ∙ ap (kind_label found.kind) spelled)
-    ∙ label_reported filter.list (slots_of filter.schema) (type_name_at filter.schema filter.filtered) scope shape top.found.kind top.kind
+    let spelled : text_of_shape shape ≡ beside = same_found (slice_get filter.list.texts k) (text_of_shape shape) beside stands.top.text_at text in
+    sym (ap (kind_label found.kind) spelled)
+    ∙ label_reported (slots_of filter.schema) (type_name_at filter.schema filter.filtered) scope shape found.kind
+    (form_there filter.schema filter.filtered scope filter.list k j start stop shape found stands here)
 
 -- its line
 line_same :
@@ -150,12 +150,6 @@ all_reported filter place stops text is all reported = record {
   each = reported.each;
   whole = reported.whole;
 }
-
--- two more spaces
-pub one_deeper : (n : ℕ) → ◌≡◌ {A = List ℕ} (replicate (2 * n) 32 ++ codes "  ") (replicate (2 * (n + 1)) 32)
-one_deeper n =
-    let e : 2 * n + 2 ≡ 2 * (n + 1) = omega arith in
-    replicate-append-replicate (2 * n) 2 32 ∙ ap (λ (k : ℕ). replicate k 32) e
 
 -- the parts of a line, one after another
 pub line_joined :

@@ -1,15 +1,11 @@
 -- What a node that is put at its index leaves of the list, and what stands there then.
-use Rattle.std.proofs.Common.{◌≡◌, ◌≢◌, refl, sym, ◌∙◌, inl, inr, ◌⊎◌, ℕ, zero, suc, ◌<◌, ◌≤◌, ◌+◌, List, [], ◌∷◌, Some, slice_get, slice_set, length, length-set, arith}
-use Rattle.odata_syntax.specs.Tree.{Shape, Tree}
-use Rattle.csdl_schema.specs.SchemaModel.{SchemaModel}
-use Rattle.odata_signatures.specs.Typed.{Scope}
-use Rattle.odata_checked_filter.specs.declared.checked_node.CheckedNode.{CheckedNode}
+use Rattle.std.proofs.Common.{◌≡◌, ◌≢◌, refl, ◌∙◌, inl, inr, ◌⊎◌, ℕ, zero, suc, ◌<◌, ◌≤◌, ◌+◌, List, [], ◌∷◌, slice_get, slice_set, length-set, arith}
 use Rattle.odata_checked_filter.specs.FlatTree.{FlatTree}
 use Rattle.odata_checked_filter.specs.Laws.{KeptStands, PutChanges, PutStands}
 use Rattle.odata_checked_filter.specs.ListChanges.{IsKeptOutside, node_put}
-use Rattle.odata_checked_filter.specs.Stands.{ChildrenStand, Stands, text_of_shape}
+use Rattle.odata_checked_filter.specs.Stands.{text_of_shape}
 use Rattle.odata_checked_filter.proofs.flat.Places.{get_put}
-use Rattle.odata_checked_filter.proofs.flat.Kept.{IsKeptIn, children_kept, stands_kept}
+use Rattle.odata_checked_filter.proofs.flat.Lying.{IsKeptIn, children_kept, stands_kept}
 
 -- another place is as it was
 get_elsewhere : {X : Type 0} (xs : List X) (k j : ℕ) (x : X) → j ≢ k → slice_get (slice_set xs k x) j ≡ slice_get xs j

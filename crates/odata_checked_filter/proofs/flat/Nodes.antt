@@ -2,7 +2,7 @@
 use Rattle.std.proofs.Common.{◌≡◌, refl, sym, ◌∙◌, subst, inl, inr, ℕ, zero, suc, ◌<◌, ◌+◌, List, [], ◌∷◌, ◌++◌, length, length-append, arith}
 use Rattle.std.specs.Prelude.{Contains}
 use Rattle.odata_syntax.specs.Spans.{IsWithin, children_of, in_child, is_root, list_of_trees}
-use Rattle.odata_syntax.specs.Tree.{Shape, Tree, Trees, any_item, binary, call, count, has, in_list, in_path, it, lambda, literal, logical_not, member, more_trees, name, negation, no_trees, node}
+use Rattle.odata_syntax.specs.Tree.{Shape, Tree, Trees, any_item, binary, call, count, has, in_list, in_path, lambda, logical_not, member, more_trees, negation, no_trees, node}
 use Rattle.csdl_schema.specs.ExprType.{SingleType, collection, single}
 use Rattle.csdl_schema.specs.SchemaModel.{Slots}
 use Rattle.odata_signatures.specs.Laws.{OneType}
@@ -11,149 +11,89 @@ use Rattle.odata_signatures.specs.Typed.{Scope, Typed, with_variable}
 use Rattle.odata_checked_filter.specs.NodeScopes.{InEither, IsNode, IsNodeAmong, IsNodeBelow}
 use Rattle.odata_checked_filter.specs.Stands.{InBody}
 
--- ---- it is before the end
+-- ---- it is before the end, and a node of the tree
 
-either_before : (first second : List Tree) (k : ℕ) (A B : ℕ → Type 0) → ((j : ℕ) → B j → j < length second)
-    → InEither (length first) A B k → k < length (first ++ second)
-either_before first second k A B behind (inl is) = let h : k < length first = is.0 in omega (arith, length-append first second)
-either_before first second k A B behind (inr is) =
-    let e : k ≡ length first + is.0 = is.1 in
-    let h : is.0 < length second = behind is.0 is.2 in
-    omega (arith, length-append first second)
+pub record IsInTree (tree : Tree) (k : ℕ) (part : Tree) : Type 0 where
+  pub before : k < length (pre_order tree)
+  pub within : IsWithin part tree
 
-mutual
-  pub node_before : (slots : Slots) (root : List ℕ) (scope : Scope) (tree : Tree) (k : ℕ) (at : Scope) (part : Tree)
-      → IsNode slots root scope tree k at part → k < length (pre_order tree)
-  node_before slots root scope (node start stop shape) zero at part is = omega arith
-  node_before slots root scope (node start stop shape) (suc k) at part is =
-      let h : k < length (nodes_below shape) = below_before slots root scope shape k at part is in omega arith
-
-  below_before : (slots : Slots) (root : List ℕ) (scope : Scope) (shape : Shape) (k : ℕ) (at : Scope) (part : Tree)
-      → IsNodeBelow slots root scope shape k at part → k < length (nodes_below shape)
-  below_before slots root scope (literal kind spelling) k at part is = absurd is
-  below_before slots root scope it k at part is = absurd is
-  below_before slots root scope (name asked) k at part is = absurd is
-  below_before slots root scope (member base asked) k at part is = node_before slots root scope base k at part is
-  below_before slots root scope (count base) k at part is = node_before slots root scope base k at part is
-  below_before slots root scope (negation operand) k at part is = node_before slots root scope operand k at part is
-  below_before slots root scope (logical_not operand) k at part is = node_before slots root scope operand k at part is
-  below_before slots root scope (binary operator left right) k at part is =
-      either_before (pre_order left) (pre_order right) k
-      (λ j. IsNode slots root scope left j at part)
-      (λ j. IsNode slots root scope right j at part)
-      (λ j there. node_before slots root scope right j at part there) is
-  below_before slots root scope (has left right) k at part is =
-      either_before (pre_order left) (pre_order right) k
-      (λ j. IsNode slots root scope left j at part)
-      (λ j. IsNode slots root scope right j at part)
-      (λ j there. node_before slots root scope right j at part there) is
-  below_before slots root scope (in_list left items) k at part is =
-      either_before (pre_order left) (nodes_among items) k
-      (λ j. IsNode slots root scope left j at part)
-      (λ j. IsNodeAmong slots root scope items j at part)
-      (λ j there. among_before slots root scope items j at part there) is
-  below_before slots root scope (in_path left path) k at part is =
-      either_before (pre_order left) (pre_order path) k
-      (λ j. IsNode slots root scope left j at part)
-      (λ j. IsNode slots root scope path j at part)
-      (λ j there. node_before slots root scope path j at part there) is
-  below_before slots root scope (call asked arguments) k at part is = among_before slots root scope arguments k at part is
-  below_before slots root scope (any_item base) k at part is = node_before slots root scope base k at part is
-  below_before slots root scope (lambda quantifier base variable body) k at part is =
-      either_before (pre_order base) (pre_order body) k (λ j. IsNode slots root scope base j at part)
-      (λ j. InBody scope variable (Typed slots root scope base) (λ inner. IsNode slots root inner body j at part))
-      (λ j there. node_before slots root (with_variable scope variable (single there.member_type)) body j at part there.body) is
-
-  among_before : (slots : Slots) (root : List ℕ) (scope : Scope) (trees : Trees) (k : ℕ) (at : Scope) (part : Tree)
-      → IsNodeAmong slots root scope trees k at part → k < length (nodes_among trees)
-  among_before slots root scope no_trees k at part is = absurd is
-  among_before slots root scope (more_trees tree trees) k at part is =
-      either_before (pre_order tree) (nodes_among trees) k
-      (λ j. IsNode slots root scope tree j at part)
-      (λ j. IsNodeAmong slots root scope trees j at part)
-      (λ j there. among_before slots root scope trees j at part there) is
-
--- ---- it is a node of the tree
-
--- one of these trees, and a node of it
-record IsWithinOne (trees : List Tree) (part : Tree) : Type 0 where
+-- of trees that have these nodes, one has it
+record IsInOne (trees nodes : List Tree) (k : ℕ) (part : Tree) : Type 0 where
+  before : k < length nodes
   child : Tree
   contains : Contains trees child
   within : IsWithin part child
 
-within_first : (tree : Tree) (trees : List Tree) (part : Tree) → IsWithin part tree → IsWithinOne (tree ∷ trees) part
-within_first tree trees part within = record { child = tree; contains = (0, omega arith, refl); within = within }
+alone_in : (tree : Tree) (k : ℕ) (part : Tree) → IsInTree tree k part → IsInOne (tree ∷ []) (pre_order tree) k part
+alone_in tree k part is = record { before = is.before; child = tree; contains = (0, omega arith, refl); within = is.within }
 
-within_later : (tree : Tree) (trees : List Tree) (part : Tree) → IsWithinOne trees part → IsWithinOne (tree ∷ trees) part
-within_later tree trees part is =
-    let h : is.contains.0 < length trees = is.contains.1 in
-    record { child = is.child; contains = (suc is.contains.0, omega arith, is.contains.2); within = is.within }
+either_in : (tree : Tree) (trees nodes : List Tree) (k : ℕ) (part : Tree) (A B : ℕ → Type 0)
+    → (A k → IsInTree tree k part) → ((j : ℕ) → B j → IsInOne trees nodes j part)
+    → InEither (length (pre_order tree)) A B k → IsInOne (tree ∷ trees) (pre_order tree ++ nodes) k part
+either_in tree trees nodes k part A B first behind (inl is) =
+    let here = first is.1 in
+    let h : k < length (pre_order tree) = here.before in
+    record { before = omega (arith, length-append (pre_order tree) nodes); child = tree; contains = (0, omega arith, refl); within = here.within }
+either_in tree trees nodes k part A B first behind (inr is) =
+    let there = behind is.0 is.2 in
+    let e : k ≡ length (pre_order tree) + is.0 = is.1 in
+    let h : is.0 < length nodes = there.before in
+    let inside : there.contains.0 < length trees = there.contains.1 in
+    record {
+      before = omega (arith, length-append (pre_order tree) nodes);
+      child = there.child;
+      contains = (suc there.contains.0, omega arith, there.contains.2);
+      within = there.within;
+    }
 
-either_within : (size k : ℕ) (A B : ℕ → Type 0) (tree : Tree) (trees : List Tree) (part : Tree)
-    → (A k → IsWithin part tree) → ((j : ℕ) → B j → IsWithinOne trees part)
-    → InEither size A B k → IsWithinOne (tree ∷ trees) part
-either_within size k A B tree trees part first behind (inl is) = within_first tree trees part (first is.1)
-either_within size k A B tree trees part first behind (inr is) = within_later tree trees part (behind is.0 is.2)
+module _ (slots : Slots) (root : List ℕ) where
+  two_in : (scope : Scope) (left right : Tree) (k : ℕ) (at : Scope) (part : Tree)
+      → (IsNode slots root scope left k at part → IsInTree left k part) → ((j : ℕ) → IsNode slots root scope right j at part → IsInTree right j part)
+      → IsNodeBelow slots root scope (has left right) k at part → IsInOne (left ∷ right ∷ []) (pre_order left ++ pre_order right) k part
+  two_in scope left right k at part first second =
+      either_in left (right ∷ []) (pre_order right) k part (λ j. IsNode slots root scope left j at part) (λ j. IsNode slots root scope right j at part)
+      first (λ j there. alone_in right j part (second j there))
 
-mutual
-  pub node_within : (slots : Slots) (root : List ℕ) (scope : Scope) (tree : Tree) (k : ℕ) (at : Scope) (part : Tree)
-      → IsNode slots root scope tree k at part → IsWithin part tree
-  node_within slots root scope (node start stop shape) zero at part is =
-      subst (λ (t : Tree). IsWithin t (node start stop shape)) (sym is.1) is_root
-  node_within slots root scope (node start stop shape) (suc k) at part is =
-      let below = below_within slots root scope shape k at part is in in_child {child = below.child} below.contains below.within
+  more_in : (scope : Scope) (tree : Tree) (trees : Trees) (k : ℕ) (at : Scope) (part : Tree)
+      → (IsNode slots root scope tree k at part → IsInTree tree k part)
+      → ((j : ℕ) → IsNodeAmong slots root scope trees j at part → IsInOne (list_of_trees trees) (nodes_among trees) j part)
+      → IsNodeAmong slots root scope (more_trees tree trees) k at part → IsInOne (tree ∷ list_of_trees trees) (pre_order tree ++ nodes_among trees) k part
+  more_in scope tree trees k at part =
+      either_in tree (list_of_trees trees) (nodes_among trees) k part (λ j. IsNode slots root scope tree j at part) (λ j. IsNodeAmong slots root scope trees j at part)
 
-  below_within : (slots : Slots) (root : List ℕ) (scope : Scope) (shape : Shape) (k : ℕ) (at : Scope) (part : Tree)
-      → IsNodeBelow slots root scope shape k at part → IsWithinOne (children_of shape) part
-  below_within slots root scope (literal kind spelling) k at part is = absurd is
-  below_within slots root scope it k at part is = absurd is
-  below_within slots root scope (name asked) k at part is = absurd is
-  below_within slots root scope (member base asked) k at part is = within_first base [] part (node_within slots root scope base k at part is)
-  below_within slots root scope (count base) k at part is = within_first base [] part (node_within slots root scope base k at part is)
-  below_within slots root scope (negation operand) k at part is = within_first operand [] part (node_within slots root scope operand k at part is)
-  below_within slots root scope (logical_not operand) k at part is = within_first operand [] part (node_within slots root scope operand k at part is)
-  below_within slots root scope (binary operator left right) k at part is =
-      either_within (length (pre_order left)) k
-      (λ j. IsNode slots root scope left j at part)
-      (λ j. IsNode slots root scope right j at part)
-      left (right ∷ []) part (node_within slots root scope left k at part)
-      (λ j there. within_first right [] part (node_within slots root scope right j at part there)) is
-  below_within slots root scope (has left right) k at part is =
-      either_within (length (pre_order left)) k
-      (λ j. IsNode slots root scope left j at part)
-      (λ j. IsNode slots root scope right j at part)
-      left (right ∷ []) part (node_within slots root scope left k at part)
-      (λ j there. within_first right [] part (node_within slots root scope right j at part there)) is
-  below_within slots root scope (in_list left items) k at part is =
-      either_within (length (pre_order left)) k
-      (λ j. IsNode slots root scope left j at part)
-      (λ j. IsNodeAmong slots root scope items j at part)
-      left (list_of_trees items) part (node_within slots root scope left k at part)
-      (λ j there. among_within slots root scope items j at part there) is
-  below_within slots root scope (in_path left path) k at part is =
-      either_within (length (pre_order left)) k
-      (λ j. IsNode slots root scope left j at part)
-      (λ j. IsNode slots root scope path j at part)
-      left (path ∷ []) part (node_within slots root scope left k at part)
-      (λ j there. within_first path [] part (node_within slots root scope path j at part there)) is
-  below_within slots root scope (call asked arguments) k at part is = among_within slots root scope arguments k at part is
-  below_within slots root scope (any_item base) k at part is = within_first base [] part (node_within slots root scope base k at part is)
-  below_within slots root scope (lambda quantifier base variable body) k at part is =
-      either_within (length (pre_order base)) k (λ j. IsNode slots root scope base j at part)
-      (λ j. InBody scope variable (Typed slots root scope base) (λ inner. IsNode slots root inner body j at part))
-      base (body ∷ []) part (node_within slots root scope base k at part)
-      (λ j there. within_first body [] part
-      (node_within slots root (with_variable scope variable (single there.member_type)) body j at part there.body)) is
+  mutual
+    pub node_in : (scope : Scope) (tree : Tree) (k : ℕ) (at : Scope) (part : Tree) → IsNode slots root scope tree k at part → IsInTree tree k part
+    node_in scope (node start stop shape) zero at part is =
+        record { before = omega arith; within = subst (λ (t : Tree). IsWithin t (node start stop shape)) (sym is.1) is_root }
+    node_in scope (node start stop shape) (suc k) at part is =
+        let below = below_in scope shape k at part is in
+        let h : k < length (nodes_below shape) = below.before in
+        record { before = omega arith; within = in_child {child = below.child} below.contains below.within }
 
-  among_within : (slots : Slots) (root : List ℕ) (scope : Scope) (trees : Trees) (k : ℕ) (at : Scope) (part : Tree)
-      → IsNodeAmong slots root scope trees k at part → IsWithinOne (list_of_trees trees) part
-  among_within slots root scope no_trees k at part is = absurd is
-  among_within slots root scope (more_trees tree trees) k at part is =
-      either_within (length (pre_order tree)) k
-      (λ j. IsNode slots root scope tree j at part)
-      (λ j. IsNodeAmong slots root scope trees j at part)
-      tree (list_of_trees trees) part (node_within slots root scope tree k at part)
-      (λ j there. among_within slots root scope trees j at part there) is
+    below_in : (scope : Scope) (shape : Shape) (k : ℕ) (at : Scope) (part : Tree)
+        → IsNodeBelow slots root scope shape k at part → IsInOne (children_of shape) (nodes_below shape) k part
+    below_in scope (member base asked) k at part is = alone_in base k part (node_in scope base k at part is)
+    below_in scope (count base) k at part is = alone_in base k part (node_in scope base k at part is)
+    below_in scope (negation operand) k at part is = alone_in operand k part (node_in scope operand k at part is)
+    below_in scope (logical_not operand) k at part is = alone_in operand k part (node_in scope operand k at part is)
+    below_in scope (any_item base) k at part is = alone_in base k part (node_in scope base k at part is)
+    below_in scope (binary operator left right) k at part is =
+        two_in scope left right k at part (node_in scope left k at part) (λ j. node_in scope right j at part) is
+    below_in scope (has left right) k at part is = two_in scope left right k at part (node_in scope left k at part) (λ j. node_in scope right j at part) is
+    below_in scope (in_path left path) k at part is = two_in scope left path k at part (node_in scope left k at part) (λ j. node_in scope path j at part) is
+    below_in scope (in_list left items) k at part is = more_in scope left items k at part (node_in scope left k at part) (λ j. among_in scope items j at part) is
+    below_in scope (call asked arguments) k at part is = among_in scope arguments k at part is
+    below_in scope (lambda quantifier base variable body) k at part is =
+        either_in base (body ∷ []) (pre_order body) k part (λ j. IsNode slots root scope base j at part)
+        (λ j. InBody scope variable (Typed slots root scope base) (λ inner. IsNode slots root inner body j at part))
+        (node_in scope base k at part)
+        (λ j there. alone_in body j part (node_in (with_variable scope variable (single there.member_type)) body j at part there.body)) is
+    below_in scope _ k at part is = absurd is
+
+    among_in : (scope : Scope) (trees : Trees) (k : ℕ) (at : Scope) (part : Tree)
+        → IsNodeAmong slots root scope trees k at part → IsInOne (list_of_trees trees) (nodes_among trees) k part
+    among_in scope no_trees k at part is = absurd is
+    among_in scope (more_trees tree trees) k at part is = more_in scope tree trees k at part (node_in scope tree k at part) (λ j. among_in scope trees j at part) is
 
 -- ---- there is no other
 
@@ -175,84 +115,52 @@ either_one size k A B A' B' P first behind (inr a) (inr b) =
     let same : b.0 ≡ a.0 = omega arith in
     behind a.0 a.2 (subst B' same b.2)
 
-same_member : (a b : SingleType) → collection a ≡ collection b → a ≡ b
+pub same_member : (a b : SingleType) → collection a ≡ collection b → a ≡ b
 same_member a b same = cc
 
-mutual
-  pub node_one : OneType → (slots : Slots) (root : List ℕ) (scope : Scope) (tree : Tree) (k : ℕ) (at at' : Scope) (part part' : Tree)
-      → IsNode slots root scope tree k at part → IsNode slots root scope tree k at' part' → AreOne at at' part part'
-  node_one one slots root scope (node start stop shape) zero at at' part part' a b = record { scopes = a.0 ∙ sym b.0; parts = a.1 ∙ sym b.1 }
-  node_one one slots root scope (node start stop shape) (suc k) at at' part part' a b = below_one one slots root scope shape k at at' part part' a b
+module _ (one : OneType) (slots : Slots) (root : List ℕ) where
+  -- a node of a number of one, and another
+  abbrev OneAt : (Scope → Tree → Type 0) → Type 0
+  OneAt Numbered = (at at' : Scope) (part part' : Tree) → Numbered at part → Numbered at' part' → AreOne at at' part part'
 
-  below_one : OneType → (slots : Slots) (root : List ℕ) (scope : Scope) (shape : Shape) (k : ℕ) (at at' : Scope) (part part' : Tree)
-      → IsNodeBelow slots root scope shape k at part → IsNodeBelow slots root scope shape k at' part' → AreOne at at' part part'
-  below_one one slots root scope (literal kind spelling) k at at' part part' a b = absurd a
-  below_one one slots root scope it k at at' part part' a b = absurd a
-  below_one one slots root scope (name asked) k at at' part part' a b = absurd a
-  below_one one slots root scope (member base asked) k at at' part part' a b = node_one one slots root scope base k at at' part part' a b
-  below_one one slots root scope (count base) k at at' part part' a b = node_one one slots root scope base k at at' part part' a b
-  below_one one slots root scope (negation operand) k at at' part part' a b = node_one one slots root scope operand k at at' part part' a b
-  below_one one slots root scope (logical_not operand) k at at' part part' a b = node_one one slots root scope operand k at at' part part' a b
-  below_one one slots root scope (binary operator left right) k at at' part part' a b =
-      either_one (length (pre_order left)) k
-      (λ j. IsNode slots root scope left j at part)
-      (λ j. IsNode slots root scope right j at part)
-      (λ j. IsNode slots root scope left j at' part')
-      (λ j. IsNode slots root scope right j at' part')
-      (AreOne at at' part part')
-      (λ x y. node_one one slots root scope left k at at' part part' x y)
-      (λ j x y. node_one one slots root scope right j at at' part part' x y) a b
-  below_one one slots root scope (has left right) k at at' part part' a b =
-      either_one (length (pre_order left)) k
-      (λ j. IsNode slots root scope left j at part)
-      (λ j. IsNode slots root scope right j at part)
-      (λ j. IsNode slots root scope left j at' part')
-      (λ j. IsNode slots root scope right j at' part')
-      (AreOne at at' part part')
-      (λ x y. node_one one slots root scope left k at at' part part' x y)
-      (λ j x y. node_one one slots root scope right j at at' part part' x y) a b
-  below_one one slots root scope (in_list left items) k at at' part part' a b =
-      either_one (length (pre_order left)) k
-      (λ j. IsNode slots root scope left j at part)
-      (λ j. IsNodeAmong slots root scope items j at part)
-      (λ j. IsNode slots root scope left j at' part')
-      (λ j. IsNodeAmong slots root scope items j at' part')
-      (AreOne at at' part part')
-      (λ x y. node_one one slots root scope left k at at' part part' x y)
-      (λ j x y. among_one one slots root scope items j at at' part part' x y) a b
-  below_one one slots root scope (in_path left path) k at at' part part' a b =
-      either_one (length (pre_order left)) k
-      (λ j. IsNode slots root scope left j at part)
-      (λ j. IsNode slots root scope path j at part)
-      (λ j. IsNode slots root scope left j at' part')
-      (λ j. IsNode slots root scope path j at' part')
-      (AreOne at at' part part')
-      (λ x y. node_one one slots root scope left k at at' part part' x y)
-      (λ j x y. node_one one slots root scope path j at at' part part' x y) a b
-  below_one one slots root scope (call asked arguments) k at at' part part' a b = among_one one slots root scope arguments k at at' part part' a b
-  below_one one slots root scope (any_item base) k at at' part part' a b = node_one one slots root scope base k at at' part part' a b
-  below_one one slots root scope (lambda quantifier base variable body) k at at' part part' a b =
-      either_one (length (pre_order base)) k (λ j. IsNode slots root scope base j at part)
-      (λ j. InBody scope variable (Typed slots root scope base) (λ inner. IsNode slots root inner body j at part))
-      (λ j. IsNode slots root scope base j at' part')
-      (λ j. InBody scope variable (Typed slots root scope base) (λ inner. IsNode slots root inner body j at' part'))
-      (AreOne at at' part part')
-      (λ x y. node_one one slots root scope base k at at' part part' x y)
-      (λ j x y.
-      let same : y.member_type ≡ x.member_type =
-      same_member y.member_type x.member_type (one slots root scope base (collection y.member_type) (collection x.member_type) y.binds.over x.binds.over) in
-      let P : SingleType → Type 0 = λ (m : SingleType). IsNode slots root (with_variable scope variable (single m)) body j at' part' in
-      node_one one slots root (with_variable scope variable (single x.member_type)) body j at at' part part' x.body (subst P same y.body)) a b
+  more_one : (scope : Scope) (tree : Tree) (k : ℕ) (Behind : ℕ → Scope → Tree → Type 0)
+      → OneAt (λ at part. IsNode slots root scope tree k at part) → ((j : ℕ) → OneAt (λ at part. Behind j at part))
+      → OneAt (λ at part. InEither (length (pre_order tree)) (λ j. IsNode slots root scope tree j at part) (λ j. Behind j at part) k)
+  more_one scope tree k Behind first behind at at' part part' a b =
+      either_one (length (pre_order tree)) k (λ j. IsNode slots root scope tree j at part) (λ j. Behind j at part)
+      (λ j. IsNode slots root scope tree j at' part') (λ j. Behind j at' part') (AreOne at at' part part')
+      (first at at' part part') (λ j. behind j at at' part part') a b
 
-  among_one : OneType → (slots : Slots) (root : List ℕ) (scope : Scope) (trees : Trees) (k : ℕ) (at at' : Scope) (part part' : Tree)
-      → IsNodeAmong slots root scope trees k at part → IsNodeAmong slots root scope trees k at' part' → AreOne at at' part part'
-  among_one one slots root scope no_trees k at at' part part' a b = absurd a
-  among_one one slots root scope (more_trees tree trees) k at at' part part' a b =
-      either_one (length (pre_order tree)) k
-      (λ j. IsNode slots root scope tree j at part)
-      (λ j. IsNodeAmong slots root scope trees j at part)
-      (λ j. IsNode slots root scope tree j at' part')
-      (λ j. IsNodeAmong slots root scope trees j at' part')
-      (AreOne at at' part part')
-      (λ x y. node_one one slots root scope tree k at at' part part' x y)
-      (λ j x y. among_one one slots root scope trees j at at' part part' x y) a b
+  mutual
+    pub node_one : (scope : Scope) (tree : Tree) (k : ℕ) → OneAt (λ at part. IsNode slots root scope tree k at part)
+    node_one scope (node start stop shape) zero at at' part part' a b = record { scopes = a.0 ∙ sym b.0; parts = a.1 ∙ sym b.1 }
+    node_one scope (node start stop shape) (suc k) at at' part part' a b = below_one scope shape k at at' part part' a b
+
+    below_one : (scope : Scope) (shape : Shape) (k : ℕ) → OneAt (λ at part. IsNodeBelow slots root scope shape k at part)
+    below_one scope (member base asked) k at at' part part' a b = node_one scope base k at at' part part' a b
+    below_one scope (count base) k at at' part part' a b = node_one scope base k at at' part part' a b
+    below_one scope (negation operand) k at at' part part' a b = node_one scope operand k at at' part part' a b
+    below_one scope (logical_not operand) k at at' part part' a b = node_one scope operand k at at' part part' a b
+    below_one scope (any_item base) k at at' part part' a b = node_one scope base k at at' part part' a b
+    below_one scope (binary operator left right) k at at' part part' a b =
+        more_one scope left k (IsNode slots root scope right) (node_one scope left k) (node_one scope right) at at' part part' a b
+    below_one scope (has left right) k at at' part part' a b =
+        more_one scope left k (IsNode slots root scope right) (node_one scope left k) (node_one scope right) at at' part part' a b
+    below_one scope (in_path left path) k at at' part part' a b =
+        more_one scope left k (IsNode slots root scope path) (node_one scope left k) (node_one scope path) at at' part part' a b
+    below_one scope (in_list left items) k at at' part part' a b =
+        more_one scope left k (IsNodeAmong slots root scope items) (node_one scope left k) (among_one scope items) at at' part part' a b
+    below_one scope (call asked arguments) k at at' part part' a b = among_one scope arguments k at at' part part' a b
+    below_one scope (lambda quantifier base variable body) k at at' part part' a b =
+        more_one scope base k (λ j s p. InBody scope variable (Typed slots root scope base) (λ inner. IsNode slots root inner body j s p)) (node_one scope base k)
+        (λ j s s' p p' x y.
+        let same : y.member_type ≡ x.member_type =
+        same_member y.member_type x.member_type (one slots root scope base (collection y.member_type) (collection x.member_type) y.binds.over x.binds.over) in
+        let P : SingleType → Type 0 = λ (m : SingleType). IsNode slots root (with_variable scope variable (single m)) body j s' p' in
+        node_one (with_variable scope variable (single x.member_type)) body j s s' p p' x.body (subst P same y.body)) at at' part part' a b
+    below_one scope _ k at at' part part' a b = absurd a
+
+    among_one : (scope : Scope) (trees : Trees) (k : ℕ) → OneAt (λ at part. IsNodeAmong slots root scope trees k at part)
+    among_one scope no_trees k at at' part part' a b = absurd a
+    among_one scope (more_trees tree trees) k at at' part part' a b =
+        more_one scope tree k (IsNodeAmong slots root scope trees) (node_one scope tree k) (among_one scope trees) at at' part part' a b

@@ -2,24 +2,23 @@
 use Rattle.std.proofs.Common.{◌≡◌, refl, sym, ap, ◌∙◌, subst, inl, inr, ℕ, ◌<◌, ◌≤◌, ◌+◌, List, [], Some, None, Option, slice_get, length, arith}
 use Rattle.std.specs.Option.{option_map}
 use Rattle.std.proofs.lemmas.Option.{none-some, slice_get-map, slice_get_cases, slice_get_past, slice_get_within}
-use Rattle.odata_syntax.specs.Tree.{Shape, Tree, node, literal, it, name, member, count, negation, logical_not, binary, has, in_list, in_path, call, any_item, lambda}
+use Rattle.odata_syntax.specs.Tree.{Shape, Tree, node}
 use Rattle.odata_text.specs.declared.span.Span.{Span}
 use Rattle.csdl_schema.specs.SchemaModel.{Slots, slots_of, type_name_at}
 use Rattle.odata_checked_filter.specs.declared.checked_node.CheckedNode.{CheckedNode}
 use Rattle.odata_checked_filter.specs.declared.checked_node.NodeKind.{NodeKind}
 use Rattle.odata_signatures.specs.Laws.{OneType}
 use Rattle.odata_checked_filter.specs.NodeScopes.{IsNode}
-use Rattle.odata_checked_filter.proofs.flat.Nodes.{node_before, node_one}
+use Rattle.odata_checked_filter.proofs.flat.Nodes.{node_in, node_one}
 use Rattle.odata_checked_filter.specs.Filter.{Filter, IsFilter, IsTypeAt, tree_of_filter}
-use Rattle.odata_checked_filter.specs.FlatTree.{FlatTree}
-use Rattle.odata_checked_filter.specs.Levels.{level_named}
 use Rattle.odata_checked_filter.specs.NameKinds.{NamesSlot, IsSlotAt, level_of_node, level_at}
 use Rattle.odata_signatures.specs.PreOrder.{pre_order, span_of_tree}
 use Rattle.odata_checked_filter.specs.ScopedNodes.{ScopedNode, scoped_nodes}
 use Rattle.odata_checked_filter.specs.private.Layout.{Lies}
-use Rattle.odata_checked_filter.specs.Stands.{IsKindOf, variable_names}
+use Rattle.odata_checked_filter.specs.Stands.{variable_names}
 use Rattle.odata_signatures.specs.Typed.{Scope, Typed}
 use Rattle.odata_signatures.specs.TypeView.{expr_type}
+use Rattle.odata_checked_filter.proofs.flat.KindForms.{HasForm, form_of, member_form, property_form, variable_form}
 use Rattle.odata_checked_filter.proofs.flat.Places.{found_within, same_found}
 use Rattle.odata_checked_filter.proofs.flat.Lying.{filter_lies}
 use Rattle.odata_checked_filter.proofs.flat.Parts.{IsWalkOperand, part_stands, parts_count, parts_of}
@@ -46,86 +45,35 @@ no_slot (NodeKind.Property slot) property member_of = absurd (property slot refl
 no_slot (NodeKind.Member slot) property member_of = absurd (member_of slot refl)
 no_slot _ property member_of = refl
 
--- a kind without a slot
-slotless : (kind other : NodeKind) (slot : ℕ) → slot_of_kind other ≡ None → kind ≡ other → slot_of_kind kind ≡ Some slot → ⊥
-slotless kind other slot none is found =
-    let e : slot_of_kind kind ≡ None = ap slot_of_kind is ∙ none in
-    cc
-
-slot_of_none : (slot : ℕ) → None ≡ Some slot → ⊥
-slot_of_none slot found = cc
-
 names_slot :
-    (list : FlatTree) (slots : Slots) (root : List ℕ) (scope : Scope) (start stop : ℕ) (shape : Shape) (kind : NodeKind) (slot : ℕ)
-    → IsKindOf slots root scope shape kind
+    (slots : Slots) (root : List ℕ) (scope : Scope) (start stop : ℕ) (shape : Shape) (kind : NodeKind) (slot : ℕ)
+    → HasForm slots root scope shape kind
     → slot_of_kind kind ≡ Some slot
     → NamesSlot slots root scope (node start stop shape) slot
-names_slot list slots root scope start stop (literal k spelling) (NodeKind.Literal l place) slot is found = absurd (slot_of_none slot found)
-names_slot list slots root scope start stop (literal k spelling) _ slot is found = absurd is
-names_slot list slots root scope start stop it kind slot is found = slotless kind NodeKind.It slot refl is found
-names_slot list slots root scope start stop (name asked) (NodeKind.Property other) slot is found = (is.0, is.1 ∙ found)
-names_slot list slots root scope start stop (name asked) (NodeKind.Variable level) slot is found = absurd (slot_of_none slot found)
-names_slot list slots root scope start stop (name asked) _ slot is found = absurd is
-names_slot list slots root scope start stop (member base asked) (NodeKind.Member other) slot is found = (is.0, is.1, is.2 ∙ found)
-names_slot list slots root scope start stop (member base asked) _ slot is found = absurd is
-names_slot list slots root scope start stop (count base) kind slot is found = slotless kind NodeKind.Count slot refl is found
-names_slot list slots root scope start stop (negation operand) kind slot is found = slotless kind NodeKind.Neg slot refl is found
-names_slot list slots root scope start stop (logical_not operand) kind slot is found = slotless kind NodeKind.Not slot refl is found
-names_slot list slots root scope start stop (binary operator left right) kind slot is found = slotless kind (NodeKind.Binary operator) slot refl is found
-names_slot list slots root scope start stop (has left right) kind slot is found = slotless kind NodeKind.Has slot refl is found
-names_slot list slots root scope start stop (in_list left items) kind slot is found = slotless kind NodeKind.InList slot refl is found
-names_slot list slots root scope start stop (in_path left path) kind slot is found = slotless kind NodeKind.InPath slot refl is found
-names_slot list slots root scope start stop (any_item base) kind slot is found = slotless kind NodeKind.AnyItem slot refl is found
-names_slot list slots root scope start stop (call asked arguments) NodeKind.Now slot is found = absurd (slot_of_none slot found)
-names_slot list slots root scope start stop (call asked arguments) (NodeKind.Call function) slot is found = absurd (slot_of_none slot found)
-names_slot list slots root scope start stop (call asked arguments) _ slot is found = absurd is
-names_slot list slots root scope start stop (lambda quantifier base variable body) kind slot is found = slotless kind (NodeKind.Lambda quantifier) slot refl is found
-
-none_some : (o : Option ℕ) (a : ℕ) → o ≡ Some a → o ≡ None → ⊥
-none_some o a x y = cc
-
-no_kind : (kind : NodeKind) (slot : ℕ) → slot_of_kind kind ≡ Some slot → slot_of_kind kind ≡ None → ⊥
-no_kind kind slot some none = cc
+names_slot slots root scope start stop shape kind slot (property_form free named) found = (free, named ∙ found)
+names_slot slots root scope start stop shape kind slot (member_form owner typed named) found = (owner, typed, named ∙ found)
+names_slot slots root scope start stop shape kind slot _ found = absurd (none-some slot found)
 
 -- a node whose kind has no slot names none
 slots_none :
-    (list : FlatTree) (slots : Slots) (root : List ℕ) (scope : Scope) (start stop : ℕ) (shape : Shape) (kind : NodeKind) (slot : ℕ)
-    → IsKindOf slots root scope shape kind
+    (slots : Slots) (root : List ℕ) (scope : Scope) (start stop : ℕ) (shape : Shape) (kind : NodeKind) (slot : ℕ)
+    → HasForm slots root scope shape kind
     → slot_of_kind kind ≡ None
     → NamesSlot slots root scope (node start stop shape) slot
     → ⊥
-slots_none list slots root scope start stop (name asked) (NodeKind.Property other) slot is none names = no_kind (NodeKind.Property other) other refl none
-slots_none list slots root scope start stop (name asked) (NodeKind.Variable level) slot is none names =
-    none_some (level_named (variable_names scope) asked) level is names.0
-slots_none list slots root scope start stop (name asked) _ slot is none names = is
-slots_none list slots root scope start stop (member base asked) (NodeKind.Member other) slot is none names = no_kind (NodeKind.Member other) other refl none
-slots_none list slots root scope start stop (member base asked) _ slot is none names = is
-slots_none list slots root scope start stop _ kind slot is none names = names
+slots_none slots root scope start stop shape kind slot (property_form {slot = other} free named) none names = none-some other (sym none)
+slots_none slots root scope start stop shape kind slot (member_form {slot = other} owner typed named) none names = none-some other (sym none)
+slots_none slots root scope start stop shape kind slot (variable_form {asked = asked} {level = level} bound) none names =
+    none-some level (sym names.0 ∙ bound)
+slots_none slots root scope start stop shape kind slot _ none names = names
 
 level_of_top :
-    (list : FlatTree) (slots : Slots) (root : List ℕ) (scope : Scope) (start stop : ℕ) (shape : Shape) (kind : NodeKind)
-    → IsKindOf slots root scope shape kind
+    (slots : Slots) (root : List ℕ) (scope : Scope) (start stop : ℕ) (shape : Shape) (kind : NodeKind)
+    → HasForm slots root scope shape kind
     → level_of_node (variable_names scope) (node start stop shape) ≡ level_of_kind kind
-level_of_top list slots root scope start stop (literal k spelling) (NodeKind.Literal l place) is = refl
-level_of_top list slots root scope start stop (literal k spelling) _ is = absurd is
-level_of_top list slots root scope start stop it kind is = rw is refl
-level_of_top list slots root scope start stop (name asked) (NodeKind.Variable level) is = is
-level_of_top list slots root scope start stop (name asked) (NodeKind.Property slot) is = is.0
-level_of_top list slots root scope start stop (name asked) _ is = absurd is
-level_of_top list slots root scope start stop (member base asked) (NodeKind.Member slot) is = refl
-level_of_top list slots root scope start stop (member base asked) _ is = absurd is
-level_of_top list slots root scope start stop (count base) kind is = rw is refl
-level_of_top list slots root scope start stop (negation operand) kind is = rw is refl
-level_of_top list slots root scope start stop (logical_not operand) kind is = rw is refl
-level_of_top list slots root scope start stop (binary operator left right) kind is = rw is refl
-level_of_top list slots root scope start stop (has left right) kind is = rw is refl
-level_of_top list slots root scope start stop (in_list left items) kind is = rw is refl
-level_of_top list slots root scope start stop (in_path left path) kind is = rw is refl
-level_of_top list slots root scope start stop (any_item base) kind is = rw is refl
-level_of_top list slots root scope start stop (call asked arguments) NodeKind.Now is = refl
-level_of_top list slots root scope start stop (call asked arguments) (NodeKind.Call function) is = refl
-level_of_top list slots root scope start stop (call asked arguments) _ is = absurd is
-level_of_top list slots root scope start stop (lambda quantifier base variable body) kind is = rw is refl
+level_of_top slots root scope start stop shape kind (variable_form bound) = bound
+level_of_top slots root scope start stop shape kind (property_form free named) = free
+level_of_top slots root scope start stop shape kind _ = refl
 
 -- what a node of the list says of the tree that stands there, in a scope
 pub record IsNodeOf (filter : Filter) (found : CheckedNode) (scope : Scope) (part : Tree) : Type 0 where
@@ -145,17 +93,18 @@ top_says :
     → slice_get filter.list.nodes k ≡ Some found
     → IsNodeOf filter found scope tree
 top_says filter scope k j (node start stop shape) stands found here =
-    let schema = filter.schema in
-    let root = type_name_at schema filter.filtered in
+    let slots = slots_of filter.schema in
+    let root = type_name_at filter.schema filter.filtered in
     let top = stands.top in
     let same : top.found ≡ found = same_found (slice_get filter.list.nodes k) top.found found top.stands_at here in
     let P : CheckedNode → Type 0 = λ (f : CheckedNode). IsNodeOf filter f scope (node start stop shape) in
+    let form = form_of slots root scope shape top.found.kind top.kind in
     subst P same (record {
       span = span_same top.found.span start stop top.starts top.stops;
       typed = top.typed;
-      slots = λ slot is. names_slot filter.list (slots_of schema) root scope start stop shape top.found.kind slot top.kind is;
-      slotless = λ slot none names. slots_none filter.list (slots_of schema) root scope start stop shape top.found.kind slot top.kind none names;
-      levels = level_of_top filter.list (slots_of schema) root scope start stop shape top.found.kind top.kind;
+      slots = λ slot is. names_slot slots root scope start stop shape top.found.kind slot form is;
+      slotless = λ slot none names. slots_none slots root scope start stop shape top.found.kind slot form none names;
+      levels = level_of_top slots root scope start stop shape top.found.kind form;
     })
 
 -- as many nodes in the list as in the tree
@@ -186,7 +135,7 @@ numbered filter k found is here =
     let s = found_within (scoped_nodes [] tree) k inside in
     let P : ℕ → Type 0 = λ (x : ℕ). IsWalkOperand filter.schema filter.filtered filter.list x (IsNode (slots_of filter.schema) (type_name_at filter.schema filter.filtered) [] tree k) s.0 in
     let zero_more : 0 + k ≡ k = omega arith in
-    let part = subst P zero_more (part_stands filter.schema filter.filtered [] filter.list 0 (length filter.list.nodes) tree k s.0 (filter_lies filter is) s.1) in
+    let part = subst P zero_more (part_stands filter.schema filter.filtered filter.list [] 0 (length filter.list.nodes) tree k s.0 (filter_lies filter is) s.1) in
     let at : List (List ℕ) → ScopedNode = λ (variables : List (List ℕ)). record { variables = variables; part = s.0.part } in
     record {
       scope = part.inner;
@@ -239,8 +188,8 @@ level_found filter k found is = rw is.scoped is.says.levels
 
 pub no_slot_past : (filter : Filter) (k slot : ℕ) → IsFilter filter → length filter.list.nodes ≤ k → ¬ IsSlotAt filter k slot
 no_slot_past filter k slot is past names =
-    let before : k < length (pre_order (tree_of_filter filter)) =
-    node_before (slots_of filter.schema) (type_name_at filter.schema filter.filtered) [] (tree_of_filter filter) k names.at names.part names.numbered in
+    let there = node_in (slots_of filter.schema) (type_name_at filter.schema filter.filtered) [] (tree_of_filter filter) k names.at names.part names.numbered in
+    let before : k < length (pre_order (tree_of_filter filter)) = there.before in
     let count : length filter.list.nodes ≡ length (pre_order (tree_of_filter filter)) = count_of filter is in
     omega arith
 

@@ -2,7 +2,7 @@
 use Rattle.std.proofs.Common.{◌≡◌, refl, sym, ap, ◌∙◌, subst, ℕ, zero, suc, inl, inr, ◌<◌, ◌+◌, List, ◌∷◌, ◌++◌, Some, length, map, slice_get, arith}
 use Rattle.std.proofs.lemmas.List.{length-map, map-append}
 use Rattle.std.proofs.lemmas.Option.{none-some, slice_get_within}
-use Rattle.odata_syntax.specs.Tree.{Shape, Tree, Trees, any_item, binary, call, count, has, in_list, in_path, it, lambda, literal, logical_not, member, more_trees, name, negation, no_trees, node}
+use Rattle.odata_syntax.specs.Tree.{Shape, Tree, Trees, any_item, binary, call, count, has, in_list, in_path, lambda, logical_not, member, more_trees, negation, no_trees, node}
 use Rattle.csdl_schema.specs.SchemaModel.{SchemaModel, slots_of, type_name_at}
 use Rattle.odata_signatures.specs.Considered.{IsItself}
 use Rattle.odata_checked_filter.specs.NodeScopes.{InEither, IsNode, IsNodeAmong, IsNodeBelow}
@@ -27,36 +27,37 @@ parts_joined xs ys ps qs first second =
     ∙ ap (λ (ts : List Tree). ts ++ parts ys) first
     ∙ ap (λ (ts : List Tree). ps ++ ts) second
 
+two_joined : (variables inner : List (List ℕ)) (left right : Tree) → parts (scoped_nodes variables left) ≡ pre_order left → parts (scoped_nodes inner right) ≡ pre_order right
+    → parts (scoped_nodes variables left ++ scoped_nodes inner right) ≡ pre_order left ++ pre_order right
+two_joined variables inner left right = parts_joined (scoped_nodes variables left) (scoped_nodes inner right) (pre_order left) (pre_order right)
+
+more_joined : (variables : List (List ℕ)) (tree : Tree) (trees : Trees) → parts (scoped_nodes variables tree) ≡ pre_order tree
+    → parts (scoped_among variables trees) ≡ nodes_among trees → parts (scoped_among variables (more_trees tree trees)) ≡ nodes_among (more_trees tree trees)
+more_joined variables tree trees = parts_joined (scoped_nodes variables tree) (scoped_among variables trees) (pre_order tree) (nodes_among trees)
+
 -- the nodes with their variables are the nodes
 mutual
   pub parts_of : (variables : List (List ℕ)) (tree : Tree) → map (λ (s : ScopedNode). s.part) (scoped_nodes variables tree) ≡ pre_order tree
   parts_of variables (node start stop shape) = ap (λ (ts : List Tree). node start stop shape ∷ ts) (parts_below variables shape)
 
   parts_below : (variables : List (List ℕ)) (shape : Shape) → map (λ (s : ScopedNode). s.part) (scoped_below variables shape) ≡ nodes_below shape
-  parts_below variables (literal kind spelling) = refl
-  parts_below variables it = refl
-  parts_below variables (name asked) = refl
   parts_below variables (member base asked) = parts_of variables base
   parts_below variables (count base) = parts_of variables base
   parts_below variables (negation operand) = parts_of variables operand
   parts_below variables (logical_not operand) = parts_of variables operand
-  parts_below variables (binary operator left right) =
-      parts_joined (scoped_nodes variables left) (scoped_nodes variables right) (pre_order left) (pre_order right) (parts_of variables left) (parts_of variables right)
-  parts_below variables (has left right) =
-      parts_joined (scoped_nodes variables left) (scoped_nodes variables right) (pre_order left) (pre_order right) (parts_of variables left) (parts_of variables right)
-  parts_below variables (in_list left items) =
-      parts_joined (scoped_nodes variables left) (scoped_among variables items) (pre_order left) (nodes_among items) (parts_of variables left) (parts_among variables items)
-  parts_below variables (in_path left path) =
-      parts_joined (scoped_nodes variables left) (scoped_nodes variables path) (pre_order left) (pre_order path) (parts_of variables left) (parts_of variables path)
+  parts_below variables (binary operator left right) = two_joined variables variables left right (parts_of variables left) (parts_of variables right)
+  parts_below variables (has left right) = two_joined variables variables left right (parts_of variables left) (parts_of variables right)
+  parts_below variables (in_list left items) = more_joined variables left items (parts_of variables left) (parts_among variables items)
+  parts_below variables (in_path left path) = two_joined variables variables left path (parts_of variables left) (parts_of variables path)
   parts_below variables (call asked arguments) = parts_among variables arguments
   parts_below variables (any_item base) = parts_of variables base
   parts_below variables (lambda quantifier base variable body) =
-      parts_joined (scoped_nodes variables base) (scoped_nodes (variable ∷ variables) body) (pre_order base) (pre_order body) (parts_of variables base) (parts_of (variable ∷ variables) body)
+      two_joined variables (variable ∷ variables) base body (parts_of variables base) (parts_of (variable ∷ variables) body)
+  parts_below variables _ = refl
 
   parts_among : (variables : List (List ℕ)) (trees : Trees) → map (λ (s : ScopedNode). s.part) (scoped_among variables trees) ≡ nodes_among trees
   parts_among variables no_trees = refl
-  parts_among variables (more_trees tree trees) =
-      parts_joined (scoped_nodes variables tree) (scoped_among variables trees) (pre_order tree) (nodes_among trees) (parts_of variables tree) (parts_among variables trees)
+  parts_among variables (more_trees tree trees) = more_joined variables tree trees (parts_of variables tree) (parts_among variables trees)
 
 pub parts_count : (variables : List (List ℕ)) (tree : Tree) → length (scoped_nodes variables tree) ≡ length (pre_order tree)
 parts_count variables tree = sym (length-map (scoped_nodes variables tree) (λ (s : ScopedNode). s.part)) ∙ ap (λ (ts : List Tree). length ts) (parts_of variables tree)
@@ -120,90 +121,93 @@ in_either schema n list i m k size xs ys at First Second as_many place found fir
           part_also schema n list (m + h.0) (i + k) (Second h.0) Either at e (λ s p is. inr (h.0, own, is)) (second h.0 h.1.1)
     ]
 
-mutual
-  pub part_stands :
-      (schema : SchemaModel) (n : ℕ) (scope : Scope) (list : FlatTree) (i j : ℕ) (tree : Tree) (k : ℕ) (at : ScopedNode)
-      → Lies schema n scope list i j tree
-      → slice_get (scoped_nodes (variable_names scope) tree) k ≡ Some at
-      → IsWalkOperand schema n list (i + k) (IsNode (slots_of schema) (type_name_at schema n) scope tree k) at
-  part_stands schema n scope list i j (node start stop shape) zero at stands found =
-      itself schema n scope list i j (i + 0) (node start stop shape) at stands (omega arith)
-      (first_of (record { variables = variable_names scope; part = node start stop shape }) at (scoped_below (variable_names scope) shape) found)
-  part_stands schema n scope list i j (node start stop shape) (suc k) at stands found =
-      part_also schema n list (i + 1 + k) (i + suc k) (IsNodeBelow (slots_of schema) (type_name_at schema n) scope shape k)
-      (IsNode (slots_of schema) (type_name_at schema n) scope (node start stop shape) (suc k)) at (omega arith) (λ s p is. is)
-      (part_below schema n scope list (i + 1) j shape k at stands.children found)
+module _ (schema : SchemaModel) (n : ℕ) (list : FlatTree) where
+  -- of a tree, of what is below a shape, of trees one after another
+  abbrev NodeOf : Scope → Tree → ℕ → Scope → Tree → Type 0
+  NodeOf scope tree k = λ at part. IsNode (slots_of schema) (type_name_at schema n) scope tree k at part
 
-  part_below :
-      (schema : SchemaModel) (n : ℕ) (scope : Scope) (list : FlatTree) (i j : ℕ) (shape : Shape) (k : ℕ) (at : ScopedNode)
-      → ChildrenLie schema n scope list i j shape
-      → slice_get (scoped_below (variable_names scope) shape) k ≡ Some at
-      → IsWalkOperand schema n list (i + k) (IsNodeBelow (slots_of schema) (type_name_at schema n) scope shape k) at
-  part_below schema n scope list i j (literal kind spelling) k at stand found = absurd (none-some at found)
-  part_below schema n scope list i j it k at stand found = absurd (none-some at found)
-  part_below schema n scope list i j (name asked) k at stand found = absurd (none-some at found)
-  part_below schema n scope list i j (member base asked) k at stand found = part_stands schema n scope list i j base k at (one_there schema n scope list i j base stand) found
-  part_below schema n scope list i j (count base) k at stand found = part_stands schema n scope list i j base k at (one_there schema n scope list i j base stand) found
-  part_below schema n scope list i j (negation operand) k at stand found = part_stands schema n scope list i j operand k at (one_there schema n scope list i j operand stand) found
-  part_below schema n scope list i j (logical_not operand) k at stand found = part_stands schema n scope list i j operand k at (one_there schema n scope list i j operand stand) found
-  part_below schema n scope list i j (binary operator left right) k at stands found =
-      let stand = two_there schema n scope list i j left right stands in
-      in_either schema n list i stand.middle k (length (pre_order left))
-      (scoped_nodes (variable_names scope) left) (scoped_nodes (variable_names scope) right) at
-      (λ h. IsNode (slots_of schema) (type_name_at schema n) scope left h) (λ h. IsNode (slots_of schema) (type_name_at schema n) scope right h)
-      (parts_count (variable_names scope) left) (lies_size schema n scope list i stand.middle left stand.left) found
-      (λ there. part_stands schema n scope list i stand.middle left k at stand.left there)
-      (λ h there. part_stands schema n scope list stand.middle j right h at stand.right there)
-  part_below schema n scope list i j (has left right) k at stands found =
-      let stand = two_there schema n scope list i j left right stands in
-      in_either schema n list i stand.middle k (length (pre_order left))
-      (scoped_nodes (variable_names scope) left) (scoped_nodes (variable_names scope) right) at
-      (λ h. IsNode (slots_of schema) (type_name_at schema n) scope left h) (λ h. IsNode (slots_of schema) (type_name_at schema n) scope right h)
-      (parts_count (variable_names scope) left) (lies_size schema n scope list i stand.middle left stand.left) found
-      (λ there. part_stands schema n scope list i stand.middle left k at stand.left there)
-      (λ h there. part_stands schema n scope list stand.middle j right h at stand.right there)
-  part_below schema n scope list i j (in_list left items) k at stand found =
-      in_either schema n list i stand.middle k (length (pre_order left))
-      (scoped_nodes (variable_names scope) left) (scoped_among (variable_names scope) items) at
-      (λ h. IsNode (slots_of schema) (type_name_at schema n) scope left h) (λ h. IsNodeAmong (slots_of schema) (type_name_at schema n) scope items h)
-      (parts_count (variable_names scope) left) (lies_size schema n scope list i stand.middle left stand.left) found
-      (λ there. part_stands schema n scope list i stand.middle left k at stand.left there)
-      (λ h there. part_among schema n scope list stand.middle j items h at stand.right there)
-  part_below schema n scope list i j (in_path left path) k at stands found =
-      let stand = two_there schema n scope list i j left path stands in
-      in_either schema n list i stand.middle k (length (pre_order left))
-      (scoped_nodes (variable_names scope) left) (scoped_nodes (variable_names scope) path) at
-      (λ h. IsNode (slots_of schema) (type_name_at schema n) scope left h) (λ h. IsNode (slots_of schema) (type_name_at schema n) scope path h)
-      (parts_count (variable_names scope) left) (lies_size schema n scope list i stand.middle left stand.left) found
-      (λ there. part_stands schema n scope list i stand.middle left k at stand.left there)
-      (λ h there. part_stands schema n scope list stand.middle j path h at stand.right there)
-  part_below schema n scope list i j (call asked arguments) k at stand found = part_among schema n scope list i j arguments k at stand found
-  part_below schema n scope list i j (any_item base) k at stand found = part_stands schema n scope list i j base k at (one_there schema n scope list i j base stand) found
-  part_below schema n scope list i j (lambda quantifier base variable body) k at stands found =
-      let stand = body_there schema n scope list i j base variable body stands in
-      let slots = slots_of schema in
-      let root = type_name_at schema n in
-      let inner = with_variable scope variable (single stand.right.member_type) in
-      let Body : ℕ → Scope → Tree → Type 0 = λ (h : ℕ) (s : Scope) (p : Tree). InBody scope variable (Typed slots root scope base) (λ wider. IsNode slots root wider body h s p) in
-      in_either schema n list i stand.middle k (length (pre_order base))
-      (scoped_nodes (variable_names scope) base) (scoped_nodes (variable ∷ variable_names scope) body) at
-      (λ h. IsNode slots root scope base h) Body
-      (parts_count (variable_names scope) base) (lies_size schema n scope list i stand.middle base stand.left) found
-      (λ there. part_stands schema n scope list i stand.middle base k at stand.left there)
-      (λ h there. part_also schema n list (stand.middle + h) (stand.middle + h) (IsNode slots root inner body h) (Body h) at refl
-      (λ s p is. record { member_type = stand.right.member_type; binds = stand.right.binds; body = is })
-      (part_stands schema n inner list stand.middle j body h at stand.right.body there))
+  abbrev BelowOf : Scope → Shape → ℕ → Scope → Tree → Type 0
+  BelowOf scope shape k = λ at part. IsNodeBelow (slots_of schema) (type_name_at schema n) scope shape k at part
 
-  part_among :
-      (schema : SchemaModel) (n : ℕ) (scope : Scope) (list : FlatTree) (i j : ℕ) (trees : Trees) (k : ℕ) (at : ScopedNode)
-      → AllLie schema n scope list i j trees
-      → slice_get (scoped_among (variable_names scope) trees) k ≡ Some at
-      → IsWalkOperand schema n list (i + k) (IsNodeAmong (slots_of schema) (type_name_at schema n) scope trees k) at
-  part_among schema n scope list i j no_trees k at stand found = absurd (none-some at found)
-  part_among schema n scope list i j (more_trees tree trees) k at stand found =
-      in_either schema n list i stand.middle k (length (pre_order tree))
-      (scoped_nodes (variable_names scope) tree) (scoped_among (variable_names scope) trees) at
-      (λ h. IsNode (slots_of schema) (type_name_at schema n) scope tree h) (λ h. IsNodeAmong (slots_of schema) (type_name_at schema n) scope trees h)
-      (parts_count (variable_names scope) tree) (lies_size schema n scope list i stand.middle tree stand.left) found
-      (λ there. part_stands schema n scope list i stand.middle tree k at stand.left there)
-      (λ h there. part_among schema n scope list stand.middle j trees h at stand.right there)
+  abbrev AmongOf : Scope → Trees → ℕ → Scope → Tree → Type 0
+  AmongOf scope trees k = λ at part. IsNodeAmong (slots_of schema) (type_name_at schema n) scope trees k at part
+
+  -- a tree, and nodes after those of that
+  after_tree :
+      (scope : Scope) (i m k : ℕ) (tree : Tree) (behind : List ScopedNode) (at : ScopedNode) (Behind : ℕ → Scope → Tree → Type 0)
+      → Lies schema n scope list i m tree
+      → slice_get (scoped_nodes (variable_names scope) tree ++ behind) k ≡ Some at
+      → (slice_get (scoped_nodes (variable_names scope) tree) k ≡ Some at → IsWalkOperand schema n list (i + k) (NodeOf scope tree k) at)
+      → ((h : ℕ) → slice_get behind h ≡ Some at → IsWalkOperand schema n list (m + h) (Behind h) at)
+      → IsWalkOperand schema n list (i + k) (λ s p. InEither (length (pre_order tree)) (λ h. NodeOf scope tree h s p) (λ h. Behind h s p) k) at
+  after_tree scope i m k tree behind at Behind stands =
+      in_either schema n list i m k (length (pre_order tree)) (scoped_nodes (variable_names scope) tree) behind at (NodeOf scope tree) Behind
+      (parts_count (variable_names scope) tree) (lies_size schema n scope list i m tree stands)
+
+  two_parts :
+      (scope : Scope) (i j k : ℕ) (left right : Tree) (at : ScopedNode)
+      → ChildrenLie schema n scope list i j (has left right)
+      → slice_get (scoped_below (variable_names scope) (has left right)) k ≡ Some at
+      → ((m : ℕ) → Lies schema n scope list i m left → slice_get (scoped_nodes (variable_names scope) left) k ≡ Some at → IsWalkOperand schema n list (i + k) (NodeOf scope left k) at)
+      → ((m h : ℕ) → Lies schema n scope list m j right → slice_get (scoped_nodes (variable_names scope) right) h ≡ Some at
+      → IsWalkOperand schema n list (m + h) (NodeOf scope right h) at)
+      → IsWalkOperand schema n list (i + k) (BelowOf scope (has left right) k) at
+  two_parts scope i j k left right at stands found first second =
+      let stand = two_there schema n scope list i j left right stands in
+      after_tree scope i stand.middle k left (scoped_nodes (variable_names scope) right) at (NodeOf scope right) stand.left found
+      (first stand.middle stand.left) (λ h. second stand.middle h stand.right)
+
+  mutual
+    pub part_stands :
+        (scope : Scope) (i j : ℕ) (tree : Tree) (k : ℕ) (at : ScopedNode)
+        → Lies schema n scope list i j tree
+        → slice_get (scoped_nodes (variable_names scope) tree) k ≡ Some at
+        → IsWalkOperand schema n list (i + k) (NodeOf scope tree k) at
+    part_stands scope i j (node start stop shape) zero at stands found =
+        itself schema n scope list i j (i + 0) (node start stop shape) at stands (omega arith)
+        (first_of (record { variables = variable_names scope; part = node start stop shape }) at (scoped_below (variable_names scope) shape) found)
+    part_stands scope i j (node start stop shape) (suc k) at stands found =
+        part_also schema n list (i + 1 + k) (i + suc k) (BelowOf scope shape k) (NodeOf scope (node start stop shape) (suc k)) at (omega arith) (λ s p is. is)
+        (part_below scope (i + 1) j shape k at stands.children found)
+
+    part_below :
+        (scope : Scope) (i j : ℕ) (shape : Shape) (k : ℕ) (at : ScopedNode)
+        → ChildrenLie schema n scope list i j shape
+        → slice_get (scoped_below (variable_names scope) shape) k ≡ Some at
+        → IsWalkOperand schema n list (i + k) (BelowOf scope shape k) at
+    part_below scope i j (member base asked) k at stand found = part_stands scope i j base k at (one_there schema n scope list i j base stand) found
+    part_below scope i j (count base) k at stand found = part_stands scope i j base k at (one_there schema n scope list i j base stand) found
+    part_below scope i j (negation operand) k at stand found = part_stands scope i j operand k at (one_there schema n scope list i j operand stand) found
+    part_below scope i j (logical_not operand) k at stand found = part_stands scope i j operand k at (one_there schema n scope list i j operand stand) found
+    part_below scope i j (any_item base) k at stand found = part_stands scope i j base k at (one_there schema n scope list i j base stand) found
+    part_below scope i j (binary operator left right) k at stands found =
+        two_parts scope i j k left right at stands found (λ m. part_stands scope i m left k at) (λ m h. part_stands scope m j right h at)
+    part_below scope i j (has left right) k at stands found =
+        two_parts scope i j k left right at stands found (λ m. part_stands scope i m left k at) (λ m h. part_stands scope m j right h at)
+    part_below scope i j (in_path left path) k at stands found =
+        two_parts scope i j k left path at stands found (λ m. part_stands scope i m left k at) (λ m h. part_stands scope m j path h at)
+    part_below scope i j (in_list left items) k at stand found =
+        after_tree scope i stand.middle k left (scoped_among (variable_names scope) items) at (AmongOf scope items) stand.left found
+        (part_stands scope i stand.middle left k at stand.left) (λ h. part_among scope stand.middle j items h at stand.right)
+    part_below scope i j (call asked arguments) k at stand found = part_among scope i j arguments k at stand found
+    part_below scope i j (lambda quantifier base variable body) k at stands found =
+        let stand = body_there schema n scope list i j base variable body stands in
+        let inner = with_variable scope variable (single stand.right.member_type) in
+        let Body : ℕ → Scope → Tree → Type 0 =
+        λ (h : ℕ) (s : Scope) (p : Tree). InBody scope variable (Typed (slots_of schema) (type_name_at schema n) scope base) (λ wider. NodeOf wider body h s p) in
+        after_tree scope i stand.middle k base (scoped_nodes (variable ∷ variable_names scope) body) at Body stand.left found
+        (part_stands scope i stand.middle base k at stand.left)
+        (λ h there. part_also schema n list (stand.middle + h) (stand.middle + h) (NodeOf inner body h) (Body h) at refl
+        (λ s p is. record { member_type = stand.right.member_type; binds = stand.right.binds; body = is })
+        (part_stands inner stand.middle j body h at stand.right.body there))
+    part_below scope i j _ k at stand found = absurd (none-some at found)
+
+    part_among :
+        (scope : Scope) (i j : ℕ) (trees : Trees) (k : ℕ) (at : ScopedNode)
+        → AllLie schema n scope list i j trees
+        → slice_get (scoped_among (variable_names scope) trees) k ≡ Some at
+        → IsWalkOperand schema n list (i + k) (AmongOf scope trees k) at
+    part_among scope i j no_trees k at stand found = absurd (none-some at found)
+    part_among scope i j (more_trees tree trees) k at stand found =
+        after_tree scope i stand.middle k tree (scoped_among (variable_names scope) trees) at (AmongOf scope trees) stand.left found
+        (part_stands scope i stand.middle tree k at stand.left) (λ h. part_among scope stand.middle j trees h at stand.right)

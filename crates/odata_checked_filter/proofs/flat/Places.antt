@@ -1,5 +1,7 @@
 -- What stands at an index of a list.
-use Rattle.std.proofs.Common.{◌≡◌, ◌≢◌, refl, ap, inl, inr, ◌⊎◌, ℕ, zero, suc, ◌<◌, ◌+◌, List, [], ◌∷◌, ◌++◌, length, drop, Option, Some, slice_get, slice_set, arith}
+use Rattle.std.proofs.Common.{◌≡◌, refl, ap, inl, inr, ◌⊎◌, ℕ, zero, suc, ◌<◌, ◌≤◌, ◌+◌, ◌-◌, List, [], ◌∷◌, ◌++◌, length, drop, Option, Some, slice_get, slice_set, true, false, arith}
+use Rattle.std.specs.Prelude.{nat_lt}
+use Rattle.std.proofs.lemmas.Bool.Decides.{nat_tests}
 use Rattle.std.proofs.lemmas.Option.{none-some, slice_get_within}
 
 pub get_front : {X : Type 0} (xs ys : List X) (k : ℕ) (x : X) → slice_get xs k ≡ Some x → slice_get (xs ++ ys) k ≡ Some x
@@ -28,13 +30,6 @@ get_put [] k x within = let h : k < 0 = within in absurd (omega arith)
 get_put (y ∷ xs) zero x within = refl
 get_put (y ∷ xs) (suc k) x within = get_put xs k x (let h : suc k < suc (length xs) = within in omega arith)
 
-pub get_beside : {X : Type 0} (xs : List X) (k j : ℕ) (x y : X) → j ≢ k → slice_get xs j ≡ Some y → slice_get (slice_set xs k x) j ≡ Some y
-get_beside [] k j x y other found = absurd (none-some y found)
-get_beside (z ∷ xs) zero zero x y other found = absurd (other refl)
-get_beside (z ∷ xs) zero (suc j) x y other found = found
-get_beside (z ∷ xs) (suc k) zero x y other found = found
-get_beside (z ∷ xs) (suc k) (suc j) x y other found = get_beside xs k j x y (λ same. other (let e : j ≡ k = same in omega arith)) found
-
 -- from an index on, the list is what stands there and the rest
 pub drop_at : {X : Type 0} (xs : List X) (k : ℕ) (x : X) → slice_get xs k ≡ Some x → drop k xs ≡ x ∷ drop (k + 1) xs
 drop_at [] k x found = absurd (none-some x found)
@@ -52,3 +47,14 @@ found_within (x ∷ xs) (suc k) within = found_within xs k (let h : suc k < suc 
 
 pub found_before : {X : Type 0} (xs : List X) (k : ℕ) (x : X) → slice_get xs k ≡ Some x → k < length xs
 found_before xs k x found = slice_get_within xs k x found
+
+-- the index before one, in a walk backwards
+pub before_is : (at place bottom : ℕ) → place < at → at ≤ bottom → (at - 1 + 1 ≡ at) × ((at - 1 < bottom) × (place ≤ at - 1))
+before_is at place bottom above within = (omega (arith, above), (omega (arith, above, within), omega (arith, above)))
+
+-- what a test of two indexes says
+pub below : (a b : ℕ) → b ≤ a → nat_lt a b ≡ false
+below a b h = grind (arith, nat_tests)
+
+pub above : (a b : ℕ) → a < b → nat_lt a b ≡ true
+above a b h = grind (arith, nat_tests)

@@ -104,7 +104,3 @@ bound_in-Empty = search (rules, the_lemmas)
 
 pub bound_in-Bound : (called text : Bor (List ℕ)) (outer : Bor Variables) → bound_in (Bound called text outer) ≡ record { name = called.now; text = text.now } ∷ bound_in outer.now
 bound_in-Bound called text outer = search (rules, the_lemmas)
-
-pub bound_is : (variables : Variables) (called text : Bor (List ℕ)) (outer : Bor Variables) → variables ≡ Bound called text outer
-    → bound_in variables ≡ record { name = called.now; text = text.now } ∷ bound_in outer.now
-bound_is variables called text outer is = ap bound_in is ∙ bound_in-Bound called text outer

@@ -1,8 +1,8 @@
 -- The paths of the nodes of trees one after another, from their first node on.
-use Rattle.std.proofs.Common.{◌≡◌, refl, sym, ap, ◌∙◌, subst, ℕ, ◌<◌, ◌≤◌, ◌+◌, List, [], ◌∷◌, ◌++◌, true, false, Some, map, slice_get, arith}
+use Rattle.std.proofs.Common.{◌≡◌, refl, sym, ap, ◌∙◌, subst, ℕ, ◌<◌, ◌≤◌, ◌+◌, List, [], ◌∷◌, ◌++◌, true, false, Some, map, slice_get, append_assoc, arith}
 use Rattle.std.proofs.lemmas.Bool.{false≢true}
 use Rattle.std.proofs.lemmas.List.{append-nil, map-append}
-use Rattle.odata_syntax.specs.Tree.{Shape, Tree, Trees, any_item, binary, call, count, has, in_list, in_path, it, lambda, literal, logical_not, member, more_trees, name, negation, no_trees, node}
+use Rattle.odata_syntax.specs.Tree.{Shape, Tree, Trees, any_item, binary, call, count, has, in_list, in_path, lambda, logical_not, member, more_trees, name, negation, no_trees, node}
 use Rattle.odata_syntax.specs.Spans.{children_of, list_of_trees}
 use Rattle.odata_syntax.specs.declared.node.Quantifier.{Quantifier}
 use Rattle.csdl_schema.specs.ExprType.{null_type}
@@ -15,12 +15,14 @@ use Rattle.odata_checked_filter.specs.declared.checked_node.CheckedNode.{Checked
 use Rattle.odata_checked_filter.specs.declared.checked_node.NodeKind.{NodeKind}
 use Rattle.odata_checked_filter.specs.private.LambdaLines.{AreInLine, StandsBetween, kind_is_lambda}
 use Rattle.odata_checked_filter.specs.private.PropertyPaths.{texts_among, with_texts}
+use Rattle.odata_checked_filter.proofs.flat.Below.{children_line, line_behind}
 use Rattle.odata_checked_filter.proofs.flat.Children.{body_there}
+use Rattle.odata_checked_filter.proofs.flat.KindForms.{form_there}
 use Rattle.odata_checked_filter.proofs.flat.Places.{same_found}
-use Rattle.odata_checked_filter.proofs.flat.Standing.{lies_nonempty}
+use Rattle.odata_checked_filter.proofs.flat.Standing.{between_onward, line_onward}
 use Rattle.odata_checked_filter.proofs.named.Texts.{put_both}
-use Rattle.odata_checked_filter.proofs.needed.Kinds.{other_there, property_there, step_there, variable_there}
-use Rattle.odata_checked_filter.proofs.nesting.Lines.{children_line, is_lambda, lambda_kind, line_behind, line_onward}
+use Rattle.odata_checked_filter.proofs.needed.Kinds.{other_there, property_there, step_there, variable_there, way_none}
+use Rattle.odata_checked_filter.proofs.nesting.Lines.{is_lambda, lambda_kind}
 
 -- ---- the texts of a tree's nodes, by its children
 
@@ -41,9 +43,6 @@ two_texts scope paths left right =
 
 below_texts : (scope : Scope) (paths : VariablePaths) (shape : Shape) → is_lambda shape ≡ false
     → map path_text (paths_below scope paths shape) ≡ texts_among scope paths (children_of shape)
-below_texts scope paths (literal kind spelling) plain = refl
-below_texts scope paths it plain = refl
-below_texts scope paths (name asked) plain = refl
 below_texts scope paths (member base asked) plain = one_text scope paths base
 below_texts scope paths (count base) plain = one_text scope paths base
 below_texts scope paths (negation operand) plain = one_text scope paths operand
@@ -57,16 +56,13 @@ below_texts scope paths (in_path left path) plain = two_texts scope paths left p
 below_texts scope paths (call asked arguments) plain = among_texts scope paths arguments
 below_texts scope paths (any_item base) plain = one_text scope paths base
 below_texts scope paths (lambda quantifier base variable body) plain = absurd (false≢true (sym plain))
+below_texts scope paths _ plain = refl
 
 texts_both : (scope : Scope) (paths : VariablePaths) (trees more : List Tree) → texts_among scope paths (trees ++ more) ≡ texts_among scope paths trees ++ texts_among scope paths more
 texts_both scope paths [] more = refl
 texts_both scope paths (tree ∷ trees) more =
     ap (λ (rest : List (List ℕ)). map path_text (node_paths scope paths tree) ++ rest) (texts_both scope paths trees more)
-    ∙ sym (joined (map path_text (node_paths scope paths tree)) (texts_among scope paths trees) (texts_among scope paths more))
-  where
-    joined : (xs ys zs : List (List ℕ)) → (xs ++ ys) ++ zs ≡ xs ++ (ys ++ zs)
-    joined [] ys zs = refl
-    joined (x ∷ xs) ys zs = ap (λ (ws : List (List ℕ)). x ∷ ws) (joined xs ys zs)
+    ∙ sym (append_assoc (map path_text (node_paths scope paths tree)) (texts_among scope paths trees) (texts_among scope paths more))
 
 -- ---- the first tree of a line
 
@@ -85,9 +81,6 @@ first_of list place stop (tree ∷ more) line before = record { tree = tree; mor
 pub found_there : (list : FlatTree) (place stop : ℕ) (tree : Tree) → StandsBetween list place stop tree → (found : CheckedNode) × (slice_get list.nodes place ≡ Some found)
 found_there list place stop (node start end shape) between = (between.stands.top.found, between.stands.top.stands_at)
 
-pub onward_there : (list : FlatTree) (place stop : ℕ) (tree : Tree) → StandsBetween list place stop tree → place < stop
-onward_there list place stop tree between = lies_nonempty between.schema between.filtered between.scope list place stop tree between.stands
-
 pub last_there : (list : FlatTree) (place stop : ℕ) (tree : Tree) (found : CheckedNode) → StandsBetween list place stop tree → slice_get list.nodes place ≡ Some found → found.stop ≡ stop
 last_there list place stop (node start end shape) found between at =
     let top = between.stands.top in
@@ -97,9 +90,8 @@ last_there list place stop (node start end shape) found between at =
 lambda_there : (list : FlatTree) (place stop start end : ℕ) (shape : Shape) (found : CheckedNode) → StandsBetween list place stop (node start end shape) → slice_get list.nodes place ≡ Some found
     → is_lambda shape ≡ kind_is_lambda found.kind
 lambda_there list place stop start end shape found between at =
-    let top = between.stands.top in
-    sym (lambda_kind (slots_of between.schema) (type_name_at between.schema between.filtered) between.scope shape top.found.kind top.kind)
-    ∙ ap (λ (f : CheckedNode). kind_is_lambda f.kind) (same_found (slice_get list.nodes place) top.found found top.stands_at at)
+    lambda_kind (slots_of between.schema) (type_name_at between.schema between.filtered) between.scope shape found.kind
+    (form_there between.schema between.filtered between.scope list place stop start end shape found between.stands at)
 
 -- what stands below the first tree's node, and after that tree
 pub line_below : (list : FlatTree) (place stop : ℕ) (trees : List Tree) (here : CheckedNode) (first : IsFirst list place stop trees) → slice_get list.nodes place ≡ Some here
@@ -110,7 +102,7 @@ line_below list place stop trees here first at = by first.tree first.stands
     by (node start end shape) between = (
       children_of shape ++ first.more,
       line_behind list (place + 1) first.middle stop (children_of shape) first.more
-          (children_line between.schema between.filtered between.scope list (place + 1) first.middle shape between.stands.children) first.after,
+          (children_line between.schema between.filtered list between.scope (place + 1) first.middle shape between.stands.children) first.after,
     )
 
 -- ---- what is left of a line on the way
@@ -144,7 +136,7 @@ past_node list scope paths old found new place stop trees here left first at pla
         record {
           rest = children ++ first.more;
           line = line_behind list (place + 1) first.middle stop children first.more
-              (children_line between.schema between.filtered between.scope list (place + 1) first.middle shape between.stands.children) first.after;
+              (children_line between.schema between.filtered list between.scope (place + 1) first.middle shape between.stands.children) first.after;
           put =
               ap (λ (held : List (List ℕ)). with_texts held (texts_among scope paths (children ++ first.more))) put
               ∙ put_both found (own ∷ []) (texts_among scope paths (children ++ first.more))
@@ -162,7 +154,7 @@ no_more list scope paths old found place stop trees left past = by left.rest lef
         → with_texts found [] ≡ with_texts old (texts_among scope paths trees)
     by [] line put = put
     by (tree ∷ more) line put =
-        let before = onward_there list place line.middle tree line.left in
+        let before = between_onward list place line.middle tree line.left in
         let onward = line_onward list line.middle stop more line.right in
         absurd (omega (arith, before, onward, past))
 
@@ -201,19 +193,7 @@ lambda_of list place stop (node start end shape) found between at operator = by 
           body_stands = record { schema = between.schema; filtered = between.filtered; scope = _; stands = parts.right.body };
           text_at = between.stands.top.text_at;
         }
-    by (literal kind spelling) between is = absurd (false≢true is)
-    by it between is = absurd (false≢true is)
-    by (name asked) between is = absurd (false≢true is)
-    by (member base asked) between is = absurd (false≢true is)
-    by (count base) between is = absurd (false≢true is)
-    by (negation operand) between is = absurd (false≢true is)
-    by (logical_not operand) between is = absurd (false≢true is)
-    by (binary operator left right) between is = absurd (false≢true is)
-    by (has left right) between is = absurd (false≢true is)
-    by (in_list left items) between is = absurd (false≢true is)
-    by (in_path left path) between is = absurd (false≢true is)
-    by (call asked arguments) between is = absurd (false≢true is)
-    by (any_item base) between is = absurd (false≢true is)
+    by _ between is = absurd (false≢true is)
 
 pub base_line : (list : FlatTree) (i j : ℕ) (tree : Tree) → StandsBetween list i j tree → AreInLine list i j (tree ∷ [])
 base_line list i j tree between = record { middle = j; left = between; right = refl }
@@ -250,13 +230,9 @@ past_lambda list scope paths old found first_put base_put new place stop trees l
           ∙ ap (λ (held : List (List ℕ)). with_texts held (base ++ (body ++ behind))) own
           ∙ put_both found ([] ∷ []) (base ++ (body ++ behind))
           ∙ ap (λ (texts : List (List ℕ)). with_texts found ([] ∷ texts))
-          (sym (joined base body behind) ∙ ap (λ (texts : List (List ℕ)). texts ++ behind) (sym (map-append path_text (node_paths scope paths operator.base) (node_paths inner inner_paths operator.body))))
+          (sym (append_assoc base body behind) ∙ ap (λ (texts : List (List ℕ)). texts ++ behind) (sym (map-append path_text (node_paths scope paths operator.base) (node_paths inner inner_paths operator.body))))
           ∙ whole;
     }
-  where
-    joined : (xs ys zs : List (List ℕ)) → (xs ++ ys) ++ zs ≡ xs ++ (ys ++ zs)
-    joined [] ys zs = refl
-    joined (x ∷ xs) ys zs = ap (λ (ws : List (List ℕ)). x ∷ ws) (joined xs ys zs)
 
 -- ---- the path of the node there, by its kind
 
@@ -268,10 +244,6 @@ pub record IsName (list : FlatTree) (place : ℕ) (tree : Tree) : Type 0 where
   pub is : tree ≡ node start end (name asked)
   pub text_at : slice_get list.texts place ≡ Some asked
 
-name_text_at : (list : FlatTree) (place stop start end : ℕ) (asked : List ℕ) (tree : Tree) → StandsBetween list place stop tree → tree ≡ node start end (name asked) → slice_get list.texts place ≡ Some asked
-name_text_at list place stop start end asked tree between is =
-    let named : StandsBetween list place stop (node start end (name asked)) = subst (λ (t : Tree). StandsBetween list place stop t) is between in named.stands.top.text_at
-
 pub property_name : (list : FlatTree) (place stop slot : ℕ) (tree : Tree) (found : CheckedNode) → StandsBetween list place stop tree → slice_get list.nodes place ≡ Some found
     → found.kind ≡ NodeKind.Property slot → IsName list place tree
 property_name list place stop slot tree found between at kind =
@@ -282,7 +254,7 @@ pub variable_name : (list : FlatTree) (place stop level : ℕ) (tree : Tree) (fo
     → found.kind ≡ NodeKind.Variable level → IsName list place tree
 variable_name list place stop level tree found between at kind =
     let there = variable_there between.schema between.filtered between.scope list place stop level tree found between.stands at kind in
-    record { start = there.start; end = there.end; asked = there.asked; is = there.is; text_at = name_text_at list place stop there.start there.end there.asked tree between there.is }
+    record { start = there.start; end = there.end; asked = there.asked; is = there.is; text_at = there.text_at }
 
 -- a step
 pub record IsStep (list : FlatTree) (place stop : ℕ) (tree : Tree) : Type 0 where
@@ -312,26 +284,7 @@ step_of list place stop slot tree found between at kind =
 pub no_path_there : (list : FlatTree) (place stop : ℕ) (tree : Tree) (found : CheckedNode) (scope : Scope) (paths : VariablePaths) → StandsBetween list place stop tree → slice_get list.nodes place ≡ Some found
     → ((slot : ℕ) → found.kind ≡ NodeKind.Member slot → ⊥) → ((slot : ℕ) → found.kind ≡ NodeKind.Property slot → ⊥) → ((level : ℕ) → found.kind ≡ NodeKind.Variable level → ⊥)
     → path_of scope paths tree ≡ []
-no_path_there list place stop (node start end shape) found scope paths between at step property variable =
-    by shape (other_there between.schema between.filtered between.scope list place stop (node start end shape) found between.stands at step property variable)
-  where
-    IsOther : Shape → Type 0
-    IsOther (name asked) = ⊥
-    IsOther (member base asked) = ⊥
-    IsOther shape = Unit {0}
-
-    by : (shape : Shape) → IsOther shape → path_of scope paths (node start end shape) ≡ []
-    by (name asked) none = absurd none
-    by (member base asked) none = absurd none
-    by (literal kind spelling) none = refl
-    by it none = refl
-    by (count base) none = refl
-    by (negation operand) none = refl
-    by (logical_not operand) none = refl
-    by (binary operator left right) none = refl
-    by (has left right) none = refl
-    by (in_list left items) none = refl
-    by (in_path left path) none = refl
-    by (call asked arguments) none = refl
-    by (any_item base) none = refl
-    by (lambda quantifier base variable body) none = refl
+no_path_there list place stop tree found scope paths between at step property variable =
+    let none = way_none between.schema between.filtered scope list paths tree
+    (other_there between.schema between.filtered between.scope list place stop tree found between.stands at step property variable) in
+    none.1.0

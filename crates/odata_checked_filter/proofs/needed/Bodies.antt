@@ -9,11 +9,9 @@ use Rattle.odata_signatures.specs.Laws.{OneType}
 use Rattle.odata_signatures.specs.NeededPaths.{BodyNeeds, IsNeeded, VariablePaths, path_of}
 use Rattle.odata_signatures.specs.Typed.{BindsVariable, Scope, Typed, with_variable}
 use Rattle.odata_checked_filter.specs.private.NeededPaths.{LambdaNeeds, NeedsAmong, NeedsOnWay, Puts}
+use Rattle.odata_checked_filter.proofs.flat.Nodes.{same_member}
 use Rattle.odata_checked_filter.proofs.needed.Sets.{puts_as, puts_both}
 use Rattle.odata_checked_filter.proofs.needed.Ways.{way_needed}
-
-one_member : (a b : SingleType) → collection a ≡ collection b → a ≡ b
-one_member a b is = cc
 
 module _ (types : OneType) (slots : Slots) (root : List ℕ) (scope : Scope) (paths : VariablePaths) (base : Tree) (variable : List ℕ) (body : Tree) where
   abbrev Base : ExprType → Type 0
@@ -23,8 +21,8 @@ module _ (types : OneType) (slots : Slots) (root : List ℕ) (scope : Scope) (pa
   InnerNeeds member path = IsNeeded slots root (with_variable scope variable (single member)) (path_of scope paths base ∷ paths) body path
 
   -- the variable stands for members of one type
-  same_member : (a b : SingleType) → BindsVariable scope variable Base a → BindsVariable scope variable Base b → a ≡ b
-  same_member a b first second = one_member a b (types slots root scope base (collection a) (collection b) first.over second.over)
+  one_member : (a b : SingleType) → BindsVariable scope variable Base a → BindsVariable scope variable Base b → a ≡ b
+  one_member a b first second = same_member a b (types slots root scope base (collection a) (collection b) first.over second.over)
 
   pub lambda_puts : (old mid way new : List StepModel) (member : SingleType) → BindsVariable scope variable Base member
       → Puts old mid (NeedsAmong slots root scope paths (base ∷ [])) → Puts mid way (NeedsOnWay slots root scope paths base)
@@ -56,7 +54,7 @@ module _ (types : OneType) (slots : Slots) (root : List ℕ) (scope : Scope) (pa
           → (NeedsAmong slots root scope paths (base ∷ []) path ⊎ NeedsOnWay slots root scope paths base path)
           ⊎ NeedsAmong slots root (with_variable scope variable (single member)) (path_of scope paths base ∷ paths) (body ∷ []) path
       back path (inl need) = inl (inl (inl need))
-      back path (inr need) = inr (inl (subst (λ (m : SingleType). InnerNeeds m path) (same_member need.member_type member need.binds binds) need.body_needs))
+      back path (inr need) = inr (inl (subst (λ (m : SingleType). InnerNeeds m path) (one_member need.member_type member need.binds binds) need.body_needs))
 
 -- of an empty set and one tree: what the tree needs, and nothing else
 pub only_needed : (slots : Slots) (root : List ℕ) (tree : Tree) (old new : List StepModel) → ((path : PropertyPath) → paths_in old path ≡ false) → Puts old new (NeedsAmong slots root [] [] (tree ∷ []))

@@ -32,11 +32,8 @@ level_here n outer level same = ap (λ (b : Bool). cond b (Some n) (node_of_leve
 -- as many nodes as variables
 pub as_many_nodes : (steps : List StepModel) (scope : Scope) (paths : VariablePaths) (nodes : List ℕ) → LeadThere steps scope paths nodes → length nodes ≡ length (variable_names scope)
 as_many_nodes steps [] [] [] lead = refl
-as_many_nodes steps [] [] (n ∷ nodes) lead = absurd lead
-as_many_nodes steps [] (p ∷ paths) nodes lead = absurd lead
-as_many_nodes steps (v ∷ scope) [] nodes lead = absurd lead
-as_many_nodes steps (v ∷ scope) (p ∷ paths) [] lead = absurd lead
 as_many_nodes steps (v ∷ scope) (p ∷ paths) (n ∷ nodes) lead = ap suc (as_many_nodes steps scope paths nodes lead.1)
+as_many_nodes steps _ _ _ lead = absurd lead
 
 pub level_within : (names : List (List ℕ)) (asked : List ℕ) (level : ℕ) → level_named names asked ≡ Some level → level < length names
 level_within [] asked level is = absurd (cc)
@@ -51,10 +48,6 @@ pub variable_leads : (steps : List StepModel) (scope : Scope) (paths : VariableP
     → LeadThere steps scope paths nodes → level_named (variable_names scope) asked ≡ Some level → node_of_level nodes level ≡ Some node
     → LeadsTo steps (unwrap_or (variable_path scope paths asked) otherwise) node
 variable_leads steps [] [] [] asked level node otherwise lead named at = absurd (cc)
-variable_leads steps [] [] (n ∷ nodes) asked level node otherwise lead named at = absurd lead
-variable_leads steps [] (p ∷ paths) nodes asked level node otherwise lead named at = absurd lead
-variable_leads steps (v ∷ scope) [] nodes asked level node otherwise lead named at = absurd lead
-variable_leads steps (v ∷ scope) (p ∷ paths) [] asked level node otherwise lead named at = absurd lead
 variable_leads steps (v ∷ scope) (p ∷ paths) (n ∷ nodes) asked level node otherwise lead named at =
     by (pointwise nat_eq asked v.name) (variable_leads steps scope paths nodes asked level node otherwise lead.1) named
   where
@@ -76,6 +69,7 @@ variable_leads steps (v ∷ scope) (p ∷ paths) (n ∷ nodes) asked level node 
         let other : nat_eq (length nodes) level ≡ false = ne_eqb (length nodes) level (λ same. let e : length nodes ≡ level = same in absurd (omega (arith, less, many, e))) in
         let there : node_of_level nodes level ≡ Some node = sym (ap (λ (b : Bool). cond b (Some n) (node_of_level nodes level)) other) ∙ at in
         outer is there
+variable_leads steps _ _ _ asked level node otherwise lead named at = absurd lead
 
 -- a name that no variable has
 pub no_variable : (scope : Scope) (asked : List ℕ) → level_named (variable_names scope) asked ≡ None → variable_type scope asked ≡ None
@@ -108,6 +102,3 @@ nodes_in-Bound node outer = search (rules, the_lemmas)
 -- what a reference to nodes with one more holds
 pub bound_nodes : (nodes : VariableNodes) (node : ℕ) (outer : Bor VariableNodes) → nodes ≡ Bound node outer → nodes_in nodes ≡ node ∷ nodes_in outer.now
 bound_nodes nodes node outer is = ap nodes_in is ∙ nodes_in-Bound node outer
-
-pub empty_nodes : (nodes : VariableNodes) → nodes ≡ Empty → nodes_in nodes ≡ []
-empty_nodes nodes is = ap nodes_in is ∙ nodes_in-Empty

@@ -183,12 +183,6 @@ pub record IsLeft
   pub leads : (path : PropertyPath) (node : ℕ) → LeadsTo old path node → LeadsTo now path node
 
 module _ (schema : SchemaModel) (n : ℕ) (scope : Scope) (list : FlatTree) (paths : VariablePaths) (old : List StepModel) (stop : ℕ) (trees : List Tree) where
-  abbrev Left : List StepModel → ℕ → Type 0
-  Left now place = IsLeft schema n scope list paths old now place stop trees
-
-  abbrev Need : Tree → PropertyPath → Type 0
-  Need tree path = IsNeeded (slots_of schema) (type_name_at schema n) scope paths tree path
-
   abbrev Among : List Tree → PropertyPath → Type 0
   Among ts path = NeedsAmong (slots_of schema) (type_name_at schema n) scope paths ts path
 

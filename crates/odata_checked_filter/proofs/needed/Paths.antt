@@ -19,15 +19,12 @@ use Rattle.odata_checked_filter.specs.declared.checked_node.CheckedNode.{Checked
 use Rattle.odata_checked_filter.specs.declared.checked_node.NodeKind.{NodeKind}
 use Rattle.odata_checked_filter.specs.declared.needed_paths.PathEnd.{PathEnd}
 use Rattle.odata_checked_filter.specs.private.NeededPaths.{IsPathEnd, IsPutFrom, IsTargetAt, IsWithoutTarget, LeadThere, NeedsOnWay, Puts, node_of_level, steps_of}
+use Rattle.odata_checked_filter.proofs.flat.Alone.{same_owner}
 use Rattle.odata_checked_filter.proofs.flat.Places.{same_found}
 use Rattle.odata_checked_filter.proofs.needed.Kinds.{IsNoWay, IsPropertyThere, IsStepThere, IsVariableThere, owner_type, property_there, typed_there, variable_needs_none, way_none}
 use Rattle.odata_checked_filter.proofs.needed.Levels.{no_path, no_variable, variable_leads}
 use Rattle.odata_checked_filter.proofs.needed.Sets.{puts_as, puts_both, puts_nothing}
 use Rattle.odata_checked_filter.proofs.needed.Steps.{finds_target, navigates, slot_below}
-
--- the same owner, where a tree has one type
-same_owner : (a b : List ℕ) → single (structured a) ≡ single (structured b) → a ≡ b
-same_owner a b is = cc
 
 -- ---- the owner of a step
 
@@ -120,12 +117,12 @@ module _ (schema : SchemaModel) (n : ℕ) (scope : Scope) (list : FlatTree) (pat
       })
 
   -- a variable
-  pub variable_end : (place level after : ℕ) (tree : Tree) (nodes : List ℕ) → IsVariableThere schema n scope list level tree → LeadThere old scope paths nodes → node_of_level nodes level ≡ Some after
+  pub variable_end : (place level after : ℕ) (tree : Tree) (nodes : List ℕ) → IsVariableThere schema n scope list place level tree → LeadThere old scope paths nodes → node_of_level nodes level ≡ Some after
       → End old place tree (record { node = after; base = place })
   variable_end place level after tree nodes there lead at =
       subst (λ (t : Tree). End old place t (record { node = after; base = place })) (sym there.is) (record {
         puts = puts_as old old (λ path. ⊥) (NameNeeds (slots_of schema) (type_name_at schema n) scope there.asked) (λ path none. absurd none)
-            (λ path need. variable_needs_none schema n scope list paths level tree path there
+            (λ path need. variable_needs_none schema n scope list paths place level tree path there
             (subst (λ (t : Tree). NeedsOnWay (slots_of schema) (type_name_at schema n) scope paths t path) (sym there.is) need))
             (puts_nothing old);
         leads = variable_leads old scope paths nodes there.asked level after (there.asked ∷ []) lead there.bound at;
@@ -133,7 +130,7 @@ module _ (schema : SchemaModel) (n : ℕ) (scope : Scope) (list : FlatTree) (pat
       })
 
   -- anything else: it has the empty path
-  pub other_end : (place : ℕ) (tree : Tree) → IsNoWay schema n scope list tree → End old place tree (record { node = 0; base = place })
+  pub other_end : (place : ℕ) (tree : Tree) → IsNoWay tree → End old place tree (record { node = 0; base = place })
   other_end place tree plain =
       let none = way_none schema n scope list paths tree plain in
       let count : steps_of tree ≡ 0 = none.0 in

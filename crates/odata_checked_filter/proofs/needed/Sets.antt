@@ -45,11 +45,8 @@ puts_both a b c P Q first second = record {
 pub lead_still : (old new : List StepModel) (scope : Scope) (paths : VariablePaths) (nodes : List ℕ) → ((path : PropertyPath) (node : ℕ) → LeadsTo old path node → LeadsTo new path node)
     → LeadThere old scope paths nodes → LeadThere new scope paths nodes
 lead_still old new [] [] [] kept lead = tt
-lead_still old new [] [] (n ∷ nodes) kept lead = absurd lead
-lead_still old new [] (p ∷ paths) nodes kept lead = absurd lead
-lead_still old new (v ∷ scope) [] nodes kept lead = absurd lead
-lead_still old new (v ∷ scope) (p ∷ paths) [] kept lead = absurd lead
 lead_still old new (v ∷ scope) (p ∷ paths) (n ∷ nodes) kept lead = (kept p n lead.0, lead_still old new scope paths nodes kept lead.1)
+lead_still old new _ _ _ kept lead = absurd lead
 
 -- ---- a step, and a mark
 

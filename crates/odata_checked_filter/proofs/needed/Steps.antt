@@ -39,22 +39,17 @@ no_target target none some = false≢true (subst IsSome none some)
 -- a kind with a target navigates to that, and none without one
 kind_leads : (schema : SchemaModel) (of : PropertyKind) (target : Option ℕ) (many : Bool) → LeadsWithin schema of target → IsSome target
     → (t : ExprType) × (type_of_kind (type_name_at schema) of target many ≡ navigation (Some t))
-kind_leads schema (kind.Prim p) target many leads some = absurd (no_target target leads some)
-kind_leads schema (kind.Enum e) target many leads some = absurd (no_target target leads some)
-kind_leads schema (kind.Complex t) target many leads some = absurd (no_target target leads some)
-kind_leads schema kind.Opaque target many leads some = absurd (no_target target leads some)
 kind_leads schema kind.Navigation None many leads some = absurd (false≢true some)
 kind_leads schema kind.Navigation (Some id) true leads some = (collection (structured (type_name_at schema id)), refl)
 kind_leads schema kind.Navigation (Some id) false leads some = (single (structured (type_name_at schema id)), refl)
+kind_leads schema _ target many leads some = absurd (no_target target leads some)
 
 leads_kind : (schema : SchemaModel) (of : PropertyKind) (target : Option ℕ) (many : Bool) (t : ExprType)
     → type_of_kind (type_name_at schema) of target many ≡ navigation (Some t) → IsSome target
-leads_kind schema (kind.Prim p) target many t is = absurd (no_navigation _ many t is)
-leads_kind schema (kind.Enum e) target many t is = absurd (no_navigation _ many t is)
-leads_kind schema (kind.Complex c) target many t is = absurd (no_navigation _ many t is)
 leads_kind schema kind.Opaque target many t is = absurd (cc)
 leads_kind schema kind.Navigation None many t is = absurd (cc)
 leads_kind schema kind.Navigation (Some id) many t is = refl
+leads_kind schema _ target many t is = absurd (no_navigation _ many t is)
 
 -- so the property at the slot of a name navigates if the code finds a target
 pub navigates : (schema : SchemaModel) (properties : List PropertyModel) (asked : List ℕ) (k : ℕ) (p : Property) → slot_named properties asked ≡ Some k

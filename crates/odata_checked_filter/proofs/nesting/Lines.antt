@@ -3,45 +3,21 @@ use Rattle.std.proofs.Common.{◌≡◌, refl, sym, ap, ◌∙◌, subst, ℕ, �
 use Rattle.std.specs.Ordering.{is_lt, nat_cmp, ord_max}
 use Rattle.std.specs.declared.cmp.Ordering.TheVariants.{Equal, Greater, Less}
 use Rattle.std.proofs.lemmas.Bool.{cases_lt}
-use Rattle.edm_values.specs.declared.value.Value.{Value}
-use Rattle.odata_syntax.specs.Tree.{Shape, Tree, Trees, any_item, binary, call, count, has, in_list, in_path, it, lambda, literal, logical_not, member, more_trees, name, negation, no_trees, node}
+use Rattle.odata_syntax.specs.Tree.{Shape, Tree, Trees, any_item, binary, call, count, has, in_list, in_path, lambda, logical_not, member, more_trees, negation, no_trees, node}
 use Rattle.odata_syntax.specs.Spans.{children_of, list_of_trees}
-use Rattle.csdl_schema.specs.SchemaModel.{SchemaModel, Slots, slots_of, type_name_at}
+use Rattle.csdl_schema.specs.SchemaModel.{Slots, slots_of, type_name_at}
 use Rattle.odata_signatures.specs.Typed.{Scope}
 use Rattle.odata_checked_filter.specs.declared.checked_node.CheckedNode.{CheckedNode}
 use Rattle.odata_checked_filter.specs.declared.checked_node.NodeKind.{NodeKind}
 use Rattle.odata_checked_filter.specs.Filter.{Filter, IsFilter, tree_of_filter}
 use Rattle.odata_checked_filter.specs.FlatTree.{FlatTree}
 use Rattle.odata_checked_filter.specs.LambdaDepth.{lambda_depth, lambda_depth_among, lambda_depth_in}
-use Rattle.odata_checked_filter.specs.private.Layout.{AllLie, ChildrenLie, Lies}
-use Rattle.odata_checked_filter.specs.Stands.{IsKindOf}
 use Rattle.odata_checked_filter.specs.private.LambdaLines.{AreInLine, StandsBetween, deepest_of, kind_is_lambda}
-use Rattle.odata_checked_filter.proofs.flat.Children.{body_there, one_there, two_there}
+use Rattle.odata_checked_filter.proofs.flat.Below.{children_line, line_behind, one_line}
+use Rattle.odata_checked_filter.proofs.flat.KindForms.{HasForm, form_there, lambda_form}
 use Rattle.odata_checked_filter.proofs.flat.Lying.{filter_lies}
 use Rattle.odata_checked_filter.proofs.flat.Places.{same_found}
-use Rattle.odata_checked_filter.proofs.flat.Standing.{lies_nonempty}
-
--- ---- lines of trees
-
-pub line_onward : (list : FlatTree) (i j : ℕ) (trees : List Tree) → AreInLine list i j trees → i ≤ j
-line_onward list i j [] line = omega (arith, line)
-line_onward list i j (tree ∷ trees) line =
-    let first = line.left in
-    let before : i < line.middle = lies_nonempty first.schema first.filtered first.scope list i line.middle tree first.stands in
-    let behind : line.middle ≤ j = line_onward list line.middle j trees line.right in
-    omega (arith, before, behind)
-
-pub line_behind :
-    (list : FlatTree) (i m j : ℕ) (trees more : List Tree)
-    → AreInLine list i m trees
-    → AreInLine list m j more
-    → AreInLine list i j (trees ++ more)
-line_behind list i m j [] more line behind = subst (λ (k : ℕ). AreInLine list k j more) (sym line) behind
-line_behind list i m j (tree ∷ trees) more line behind = record {
-  middle = line.middle;
-  left = line.left;
-  right = line_behind list line.middle m j trees more line.right behind;
-}
+use Rattle.odata_checked_filter.proofs.flat.Standing.{between_onward, line_onward}
 
 deepest_behind : (trees more : List Tree) → deepest_of (trees ++ more) ≡ max (deepest_of trees) (deepest_of more)
 deepest_behind [] more = omega arith
@@ -49,92 +25,15 @@ deepest_behind (tree ∷ trees) more =
     let rest : deepest_of (trees ++ more) ≡ max (deepest_of trees) (deepest_of more) = deepest_behind trees more in
     omega (arith, rest)
 
--- ---- the children of a node
-
-pub one_line : (schema : SchemaModel) (n : ℕ) (scope : Scope) (list : FlatTree) (i j : ℕ) (tree : Tree) → Lies schema n scope list i j tree → AreInLine list i j (tree ∷ [])
-one_line schema n scope list i j tree stands =
-    record { middle = j; left = record { schema = schema; filtered = n; scope = scope; stands = stands }; right = refl }
-
-two_line :
-    (schema : SchemaModel) (n : ℕ) (scope at : Scope) (list : FlatTree) (i m j : ℕ) (left right : Tree)
-    → Lies schema n scope list i m left
-    → Lies schema n at list m j right
-    → AreInLine list i j (left ∷ right ∷ [])
-two_line schema n scope at list i m j left right first second = record {
-  middle = m;
-  left = record { schema = schema; filtered = n; scope = scope; stands = first };
-  right = one_line schema n at list m j right second;
-}
-
-all_line : (schema : SchemaModel) (n : ℕ) (scope : Scope) (list : FlatTree) (i j : ℕ) (trees : Trees) → AllLie schema n scope list i j trees → AreInLine list i j (list_of_trees trees)
-all_line schema n scope list i j no_trees stand = stand
-all_line schema n scope list i j (more_trees tree trees) stand = record {
-  middle = stand.middle;
-  left = record { schema = schema; filtered = n; scope = scope; stands = stand.left };
-  right = all_line schema n scope list stand.middle j trees stand.right;
-}
-
-pub children_line :
-    (schema : SchemaModel) (n : ℕ) (scope : Scope) (list : FlatTree) (i j : ℕ) (shape : Shape)
-    → ChildrenLie schema n scope list i j shape
-    → AreInLine list i j (children_of shape)
-children_line schema n scope list i j (literal kind spelling) stand = stand
-children_line schema n scope list i j it stand = stand
-children_line schema n scope list i j (name asked) stand = stand
-children_line schema n scope list i j (member base asked) stand = one_line schema n scope list i j base (one_there schema n scope list i j base stand)
-children_line schema n scope list i j (count base) stand = one_line schema n scope list i j base (one_there schema n scope list i j base stand)
-children_line schema n scope list i j (negation operand) stand = one_line schema n scope list i j operand (one_there schema n scope list i j operand stand)
-children_line schema n scope list i j (logical_not operand) stand = one_line schema n scope list i j operand (one_there schema n scope list i j operand stand)
-children_line schema n scope list i j (binary operator left right) stands =
-    let stand = two_there schema n scope list i j left right stands in
-    two_line schema n scope scope list i stand.middle j left right stand.left stand.right
-children_line schema n scope list i j (has left right) stands =
-    let stand = two_there schema n scope list i j left right stands in
-    two_line schema n scope scope list i stand.middle j left right stand.left stand.right
-children_line schema n scope list i j (in_list left items) stand = record {
-  middle = stand.middle;
-  left = record { schema = schema; filtered = n; scope = scope; stands = stand.left };
-  right = all_line schema n scope list stand.middle j items stand.right;
-}
-children_line schema n scope list i j (in_path left path) stands =
-    let stand = two_there schema n scope list i j left path stands in
-    two_line schema n scope scope list i stand.middle j left path stand.left stand.right
-children_line schema n scope list i j (call asked arguments) stand = all_line schema n scope list i j arguments stand
-children_line schema n scope list i j (any_item base) stand = one_line schema n scope list i j base (one_there schema n scope list i j base stand)
-children_line schema n scope list i j (lambda quantifier base variable body) stands =
-    let stand = body_there schema n scope list i j base variable body stands in
-    two_line schema n scope _ list i stand.middle j base body stand.left stand.right.body
-
 -- ---- a node's depth, from those of its children
 
 abbrev pub is_lambda : Shape → Bool
 is_lambda (lambda quantifier base variable body) = true
 is_lambda _ = false
 
-pub lambda_kind :
-    (slots : Slots) (root : List ℕ) (scope : Scope) (shape : Shape) (kind : NodeKind)
-    → IsKindOf slots root scope shape kind
-    → kind_is_lambda kind ≡ is_lambda shape
-lambda_kind slots root scope (literal k spelling) (NodeKind.Literal l place) is = refl
-lambda_kind slots root scope (literal k spelling) _ is = absurd is
-lambda_kind slots root scope it kind is = ap kind_is_lambda is
-lambda_kind slots root scope (name asked) (NodeKind.Variable level) is = refl
-lambda_kind slots root scope (name asked) (NodeKind.Property slot) is = refl
-lambda_kind slots root scope (name asked) _ is = absurd is
-lambda_kind slots root scope (member base asked) (NodeKind.Member slot) is = refl
-lambda_kind slots root scope (member base asked) _ is = absurd is
-lambda_kind slots root scope (count base) kind is = ap kind_is_lambda is
-lambda_kind slots root scope (negation operand) kind is = ap kind_is_lambda is
-lambda_kind slots root scope (logical_not operand) kind is = ap kind_is_lambda is
-lambda_kind slots root scope (binary operator left right) kind is = ap kind_is_lambda is
-lambda_kind slots root scope (has left right) kind is = ap kind_is_lambda is
-lambda_kind slots root scope (in_list left items) kind is = ap kind_is_lambda is
-lambda_kind slots root scope (in_path left path) kind is = ap kind_is_lambda is
-lambda_kind slots root scope (call asked arguments) NodeKind.Now is = refl
-lambda_kind slots root scope (call asked arguments) (NodeKind.Call function) is = refl
-lambda_kind slots root scope (call asked arguments) _ is = absurd is
-lambda_kind slots root scope (any_item base) kind is = ap kind_is_lambda is
-lambda_kind slots root scope (lambda quantifier base variable body) kind is = ap kind_is_lambda is
+pub lambda_kind : (slots : Slots) (root : List ℕ) (scope : Scope) (shape : Shape) (kind : NodeKind) → HasForm slots root scope shape kind → is_lambda shape ≡ kind_is_lambda kind
+lambda_kind slots root scope shape kind lambda_form = refl
+lambda_kind slots root scope shape kind _ = refl
 
 deepest_among : (trees : Trees) → lambda_depth_among trees ≡ deepest_of (list_of_trees trees)
 deepest_among no_trees = refl
@@ -147,9 +46,6 @@ two_deepest : (left right : Tree) → max (lambda_depth left) (lambda_depth righ
 two_deepest left right = omega arith
 
 depth_of_children : (shape : Shape) → lambda_depth_in shape ≡ cond (is_lambda shape) (deepest_of (children_of shape) + 1) (deepest_of (children_of shape))
-depth_of_children (literal kind spelling) = refl
-depth_of_children it = refl
-depth_of_children (name asked) = refl
 depth_of_children (member base asked) = one_deepest base
 depth_of_children (count base) = one_deepest base
 depth_of_children (negation operand) = one_deepest operand
@@ -161,6 +57,7 @@ depth_of_children (in_path left path) = two_deepest left path
 depth_of_children (call asked arguments) = deepest_among arguments
 depth_of_children (any_item base) = one_deepest base
 depth_of_children (lambda quantifier base variable body) = ap (λ (n : ℕ). n + 1) (two_deepest base body)
+depth_of_children _ = refl
 
 -- ---- the first node of a line
 
@@ -183,15 +80,15 @@ first_tree list i m j found (node start stop shape) trees first behind at =
     let same : top.found ≡ found = same_found (slice_get list.nodes i) top.found found top.stands_at at in
     let stops : m ≡ found.stop = sym top.last ∙ ap (λ (f : CheckedNode). f.stop) same in
     let kind : is_lambda shape ≡ kind_is_lambda found.kind =
-    sym (lambda_kind (slots_of first.schema) (type_name_at first.schema first.filtered) first.scope shape top.found.kind top.kind)
-    ∙ ap (λ (f : CheckedNode). kind_is_lambda f.kind) same in
+    lambda_kind (slots_of first.schema) (type_name_at first.schema first.filtered) first.scope shape found.kind
+    (form_there first.schema first.filtered first.scope list i m start stop shape found first.stands at) in
     let children = children_of shape in
     record {
       below = children;
       behind = trees;
       line_below =
           subst (λ (k : ℕ). AreInLine list (i + 1) k children) stops
-          (children_line first.schema first.filtered first.scope list (i + 1) m shape first.stands.children);
+          (children_line first.schema first.filtered list first.scope (i + 1) m shape first.stands.children);
       line_behind = subst (λ (k : ℕ). AreInLine list k j trees) stops behind;
       depth =
           ap (λ (n : ℕ). max n (deepest_of trees))
@@ -278,8 +175,7 @@ rest_behind list place stop depth whole inside found rest before at operator rep
 no_trees_left : (list : FlatTree) (i j : ℕ) (trees : List Tree) → AreInLine list i j trees → j ≤ i → deepest_of trees ≡ 0
 no_trees_left list i j [] line past = refl
 no_trees_left list i j (tree ∷ trees) line past =
-    let first = line.left in
-    let before : i < line.middle = lies_nonempty first.schema first.filtered first.scope list i line.middle tree first.stands in
+    let before : i < line.middle = between_onward list i line.middle tree line.left in
     let behind : line.middle ≤ j = line_onward list line.middle j trees line.right in
     absurd (omega (arith, before, behind, past))
 
@@ -302,7 +198,7 @@ whole_line filter list nodes is same beside =
     let trees = tree_of_filter filter ∷ [] in
     subst (λ (ns : List CheckedNode). AreInLine list 0 (length ns) trees) (sym beside)
     (subst (λ (l : FlatTree). AreInLine l 0 (length l.nodes) trees) (sym same)
-    (one_line filter.schema filter.filtered [] filter.list 0 (length filter.list.nodes) (tree_of_filter filter) (filter_lies filter is)))
+    (one_line filter.schema filter.filtered filter.list [] 0 (length filter.list.nodes) (tree_of_filter filter) (filter_lies filter is)))
 
 pub whole_depth : (filter : Filter) → deepest_of (tree_of_filter filter ∷ []) ≡ lambda_depth (tree_of_filter filter)
 whole_depth filter = sym (one_deepest (tree_of_filter filter))

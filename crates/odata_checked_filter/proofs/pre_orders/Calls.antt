@@ -1,15 +1,14 @@
 -- A tree calls a function where a node of its list does.
-use Rattle.std.proofs.Common.{◌≡◌, ◌↔◌, ◌∙◌, refl, sym, ap, subst, ℕ, zero, suc, ◌<◌, List, [], ◌∷◌, ◌++◌, Bool, true, false, Some, append-nil, length, slice_get, arith, inl, inr}
+use Rattle.std.proofs.Common.{◌≡◌, ◌↔◌, ◌∙◌, refl, sym, ap, subst, ℕ, zero, suc, ◌<◌, List, [], ◌∷◌, ◌++◌, Bool, true, false, Some, length, slice_get, arith}
 use Rattle.std.specs.Prelude.{◌||◌, Contains, codes, slice_index_or}
 use Rattle.std.specs.List.{flat_map, list_any}
 use Rattle.std.proofs.lemmas.Option.{none-some, slice_get_within}
-use Rattle.odata_syntax.specs.Spans.{IsWithin, children_of, in_child, is_root, list_of_trees}
-use Rattle.odata_syntax.specs.Tree.{Shape, Tree, Trees, any_item, binary, call, count, has, in_list, in_path, it, lambda, literal, logical_not, member, more_trees, name, negation, no_trees, node, shape_of}
+use Rattle.odata_syntax.specs.Spans.{IsWithin, children_of, in_child, is_root}
+use Rattle.odata_syntax.specs.Tree.{Shape, Tree, Trees, call, node, shape_of}
 use Rattle.csdl_schema.specs.SchemaModel.{Slots, slots_of, type_name_at}
 use Rattle.odata_signatures.specs.Functions.{IsNamed}
 use Rattle.odata_signatures.specs.declared.function.Function.{Function}
-use Rattle.edm_values.specs.declared.value.Value.{Value}
-use Rattle.odata_signatures.specs.PreOrder.{nodes_among, nodes_below, pre_order}
+use Rattle.odata_signatures.specs.PreOrder.{pre_order}
 use Rattle.odata_signatures.specs.Typed.{Scope}
 use Rattle.odata_checked_filter.specs.declared.checked_node.CheckedNode.{CheckedNode}
 use Rattle.odata_checked_filter.specs.declared.checked_node.NodeKind.{NodeKind}
@@ -19,41 +18,10 @@ use Rattle.odata_checked_filter.specs.private.Layout.{Lies}
 use Rattle.odata_checked_filter.specs.Stands.{IsKindOf}
 use Rattle.odata_checked_filter.specs.private.Called.{function_makes_text, kind_is_now, kind_makes_text}
 use Rattle.odata_checked_filter.proofs.flat.Numbered.{count_of, numbered}
-use Rattle.odata_checked_filter.proofs.flat.Nodes.{node_within}
-use Rattle.odata_checked_filter.proofs.flat.Places.{found_within, same_found}
-
--- ---- nodes below and nodes in order
-
-among_flat : (trees : Trees) → nodes_among trees ≡ flat_map pre_order (list_of_trees trees)
-among_flat no_trees = refl
-among_flat (more_trees tree trees) = ap (λ (ts : List Tree). pre_order tree ++ ts) (among_flat trees)
-
-alone_flat : (tree : Tree) → pre_order tree ≡ flat_map pre_order (tree ∷ [])
-alone_flat tree = sym (append-nil (pre_order tree))
-
-both_flat : (left right : Tree) → pre_order left ++ pre_order right ≡ flat_map pre_order (left ∷ right ∷ [])
-both_flat left right = ap (λ (ts : List Tree). pre_order left ++ ts) (alone_flat right)
-
-below_flat : (shape : Shape) → nodes_below shape ≡ flat_map pre_order (children_of shape)
-below_flat (literal kind spelling) = refl
-below_flat it = refl
-below_flat (name asked) = refl
-below_flat (member base asked) = alone_flat base
-below_flat (count base) = alone_flat base
-below_flat (negation operand) = alone_flat operand
-below_flat (logical_not operand) = alone_flat operand
-below_flat (binary operator left right) = both_flat left right
-below_flat (has left right) = both_flat left right
-below_flat (in_list left items) = ap (λ (ts : List Tree). pre_order left ++ ts) (among_flat items)
-below_flat (in_path left path) = both_flat left path
-below_flat (call asked arguments) = among_flat arguments
-below_flat (any_item base) = alone_flat base
-below_flat (lambda quantifier base variable body) = both_flat base body
-
-get_left : {X : Type 0} (xs ys : List X) (k : ℕ) (x : X) → slice_get xs k ≡ Some x → slice_get (xs ++ ys) k ≡ Some x
-get_left [] ys k x found = absurd (none-some x found)
-get_left (y ∷ xs) ys zero x found = found
-get_left (y ∷ xs) ys (suc k) x found = get_left xs ys k x found
+use Rattle.odata_checked_filter.proofs.flat.Below.{below_flat}
+use Rattle.odata_checked_filter.proofs.flat.KindForms.{HasForm, call_form, form_there, now_form}
+use Rattle.odata_checked_filter.proofs.flat.Nodes.{node_in}
+use Rattle.odata_checked_filter.proofs.flat.Places.{found_within, get_front, same_found}
 
 get_right : {X : Type 0} (xs ys : List X) (k : ℕ) (x : X) → slice_get ys k ≡ Some x → (j : ℕ) × (slice_get (xs ++ ys) j ≡ Some x)
 get_right [] ys k x found = (k, found)
@@ -65,7 +33,7 @@ in_flat : (trees : List Tree) (child part : Tree) (i k : ℕ) → i < length tre
 in_flat [] child part i k within is found = let h : i < 0 = within in absurd (omega arith)
 in_flat (tree ∷ trees) child part zero k within is found =
     let same : tree ≡ child = is in
-    (k, get_left (pre_order tree) (flat_map pre_order trees) k part (subst (λ (t : Tree). slice_get (pre_order t) k ≡ Some part) (sym same) found))
+    (k, get_front (pre_order tree) (flat_map pre_order trees) k part (subst (λ (t : Tree). slice_get (pre_order t) k ≡ Some part) (sym same) found))
 in_flat (tree ∷ trees) child part (suc i) k within is found =
     let rest = in_flat trees child part i k (let h : suc i < suc (length trees) = within in omega arith) is found in
     get_right (pre_order tree) (flat_map pre_order trees) rest.0 part rest.1
@@ -102,7 +70,7 @@ found_any test (y ∷ xs) (suc k) x found here =
 pub record Tests (test : NodeKind → Bool) (functions : List (List ℕ)) : Type 0 where
   pub sound :
       (slots : Slots) (root : List ℕ) (scope : Scope) (shape : Shape) (kind : NodeKind)
-      → IsKindOf slots root scope shape kind → test kind ≡ true
+      → HasForm slots root scope shape kind → test kind ≡ true
       → (called : List ℕ) × (arguments : Trees) × (shape ≡ call called arguments) × Contains functions called
   pub complete :
       (slots : Slots) (root : List ℕ) (scope : Scope) (called : List ℕ) (arguments : Trees) (kind : NodeKind)
@@ -112,10 +80,8 @@ node_calls : (test : NodeKind → Bool) (functions : List (List ℕ)) (filter : 
     → Tests test functions → Lies filter.schema filter.filtered scope filter.list k stop part → slice_get filter.list.nodes k ≡ Some found
     → test found.kind ≡ true → IsWithin part (tree_of_filter filter) → CallsOne functions (tree_of_filter filter)
 node_calls test functions filter scope k stop (node s e shape) found tests stands here passes within =
-    let top = stands.top in
-    let same : top.found ≡ found = same_found (slice_get filter.list.nodes k) top.found found top.stands_at here in
-    let is = tests.sound (slots_of filter.schema) (type_name_at filter.schema filter.filtered) scope shape top.found.kind top.kind
-    (ap (λ (f : CheckedNode). test f.kind) same ∙ passes) in
+    let is = tests.sound (slots_of filter.schema) (type_name_at filter.schema filter.filtered) scope shape found.kind
+    (form_there filter.schema filter.filtered scope filter.list k stop s e shape found stands here) passes in
     record { part = node s e shape; within = within; called = is.0; arguments = is.1; is_call = is.2; one = is.3 }
 
 call_passes : (test : NodeKind → Bool) (functions : List (List ℕ)) (filter : Filter) (scope : Scope) (k stop : ℕ) (part : Tree) (found : CheckedNode) (called : List ℕ) (arguments : Trees)
@@ -136,8 +102,8 @@ calls_by_nodes test functions filter tests is =
       λ any.
           let f = any_found (λ (n : CheckedNode). test n.kind) nodes any in
           let n = numbered filter f.0 f.1 is f.2 in
-          node_calls test functions filter n.scope f.0 n.stop n.part f.1 tests n.stands f.2 f.3
-          (node_within (slots_of filter.schema) (type_name_at filter.schema filter.filtered) [] tree f.0 n.scope n.part n.is_node),
+          let there = node_in (slots_of filter.schema) (type_name_at filter.schema filter.filtered) [] tree f.0 n.scope n.part n.is_node in
+          node_calls test functions filter n.scope f.0 n.stop n.part f.1 tests n.stands f.2 f.3 there.within,
       λ calls.
           let k = ordered tree calls.part calls.within in
           let count : length nodes ≡ length (pre_order tree) = count_of filter is in
@@ -174,23 +140,11 @@ no_maker b fails passes = cc
 
 maker_sound :
     (slots : Slots) (root : List ℕ) (scope : Scope) (shape : Shape) (kind : NodeKind)
-    → IsKindOf slots root scope shape kind → kind_makes_text kind ≡ true
+    → HasForm slots root scope shape kind → kind_makes_text kind ≡ true
     → (called : List ℕ) × (arguments : Trees) × (shape ≡ call called arguments) × Contains (codes "concat" ∷ codes "tolower" ∷ codes "toupper" ∷ []) called
-maker_sound slots root scope (call called arguments) (NodeKind.Call function) is passes = (called, arguments, refl, maker_named function called passes is.0)
-maker_sound slots root scope (literal k spelling) (NodeKind.Call function) is passes = absurd is
-maker_sound slots root scope it (NodeKind.Call function) is passes = cc
-maker_sound slots root scope (name asked) (NodeKind.Call function) is passes = absurd is
-maker_sound slots root scope (member base asked) (NodeKind.Call function) is passes = absurd is
-maker_sound slots root scope (negation operand) (NodeKind.Call function) is passes = cc
-maker_sound slots root scope (logical_not operand) (NodeKind.Call function) is passes = cc
-maker_sound slots root scope (binary operator left right) (NodeKind.Call function) is passes = let e = is in cc
-maker_sound slots root scope (count base) (NodeKind.Call function) is passes = cc
-maker_sound slots root scope (any_item base) (NodeKind.Call function) is passes = cc
-maker_sound slots root scope (has left right) (NodeKind.Call function) is passes = let e = is in cc
-maker_sound slots root scope (in_list left items) (NodeKind.Call function) is passes = let e = is in cc
-maker_sound slots root scope (in_path left path) (NodeKind.Call function) is passes = cc
-maker_sound slots root scope (lambda quantifier base variable body) (NodeKind.Call function) is passes = cc
-maker_sound slots root scope shape _ is passes = cc
+maker_sound slots root scope shape kind (call_form {asked = called} {arguments = arguments} {function = function} named other) passes =
+    (called, arguments, refl, maker_named function called passes named)
+maker_sound slots root scope shape kind _ passes = cc
 
 maker_complete : AreDistinct →
     (slots : Slots) (root : List ℕ) (scope : Scope) (called : List ℕ) (arguments : Trees) (kind : NodeKind)
@@ -203,23 +157,10 @@ maker_complete distinct slots root scope called arguments _ is one = absurd is
 
 now_sound :
     (slots : Slots) (root : List ℕ) (scope : Scope) (shape : Shape) (kind : NodeKind)
-    → IsKindOf slots root scope shape kind → kind_is_now kind ≡ true
+    → HasForm slots root scope shape kind → kind_is_now kind ≡ true
     → (called : List ℕ) × (arguments : Trees) × (shape ≡ call called arguments) × Contains (codes "now" ∷ []) called
-now_sound slots root scope (call called arguments) NodeKind.Now is passes = (called, arguments, refl, (0, omega arith, is))
-now_sound slots root scope (literal k spelling) NodeKind.Now is passes = absurd is
-now_sound slots root scope it NodeKind.Now is passes = cc
-now_sound slots root scope (name asked) NodeKind.Now is passes = absurd is
-now_sound slots root scope (member base asked) NodeKind.Now is passes = absurd is
-now_sound slots root scope (negation operand) NodeKind.Now is passes = cc
-now_sound slots root scope (logical_not operand) NodeKind.Now is passes = cc
-now_sound slots root scope (binary operator left right) NodeKind.Now is passes = let e = is in cc
-now_sound slots root scope (count base) NodeKind.Now is passes = cc
-now_sound slots root scope (any_item base) NodeKind.Now is passes = cc
-now_sound slots root scope (has left right) NodeKind.Now is passes = let e = is in cc
-now_sound slots root scope (in_list left items) NodeKind.Now is passes = let e = is in cc
-now_sound slots root scope (in_path left path) NodeKind.Now is passes = cc
-now_sound slots root scope (lambda quantifier base variable body) NodeKind.Now is passes = cc
-now_sound slots root scope shape _ is passes = cc
+now_sound slots root scope shape kind (now_form {asked = called} {arguments = arguments} named) passes = (called, arguments, refl, (0, omega arith, named))
+now_sound slots root scope shape kind _ passes = cc
 
 now_complete : AreDistinct →
     (slots : Slots) (root : List ℕ) (scope : Scope) (called : List ℕ) (arguments : Trees) (kind : NodeKind)

@@ -1,5 +1,5 @@
 -- A filter and that of its canonical text.
-use Rattle.std.proofs.Common.{◌≡◌, ◌↔◌, refl, sym, ◌∙◌, ap, subst, ℕ, List, [], Bool, true, false, length}
+use Rattle.std.proofs.Common.{◌≡◌, ◌↔◌, refl, sym, ◌∙◌, subst, ℕ, List, [], Bool, true, false, length}
 use Rattle.odata_text.specs.TokenModel.{TokenModel}
 use Rattle.odata_text.specs.TokenSequence.{AreTextTokens}
 use Rattle.odata_text.specs.Tokens.{IsTokenList}
@@ -9,7 +9,6 @@ use Rattle.odata_syntax.specs.Parse.{IsExpression}
 use Rattle.odata_syntax.specs.Tree.{Tree}
 use Rattle.csdl_schema.specs.ExpansionView.{paths_in}
 use Rattle.csdl_schema.specs.ExprType.{ExprType}
-use Rattle.csdl_schema.specs.PathSet.{PropertyPath}
 use Rattle.csdl_schema.specs.SchemaModel.{SchemaModel, slots_of, type_name_at}
 use Rattle.odata_signatures.specs.HasTyping.{HasTree}
 use Rattle.odata_signatures.specs.NeededPaths.{IsNeeded}

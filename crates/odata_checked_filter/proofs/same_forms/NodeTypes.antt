@@ -1,6 +1,6 @@
 -- The nodes of a tree have the types of those of its normal form, and of the tree without its positions, number by
 -- number.
-use Rattle.std.proofs.Common.{◌≡◌, ◌↔◌, refl, sym, ap, subst, inl, inr, ℕ, zero, suc, ◌+◌, ◌<◌, List, [], ◌∷◌, length, arith}
+use Rattle.std.proofs.Common.{◌≡◌, ◌↔◌, refl, sym, subst, inl, inr, ℕ, zero, suc, ◌+◌, ◌<◌, List, [], ◌∷◌, length, arith}
 use Rattle.odata_syntax.specs.NormalForm.{AreNormalForms, IsNormalForm, IsNormalShape, bare, bare_shape, bare_trees}
 use Rattle.odata_syntax.specs.Tree.{Shape, Tree, Trees, any_item, binary, call, count, has, in_list, in_path, it, lambda, literal, logical_not, member, more_trees, name, negation, no_trees, node}
 use Rattle.csdl_schema.specs.ExprType.{ExprType, collection, single}
@@ -227,9 +227,6 @@ module _ (slots : Slots) (root : List ℕ) where
           node_same scope start stop 0 0 shape (bare_shape shape) (λ t. kept.places slots root scope (node start stop shape) t) k type (λ j. below_bare scope shape j type)
 
       below_bare : (scope : Scope) (shape : Shape) (k : ℕ) (type : ExprType) → BelowTyped scope shape k type ↔ BelowTyped scope (bare_shape shape) k type
-      below_bare scope (literal kind text) k type = itself (BelowTyped scope (literal kind text) k type)
-      below_bare scope it k type = itself (BelowTyped scope it k type)
-      below_bare scope (name asked) k type = itself (BelowTyped scope (name asked) k type)
       below_bare scope (member base asked) k type = nodes_bare scope base k type
       below_bare scope (count base) k type = nodes_bare scope base k type
       below_bare scope (negation operand) k type = nodes_bare scope operand k type
@@ -247,6 +244,7 @@ module _ (slots : Slots) (root : List ℕ) where
       below_bare scope (lambda quantifier base variable body) k type =
           lambda_same scope variable base (bare base) body (bare body) k type (size_bare base) (λ t. kept.places slots root scope base t)
           (λ j. nodes_bare scope base j type) (λ at j. nodes_bare at body j type)
+      below_bare scope _ k type = (λ is. is, λ is. is)
 
       among_bare : (scope : Scope) (trees : Trees) (k : ℕ) (type : ExprType) → AmongTyped scope trees k type ↔ AmongTyped scope (bare_trees trees) k type
       among_bare scope no_trees k type = itself (AmongTyped scope no_trees k type)

@@ -11,9 +11,9 @@ use Rattle.odata_typing.specs.private.Variables.{IsNamedBy, scope_of}
 use Rattle.odata_typing.proofs.bodies.Bases.{body_refused, not_collection, variable_taken}
 use Rattle.odata_typing.proofs.stacks.Again.{judged_again, ready_again}
 use Rattle.odata_typing.proofs.stacks.Bound.{body_places, fresh_variable, judged_since, over_body, scope_is}
-use Rattle.odata_typing.proofs.stacks.Loop.{IsLambdaThere, lambda_there, mark_at, none_read}
+use Rattle.odata_typing.proofs.stacks.Loop.{lambda_there, mark_at, none_read}
 use Rattle.odata_typing.proofs.stacks.Contexts.{node_ready}
-use Rattle.odata_typing.proofs.stacks.Steps.{lambda_goes_on, lambda_refuses, node_goes_on, node_refuses}
+use Rattle.odata_typing.proofs.stacks.Steps.{node_step, step_goes_on, step_refuses}
 use Rattle.odata_typing.proofs.stacks.Walking.{IsWalking, node_children, node_is_plain, ready_still, run_trees, walk_ends}
 use Rattle.odata_typing.proofs.+typing.Goals.{node_walk::checked_nodes-else-lambda-ne-NO_NODE-via-then-lambda-ne-NO_NODE+else-index-from, node_walk::checked_nodes-else-lambda-ne-NO_NODE-via-else-lambda-ne-NO_NODE}
 use Rattle.odata_typing.proofs.+typing.Goals as goal
@@ -77,8 +77,7 @@ lambda_node::checked_lambda-returns-then-checked_nodes t c = λ judged quantifie
     let body = run_tree context c.args.from c.args.index in
     let ready = ready_again context old c.args.from c.args.index judged other quantifier base c.node_at-lambda.ensures asked in
     let stands = ready.base_stands in
-    let fresh : variable_type (scope_of context) (name_of context other) ≡ None =
-    fresh_variable context other c.text_in-variable.result.now c.in-Ok-None.field-0 c.in-Ok-None.field-0-is (c.in-Ok-None.ensures.named context.schema.now) c.text_in-variable.ensures in
+    let fresh = fresh_variable context other c.text_in-variable.result.now c.in-Ok-None.field-0 c.in-Ok-None.field-0-is (c.in-Ok-None.ensures.named context.schema.now) c.text_in-variable.ensures in
     let put = c.if-checked_nodes.ensures in
     let over =
     over_body c.laws_below.ensures context old mid c.args.from c.args.index other quantifier base c.in-Collection.member c.text_in-variable.result c.type_at.result.now ready
@@ -99,8 +98,7 @@ lambda_node::checked_lambda-returns-else-checked_nodes t c = λ judged quantifie
     let body = run_tree context c.args.from c.args.index in
     let ready = ready_again context old c.args.from c.args.index judged other quantifier base c.node_at-lambda.ensures asked in
     let stands = ready.base_stands in
-    let fresh : variable_type (scope_of context) (name_of context other) ≡ None =
-    fresh_variable context other c.text_in-variable.result.now c.in-Ok-None.field-0 c.in-Ok-None.field-0-is (c.in-Ok-None.ensures.named context.schema.now) c.text_in-variable.ensures in
+    let fresh = fresh_variable context other c.text_in-variable.result.now c.in-Ok-None.field-0 c.in-Ok-None.field-0-is (c.in-Ok-None.ensures.named context.schema.now) c.text_in-variable.ensures in
     let First : Scope → Type 0 = λ (scope : Scope).
     IfSome new.fault (IsFirstUntypable (slots_of context.schema.now) (type_name_at context.schema.now context.filtered_type) scope body) in
     judged_again context c.args.index judged other quantifier base body old new c.checked_nodes.result asked.at c.node_at-lambda.ensures
@@ -115,8 +113,7 @@ node_walk::checked_nodes-checked_lambda-requires t c =
     let context = c.args.context.now in
     let index = c.loop-index.index in
     let last = mark_at context index in
-    let there : IsLambdaThere context c.args.from c.args.stop index last c.loop-index.walk =
-    lambda_there context c.args.from c.args.stop index c.args.walk.now c.loop-index.walk c.requires.context c.requires.ready c.requires.run c.loop-index.invariant
+    let there = lambda_there context c.args.from c.args.stop index c.args.walk.now c.loop-index.walk c.requires.context c.requires.ready c.requires.run c.loop-index.invariant
     c.loop-index-test.true c.if-index-from.true c.if-lambda-ne-NO_NODE.true in
     let order : index < last = there.order in
     let within : last < c.args.stop = there.within in
@@ -128,11 +125,10 @@ node_walk::checked_nodes-returns-then-not-checked_lambda t c =
     let context = c.args.context.now in
     let index = c.loop-index.index in
     let last = mark_at context index in
-    let there : IsLambdaThere context c.args.from c.args.stop index last c.loop-index.walk =
-    lambda_there context c.args.from c.args.stop index c.args.walk.now c.loop-index.walk c.requires.context c.requires.ready c.requires.run c.loop-index.invariant
+    let there = lambda_there context c.args.from c.args.stop index c.args.walk.now c.loop-index.walk c.requires.context c.requires.ready c.requires.run c.loop-index.invariant
     c.loop-index-test.true c.if-index-from.true c.if-lambda-ne-NO_NODE.true in
-    lambda_refuses c.laws_below.ensures context c.args.from c.args.stop index last c.args.walk.now c.loop-index.walk c.checked_lambda.new.walk there.judged there.quantifier
-    c.requires.context c.requires.run c.loop-index.invariant there.later there.over
+    step_refuses c.laws_below.ensures context c.args.from c.args.stop index last c.args.walk.now c.loop-index.walk c.checked_lambda.new.walk there.judged _
+    c.requires.context c.requires.run c.loop-index.invariant there.step
     (c.if-not-checked_lambda.ensures there.judged there.quantifier (last_tree (run_trees context c.args.from index)) there.ready)
 
 pub node_walk::checked_nodes-overflow_add-index : goal.node_walk::checked_nodes-overflow_add-index
@@ -140,8 +136,7 @@ node_walk::checked_nodes-overflow_add-index t c =
     let context = c.args.context.now in
     let index = c.loop-index.index in
     let last = mark_at context index in
-    let there : IsLambdaThere context c.args.from c.args.stop index last c.loop-index.walk =
-    lambda_there context c.args.from c.args.stop index c.args.walk.now c.loop-index.walk c.requires.context c.requires.ready c.requires.run c.loop-index.invariant
+    let there = lambda_there context c.args.from c.args.stop index c.args.walk.now c.loop-index.walk c.requires.context c.requires.ready c.requires.run c.loop-index.invariant
     c.loop-index-test.true c.if-index-from.true c.if-lambda-ne-NO_NODE.true in
     let within : last < c.args.stop = there.within in
     record { fits = omega (arith, c.ranges.stop.fits) }
@@ -151,8 +146,7 @@ node_walk::checked_nodes-loop-index-smaller-then-index-from t c =
     let context = c.args.context.now in
     let index = c.loop-index.index in
     let last = mark_at context index in
-    let there : IsLambdaThere context c.args.from c.args.stop index last c.loop-index.walk =
-    lambda_there context c.args.from c.args.stop index c.args.walk.now c.loop-index.walk c.requires.context c.requires.ready c.requires.run c.loop-index.invariant
+    let there = lambda_there context c.args.from c.args.stop index c.args.walk.now c.loop-index.walk c.requires.context c.requires.ready c.requires.run c.loop-index.invariant
     c.loop-index-test.true c.if-index-from.true c.if-lambda-ne-NO_NODE.true in
     let order : index < last = there.order in
     let within : last < c.args.stop = there.within in
@@ -163,11 +157,10 @@ node_walk::checked_nodes-loop-index-preserved-then-index-from t c =
     let context = c.args.context.now in
     let index = c.loop-index.index in
     let last = mark_at context index in
-    let there : IsLambdaThere context c.args.from c.args.stop index last c.loop-index.walk =
-    lambda_there context c.args.from c.args.stop index c.args.walk.now c.loop-index.walk c.requires.context c.requires.ready c.requires.run c.loop-index.invariant
+    let there = lambda_there context c.args.from c.args.stop index c.args.walk.now c.loop-index.walk c.requires.context c.requires.ready c.requires.run c.loop-index.invariant
     c.loop-index-test.true c.if-index-from.true c.if-lambda-ne-NO_NODE.true in
-    lambda_goes_on c.laws_below.ensures context c.args.from c.args.stop index last c.args.walk.now c.loop-index.walk c.checked_lambda.new.walk there.judged there.quantifier
-    c.requires.context c.requires.run c.loop-index.invariant there.later there.at there.over
+    step_goes_on c.laws_below.ensures context c.args.from c.args.stop index last c.args.walk.now c.loop-index.walk c.checked_lambda.new.walk there.judged _
+    c.requires.context c.requires.run c.loop-index.invariant there.step
     (c.if-not-checked_lambda.ensures there.judged there.quantifier (last_tree (run_trees context c.args.from index)) there.ready)
 
 -- The loop: any other node.
@@ -184,14 +177,14 @@ node_walk::checked_nodes-checked_node-requires-clause-text t c = λ has.
 
 pub node_walk::checked_nodes-checked_node-requires-clause-kind : goal.node_walk::checked_nodes-checked_node-requires-clause-kind
 node_walk::checked_nodes-checked_node-requires-clause-kind t c = λ quantifier is.
-    node_is_plain c.args.context.now c.args.from c.args.stop c.loop-index.index c.args.walk.now c.loop-index.walk c.node_at.result.node.now quantifier
-    c.requires.context c.requires.run c.loop-index.invariant c.loop-index-test.true c.node_at.ensures.at is
+    node_is_plain c.args.context.now c.args.from c.args.stop c.loop-index.index c.args.walk.now c.loop-index.walk
+    c.requires.context c.requires.run c.loop-index.invariant c.loop-index-test.true c.node_at.result.node.now quantifier c.node_at.ensures.at is
 
 pub node_walk::checked_nodes-checked_node-requires-clause-children : goal.node_walk::checked_nodes-checked_node-requires-clause-children
 node_walk::checked_nodes-checked_node-requires-clause-children t c = (
   run_trees c.args.context.now c.args.from c.loop-index.index,
-  node_children c.args.context.now c.args.from c.args.stop c.loop-index.index c.args.walk.now c.loop-index.walk c.node_at.result
-      c.requires.context c.requires.run c.loop-index.invariant c.loop-index-test.true c.node_at.ensures,
+  node_children c.args.context.now c.args.from c.args.stop c.loop-index.index c.args.walk.now c.loop-index.walk
+      c.requires.context c.requires.run c.loop-index.invariant c.loop-index-test.true c.node_at.result c.node_at.ensures,
 )
 
 pub node_walk::checked_nodes-returns-then-not-checked_node : goal.node_walk::checked_nodes-returns-then-not-checked_node
@@ -203,9 +196,10 @@ node_walk::checked_nodes-returns-then-not-checked_node t c =
       | node_walk::checked_nodes-else-lambda-ne-NO_NODE-via-then-lambda-ne-NO_NODE+else-index-from w ↦ inr w.if-index-from.false
       | node_walk::checked_nodes-else-lambda-ne-NO_NODE-via-else-lambda-ne-NO_NODE w ↦ inl (none_read context c.args.from c.args.stop index c.requires.context c.requires.run before w.if-lambda-ne-NO_NODE.false)
     ] in
-    let children = node_children context c.args.from c.args.stop index c.args.walk.now c.loop-index.walk c.node_at.result c.requires.context c.requires.run c.loop-index.invariant before c.node_at.ensures in
-    node_refuses c.laws_below.ensures context c.args.from c.args.stop index c.args.walk.now c.loop-index.walk c.checked_node.new.walk c.node_at.result
-    c.requires.context c.requires.run c.loop-index.invariant before c.node_at.ensures unmarked
+    let children = node_children context c.args.from c.args.stop index c.args.walk.now c.loop-index.walk c.requires.context c.requires.run c.loop-index.invariant before c.node_at.result c.node_at.ensures in
+    step_refuses c.laws_below.ensures context c.args.from c.args.stop index index c.args.walk.now c.loop-index.walk c.checked_node.new.walk c.node_at.result _
+    c.requires.context c.requires.run c.loop-index.invariant
+    (node_step context c.args.from c.args.stop index c.args.walk.now c.loop-index.walk c.node_at.result c.requires.context c.requires.run c.loop-index.invariant before c.node_at.ensures unmarked)
     (c.if-not-checked_node.ensures (run_trees context c.args.from index) children)
 
 pub node_walk::checked_nodes-loop-index-preserved : goal.node_walk::checked_nodes-loop-index-preserved
@@ -217,9 +211,10 @@ node_walk::checked_nodes-loop-index-preserved t c =
       | node_walk::checked_nodes-else-lambda-ne-NO_NODE-via-then-lambda-ne-NO_NODE+else-index-from w ↦ inr w.if-index-from.false
       | node_walk::checked_nodes-else-lambda-ne-NO_NODE-via-else-lambda-ne-NO_NODE w ↦ inl (none_read context c.args.from c.args.stop index c.requires.context c.requires.run before w.if-lambda-ne-NO_NODE.false)
     ] in
-    let children = node_children context c.args.from c.args.stop index c.args.walk.now c.loop-index.walk c.node_at.result c.requires.context c.requires.run c.loop-index.invariant before c.node_at.ensures in
-    node_goes_on c.laws_below.ensures context c.args.from c.args.stop index c.args.walk.now c.loop-index.walk c.checked_node.new.walk c.node_at.result
-    c.requires.context c.requires.run c.loop-index.invariant before c.node_at.ensures unmarked
+    let children = node_children context c.args.from c.args.stop index c.args.walk.now c.loop-index.walk c.requires.context c.requires.run c.loop-index.invariant before c.node_at.result c.node_at.ensures in
+    step_goes_on c.laws_below.ensures context c.args.from c.args.stop index index c.args.walk.now c.loop-index.walk c.checked_node.new.walk c.node_at.result _
+    c.requires.context c.requires.run c.loop-index.invariant
+    (node_step context c.args.from c.args.stop index c.args.walk.now c.loop-index.walk c.node_at.result c.requires.context c.requires.run c.loop-index.invariant before c.node_at.ensures unmarked)
     (c.if-not-checked_node.ensures (run_trees context c.args.from index) children)
 
 -- The end.

@@ -1,43 +1,13 @@
 -- Why a lambda operator over its base has no type, and the fault of its body.
-use Rattle.std.proofs.Common.{◌≡◌, sym, subst, ℕ, ◌+◌, List, Bool, false, None, Option, Some, IfSome}
-use Rattle.odata_syntax.specs.Tree.{Tree, lambda}
-use Rattle.odata_syntax.specs.declared.node.Quantifier.{Quantifier}
-use Rattle.csdl_schema.specs.ExprType.{ExprType, collection, single}
-use Rattle.odata_signatures.specs.TypeView.{expr_type, single_type}
+use Rattle.odata_typing.proofs.Common.{◌≡◌, sym, subst, ℕ, ◌+◌, List, Bool, false, None, Some, IfSome, Tree, lambda, Quantifier, ExprType, collection, single, expr_type, single_type, IsFirstUntypable, Typed, variable_type, with_variable, Judged, CheckContext, Walk, IsNodeJudged, IsStanding, LawsBelow, name_of, scope_of, walk_refused}
 use Rattle.odata_signatures.specs.declared.edm_type.EdmType.{EdmType}
 use Rattle.odata_signatures.specs.declared.edm_type.ValueType.{ValueType}
-use Rattle.odata_signatures.specs.FirstUntypable.{IsFirstUntypable}
-use Rattle.odata_signatures.specs.Typed.{Typed, variable_type, with_variable}
-use Rattle.odata_signatures.specs.declared.refusal.TypeFault.{TypeFault}
 use Rattle.odata_signatures.specs.declared.refusal.TypeFaultCode.{TypeFaultCode}
-use Rattle.odata_typing.specs.declared.check_context.Judged.{Judged}
-use Rattle.odata_typing.specs.declared.check_context.CheckContext.{CheckContext}
-use Rattle.odata_typing.specs.declared.judged_list.Walk.{Walk}
-use Rattle.odata_typing.specs.private.Judging.{IsNodeJudged, IsStanding}
-use Rattle.odata_typing.specs.private.LawsBelow.{LawsBelow}
-use Rattle.odata_typing.specs.private.CheckContexts.{name_of}
-use Rattle.odata_typing.specs.private.Variables.{scope_of}
-use Rattle.odata_typing.specs.private.Walks.{walk_refused}
 use Rattle.odata_typing.proofs.bodies.Faults.{base_reason, base_unbound, body_first, taken_reason, taken_unbound, unbound_fault}
-use Rattle.odata_typing.proofs.flat.Closing.{refused_tree, root_in, slots_in, tree_over}
-
-some_first : (fault : Option TypeFault) (P Q : TypeFault → Type 0) → ((f : TypeFault) → P f → Q f) → IfSome fault P → IfSome fault Q
-some_first (Some f) P Q then holds = then f holds
-some_first None P Q then holds = tt
+use Rattle.odata_typing.proofs.flat.Closing.{refused_tree, root_in, slots_in, some_on}
 
 module _ (laws : LawsBelow) (context : CheckContext) (judged : Judged) (old new : Walk) (quantifier : Quantifier) (base body : Tree) (middle : ℕ) (result : Bool)
     (stands : IsStanding context.schema.now context.filtered_type (scope_of context) old (judged.number + 1) middle base) where
-  base_refused :
-      (mid : Walk) (type : EdmType)
-      → type ≡ stands.found.edm_type
-      → (code : TypeFaultCode)
-      → result ≡ false
-      → new ≡ walk_refused mid judged.node.now.span code
-      → IsFirstUntypable (slots_in context) (root_in context) (scope_of context) (tree_over judged (lambda quantifier base (name_of context judged) body)) (record { code = code; span = judged.node.now.span })
-      → IsNodeJudged context judged (lambda quantifier base (name_of context judged) body) old new result
-  base_refused mid type same code stops is found =
-      refused_tree context judged old mid new (lambda quantifier base (name_of context judged) body) code result stops is found
-
   base_typed : (type : EdmType) → type ≡ stands.found.edm_type → Typed (slots_in context) (root_in context) (scope_of context) base (expr_type context.schema.now type)
   base_typed type same = subst (λ (t : EdmType). Typed (slots_in context) (root_in context) (scope_of context) base (expr_type context.schema.now t)) (sym same) stands.typed
 
@@ -53,8 +23,8 @@ module _ (laws : LawsBelow) (context : CheckContext) (judged : Judged) (old new 
       let schema = context.schema.now in
       let scope = scope_of context in
       let variable : List ℕ = name_of context judged in
-      base_refused mid type same TypeFaultCode.NotCollection stops is
-      (unbound_fault laws (slots_in context) (root_in context) scope judged.node.now.span quantifier variable base body (expr_type schema type) TypeFaultCode.NotCollection (base_typed type same)
+      refused_tree context judged old mid new (lambda quantifier base variable body) TypeFaultCode.NotCollection result stops is
+      (unbound_fault laws (slots_in context) (root_in context) scope quantifier variable base body judged.node.now.span (expr_type schema type) TypeFaultCode.NotCollection (base_typed type same)
       (base_reason schema scope variable type other) (base_unbound schema scope variable type other))
 
   -- the variable is in scope already
@@ -73,8 +43,8 @@ module _ (laws : LawsBelow) (context : CheckContext) (judged : Judged) (old new 
       let m = single_type schema member in
       let typed : Typed (slots_in context) (root_in context) scope base (collection m) =
       subst (λ (t : EdmType). Typed (slots_in context) (root_in context) scope base (expr_type schema t)) of_member (base_typed type same) in
-      base_refused mid type same TypeFaultCode.VariableTaken stops is
-      (unbound_fault laws (slots_in context) (root_in context) scope judged.node.now.span quantifier variable base body (collection m) TypeFaultCode.VariableTaken typed
+      refused_tree context judged old mid new (lambda quantifier base variable body) TypeFaultCode.VariableTaken result stops is
+      (unbound_fault laws (slots_in context) (root_in context) scope quantifier variable base body judged.node.now.span (collection m) TypeFaultCode.VariableTaken typed
       (taken_reason scope variable m taken found) (taken_unbound scope variable taken (collection m) found))
 
   -- the body has no type
@@ -92,5 +62,5 @@ module _ (laws : LawsBelow) (context : CheckContext) (judged : Judged) (old new 
       let variable : List ℕ = name_of context judged in
       let typed : Typed (slots_in context) (root_in context) scope base (collection (single_type schema member)) =
       subst (λ (t : EdmType). Typed (slots_in context) (root_in context) scope base (expr_type schema t)) of_member (base_typed type same) in
-      rw stops (some_first new.fault _ _ (λ fault first.
-      body_first laws (slots_in context) (root_in context) scope judged.node.now.span.start judged.node.now.span.stop quantifier variable base body (single_type schema member) fault typed fresh first) found)
+      rw stops (some_on new.fault _ _ (λ fault first.
+      body_first laws (slots_in context) (root_in context) scope quantifier variable base body (single_type schema member) typed judged.node.now.span.start judged.node.now.span.stop fault fresh first) found)

@@ -1,25 +1,9 @@
 -- The node of a lambda operator, put over its base and its body.
-use Rattle.std.proofs.Common.{◌≡◌, ◌∙◌, refl, ap, subst, ℕ, ◌<◌, List, Bool, true, false, Some, length, slice_get}
-use Rattle.std.proofs.lemmas.Option.{slice_get_within}
-use Rattle.odata_syntax.specs.Tree.{Tree, lambda}
-use Rattle.odata_syntax.specs.declared.node.Quantifier.{Quantifier}
-use Rattle.csdl_schema.specs.ExprType.{collection}
-use Rattle.odata_signatures.specs.ExprTypes.{IsBooleanOrNull}
-use Rattle.odata_signatures.specs.TypeView.{expr_type, single_type}
+use Rattle.odata_typing.proofs.Common.{◌≡◌, ◌∙◌, refl, ap, subst, ℕ, List, Bool, true, false, Some, slice_get, Tree, lambda, Quantifier, collection, IsBooleanOrNull, expr_type, single_type, BindsVariable, Typed, CheckedNode, Judged, CheckContext, Walk, IsNodeJudged, LawsBelow, IsNodeReady, name_of, scope_of, truth_type, walk_put, walk_refused}
 use Rattle.odata_signatures.specs.declared.edm_type.EdmType.{EdmType}
-use Rattle.odata_signatures.specs.Typed.{BindsVariable, Typed}
 use Rattle.odata_signatures.specs.declared.refusal.TypeFaultCode.{TypeFaultCode}
-use Rattle.odata_checked_filter.specs.declared.checked_node.CheckedNode.{CheckedNode}
 use Rattle.odata_checked_filter.specs.declared.checked_node.NodeKind.{NodeKind}
-use Rattle.odata_typing.specs.declared.check_context.Judged.{Judged}
-use Rattle.odata_typing.specs.declared.check_context.CheckContext.{CheckContext}
-use Rattle.odata_typing.specs.declared.judged_list.Walk.{Walk}
-use Rattle.odata_typing.specs.private.Judging.{IsNodeJudged}
 use Rattle.odata_typing.specs.private.LambdaNode.{IsOverBody}
-use Rattle.odata_typing.specs.private.LawsBelow.{LawsBelow}
-use Rattle.odata_typing.specs.private.CheckContexts.{IsNodeReady, name_of}
-use Rattle.odata_typing.specs.private.Variables.{scope_of}
-use Rattle.odata_typing.specs.private.Walks.{truth_type, walk_put, walk_refused}
 use Rattle.odata_typing.proofs.bodies.Faults.{refused_body}
 use Rattle.odata_typing.proofs.flat.Closing.{put_tree, refused_tree, root_in, slots_in}
 use Rattle.odata_typing.proofs.flat.Idle.{idle_lambda}
@@ -68,8 +52,8 @@ module _ (laws : LawsBelow) (context : CheckContext) (judged : Judged) (old new 
       → IsNodeJudged context judged (lambda quantifier base (name_of context judged) body) old new result
   lambda_refused other stops is =
       refused_tree context judged old old new (lambda quantifier base (name_of context judged) body) TypeFaultCode.BodyNotBoolean result stops is
-      (refused_body laws (slots_in context) (root_in context) (scope_of context) judged.node.now.span quantifier (name_of context judged) base body (single_type context.schema.now over.member)
-      (expr_type context.schema.now over.body_stands.found.edm_type) over_typed over.fresh over.body_stands.typed other)
+      (refused_body laws (slots_in context) (root_in context) (scope_of context) quantifier (name_of context judged) base body (single_type context.schema.now over.member) over_typed
+      judged.node.now.span (expr_type context.schema.now over.body_stands.found.edm_type) over.fresh over.body_stands.typed other)
 
 -- the type that the code finds where the base stops is the body's
 pub body_type :
@@ -79,8 +63,3 @@ pub body_type :
     → type ≡ over.body_stands.found.edm_type
 body_type context judged walk base body over middle type stops at =
     at over.body_stands.found (ap (slice_get walk.list.nodes) (stops ∙ over.base_stands.last) ∙ over.body_stands.at)
-
--- and there is one
-pub body_there : (context : CheckContext) (judged : Judged) (walk : Walk) (base body : Tree) (over : IsOverBody context walk judged base body) (middle : ℕ) → middle ≡ over.base_stands.found.stop → middle < length walk.list.nodes
-body_there context judged walk base body over middle stops =
-    slice_get_within walk.list.nodes middle over.body_stands.found (ap (slice_get walk.list.nodes) (stops ∙ over.base_stands.last) ∙ over.body_stands.at)

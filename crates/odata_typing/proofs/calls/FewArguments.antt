@@ -1,7 +1,5 @@
 -- No function takes more than three arguments, so that a call is judged by the first four of its arguments.
-use Rattle.std.proofs.Common.{◌≡◌, sym, subst, ℕ, ◌≤◌, List, length, take, length-take, arith}
-use Rattle.std.proofs.lemmas.List.{take_all}
-use Rattle.csdl_schema.specs.ExprType.{ExprType}
+use Rattle.odata_typing.proofs.Common.{◌≡◌, sym, subst, ℕ, ◌≤◌, List, length, take, length-take, arith, take_all, ExprType}
 use Rattle.odata_signatures.specs.ArgumentTypes.{AreArgumentTypes}
 use Rattle.odata_signatures.specs.CallTyped.{CallReason, CallTyped, FunctionReason, FunctionTyped, TakesCount}
 use Rattle.odata_signatures.specs.Functions.{row_of}
@@ -10,24 +8,7 @@ use Rattle.odata_signatures.specs.declared.function.Function.{Function}
 
 pub most_arguments : (function : Function) → length (row_of function).arguments ≤ 3
 most_arguments Function.Contains = omega arith
-most_arguments Function.StartsWith = omega arith
-most_arguments Function.EndsWith = omega arith
-most_arguments Function.Concat = omega arith
-most_arguments Function.Length = omega arith
-most_arguments Function.IndexOf = omega arith
-most_arguments Function.Substring = omega arith
-most_arguments Function.Trim = omega arith
-most_arguments Function.ToLower = omega arith
-most_arguments Function.ToUpper = omega arith
-most_arguments Function.Year = omega arith
-most_arguments Function.Month = omega arith
-most_arguments Function.Day = omega arith
-most_arguments Function.Hour = omega arith
-most_arguments Function.Minute = omega arith
-most_arguments Function.Second = omega arith
-most_arguments Function.TotalOffsetMinutes = omega arith
-most_arguments Function.Date = omega arith
-most_arguments Function.Now = omega arith
+most_arguments _ = omega arith
 
 -- where a function takes so many arguments, these are the first four of them
 taken_all : (function : Function) (types : List ExprType) → TakesCount function (length types) → take 4 types ≡ types

@@ -1,28 +1,9 @@
 -- A node that is put over its children stands there for its tree; or why it is not put.
-use Rattle.std.proofs.Common.{◌≡◌, ◌∙◌, refl, sym, inr, ℕ, zero, suc, ◌<◌, ◌+◌, List, [], ◌∷◌, ◌++◌, Bool, true, false, None, Some, length, slice_get, slice_set, arith}
-use Rattle.std.proofs.lemmas.Option.{none-some}
+use Rattle.odata_typing.proofs.Common.{◌≡◌, ◌∙◌, refl, sym, inr, ℕ, zero, suc, ◌<◌, ◌+◌, List, [], ◌∷◌, ◌++◌, Bool, true, false, None, Some, length, slice_get, slice_set, arith, Option, IfSome, IfNone, IsSomeAnd, none-some, Shape, Tree, node, Slots, slots_of, type_name_at, IsTypeThere, expr_type, IsFirstUntypable, Typed, CheckedNode, FlatTree, IsKeptOutside, node_put, with_value, ChildrenStand, HasOwnValue, IsKindOf, text_of_shape, Judged, CheckContext, Walk, IsIdle, IsNodeJudged, LawsBelow, IsNodeReady, scope_of, checked, walk_put, walk_refused}
 use Rattle.edm_values.specs.declared.value.Value.{Value}
-use Rattle.odata_syntax.specs.Tree.{Shape, Tree, node}
-use Rattle.csdl_schema.specs.SchemaModel.{Slots, slots_of, type_name_at}
-use Rattle.odata_signatures.specs.TypeThere.{IsTypeThere}
-use Rattle.odata_signatures.specs.TypeView.{expr_type}
 use Rattle.odata_signatures.specs.declared.edm_type.EdmType.{EdmType}
-use Rattle.odata_signatures.specs.FirstUntypable.{IsFirstUntypable}
-use Rattle.odata_signatures.specs.Typed.{Typed}
 use Rattle.odata_signatures.specs.declared.refusal.TypeFaultCode.{TypeFaultCode}
-use Rattle.odata_checked_filter.specs.declared.checked_node.CheckedNode.{CheckedNode}
 use Rattle.odata_checked_filter.specs.declared.checked_node.NodeKind.{NodeKind}
-use Rattle.odata_checked_filter.specs.FlatTree.{FlatTree}
-use Rattle.odata_checked_filter.specs.ListChanges.{IsKeptOutside, node_put, with_value}
-use Rattle.odata_checked_filter.specs.Stands.{ChildrenStand, HasOwnValue, IsKindOf, text_of_shape}
-use Rattle.odata_typing.specs.declared.check_context.Judged.{Judged}
-use Rattle.odata_typing.specs.declared.check_context.CheckContext.{CheckContext}
-use Rattle.odata_typing.specs.declared.judged_list.Walk.{Walk}
-use Rattle.odata_typing.specs.private.Judging.{IsIdle, IsNodeJudged}
-use Rattle.odata_typing.specs.private.LawsBelow.{LawsBelow}
-use Rattle.odata_typing.specs.private.CheckContexts.{IsNodeReady}
-use Rattle.odata_typing.specs.private.Variables.{scope_of}
-use Rattle.odata_typing.specs.private.Walks.{checked, walk_put, walk_refused}
 use Rattle.odata_typing.proofs.flat.Kept.{IsMore, IsOnward, kept_on, kept_wider}
 
 pub get_put : (xs : List CheckedNode) (k : ℕ) (x : CheckedNode) → k < length xs → slice_get (slice_set xs k x) k ≡ Some x
@@ -38,6 +19,13 @@ get_front (y ∷ xs) ys (suc k) x found = get_front xs ys k x found
 get_last : (xs : List Value) (x : Value) → slice_get (xs ++ x ∷ []) (length xs) ≡ Some x
 get_last [] x = refl
 get_last (y ∷ xs) x = get_last xs x
+
+pub some_on : {X : Type 0} (o : Option X) (P Q : X → Type 0) → ((x : X) → P x → Q x) → IfSome o P → IfSome o Q
+some_on None P Q f holds = tt
+some_on (Some x) P Q f holds = f x holds
+
+pub some_at : (P : Value → Type 0) (o : Option Value) (value : Value) → o ≡ Some value → P value → IsSomeAnd o P
+some_at P o value same holds = rw same holds
 
 -- after a value that is put all that stood in the list stands there still
 pub value_kept : (i j : ℕ) (list : FlatTree) (value : Value) → IsKeptOutside i j list (with_value list value)
@@ -82,6 +70,13 @@ slots_in context = slots_of context.schema.now
 
 abbrev pub root_in : CheckContext → List ℕ
 root_in context = type_name_at context.schema.now context.filtered_type
+
+-- what is put where a type has been made, and the refusal where none has
+pub record IsPutFor (made : Option EdmType) (result : Bool) (new : Walk) (put : EdmType → Walk) (refused : Walk) : Type 0 where
+  pub some : IfSome made (λ type. result ≡ true)
+  pub put_is : IfSome made (λ type. new ≡ put type)
+  pub none : IfNone made (result ≡ false)
+  pub refused_is : IfNone made (new ≡ refused)
 
 module _ (context : CheckContext) (judged : Judged) where
   pub put_changed :

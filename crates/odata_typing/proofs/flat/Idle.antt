@@ -1,17 +1,10 @@
 -- Where no node of the parts leads over a navigation property, none of the whole does.
-use Rattle.std.proofs.Common.{◌≡◌, inl, inr, subst, sym, ℕ, Option, None, Some, List, [], ◌∷◌}
-use Rattle.odata_syntax.specs.Tree.{Tree, call, in_list, it, lambda, member, name, node, trees_of_list}
-use Rattle.odata_syntax.specs.declared.node.Quantifier.{Quantifier}
-use Rattle.csdl_schema.specs.ExprType.{ExprType, SingleType, collection, single, structured}
+use Rattle.odata_typing.proofs.Common.{◌≡◌, inl, inr, subst, sym, ℕ, Some, List, [], ◌∷◌, ◌∙◌, none-some, Tree, call, in_list, lambda, name, node, trees_of_list, Quantifier, ExprType, SingleType, collection, single, structured, Slots, Scope, Typed, variable_type, with_variable, IsInfix, infix_shape, unary_shape, IsIdle, LawsBelow}
+use Rattle.odata_syntax.specs.Tree.{member}
 use Rattle.csdl_schema.specs.PathSet.{PropertyPath}
-use Rattle.csdl_schema.specs.SchemaModel.{Slots}
 use Rattle.odata_signatures.specs.NeededPaths.{IsNeededAmong, Navigates, VariablePaths}
-use Rattle.odata_signatures.specs.Typed.{Scope, Typed, variable_type, with_variable}
 use Rattle.odata_checked_filter.specs.declared.checked_node.NodeKind.{NodeKind}
 use Rattle.odata_typing.specs.declared.unary_node.Unary.{Unary}
-use Rattle.odata_typing.specs.private.Forms.{IsInfix, infix_shape, unary_shape}
-use Rattle.odata_typing.specs.private.Judging.{IsIdle}
-use Rattle.odata_typing.specs.private.LawsBelow.{LawsBelow}
 
 -- each of the trees is idle
 abbrev pub AreIdle : Slots → List ℕ → Scope → List Tree → Type 0
@@ -30,12 +23,9 @@ idle_over slots root scope start stop Unary.Count operand idle = idle
 idle_over slots root scope start stop Unary.AnyItem operand idle = idle
 
 pub idle_between : (slots : Slots) (root : List ℕ) (scope : Scope) (start stop : ℕ) (form : NodeKind) (l r : Tree) → IsInfix form → IsIdle slots root scope l → IsIdle slots root scope r → IsIdle slots root scope (node start stop (infix_shape form l r))
-idle_between slots root scope start stop (NodeKind.Binary operator) l r is left right paths path (inl needed) = left paths path needed
-idle_between slots root scope start stop (NodeKind.Binary operator) l r is left right paths path (inr needed) = right paths path needed
-idle_between slots root scope start stop NodeKind.Has l r is left right paths path (inl needed) = left paths path needed
-idle_between slots root scope start stop NodeKind.Has l r is left right paths path (inr needed) = right paths path needed
-idle_between slots root scope start stop NodeKind.InPath l r is left right paths path (inl needed) = left paths path needed
-idle_between slots root scope start stop NodeKind.InPath l r is left right paths path (inr needed) = right paths path needed
+idle_between slots root scope start stop (NodeKind.Binary operator) l r is left right paths path needed = elim needed [ inl of_left ↦ left paths path of_left | inr of_right ↦ right paths path of_right ]
+idle_between slots root scope start stop NodeKind.Has l r is left right paths path needed = elim needed [ inl of_left ↦ left paths path of_left | inr of_right ↦ right paths path of_right ]
+idle_between slots root scope start stop NodeKind.InPath l r is left right paths path needed = elim needed [ inl of_left ↦ left paths path of_left | inr of_right ↦ right paths path of_right ]
 idle_between slots root scope start stop _ l r is left right paths path needed = absurd is
 
 pub idle_list : (slots : Slots) (root : List ℕ) (scope : Scope) (start stop : ℕ) (l : Tree) (items : List Tree) → IsIdle slots root scope l → AreIdle slots root scope items → IsIdle slots root scope (node start stop (in_list l (trees_of_list items)))
@@ -45,16 +35,13 @@ idle_list slots root scope start stop l items left idle paths path (inr needed) 
 pub idle_call : (slots : Slots) (root : List ℕ) (scope : Scope) (start stop : ℕ) (asked : List ℕ) (arguments : List Tree) → AreIdle slots root scope arguments → IsIdle slots root scope (node start stop (call asked (trees_of_list arguments)))
 idle_call slots root scope start stop asked arguments idle paths path needed = idle_among slots root scope arguments paths path idle needed
 
-none_some : (o : Option ExprType) (type : ExprType) → o ≡ None → o ≡ Some type → ⊥
-none_some o type none some = cc
-
 -- a name of no navigation property
 pub idle_name : (slots : Slots) (root : List ℕ) (scope : Scope) (start stop : ℕ) (asked : List ℕ) → ¬ Navigates (slots.properties root) asked → IsIdle slots root scope (node start stop (name asked))
 idle_name slots root scope start stop asked none paths path needed = none needed.navigates
 
 -- a variable
 pub idle_bound : (slots : Slots) (root : List ℕ) (scope : Scope) (start stop : ℕ) (asked : List ℕ) (type : ExprType) → variable_type scope asked ≡ Some type → IsIdle slots root scope (node start stop (name asked))
-idle_bound slots root scope start stop asked type bound paths path needed = none_some (variable_type scope asked) type needed.free bound
+idle_bound slots root scope start stop asked type bound paths path needed = none-some type (sym needed.free ∙ bound)
 
 same_owner : (a b : List ℕ) → single (structured a) ≡ single (structured b) → a ≡ b
 same_owner a b same = cc
@@ -66,7 +53,7 @@ idle_step laws slots root scope start stop base asked owner typed none idle path
     let same : step.owner ≡ owner = same_owner step.owner owner (laws.one_type slots root scope base (single (structured step.owner)) (single (structured owner)) step.base_typed typed) in
     none (subst (λ (o : List ℕ). Navigates (slots.properties o) asked) same step.navigates)
 
-same_member : (a b : SingleType) → collection a ≡ collection b → a ≡ b
+pub same_member : (a b : SingleType) → collection a ≡ collection b → a ≡ b
 same_member a b same = cc
 
 -- a lambda operator whose body is idle in the one scope that it is judged in

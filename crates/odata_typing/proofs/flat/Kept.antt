@@ -1,13 +1,5 @@
 -- What has been judged stands still where the list changes elsewhere.
-use Rattle.std.proofs.Common.{◌≡◌, ◌∙◌, refl, sym, ap, subst, inl, inr, ◌⊎◌, ℕ, ◌<◌, ◌≤◌, List, [], ◌∷◌, false, arith}
-use Rattle.odata_syntax.specs.Tree.{Tree}
-use Rattle.csdl_schema.specs.SchemaModel.{SchemaModel}
-use Rattle.odata_checked_filter.specs.FlatTree.{FlatTree}
-use Rattle.odata_checked_filter.specs.ListChanges.{IsKeptOutside}
-use Rattle.odata_signatures.specs.Typed.{Scope}
-use Rattle.odata_typing.specs.declared.judged_list.Walk.{Walk}
-use Rattle.odata_typing.specs.private.Judging.{IsStanding, StandInRow}
-use Rattle.odata_typing.specs.private.LawsBelow.{LawsBelow}
+use Rattle.odata_typing.proofs.Common.{◌≡◌, ◌∙◌, refl, sym, ap, subst, inl, inr, ◌⊎◌, ℕ, ◌<◌, ◌≤◌, false, arith, Tree, SchemaModel, FlatTree, IsKeptOutside, Scope, Walk, IsStanding, LawsBelow}
 
 wider : (i j from to k : ℕ) → from ≤ i → j ≤ to → (k < from) ⊎ (to ≤ k) → (k < i) ⊎ (j ≤ k)
 wider i j from to k below above (inl before) = let h : k < from = before in inl (omega arith)
@@ -45,7 +37,7 @@ same_kept i j list = record {
   source = refl;
 }
 
-first_outside : (i j from to : ℕ) → from < to → (to ≤ i) ⊎ (j ≤ from) → (from < i) ⊎ (j ≤ from)
+pub first_outside : (i j from to : ℕ) → from < to → (to ≤ i) ⊎ (j ≤ from) → (from < i) ⊎ (j ≤ from)
 first_outside i j from to order (inl before) = let h : to ≤ i = before in inl (omega arith)
 first_outside i j from to order (inr after) = inr after
 
@@ -73,19 +65,6 @@ module _ (laws : LawsBelow) (schema : SchemaModel) (n : ℕ) (scope : Scope) (i 
     stands = laws.kept schema n scope old.list new.list i j from to tree onward.kept outside stands.stands;
     idle = λ idle. stands.idle (onward.navigates idle);
   }
-
--- where only values were put, trees one after another stand still
-pub row_more :
-    (laws : LawsBelow) (schema : SchemaModel) (n : ℕ) (scope : Scope) (old new : Walk) (trees : List Tree) (from to : ℕ)
-    → IsMore old new
-    → StandInRow schema n scope old trees from to
-    → StandInRow schema n scope new trees from to
-row_more laws schema n scope old new [] from to more stand = stand
-row_more laws schema n scope old new (tree ∷ trees) from to more stand = record {
-  middle = stand.middle;
-  left = standing_kept laws schema n scope 0 0 old new more from stand.middle tree (inr (omega arith)) stand.left;
-  right = row_more laws schema n scope old new trees stand.middle to more stand.right;
-}
 
 -- a walk over a property, which may lead to another entity
 pub navigated_more : (old new : Walk) → new ≡ record old { navigates = new.navigates } → (new.navigates ≡ false → old.navigates ≡ false) → IsMore old new

@@ -1,17 +1,7 @@
 -- What holds of each form between two operands.
-use Rattle.std.proofs.Common.{◌≡◌, refl, ℕ, List, [], ◌∷◌, Option, Some, None, IfNone, IfSome}
+use Rattle.odata_typing.proofs.Common.{◌≡◌, refl, ℕ, List, [], ◌∷◌, Option, Some, None, IfNone, IfSome, Tree, node, ExprType, SchemaModel, Slots, slots_of, type_name_at, IsConsideredBody, children_in_scope, OfEquality, Between, OperandsTyped, Scope, Typed, FlatTree, ResolvedStands, ChildrenStand, HasOwnValue, IsKindOf, Stands, text_of_shape, InfixTyped, IsInfix, infix_shape}
 use Rattle.edm_values.specs.declared.value.Value.{Value}
-use Rattle.odata_syntax.specs.Tree.{Tree, node}
-use Rattle.csdl_schema.specs.ExprType.{ExprType}
-use Rattle.csdl_schema.specs.SchemaModel.{SchemaModel, Slots, slots_of, type_name_at}
-use Rattle.odata_signatures.specs.Considered.{IsConsideredBody, children_in_scope}
-use Rattle.odata_signatures.specs.Reads.{OfEquality}
-use Rattle.odata_signatures.specs.Sides.{Between}
-use Rattle.odata_signatures.specs.Typed.{OperandsTyped, Scope, Typed}
-use Rattle.odata_checked_filter.specs.FlatTree.{FlatTree}
-use Rattle.odata_checked_filter.specs.Stands.{ResolvedStands, ChildrenStand, HasOwnValue, IsKindOf, Stands, text_of_shape}
 use Rattle.odata_checked_filter.specs.declared.checked_node.NodeKind.{NodeKind}
-use Rattle.odata_typing.specs.private.Forms.{InfixTyped, IsInfix, infix_shape}
 
 pub infix_typed :
     (slots : Slots) (root : List ℕ) (scope : Scope) (start stop : ℕ) (form : NodeKind) (left right : Tree) (type : ExprType)
@@ -109,7 +99,3 @@ both_some None P Q first second = tt
 pub none_both : {X : Type 0} (o : Option X) (P : Type 0) (Q : ExprType → Type 0) → IfNone o (¬ P) → IfNone o ((type : ExprType) → ¬ (P × Q type))
 none_both (Some x) P Q none = tt
 none_both None P Q none = λ type both. none both.0
-
-pub none_three : {X : Type 0} (o : Option X) (P Q : Type 0) (R : ExprType → Type 0) → IfNone o (¬ (P × Q)) → IfNone o ((type : ExprType) → ¬ (P × Q × R type))
-none_three (Some x) P Q R none = tt
-none_three None P Q R none = λ type all. none (all.0, all.1)

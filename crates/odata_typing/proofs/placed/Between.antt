@@ -1,37 +1,14 @@
 -- Nodes between two operands.
-use Rattle.std.proofs.Common.{◌≡◌, ◌∙◌, refl, sym, ap, subst, inl, inr, ℕ, ℤ, ◌+◌, List, [], ◌∷◌, Bool, true, false, None, Some, Option, IfNone, IfSome, slice_get, arith}
+use Rattle.odata_typing.proofs.Common.{◌≡◌, ◌∙◌, refl, sym, ap, subst, inl, inr, ℕ, ℤ, ◌+◌, List, [], ◌∷◌, Bool, true, false, None, Some, Option, IfNone, IfSome, slice_get, arith, Tree, ExprType, SchemaModel, IsResolvedBy, LacksNumber, ResolvedNumber, Side, quoting, IsTypeThere, expr_type, IsReason, Between, quoted_text, side_of, Scope, FlatTree, number_put, NumberStands, Stands, Judged, CheckContext, Walk, InfixByTypes, InfixReason, InfixTyped, IsInfix, infix_shape, AreChildren, IsNodeJudged, IsStanding, LawsBelow, quoted_in, IsNodeReady, scope_of, IsReadPut, truth_type, walk_put, walk_refused}
 use Rattle.std.specs.Option.{option_map}
-use Rattle.odata_syntax.specs.Tree.{Tree}
 use Rattle.odata_syntax.specs.declared.binary_operator.BinaryOperator.{BinaryOperator}
-use Rattle.csdl_schema.specs.ExprType.{ExprType}
-use Rattle.csdl_schema.specs.SchemaModel.{SchemaModel}
-use Rattle.odata_signatures.specs.QuotedNumber.{IsResolvedBy, LacksNumber, ResolvedNumber}
-use Rattle.odata_signatures.specs.Side.{Side, quoting}
-use Rattle.odata_signatures.specs.TypeThere.{IsTypeThere}
-use Rattle.odata_signatures.specs.TypeView.{expr_type}
 use Rattle.odata_signatures.specs.declared.edm_type.EdmType.{EdmType}
-use Rattle.odata_signatures.specs.FirstUntypable.{IsReason}
-use Rattle.odata_signatures.specs.Sides.{Between, quoted_text, side_of}
-use Rattle.odata_signatures.specs.Typed.{Scope}
 use Rattle.odata_signatures.specs.declared.refusal.TypeFaultCode.{TypeFaultCode}
 use Rattle.odata_checked_filter.specs.declared.checked_node.NodeKind.{NodeKind}
-use Rattle.odata_checked_filter.specs.FlatTree.{FlatTree}
-use Rattle.odata_checked_filter.specs.ListChanges.{number_put}
-use Rattle.odata_checked_filter.specs.Stands.{NumberStands, Stands}
 use Rattle.odata_typing.specs.declared.binary_node.OperandTypes.{OperandTypes}
 use Rattle.odata_typing.specs.declared.operand_text.OperandRead.{OperandRead}
-use Rattle.odata_typing.specs.declared.check_context.Judged.{Judged}
-use Rattle.odata_typing.specs.declared.check_context.CheckContext.{CheckContext}
-use Rattle.odata_typing.specs.declared.judged_list.Walk.{Walk}
-use Rattle.odata_typing.specs.private.Forms.{InfixByTypes, InfixReason, InfixTyped, IsInfix, infix_shape}
-use Rattle.odata_typing.specs.private.Judging.{AreChildren, IsNodeJudged, IsStanding}
-use Rattle.odata_typing.specs.private.LawsBelow.{LawsBelow}
 use Rattle.odata_typing.specs.private.OperandTexts.{IsLeftRead, IsOperandRead, IsRightRead, OneIsRead, left_side, right_side}
-use Rattle.odata_typing.specs.private.Rows.{quoted_in}
-use Rattle.odata_typing.specs.private.CheckContexts.{IsNodeReady}
-use Rattle.odata_typing.specs.private.Variables.{scope_of}
-use Rattle.odata_typing.specs.private.Walks.{IsReadPut, truth_type, walk_put, walk_refused}
-use Rattle.odata_typing.proofs.flat.Closing.{more_within, put_changed, refused_tree, root_in, slots_in, tree_over, unjudged}
+use Rattle.odata_typing.proofs.flat.Closing.{IsPutFor, more_within, put_changed, refused_tree, root_in, slots_in, tree_over, unjudged}
 use Rattle.odata_typing.proofs.flat.Idle.{idle_between}
 use Rattle.odata_typing.proofs.flat.Kept.{IsOnward, kept_wider, same_more}
 use Rattle.odata_typing.proofs.forms.Infix.{LeftStands, RightStands, infix_kind, infix_stands, infix_text, infix_typed, infix_valued}
@@ -62,6 +39,12 @@ pub same_side : (schema : SchemaModel) (n : ℕ) (scope : Scope) (walk : Walk) (
 same_side schema n scope walk i j tree stands type quoted same is =
     ap (λ (t : EdmType). quoting quoted (expr_type schema t)) same
     ∙ ap (λ (q : Option (List ℕ)). quoting q (expr_type schema stands.found.edm_type)) (is ∙ quoted_standing schema n scope walk.list i j tree stands.found stands.stands stands.at)
+
+-- what is made of the operands' types
+pub record AreMade (schema : SchemaModel) (form : NodeKind) (left right : EdmType) (made : Option EdmType) : Type 0 where
+  pub typed : IfSome made (λ type. InfixByTypes form (expr_type schema left) (expr_type schema right) (expr_type schema type))
+  pub there : IfSome made (IsTypeThere schema)
+  pub none : IfNone made ((type : ExprType) → ¬ InfixByTypes form (expr_type schema left) (expr_type schema right) type)
 
 module _ (laws : LawsBelow) (context : CheckContext) (judged : Judged) (old new : Walk) (form : NodeKind) (l r : Tree) (result : Bool)
     (between : IsInfix form) (ready : IsNodeReady context old judged) (two : AreTwo context old judged l r) where
@@ -129,21 +112,16 @@ module _ (laws : LawsBelow) (context : CheckContext) (judged : Judged) (old new 
       (made : Option EdmType) (code : TypeFaultCode)
       → ¬ OneIsRead IsResolvedBy form (side_of l left_type) (side_of r right_type)
       → InfixReason form right_type code
-      → IfSome made (λ type. InfixByTypes form left_type right_type (expr_type context.schema.now type))
-      → IfSome made (IsTypeThere context.schema.now)
-      → IfNone made ((type : ExprType) → ¬ InfixByTypes form left_type right_type type)
-      → IfSome made (λ type. result ≡ true)
-      → IfSome made (λ type. new ≡ walk_put old judged form type [])
-      → IfNone made (result ≡ false)
-      → IfNone made (new ≡ walk_refused old judged.node.now.span code)
+      → AreMade context.schema.now form two.left.found.edm_type two.right.found.edm_type made
+      → IsPutFor made result new (λ type. walk_put old judged form type []) (walk_refused old judged.node.now.span code)
       → IsNodeJudged context judged (infix_shape form l r) old new result
-  judged_between (Some type) code unread reason typed there none goes_on put stops refused =
-      put_between old type (more_within judged.number judged.stop old old (same_more old)) ready.ready.fresh goes_on put there
+  judged_between (Some type) code unread reason makes is =
+      put_between old type (more_within judged.number judged.stop old old (same_more old)) ready.ready.fresh is.some is.put_is makes.there
       (left_by_itself form unread two.left.stands) (right_by_itself form unread two.right.stands)
-      (types_typed (slots_in context) form l r left_type right_type (expr_type context.schema.now type) typed)
-  judged_between None code unread reason typed there none goes_on put stops refused =
-      refuse_between old code stops refused
-      (λ type makes. none type (typed_types laws (slots_in context) form l r left_type right_type type unread makes))
+      (types_typed (slots_in context) form l r left_type right_type (expr_type context.schema.now type) makes.typed)
+  judged_between None code unread reason makes is =
+      refuse_between old code is.none is.refused_is
+      (λ type typed. makes.none type (typed_types laws (slots_in context) form l r left_type right_type type unread typed))
       (unread_reason laws (slots_in context) (root_in context) (scope_of context) l r left_type right_type two.left.typed two.right.typed judged.node.now.span.start judged.node.now.span.stop form code unread reason)
 
   -- one is read as that number, which is its value then
@@ -288,23 +266,14 @@ module _ (laws : LawsBelow) (context : CheckContext) (judged : Judged) (old new 
       (made : Option EdmType) (code : TypeFaultCode)
       → IsOperandRead (slots_in context) form (left_side context.schema.now types) (right_side context.schema.now types) OperandRead.Neither
       → InfixReason form (expr_type context.schema.now types.right) code
-      → IfSome made (λ type. InfixByTypes form (expr_type context.schema.now types.left) (expr_type context.schema.now types.right) (expr_type context.schema.now type))
-      → IfSome made (IsTypeThere context.schema.now)
-      → IfNone made ((type : ExprType) → ¬ InfixByTypes form (expr_type context.schema.now types.left) (expr_type context.schema.now types.right) type)
-      → IfSome made (λ type. result ≡ true)
-      → IfSome made (λ type. new ≡ walk_put old judged form type [])
-      → IfNone made (result ≡ false)
-      → IfNone made (new ≡ walk_refused old judged.node.now.span code)
+      → AreMade context.schema.now form types.left types.right made
+      → IsPutFor made result new (λ type. walk_put old judged form type []) (walk_refused old judged.node.now.span code)
       → IsNodeJudged context judged (infix_shape form l r) old new result
-  infix_unread made code unread reason typed there none =
+  infix_unread made code unread reason makes =
       let schema = context.schema.now in
       judged_between laws context judged old new form l r result between ready two made code (read_is OperandRead.Neither unread)
       (subst (λ (t : EdmType). InfixReason form (expr_type schema t) code) same_right reason)
-      (subst (λ (t : EdmType). IfSome made (λ type. InfixByTypes form (expr_type schema two.left.found.edm_type) (expr_type schema t) (expr_type schema type))) same_right
-      (subst (λ (t : EdmType). IfSome made (λ type. InfixByTypes form (expr_type schema t) (expr_type schema types.right) (expr_type schema type))) same_left typed))
-      there
-      (subst (λ (t : EdmType). IfNone made ((type : ExprType) → ¬ InfixByTypes form (expr_type schema two.left.found.edm_type) (expr_type schema t) type)) same_right
-      (subst (λ (t : EdmType). IfNone made ((type : ExprType) → ¬ InfixByTypes form (expr_type schema t) (expr_type schema types.right) type)) same_left none))
+      (subst (λ (t : EdmType). AreMade schema form two.left.found.edm_type t made) same_right (subst (λ (t : EdmType). AreMade schema form t types.right made) same_left makes))
 
   pub infix_right :
       (place : ℕ) (number : ℤ)
@@ -336,23 +305,14 @@ pub operator_unread :
     → left ≡ two.left.found.edm_type
     → right ≡ two.right.found.edm_type
     → ((a b : Option (List ℕ)) → ¬ OneIsRead IsResolvedBy (NodeKind.Binary operator) (quoting a (expr_type context.schema.now left)) (quoting b (expr_type context.schema.now right)))
-    → IfSome made (λ type. InfixByTypes (NodeKind.Binary operator) (expr_type context.schema.now left) (expr_type context.schema.now right) (expr_type context.schema.now type))
-    → IfSome made (IsTypeThere context.schema.now)
-    → IfNone made ((type : ExprType) → ¬ InfixByTypes (NodeKind.Binary operator) (expr_type context.schema.now left) (expr_type context.schema.now right) type)
-    → IfSome made (λ type. result ≡ true)
-    → IfSome made (λ type. new ≡ walk_put old judged (NodeKind.Binary operator) type [])
-    → IfNone made (result ≡ false)
-    → IfNone made (new ≡ walk_refused old judged.node.now.span TypeFaultCode.OperandTypes)
+    → AreMade context.schema.now (NodeKind.Binary operator) left right made
+    → IsPutFor made result new (λ type. walk_put old judged (NodeKind.Binary operator) type []) (walk_refused old judged.node.now.span TypeFaultCode.OperandTypes)
     → IsNodeJudged context judged (infix_shape (NodeKind.Binary operator) l r) old new result
-operator_unread laws context judged old new operator l r result ready two left right made same_left same_right unread typed there none =
+operator_unread laws context judged old new operator l r result ready two left right made same_left same_right unread makes =
     let schema = context.schema.now in
     let form : NodeKind = NodeKind.Binary operator in
     judged_between laws context judged old new form l r result tt ready two made TypeFaultCode.OperandTypes
     (subst (λ (t : EdmType). ¬ OneIsRead IsResolvedBy form (side_of l (expr_type schema two.left.found.edm_type)) (side_of r (expr_type schema t))) same_right
     (subst (λ (t : EdmType). ¬ OneIsRead IsResolvedBy form (side_of l (expr_type schema t)) (side_of r (expr_type schema right))) same_left (unread (quoted_text l) (quoted_text r))))
     refl
-    (subst (λ (t : EdmType). IfSome made (λ type. InfixByTypes form (expr_type schema two.left.found.edm_type) (expr_type schema t) (expr_type schema type))) same_right
-    (subst (λ (t : EdmType). IfSome made (λ type. InfixByTypes form (expr_type schema t) (expr_type schema right) (expr_type schema type))) same_left typed))
-    there
-    (subst (λ (t : EdmType). IfNone made ((type : ExprType) → ¬ InfixByTypes form (expr_type schema two.left.found.edm_type) (expr_type schema t) type)) same_right
-    (subst (λ (t : EdmType). IfNone made ((type : ExprType) → ¬ InfixByTypes form (expr_type schema t) (expr_type schema right) type)) same_left none))
+    (subst (λ (t : EdmType). AreMade schema form two.left.found.edm_type t made) same_right (subst (λ (t : EdmType). AreMade schema form t right made) same_left makes))

@@ -1,28 +1,12 @@
 -- Nodes of calls.
-use Rattle.std.proofs.Common.{◌≡◌, ◌∙◌, refl, ap, subst, ℕ, ◌+◌, List, [], ◌∷◌, Bool, true, false, map, take, zero, suc}
-use Rattle.odata_syntax.specs.Tree.{Tree, call, trees_of_list}
-use Rattle.csdl_schema.specs.ExprType.{ExprType}
-use Rattle.csdl_schema.specs.SchemaModel.{SchemaModel}
+use Rattle.odata_typing.proofs.Common.{◌≡◌, ◌∙◌, refl, ap, subst, ℕ, ◌+◌, List, [], ◌∷◌, Bool, true, false, map, take, zero, suc, Tree, call, trees_of_list, ExprType, SchemaModel, IsTypeThere, expr_type, code_of_call, CheckedNode, IsCallNode, Judged, CheckContext, Walk, IsNodeJudged, LawsBelow, IsNodeReady, scope_of, walk_put, walk_refused}
 use Rattle.odata_signatures.specs.CallTyped.{CallReason, CallTyped, FunctionTyped}
 use Rattle.odata_signatures.specs.Functions.{IsNamed}
-use Rattle.odata_signatures.specs.TypeThere.{IsTypeThere}
-use Rattle.odata_signatures.specs.TypeView.{expr_type}
 use Rattle.odata_signatures.specs.declared.call.CallFault.{CallFault}
 use Rattle.odata_signatures.specs.declared.edm_type.EdmType.{EdmType}
 use Rattle.odata_signatures.specs.declared.function.Function.{Function}
-use Rattle.odata_signatures.specs.FirstUntypable.{code_of_call}
 use Rattle.odata_signatures.specs.declared.refusal.TypeFaultCode.{TypeFaultCode}
-use Rattle.odata_checked_filter.specs.declared.checked_node.CheckedNode.{CheckedNode}
 use Rattle.odata_checked_filter.specs.declared.checked_node.NodeKind.{NodeKind}
-use Rattle.odata_checked_filter.specs.Stands.{IsCallNode}
-use Rattle.odata_typing.specs.declared.check_context.Judged.{Judged}
-use Rattle.odata_typing.specs.declared.check_context.CheckContext.{CheckContext}
-use Rattle.odata_typing.specs.declared.judged_list.Walk.{Walk}
-use Rattle.odata_typing.specs.private.Judging.{IsNodeJudged}
-use Rattle.odata_typing.specs.private.LawsBelow.{LawsBelow}
-use Rattle.odata_typing.specs.private.CheckContexts.{IsNodeReady}
-use Rattle.odata_typing.specs.private.Variables.{scope_of}
-use Rattle.odata_typing.specs.private.Walks.{walk_put, walk_refused}
 use Rattle.odata_typing.proofs.calls.FewArguments.{reason_by_first, typed_by_first, untyped_by_first}
 use Rattle.odata_typing.proofs.flat.Closing.{put_tree, refused_tree, root_in, slots_in}
 use Rattle.odata_typing.proofs.flat.Idle.{idle_call}

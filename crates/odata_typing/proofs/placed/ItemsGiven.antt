@@ -1,30 +1,11 @@
 -- What stands for the items of a list: each that is read has been given its number.
-use Rattle.std.proofs.Common.{◌≡◌, ◌∙◌, sym, ap, subst, inl, inr, ℕ, ◌<◌, ◌≤◌, ◌+◌, List, [], ◌∷◌, Option, Some, slice_get, arith}
-use Rattle.odata_syntax.specs.Tree.{Tree, trees_of_list}
-use Rattle.csdl_schema.specs.ExprType.{ExprType}
-use Rattle.csdl_schema.specs.SchemaModel.{SchemaModel, slots_of, type_name_at}
-use Rattle.odata_signatures.specs.QuotedNumber.{IsResolvedBy, ResolvedNumber}
-use Rattle.odata_signatures.specs.Side.{Side, quoting}
-use Rattle.odata_signatures.specs.TypeView.{expr_type}
-use Rattle.odata_signatures.specs.Sides.{quoted_text}
-use Rattle.odata_signatures.specs.Typed.{Scope, Typed}
-use Rattle.odata_checked_filter.specs.declared.checked_node.CheckedNode.{CheckedNode}
-use Rattle.odata_checked_filter.specs.FlatTree.{FlatTree}
-use Rattle.odata_checked_filter.specs.ListChanges.{IsKeptOutside}
-use Rattle.odata_checked_filter.specs.Stands.{AllStand, ResolvedStands, ItemsStand, NumberStands, Stands}
-use Rattle.odata_typing.specs.declared.judged_list.Walk.{Walk}
+use Rattle.odata_typing.proofs.Common.{◌≡◌, ◌∙◌, sym, ap, subst, inl, inr, ℕ, ◌<◌, ◌≤◌, ◌+◌, List, [], ◌∷◌, Option, Some, slice_get, arith, same_Some, Tree, trees_of_list, ExprType, SchemaModel, slots_of, type_name_at, IsResolvedBy, ResolvedNumber, Side, quoting, expr_type, quoted_text, Scope, Typed, CheckedNode, FlatTree, IsKeptOutside, AllStand, ResolvedStands, ItemsStand, NumberStands, Stands, Walk, IsStanding, StandInRow, LawsBelow, AreInRow, quoted_in}
 use Rattle.odata_typing.specs.private.Items.{AreItemsRead, IsItemRead, IsUnreadLeft}
-use Rattle.odata_typing.specs.private.Judging.{IsStanding, StandInRow}
-use Rattle.odata_typing.specs.private.LawsBelow.{LawsBelow}
-use Rattle.odata_typing.specs.private.Rows.{AreInRow, quoted_in}
 use Rattle.odata_typing.proofs.resolved_operands.Given.{number_changes, number_given, number_kept}
 use Rattle.odata_typing.proofs.resolved_operands.Numbers.{is_read, reading, reads_none}
 use Rattle.odata_typing.proofs.flat.Kept.{IsOnward, kept_on, kept_wider, same_kept, standing_kept}
 use Rattle.odata_typing.proofs.placed.Quoted.{quoted_standing}
-use Rattle.odata_typing.proofs.placed.Rows.{row_onward}
-
-same_node : (o : Option CheckedNode) (a b : CheckedNode) → o ≡ Some a → o ≡ Some b → a ≡ b
-same_node o a b first second = cc
+use Rattle.odata_typing.proofs.placed.Rows.{row_of, row_onward}
 
 -- trees one after another stand still where the list has changed before them
 row_after :
@@ -95,11 +76,7 @@ module _ (laws : LawsBelow) (schema : SchemaModel) (n : ℕ) (scope : Scope) (l 
       )
 
   stands_onward : (walk : Walk) (trees : List Tree) (i j : ℕ) → StandInRow schema n scope walk trees i j → i ≤ j
-  stands_onward walk [] i j stand = let same : i ≡ j = stand in omega arith
-  stands_onward walk (tree ∷ trees) i j stand =
-      let order : i < stand.middle = stand.left.order in
-      let more : stand.middle ≤ j = stands_onward walk trees stand.middle j stand.right in
-      omega arith
+  stands_onward walk trees i j stand = let of = row_of schema n scope walk trees i j stand in row_onward walk.list.nodes of.0 i j of.1.in_row
 
   pub items_given : (walk : Walk) (new : FlatTree) (i j : ℕ) (trees : List Tree) (row : List CheckedNode)
       → StandInRow schema n scope walk trees i j
@@ -122,7 +99,7 @@ module _ (laws : LawsBelow) (schema : SchemaModel) (n : ℕ) (scope : Scope) (l 
       let first : IsStanding schema n scope walk i m tree = stand.left in
       let mid : FlatTree = read.0 in
       let then : Walk = record walk { list = mid } in
-      let same : found ≡ first.found = same_node (slice_get walk.list.nodes i) found first.found row.0 first.at in
+      let same : found ≡ first.found = same_Some found first.found (sym row.0 ∙ first.at) in
       let stop : found.stop ≡ m = ap (λ (f : CheckedNode). f.stop) same ∙ first.last in
       let order : i < m = first.order in
       let changes : IsKeptOutside i (i + 1) walk.list mid = one_changes walk.list mid i found (quoting (quoted_in walk.list i found) (expr_type schema found.edm_type)) read.1 in

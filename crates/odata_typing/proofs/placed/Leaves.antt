@@ -1,41 +1,20 @@
 -- Nodes without children, and steps.
-use Rattle.std.proofs.Common.{◌≡◌, ◌≢◌, ◌∙◌, refl, sym, ap, subst, inr, arith, ℕ, ◌+◌, List, [], Bool, true, false, None, Some, Option, IfSome, IsSomeAnd, length, slice_get}
+use Rattle.odata_typing.proofs.Common.{◌≡◌, ◌≢◌, ◌∙◌, refl, sym, ap, subst, inr, arith, ℕ, ◌+◌, List, [], Bool, true, false, None, Some, Option, IfSome, IsSomeAnd, length, slice_get, Tree, it, literal, name, ExprType, single, structured, properties_at, slot_named, type_name_at, IsTypeThere, expr_type, IsFirstUntypable, NameReason, StepReason, NameTyped, PropertyTyped, StepTyped, Typed, variable_type, TypeFault, with_value, IsNameNode, variable_names, Judged, CheckContext, Walk, IsIdle, IsNodeJudged, IsStanding, LawsBelow, IsNodeReady, name_of, scope_of, walk_put, walk_refused}
 use Rattle.edm_values.specs.declared.value.Value.{Value}
-use Rattle.odata_syntax.specs.Tree.{Tree, it, literal, member, name}
+use Rattle.odata_syntax.specs.Tree.{member}
 use Rattle.odata_text.specs.declared.span.Span.{Span}
 use Rattle.odata_syntax.specs.declared.node.LiteralKind.{LiteralKind}
-use Rattle.csdl_schema.specs.ExprType.{ExprType, single, structured}
-use Rattle.csdl_schema.specs.SchemaModel.{properties_at, slot_named, type_name_at}
-use Rattle.odata_signatures.specs.TypeThere.{IsTypeThere}
-use Rattle.odata_signatures.specs.TypeView.{expr_type}
 use Rattle.odata_signatures.specs.declared.edm_type.EdmType.{EdmType}
 use Rattle.odata_signatures.specs.declared.edm_type.ValueType.{ValueType}
-use Rattle.odata_signatures.specs.FirstUntypable.{IsFirstUntypable, LiteralReason, NameReason, StepReason}
-use Rattle.odata_signatures.specs.LiteralValue.{LiteralTyped}
 use Rattle.odata_signatures.specs.NeededPaths.{Navigates}
-use Rattle.odata_signatures.specs.Typed.{NameTyped, PropertyTyped, StepTyped, Typed, variable_type}
-use Rattle.odata_signatures.specs.declared.refusal.TypeFault.{TypeFault}
 use Rattle.odata_signatures.specs.declared.refusal.TypeFaultCode.{TypeFaultCode}
 use Rattle.odata_checked_filter.specs.declared.checked_node.NodeKind.{NodeKind}
-use Rattle.odata_checked_filter.specs.ListChanges.{with_value}
-use Rattle.odata_checked_filter.specs.Stands.{IsNameNode, variable_names}
-use Rattle.odata_typing.specs.declared.check_context.Judged.{Judged}
-use Rattle.odata_typing.specs.declared.check_context.CheckContext.{CheckContext}
-use Rattle.odata_typing.specs.declared.judged_list.Walk.{Walk}
 use Rattle.odata_typing.specs.private.Answer.{IsReading}
-use Rattle.odata_typing.specs.private.Judging.{IsIdle, IsNodeJudged, IsStanding}
-use Rattle.odata_typing.specs.private.LawsBelow.{LawsBelow}
-use Rattle.odata_typing.specs.private.CheckContexts.{IsNodeReady, name_of}
-use Rattle.odata_typing.specs.private.Variables.{scope_of}
-use Rattle.odata_typing.specs.private.Walks.{walk_put, walk_refused}
-use Rattle.odata_typing.proofs.flat.Closing.{put_tree, refused_tree, root_in, slots_in, tree_over, valued_more, value_put}
+use Rattle.odata_typing.proofs.flat.Closing.{put_tree, refused_tree, root_in, slots_in, some_at, tree_over, value_put, valued_more}
 use Rattle.odata_typing.proofs.flat.Idle.{idle_step}
 use Rattle.odata_typing.proofs.flat.Kept.{IsMore, same_more, standing_kept}
 use Rattle.odata_typing.proofs.untypable.Names.{first_name}
-use Rattle.odata_typing.proofs.untypable.Operands.{refused_step, unread_literal}
-
-some_at : (P : Value → Type 0) (o : Option Value) (value : Value) → o ≡ Some value → P value → IsSomeAnd o P
-some_at P o value same holds = rw same holds
+use Rattle.odata_typing.proofs.untypable.Operands.{refused_step}
 
 module _ (laws : LawsBelow) (context : CheckContext) (judged : Judged) (old new : Walk) (result : Bool)
     (ready : IsNodeReady context old judged) where
@@ -59,17 +38,6 @@ module _ (laws : LawsBelow) (context : CheckContext) (judged : Judged) (old new 
       there
       refl (some_at _ (slice_get mid.list.values place) value (ap (λ (w : Walk). slice_get w.list.values place) is_valued ∙ ap (slice_get (with_value old.list value).values) at ∙ value_put old.list value) reading.value_of)
       reading.typed (sym leaf) (λ idle paths path needed. needed)
-
-  pub literal_refused :
-      (mid : Walk) (kind : LiteralKind) (code : TypeFaultCode)
-      → ((type : ExprType) → ¬ LiteralTyped (slots_in context) kind (name_of context judged) type)
-      → LiteralReason kind code
-      → result ≡ false
-      → new ≡ walk_refused mid judged.node.now.span code
-      → IsNodeJudged context judged (literal kind (name_of context judged)) old new result
-  literal_refused mid kind code untyped reason stops is =
-      refused_tree context judged old mid new (literal kind (name_of context judged)) code result stops is
-      (unread_literal laws (slots_in context) (root_in context) (scope_of context) judged.node.now.span kind (name_of context judged) code untyped reason)
 
   -- `$it`
   pub it_put :
@@ -159,11 +127,8 @@ module _ (laws : LawsBelow) (context : CheckContext) (judged : Judged) (old new 
 pub no_owner :
     (laws : LawsBelow) (context : CheckContext) (asked : List ℕ) (type : EdmType) → ((owner : ℕ) → type ≢ EdmType.Single (ValueType.Structured owner))
     → ((made : ExprType) → ¬ StepTyped (slots_in context) asked (expr_type context.schema.now type) made) × StepReason (slots_in context) asked (expr_type context.schema.now type) TypeFaultCode.UnknownProperty
-no_owner laws context asked EdmType.Null other = ((λ made typed. typed), refl)
-no_owner laws context asked (EdmType.Single (ValueType.Prim p)) other = ((λ made typed. typed), refl)
-no_owner laws context asked (EdmType.Single (ValueType.Enum e)) other = ((λ made typed. typed), refl)
 no_owner laws context asked (EdmType.Single (ValueType.Structured owner)) other = absurd (other owner refl)
-no_owner laws context asked (EdmType.Collection inner) other = ((λ made typed. typed), refl)
+no_owner laws context asked _ other = ((λ made typed. typed), refl)
 
 -- a fault with that reason and that span is the first of the step
 pub member_refused_so :

@@ -1,31 +1,11 @@
 -- Nodes of `in` before a list.
-use Rattle.std.proofs.Common.{◌≡◌, ◌∙◌, refl, sym, ap, subst, inl, inr, ℕ, ◌<◌, ◌+◌, ◌↔◌, List, [], ◌∷◌, Bool, true, false, None, IsTrue, arith}
-use Rattle.odata_syntax.specs.Tree.{Tree, in_list, trees_of_list}
-use Rattle.csdl_schema.specs.ExprType.{ExprType}
+use Rattle.odata_typing.proofs.Common.{◌≡◌, ◌∙◌, refl, sym, ap, subst, inl, inr, ℕ, ◌<◌, ◌+◌, ◌↔◌, List, [], ◌∷◌, Bool, true, false, None, IsTrue, arith, Tree, in_list, trees_of_list, ExprType, boolean_type, Side, expr_type, OperandReason, OneLacksNumber, BeforeList, sides_of, Typed, CheckedNode, ItemsStand, Stands, Judged, CheckContext, Walk, AreChildren, IsNodeJudged, IsStanding, StandInRow, LawsBelow, AreInRow, AreTypesThere, row_sides, IsNodeReady, scope_of, list_put, truth_type, walk_put, walk_refused}
 use Rattle.odata_signatures.specs.CollectionTyped.{InListTyped, IsCollection}
-use Rattle.odata_signatures.specs.ExprTypes.{boolean_type}
-use Rattle.odata_signatures.specs.Side.{Side}
-use Rattle.odata_signatures.specs.TypeView.{expr_type}
 use Rattle.odata_signatures.specs.declared.edm_type.EdmType.{EdmType}
-use Rattle.odata_signatures.specs.FirstUntypable.{OperandReason}
-use Rattle.odata_signatures.specs.Reads.{OneLacksNumber}
-use Rattle.odata_signatures.specs.Sides.{BeforeList, sides_of}
-use Rattle.odata_signatures.specs.Typed.{Typed}
 use Rattle.odata_signatures.specs.declared.refusal.TypeFaultCode.{TypeFaultCode}
-use Rattle.odata_checked_filter.specs.declared.checked_node.CheckedNode.{CheckedNode}
 use Rattle.odata_checked_filter.specs.declared.checked_node.NodeKind.{NodeKind}
-use Rattle.odata_checked_filter.specs.Stands.{ItemsStand, Stands}
 use Rattle.odata_typing.specs.declared.in_list.ItemsFit.{ItemsFit}
-use Rattle.odata_typing.specs.declared.check_context.Judged.{Judged}
-use Rattle.odata_typing.specs.declared.check_context.CheckContext.{CheckContext}
-use Rattle.odata_typing.specs.declared.judged_list.Walk.{Walk}
 use Rattle.odata_typing.specs.private.Items.{AllItemsFor, AreItemsFit, AreItemsPut, AreListFit, IsUnreadLeft, OneLacks}
-use Rattle.odata_typing.specs.private.Judging.{AreChildren, IsNodeJudged, IsStanding, StandInRow}
-use Rattle.odata_typing.specs.private.LawsBelow.{LawsBelow}
-use Rattle.odata_typing.specs.private.Rows.{AreInRow, AreTypesThere, row_sides}
-use Rattle.odata_typing.specs.private.CheckContexts.{IsNodeReady}
-use Rattle.odata_typing.specs.private.Variables.{scope_of}
-use Rattle.odata_typing.specs.private.Walks.{list_put, truth_type, walk_put, walk_refused}
 use Rattle.odata_typing.proofs.flat.Closing.{more_within, put_changed, refused_tree, root_in, slots_in, unjudged}
 use Rattle.odata_typing.proofs.flat.Idle.{idle_list}
 use Rattle.odata_typing.proofs.flat.Kept.{IsOnward, kept_wider, same_more}
@@ -44,8 +24,7 @@ pub record IsListed (context : CheckContext) (walk : Walk) (judged : Judged) (l 
 
 pub listed : (context : CheckContext) (walk : Walk) (judged : Judged) (l : Tree) (items : List Tree) → AreChildren context walk judged (l ∷ items) → IsListed context walk judged l items
 listed context walk judged l items over =
-    let of : (row : List CheckedNode) × IsRowOf context.schema.now context.filtered_type (scope_of context) walk items over.middle judged.stop row =
-    row_of context.schema.now context.filtered_type (scope_of context) walk items over.middle judged.stop over.right in
+    let of = row_of context.schema.now context.filtered_type (scope_of context) walk items over.middle judged.stop over.right in
     record { middle = over.middle; left = over.left; stand = over.right; row = of.0; is = of.1 }
 
 -- what a test says
@@ -155,39 +134,35 @@ module _ (laws : LawsBelow) (context : CheckContext) (judged : Judged) (old new 
       (ap (λ (w : Walk). w.fault) is ∙ ap (λ (w : Walk). w.fault) same ∙ ready.ready.fresh)
 
   -- the same by the type and the place that the code has
-  pub unnumbered_code :
-      (left : EdmType) (start : ℕ) (fit : ItemsFit)
-      → left ≡ list.left.found.edm_type
-      → start ≡ list.middle
-      → IsUnreadLeft (expr_type context.schema.now left)
-      → ((row : List CheckedNode) → AreInRow old.list.nodes row start judged.stop → AreListFit (slots_in context) (expr_type context.schema.now left) (row_sides context.schema.now old.list start row) fit)
-      → IsTrue result ↔ (fit ≡ ItemsFit.All)
-      → new ≡ list_put old judged fit
-      → IsNodeJudged context judged (in_list l (trees_of_list items)) old new result
-  unnumbered_code left start fit same at unread fits =
-      let schema = context.schema.now in
-      let F : EdmType → ℕ → Type 0 = λ t k. (row : List CheckedNode) → AreInRow old.list.nodes row k judged.stop → AreListFit (slots_in context) (expr_type schema t) (row_sides schema old.list k row) fit in
-      let fits_here : F list.left.found.edm_type list.middle = subst (λ (k : ℕ). F list.left.found.edm_type k) at (subst (λ (t : EdmType). F t start) same fits) in
-      judged_unnumbered fit (subst (λ (t : EdmType). IsUnreadLeft (expr_type schema t)) same unread) (fits_here list.row list.is.in_row)
+  module _ (left : EdmType) (start : ℕ) (fit : ItemsFit) (same : left ≡ list.left.found.edm_type) (at : start ≡ list.middle) where
+    by_code : (F : EdmType → ℕ → Type 0) → F left start → F list.left.found.edm_type list.middle
+    by_code F here = subst (λ (k : ℕ). F list.left.found.edm_type k) at (subst (λ (t : EdmType). F t start) same here)
 
-  pub numbered_code :
-      (left : EdmType) (start : ℕ) (mid : Walk) (fit : ItemsFit)
-      → left ≡ list.left.found.edm_type
-      → start ≡ list.middle
-      → ¬ IsCollection (expr_type context.schema.now left)
-      → ((row : List CheckedNode) → AreInRow old.list.nodes row start judged.stop → AreItemsFit (slots_in context) (expr_type context.schema.now left) (row_sides context.schema.now old.list start row) fit)
-      → ((row : List CheckedNode) → AreInRow old.list.nodes row start judged.stop → AreItemsPut (slots_in context) context.schema.now (expr_type context.schema.now left) old.list start row mid.list fit)
-      → mid ≡ record old { list = mid.list }
-      → IsTrue result ↔ (fit ≡ ItemsFit.All)
-      → new ≡ list_put mid judged fit
-      → IsNodeJudged context judged (in_list l (trees_of_list items)) old new result
-  numbered_code left start mid fit same at single fits puts =
-      let schema = context.schema.now in
-      let F : EdmType → ℕ → Type 0 = λ t k. (row : List CheckedNode) → AreInRow old.list.nodes row k judged.stop → AreItemsFit (slots_in context) (expr_type schema t) (row_sides schema old.list k row) fit in
-      let P : EdmType → ℕ → Type 0 = λ t k. (row : List CheckedNode) → AreInRow old.list.nodes row k judged.stop → AreItemsPut (slots_in context) schema (expr_type schema t) old.list k row mid.list fit in
-      let fits_here : F list.left.found.edm_type list.middle = subst (λ (k : ℕ). F list.left.found.edm_type k) at (subst (λ (t : EdmType). F t start) same fits) in
-      let puts_here : P list.left.found.edm_type list.middle = subst (λ (k : ℕ). P list.left.found.edm_type k) at (subst (λ (t : EdmType). P t start) same puts) in
-      judged_numbered mid fit (subst (λ (t : EdmType). ¬ IsCollection (expr_type schema t)) same single) (fits_here list.row list.is.in_row) (puts_here list.row list.is.in_row)
+    pub unnumbered_code :
+        IsUnreadLeft (expr_type context.schema.now left)
+        → ((row : List CheckedNode) → AreInRow old.list.nodes row start judged.stop → AreListFit (slots_in context) (expr_type context.schema.now left) (row_sides context.schema.now old.list start row) fit)
+        → IsTrue result ↔ (fit ≡ ItemsFit.All)
+        → new ≡ list_put old judged fit
+        → IsNodeJudged context judged (in_list l (trees_of_list items)) old new result
+    unnumbered_code unread fits =
+        let schema = context.schema.now in
+        judged_unnumbered fit (by_code (λ (t : EdmType) (k : ℕ). IsUnreadLeft (expr_type schema t)) unread)
+        (by_code (λ (t : EdmType) (k : ℕ). (row : List CheckedNode) → AreInRow old.list.nodes row k judged.stop → AreListFit (slots_in context) (expr_type schema t) (row_sides schema old.list k row) fit) fits list.row list.is.in_row)
+
+    pub numbered_code :
+        (mid : Walk)
+        → ¬ IsCollection (expr_type context.schema.now left)
+        → ((row : List CheckedNode) → AreInRow old.list.nodes row start judged.stop → AreItemsFit (slots_in context) (expr_type context.schema.now left) (row_sides context.schema.now old.list start row) fit)
+        → ((row : List CheckedNode) → AreInRow old.list.nodes row start judged.stop → AreItemsPut (slots_in context) context.schema.now (expr_type context.schema.now left) old.list start row mid.list fit)
+        → mid ≡ record old { list = mid.list }
+        → IsTrue result ↔ (fit ≡ ItemsFit.All)
+        → new ≡ list_put mid judged fit
+        → IsNodeJudged context judged (in_list l (trees_of_list items)) old new result
+    numbered_code mid single fits puts =
+        let schema = context.schema.now in
+        judged_numbered mid fit (by_code (λ (t : EdmType) (k : ℕ). ¬ IsCollection (expr_type schema t)) single)
+        (by_code (λ (t : EdmType) (k : ℕ). (row : List CheckedNode) → AreInRow old.list.nodes row k judged.stop → AreItemsFit (slots_in context) (expr_type schema t) (row_sides schema old.list k row) fit) fits list.row list.is.in_row)
+        (by_code (λ (t : EdmType) (k : ℕ). (row : List CheckedNode) → AreInRow old.list.nodes row k judged.stop → AreItemsPut (slots_in context) schema (expr_type schema t) old.list k row mid.list fit) puts list.row list.is.in_row)
 
 -- the nodes of the items, from the place that the code has
 pub row_there :

@@ -1,13 +1,6 @@
 -- Loops over nodes one after another: those seen, and those that are left.
-use Rattle.std.proofs.Common.{◌≡◌, refl, sym, ap, subst, ℕ, ◌<◌, ◌≤◌, ◌+◌, List, [], ◌∷◌, ◌++◌, Some, slice_get, arith}
-use Rattle.odata_signatures.specs.Side.{Side, quoting}
-use Rattle.odata_signatures.specs.TypeThere.{IsTypeThere}
-use Rattle.odata_signatures.specs.TypeView.{expr_type}
-use Rattle.csdl_schema.specs.SchemaModel.{SchemaModel}
-use Rattle.odata_checked_filter.specs.declared.checked_node.CheckedNode.{CheckedNode}
-use Rattle.odata_checked_filter.specs.FlatTree.{FlatTree}
-use Rattle.odata_typing.specs.private.Rows.{AreInRow, AreTypesThere, quoted_in, row_sides}
-use Rattle.odata_typing.proofs.placed.Rows.{one_row, row_onward}
+use Rattle.odata_typing.proofs.Common.{◌≡◌, refl, ap, subst, ℕ, ◌<◌, ◌≤◌, ◌+◌, List, [], ◌∷◌, ◌++◌, Some, slice_get, arith, Side, quoting, IsTypeThere, expr_type, SchemaModel, CheckedNode, FlatTree, AreInRow, AreTypesThere, quoted_in, row_sides}
+use Rattle.odata_typing.proofs.placed.Rows.{joined_rows, one_row, row_onward}
 
 -- the nodes from the first place up to one have been seen, those up to the last are left
 pub record IsSeen (nodes seen rest : List CheckedNode) (first place last : ℕ) : Type 0 where
@@ -43,17 +36,11 @@ none_left nodes (found ∷ more) place last are past =
     let onward : found.stop ≤ last = row_onward nodes more found.stop last are.2 in
     absurd (omega arith)
 
-row_more : (nodes seen : List CheckedNode) (found : CheckedNode) (first place : ℕ) → AreInRow nodes seen first place → slice_get nodes place ≡ Some found → place < found.stop → AreInRow nodes (seen ++ found ∷ []) first found.stop
-row_more nodes [] found first place are at order =
-    let same : first ≡ place = are in
-    (subst (λ (k : ℕ). slice_get nodes k ≡ Some found) (sym same) at, subst (λ (k : ℕ). k < found.stop) (sym same) order, refl)
-row_more nodes (s ∷ seen) found first place are at order = (are.0, are.1, row_more nodes seen found s.stop place are.2 at order)
-
 pub seen_more :
     (nodes seen rest : List CheckedNode) (first place last : ℕ) (seen_is : IsSeen nodes seen rest first place last) (next : IsNext nodes rest place last)
     → IsSeen nodes (seen ++ next.found ∷ []) next.more first next.found.stop last
 seen_more nodes seen rest first place last seen_is next = record {
-  before = row_more nodes seen next.found first place seen_is.before next.at next.order;
+  before = joined_rows nodes seen (next.found ∷ []) first place next.found.stop seen_is.before (next.at, next.order, refl);
   after = next.after;
 }
 

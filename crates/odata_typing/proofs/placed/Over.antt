@@ -1,23 +1,10 @@
 -- Nodes over one operand.
-use Rattle.std.proofs.Common.{◌≡◌, sym, subst, ℕ, ◌+◌, List, [], ◌∷◌, Bool, true, false, None, Some, Option, IfNone, IfSome}
-use Rattle.odata_syntax.specs.Tree.{Tree}
-use Rattle.csdl_schema.specs.ExprType.{ExprType}
-use Rattle.odata_signatures.specs.TypeThere.{IsTypeThere}
-use Rattle.odata_signatures.specs.TypeView.{expr_type}
+use Rattle.odata_typing.proofs.Common.{◌≡◌, sym, subst, ℕ, ◌+◌, List, [], ◌∷◌, Bool, true, false, None, Some, Option, IfNone, IfSome, Tree, ExprType, IsTypeThere, expr_type, Judged, CheckContext, Walk, UnaryTyped, unary_code, unary_kind, unary_shape, AreChildren, IsNodeJudged, IsStanding, LawsBelow, IsNodeReady, scope_of, walk_put, walk_refused}
 use Rattle.odata_signatures.specs.declared.edm_type.EdmType.{EdmType}
 use Rattle.odata_signatures.specs.declared.refusal.TypeFaultCode.{TypeFaultCode}
 use Rattle.odata_checked_filter.specs.declared.checked_node.NodeKind.{NodeKind}
-use Rattle.odata_typing.specs.declared.check_context.Judged.{Judged}
-use Rattle.odata_typing.specs.declared.check_context.CheckContext.{CheckContext}
 use Rattle.odata_typing.specs.declared.unary_node.Unary.{Unary}
-use Rattle.odata_typing.specs.declared.judged_list.Walk.{Walk}
-use Rattle.odata_typing.specs.private.Forms.{UnaryTyped, unary_code, unary_kind, unary_shape}
-use Rattle.odata_typing.specs.private.Judging.{AreChildren, IsNodeJudged, IsStanding}
-use Rattle.odata_typing.specs.private.LawsBelow.{LawsBelow}
-use Rattle.odata_typing.specs.private.CheckContexts.{IsNodeReady}
-use Rattle.odata_typing.specs.private.Variables.{scope_of}
-use Rattle.odata_typing.specs.private.Walks.{walk_put, walk_refused}
-use Rattle.odata_typing.proofs.flat.Closing.{put_tree, refused_tree, root_in, slots_in}
+use Rattle.odata_typing.proofs.flat.Closing.{IsPutFor, put_tree, refused_tree, root_in, slots_in}
 use Rattle.odata_typing.proofs.flat.Idle.{idle_over}
 use Rattle.odata_typing.proofs.flat.Kept.{same_more}
 use Rattle.odata_typing.proofs.forms.Unary.{unary_of_kind, unary_stands, unary_text, unary_typed, unary_valued}
@@ -73,14 +60,11 @@ module _ (laws : LawsBelow) (context : CheckContext) (judged : Judged) (old new 
       → IfSome made (λ type. UnaryTyped unary (expr_type context.schema.now below) (expr_type context.schema.now type))
       → IfSome made (IsTypeThere context.schema.now)
       → IfNone made ((type : ExprType) → ¬ UnaryTyped unary (expr_type context.schema.now below) type)
-      → IfSome made (λ type. result ≡ true)
-      → IfSome made (λ type. new ≡ walk_put old judged kind type [])
-      → IfNone made (result ≡ false)
-      → IfNone made (new ≡ walk_refused old judged.node.now.span code)
+      → IsPutFor made result new (λ type. walk_put old judged kind type []) (walk_refused old judged.node.now.span code)
       → IsNodeJudged context judged (unary_shape unary operand) old new result
-  judged_over (Some type) kind code below same kind_is code_is typed there none goes_on put stops refused =
-      put_over type goes_on (subst (λ (k : NodeKind). new ≡ walk_put old judged k type []) kind_is put)
+  judged_over (Some type) kind code below same kind_is code_is typed there none is =
+      put_over type is.some (subst (λ (k : NodeKind). new ≡ walk_put old judged k type []) kind_is is.put_is)
       (subst (λ (t : EdmType). UnaryTyped unary (expr_type context.schema.now t) (expr_type context.schema.now type)) same typed) there
-  judged_over None kind code below same kind_is code_is typed there none goes_on put stops refused =
-      refuse_over code stops refused
+  judged_over None kind code below same kind_is code_is typed there none is =
+      refuse_over code is.none is.refused_is
       (subst (λ (t : EdmType). (type : ExprType) → ¬ UnaryTyped unary (expr_type context.schema.now t) type) same none) code_is

@@ -1,18 +1,5 @@
 -- Trees one after another, by their nodes.
-use Rattle.std.proofs.Common.{◌≡◌, ◌∙◌, refl, sym, ap, subst, ℕ, ◌<◌, ◌≤◌, List, [], ◌∷◌, false, Option, Some, map, slice_get, arith}
-use Rattle.std.specs.List.{AllByRecursion}
-use Rattle.odata_syntax.specs.Tree.{Tree, trees_of_list}
-use Rattle.csdl_schema.specs.ExprType.{ExprType}
-use Rattle.csdl_schema.specs.SchemaModel.{SchemaModel, slots_of, type_name_at}
-use Rattle.odata_signatures.specs.Side.{Side, quoting}
-use Rattle.odata_signatures.specs.TypeView.{expr_type}
-use Rattle.odata_signatures.specs.Sides.{quoted_text, sides_of}
-use Rattle.odata_signatures.specs.Typed.{AreTyped, IsTyped, Scope}
-use Rattle.odata_checked_filter.specs.declared.checked_node.CheckedNode.{CheckedNode}
-use Rattle.odata_checked_filter.specs.Stands.{AllStand}
-use Rattle.odata_typing.specs.declared.judged_list.Walk.{Walk}
-use Rattle.odata_typing.specs.private.Judging.{IsStanding, StandInRow}
-use Rattle.odata_typing.specs.private.Rows.{AreInRow, AreTypesThere, quoted_in, row_sides}
+use Rattle.odata_typing.proofs.Common.{◌≡◌, ◌∙◌, refl, sym, ap, subst, ℕ, ◌<◌, ◌≤◌, List, [], ◌∷◌, false, Option, map, arith, ◌++◌, same_Some, AllByRecursion, Tree, trees_of_list, ExprType, SchemaModel, slots_of, type_name_at, Side, quoting, expr_type, quoted_text, sides_of, AreTyped, IsTyped, Scope, CheckedNode, AllStand, Walk, IsStanding, StandInRow, AreInRow, AreTypesThere, quoted_in, row_sides}
 use Rattle.odata_typing.proofs.flat.Idle.{AreIdle}
 use Rattle.odata_typing.proofs.placed.Quoted.{quoted_standing}
 
@@ -66,8 +53,10 @@ row_onward nodes (found ∷ row) i j are =
     let more : found.stop ≤ j = row_onward nodes row found.stop j are.2 in
     omega arith
 
-same_found : (o : Option CheckedNode) (a b : CheckedNode) → o ≡ Some a → o ≡ Some b → a ≡ b
-same_found o a b first second = cc
+-- one row after another
+pub joined_rows : (nodes seen rest : List CheckedNode) (from place last : ℕ) → AreInRow nodes seen from place → AreInRow nodes rest place last → AreInRow nodes (seen ++ rest) from last
+joined_rows nodes [] rest from place last are more = subst (λ (k : ℕ). AreInRow nodes rest k last) (sym are) more
+joined_rows nodes (s ∷ seen) rest from place last are more = (are.0, are.1, joined_rows nodes seen rest s.stop place last are.2 more)
 
 -- from one index up to another there is one row
 pub one_row : (nodes row other : List CheckedNode) (i j : ℕ) → AreInRow nodes row i j → AreInRow nodes other i j → row ≡ other
@@ -75,6 +64,6 @@ one_row nodes [] [] i j a b = refl
 one_row nodes [] (found ∷ other) i j a b = let e : i ≡ j = a in let x : i < found.stop = b.1 in let y : found.stop ≤ j = row_onward nodes other found.stop j b.2 in absurd (omega arith)
 one_row nodes (found ∷ row) [] i j a b = let e : i ≡ j = b in let x : i < found.stop = a.1 in let y : found.stop ≤ j = row_onward nodes row found.stop j a.2 in absurd (omega arith)
 one_row nodes (found ∷ row) (other ∷ more) i j a b =
-    let same : found ≡ other = same_found (slice_get nodes i) found other a.0 b.0 in
+    let same : found ≡ other = same_Some found other (sym a.0 ∙ b.0) in
     let again : AreInRow nodes more found.stop j = subst (λ (f : CheckedNode). AreInRow nodes more f.stop j) (sym same) b.2 in
     ap (λ (f : CheckedNode). f ∷ row) same ∙ ap (λ (rest : List CheckedNode). other ∷ rest) (one_row nodes row more found.stop j a.2 again)

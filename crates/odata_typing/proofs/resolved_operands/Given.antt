@@ -1,21 +1,10 @@
 -- A String literal that is given a number stands as that, and all else as it stood.
-use Rattle.std.proofs.Common.{◌≡◌, ◌∙◌, refl, sym, ap, subst, inl, inr, ◌⊎◌, ℕ, zero, suc, ℤ, ◌<◌, ◌≤◌, ◌+◌, List, [], ◌∷◌, Bool, true, false, Option, Some, None, IsSomeAnd, length, length-set, slice_get, slice_set, arith}
-use Rattle.std.proofs.lemmas.Option.{slice_get_cases, slice_get_within}
+use Rattle.odata_typing.proofs.Common.{◌≡◌, ◌∙◌, refl, sym, ap, subst, inl, inr, ◌⊎◌, ℕ, zero, suc, ℤ, ◌<◌, ◌≤◌, ◌+◌, List, [], ◌∷◌, Bool, true, false, Option, Some, None, IsSomeAnd, length, length-set, slice_get, slice_set, arith, none-some, same_Some, slice_get_cases, slice_get_within, Tree, literal, node, SchemaModel, quoted_text, Scope, CheckedNode, FlatTree, IsKeptOutside, number_put, HasValue, NumberStands, Stands, Walk, IsNumberPut}
 use Rattle.edm_values.specs.declared.value.Value.{Value}
-use Rattle.odata_syntax.specs.Tree.{Tree, literal, node}
 use Rattle.odata_syntax.specs.declared.node.LiteralKind.{LiteralKind}
-use Rattle.csdl_schema.specs.SchemaModel.{SchemaModel}
-use Rattle.odata_signatures.specs.Sides.{quoted_text}
-use Rattle.odata_signatures.specs.Typed.{Scope}
-use Rattle.odata_checked_filter.specs.declared.checked_node.CheckedNode.{CheckedNode}
 use Rattle.odata_checked_filter.specs.declared.checked_node.NodeKind.{NodeKind}
-use Rattle.odata_checked_filter.specs.FlatTree.{FlatTree}
-use Rattle.odata_checked_filter.specs.ListChanges.{IsKeptOutside, number_put}
-use Rattle.odata_checked_filter.specs.Stands.{HasValue, NumberStands, Stands}
-use Rattle.odata_typing.specs.declared.judged_list.Walk.{Walk}
-use Rattle.odata_typing.specs.private.Walks.{IsNumberPut}
-use Rattle.odata_typing.proofs.flat.Closing.{get_put, value_kept, value_put}
-use Rattle.odata_typing.proofs.flat.Kept.{same_kept}
+use Rattle.odata_typing.proofs.flat.Closing.{get_put, some_at, value_kept, value_put}
+use Rattle.odata_typing.proofs.flat.Kept.{first_outside, same_kept}
 
 -- another index is as it was
 get_elsewhere : (nodes : List CheckedNode) (place k : ℕ) (put : CheckedNode) → (k ≡ place → ⊥) → slice_get (slice_set nodes place put) k ≡ slice_get nodes k
@@ -67,22 +56,9 @@ put_only old new place n true inside put =
     is ∙ ap (λ (list : FlatTree). record old { list = list }) (sym (ap (λ (w : Walk). w.list) is))
 put_only old new place n false inside put = put ∙ ap (λ (list : FlatTree). record old { list = list }) (sym (ap (λ (w : Walk). w.list) put))
 
-none_some : (quoted : Option (List ℕ)) (spelling : List ℕ) → quoted ≡ None → quoted ≡ Some spelling → ⊥
-none_some quoted spelling none some = cc
-
-same_found : (o : Option CheckedNode) (a b : CheckedNode) → o ≡ Some a → o ≡ Some b → a ≡ b
-same_found o a b first second = cc
-
-value_is : (o : Option Value) (value : Value) → o ≡ Some value → IsSomeAnd o (λ held. held ≡ value)
-value_is o value same = rw same refl
-
 some_stays : (P : Value → Type 0) (old new : Option Value) → ((value : Value) → old ≡ Some value → new ≡ Some value) → IsSomeAnd old P → IsSomeAnd new P
 some_stays P (Some value) new kept holds = rw (kept value refl) holds
 some_stays P None new kept holds = absurd holds
-
-first_outside : (i j from to : ℕ) → from + 1 ≡ to → (to ≤ i) ⊎ (j ≤ from) → (from < i) ⊎ (j ≤ from)
-first_outside i j from to last (inl before) = let h : to ≤ i = before in inl (omega arith)
-first_outside i j from to last (inr after) = inr after
 
 module _ (schema : SchemaModel) (n : ℕ) (scope : Scope) where
   -- the literal stands as its number
@@ -99,7 +75,7 @@ module _ (schema : SchemaModel) (n : ℕ) (scope : Scope) where
           stands_at = get_put list.nodes i put (slice_get_within list.nodes i top.found top.stands_at);
           text_at = top.text_at;
           kind = refl;
-          valued = value_is (slice_get (number_put list i top.found number).values (length list.values)) (Value.Enum number) (value_put list (Value.Enum number));
+          valued = some_at _ (slice_get (number_put list i top.found number).values (length list.values)) (Value.Enum number) (value_put list (Value.Enum number)) refl;
           starts = top.starts;
           stops = top.stops;
           last = top.last;
@@ -115,10 +91,10 @@ module _ (schema : SchemaModel) (n : ℕ) (scope : Scope) where
       → Stands schema n scope list i j tree
       → NumberStands schema n scope (number_put list i found number) number i j tree
   number_given list i j (node start stop (literal LiteralKind.Str text)) found spelling number quotes at stands =
-      let same : stands.top.found ≡ found = same_found (slice_get list.nodes i) stands.top.found found stands.top.stands_at at in
+      let same : stands.top.found ≡ found = same_Some stands.top.found found (sym stands.top.stands_at ∙ at) in
       subst (λ (f : CheckedNode). NumberStands schema n scope (number_put list i f number) number i j (node start stop (literal LiteralKind.Str text))) same
       (given_there list i j start stop text number stands)
-  number_given list i j _ found spelling number quotes at stands = absurd (none_some None spelling refl quotes)
+  number_given list i j _ found spelling number quotes at stands = absurd (none-some spelling quotes)
 
   -- and does so where the list changes elsewhere
   value_stays : (old new : FlatTree) (IsIt : Value → Type 0) (kind : NodeKind) → ((k : ℕ) (value : Value) → slice_get old.values k ≡ Some value → slice_get new.values k ≡ Some value)
@@ -135,7 +111,7 @@ module _ (schema : SchemaModel) (n : ℕ) (scope : Scope) where
   number_kept old new i j from to (node start stop (literal LiteralKind.Str spelling)) number kept outside stands =
       let top = stands.top in
       let last : from + 1 ≡ to = stands.children in
-      let there : (from < i) ⊎ (j ≤ from) = first_outside i j from to last outside in
+      let there : (from < i) ⊎ (j ≤ from) = first_outside i j from to (omega arith) outside in
       record {
         top = record {
           found = top.found;

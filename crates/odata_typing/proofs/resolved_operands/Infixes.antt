@@ -1,22 +1,11 @@
 -- Nodes between two operands, one of which may be resolved by the other.
-use Rattle.std.proofs.Common.{◌≡◌, refl, subst, inl, inr, ℕ, ℤ, List, Option}
-use Rattle.odata_syntax.specs.Tree.{Tree, node}
+use Rattle.odata_typing.proofs.Common.{◌≡◌, refl, subst, inl, inr, ℕ, ℤ, List, Option, Tree, node, ExprType, single, enumeration, Slots, boolean_type, string_type, HasNumber, IsResolvedBy, LacksNumber, ResolvedNumber, IsReason, OfEquality, ReadsNone, Between, quoted_text, side_of, Scope, Typed, InfixByTypes, InfixReason, InfixTyped, infix_shape, LawsBelow}
 use Rattle.odata_syntax.specs.declared.binary_operator.BinaryOperator.{BinaryOperator}
-use Rattle.csdl_schema.specs.ExprType.{ExprType, single, enumeration}
-use Rattle.csdl_schema.specs.SchemaModel.{Slots}
 use Rattle.odata_syntax.specs.declared.binary_operator.ComparisonOperator.{ComparisonOperator}
-use Rattle.odata_signatures.specs.ExprTypes.{boolean_type, string_type}
 use Rattle.odata_signatures.specs.HasTyped.{AreFlags}
 use Rattle.odata_signatures.specs.OperatorTyped.{OperatorByTypes, IsEquality, OperatorTyped}
-use Rattle.odata_signatures.specs.QuotedNumber.{HasNumber, IsResolvedBy, LacksNumber, ResolvedNumber}
-use Rattle.odata_signatures.specs.FirstUntypable.{IsReason}
-use Rattle.odata_signatures.specs.Reads.{OfEquality, ReadsNone}
-use Rattle.odata_signatures.specs.Sides.{Between, quoted_text, side_of}
-use Rattle.odata_signatures.specs.Typed.{Scope, Typed}
 use Rattle.odata_signatures.specs.declared.refusal.TypeFaultCode.{TypeFaultCode}
 use Rattle.odata_checked_filter.specs.declared.checked_node.NodeKind.{NodeKind}
-use Rattle.odata_typing.specs.private.Forms.{InfixByTypes, InfixReason, InfixTyped, infix_shape}
-use Rattle.odata_typing.specs.private.LawsBelow.{LawsBelow}
 use Rattle.odata_typing.specs.private.OperandTexts.{IsLeftRead, IsRightRead, OneIsRead}
 use Rattle.odata_typing.proofs.resolved_operands.Numbers.{is_read, reading, reads_none, string_unread}
 

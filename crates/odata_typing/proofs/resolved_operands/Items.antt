@@ -1,24 +1,10 @@
 -- The items of a list after an operand of an enumeration.
-use Rattle.std.proofs.Common.{◌≡◌, refl, sym, subst, inl, inr, ◌⊎◌, ℕ, List, [], ◌∷◌, ◌++◌}
-use Rattle.odata_syntax.specs.Tree.{Tree, trees_of_list}
-use Rattle.csdl_schema.specs.ExprType.{ExprType, single, enumeration}
+use Rattle.odata_typing.proofs.Common.{◌≡◌, refl, sym, subst, inl, inr, ◌⊎◌, ℕ, List, [], ◌∷◌, ◌++◌, Tree, trees_of_list, ExprType, single, enumeration, SchemaModel, Slots, boolean_type, string_type, IsResolvedBy, LacksNumber, Side, quoting, expr_type, OneLacksNumber, BeforeList, quoted_text, sides_of, AreTyped, Scope, Typed, FlatTree, CheckedNode, LawsBelow, AreInRow, quoted_in}
 use Rattle.odata_syntax.specs.declared.binary_operator.ComparisonOperator.{ComparisonOperator}
-use Rattle.csdl_schema.specs.SchemaModel.{SchemaModel, Slots}
 use Rattle.odata_signatures.specs.CollectionTyped.{InListTyped, IsCollection, IsItemFor}
 use Rattle.odata_signatures.specs.ComparableTypes.{AreComparable}
-use Rattle.odata_signatures.specs.ExprTypes.{boolean_type, string_type}
-use Rattle.odata_signatures.specs.QuotedNumber.{IsResolvedBy, LacksNumber}
-use Rattle.odata_signatures.specs.Side.{Side, quoting}
-use Rattle.odata_signatures.specs.TypeView.{expr_type}
-use Rattle.odata_signatures.specs.Reads.{OneLacksNumber}
-use Rattle.odata_signatures.specs.Sides.{BeforeList, quoted_text, sides_of}
-use Rattle.odata_signatures.specs.Typed.{AreTyped, Scope, Typed}
-use Rattle.odata_checked_filter.specs.FlatTree.{FlatTree}
-use Rattle.odata_checked_filter.specs.declared.checked_node.CheckedNode.{CheckedNode}
 use Rattle.odata_typing.specs.declared.in_list.ItemsFit.{ItemsFit}
 use Rattle.odata_typing.specs.private.Items.{AllItemsFor, AreItemsFit, AreItemsPut, AreItemsRead, IsItemPut, IsItemRead, IsUnreadLeft, OneLacks, worse_fit}
-use Rattle.odata_typing.specs.private.LawsBelow.{LawsBelow}
-use Rattle.odata_typing.specs.private.Rows.{AreInRow, quoted_in}
 use Rattle.odata_typing.proofs.resolved_operands.Numbers.{is_read, reading}
 
 -- ---- one item
@@ -68,10 +54,9 @@ fit_more slots left items item ItemsFit.All ItemsFit.All a b = (beside_more slot
 fit_more slots left items item ItemsFit.All ItemsFit.Refused a b = ((λ all. b.0 (resolved_front slots left items item all).1), neither_lacks slots left items item a.1 b.1)
 fit_more slots left items item ItemsFit.All ItemsFit.Unknown a b = last_lacks slots left items item b
 fit_more slots left items item ItemsFit.All ItemsFit.OutOfMemory a b = tt
-fit_more slots left items item ItemsFit.Refused ItemsFit.All a b = ((λ all. a.0 (resolved_front slots left items item all).0), neither_lacks slots left items item a.1 b.1)
-fit_more slots left items item ItemsFit.Refused ItemsFit.Refused a b = ((λ all. a.0 (resolved_front slots left items item all).0), neither_lacks slots left items item a.1 b.1)
 fit_more slots left items item ItemsFit.Refused ItemsFit.Unknown a b = last_lacks slots left items item b
 fit_more slots left items item ItemsFit.Refused ItemsFit.OutOfMemory a b = tt
+fit_more slots left items item ItemsFit.Refused _ a b = ((λ all. a.0 (resolved_front slots left items item all).0), neither_lacks slots left items item a.1 b.1)
 fit_more slots left items item ItemsFit.Unknown own a b = front_lacks slots left items item a
 fit_more slots left items item ItemsFit.OutOfMemory own a b = tt
 
@@ -100,13 +85,9 @@ pub read_more : (slots : Slots) (schema : SchemaModel) (left : ExprType) (nodes 
     → IsItemPut slots left (quoting (quoted_in new place found) (expr_type schema found.edm_type)) new place found then own
     → AreItemsPut slots schema left old from (seen ++ found ∷ []) then (worse_fit fit own)
 read_more slots schema left nodes seen found old new then from place ItemsFit.All ItemsFit.All row are is = read_front slots schema left nodes seen found old new then from place row are is
-read_more slots schema left nodes seen found old new then from place ItemsFit.All ItemsFit.Refused row are is = tt
-read_more slots schema left nodes seen found old new then from place ItemsFit.All ItemsFit.Unknown row are is = tt
-read_more slots schema left nodes seen found old new then from place ItemsFit.All ItemsFit.OutOfMemory row are is = tt
+read_more slots schema left nodes seen found old new then from place ItemsFit.All _ row are is = tt
 read_more slots schema left nodes seen found old new then from place ItemsFit.Refused ItemsFit.All row are is = tt
-read_more slots schema left nodes seen found old new then from place ItemsFit.Refused ItemsFit.Refused row are is = tt
-read_more slots schema left nodes seen found old new then from place ItemsFit.Refused ItemsFit.Unknown row are is = tt
-read_more slots schema left nodes seen found old new then from place ItemsFit.Refused ItemsFit.OutOfMemory row are is = tt
+read_more slots schema left nodes seen found old new then from place ItemsFit.Refused _ row are is = tt
 read_more slots schema left nodes seen found old new then from place ItemsFit.Unknown own row are is = tt
 read_more slots schema left nodes seen found old new then from place ItemsFit.OutOfMemory own row are is = tt
 

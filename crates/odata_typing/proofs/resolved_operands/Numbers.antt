@@ -1,12 +1,5 @@
 -- What a tree stands for by the type of the other operand.
-use Rattle.std.proofs.Common.{◌≡◌, refl, subst, ℕ, ℤ, List, Option, Some, None}
-use Rattle.odata_syntax.specs.Tree.{Tree}
-use Rattle.csdl_schema.specs.ExprType.{ExprType, single, enumeration}
-use Rattle.csdl_schema.specs.SchemaModel.{Slots}
-use Rattle.odata_signatures.specs.ExprTypes.{string_type}
-use Rattle.odata_signatures.specs.QuotedNumber.{IsResolvedBy, ResolvedNumber}
-use Rattle.odata_signatures.specs.Reads.{ReadsNone}
-use Rattle.odata_signatures.specs.Sides.{quoted_text}
+use Rattle.odata_typing.proofs.Common.{◌≡◌, refl, subst, ℕ, ℤ, List, Option, Some, None, Tree, ExprType, single, enumeration, Slots, string_type, IsResolvedBy, ResolvedNumber, ReadsNone, quoted_text}
 
 -- what stands for a number is read
 pub is_read : (slots : Slots) (type : ExprType) (quoted : Option (List ℕ)) (n : ℤ) → ResolvedNumber slots type quoted n → IsResolvedBy type quoted

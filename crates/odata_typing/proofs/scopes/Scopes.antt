@@ -1,18 +1,11 @@
 -- The scope of range variables, and what a name stands for in it.
-use Rattle.std.proofs.Common.{◌≡◌, ◌∙◌, ◌+◌, ℕ, suc, Bor, IfSome, SomeIff, arith, List, [], ◌∷◌, Option, Some, None, MatchOption, Result, Ok, Err, IfOk, true, false, length, nat_eq, refl, sym, ap, subst, rules}
+use Rattle.odata_typing.proofs.Common.{◌≡◌, ◌∙◌, ◌+◌, ℕ, suc, Bor, IfSome, SomeIff, arith, List, [], ◌∷◌, Option, Some, None, MatchOption, Result, Ok, Err, IfOk, true, false, length, refl, sym, ap, subst, rules, variable_names, ExprType, SchemaModel, Slots, expr_type, NameTyped, PropertyTyped, Scope, variable_type, with_variable, AreThere, IsNamedBy, scope_in, types_in}
+use Rattle.std.proofs.Common.{nat_eq}
 use Rattle.std.specs.Cmp.Lexicographic.{pointwise}
-use Rattle.std.specs.List.{AllByRecursion}
 use Rattle.std.specs.declared.alloc.AllocError.{AllocError}
-use Rattle.odata_signatures.specs.TypeThere.{IsTypeThere}
-use Rattle.odata_checked_filter.specs.Stands.{variable_names}
-use Rattle.csdl_schema.specs.ExprType.{ExprType}
-use Rattle.csdl_schema.specs.SchemaModel.{SchemaModel, Slots}
-use Rattle.odata_signatures.specs.TypeView.{expr_type}
 use Rattle.odata_signatures.specs.declared.edm_type.EdmType.{EdmType}
-use Rattle.odata_signatures.specs.Typed.{NameTyped, PropertyTyped, Scope, variable_type, with_variable}
 use Rattle.odata_typing.specs.declared.variables.Variables.{Variables, Bound, Empty, the_lemmas}
 use Rattle.odata_typing.specs.declared.variables.NamedVariable.{NamedVariable}
-use Rattle.odata_typing.specs.private.Variables.{AreThere, IsNamedBy, scope_in, types_in}
 
 more_by_one : (n : ℕ) → n + 1 ≡ suc n
 more_by_one n = omega arith
@@ -41,10 +34,6 @@ types_in-Bound name type outer = search (rules, the_lemmas)
 pub none_there : (schema : SchemaModel) → AreThere schema Empty
 none_there schema = rw types_in-Empty tt
 
-pub bound_there : (schema : SchemaModel) (name : Bor (List ℕ)) (type : EdmType) (outer : Bor Variables) → AreThere schema (Bound name type outer) → IsTypeThere schema type × AreThere schema outer.now
-bound_there schema name type outer there =
-    subst (λ (types : List EdmType). AllByRecursion (IsTypeThere schema) types) (types_in-Bound name type outer) there
-
 -- a variable of another name says nothing of a name
 pub other_named : (schema : SchemaModel) (name : Bor (List ℕ)) (type : EdmType) (outer : Bor Variables) (asked : List ℕ) (found : Option NamedVariable)
     → pointwise nat_eq asked name.now ≡ false
@@ -69,9 +58,6 @@ pub same_named : (schema : SchemaModel) (name : Bor (List ℕ)) (type : EdmType)
     → IsNamedBy schema (scope_in schema (Bound name type outer)) asked (Some variable)
 same_named schema name type outer asked variable same level is =
     rw (scope_in-Bound schema name type outer, same) (ap (λ (n : ℕ). Some n) (sym level), ap (λ (t : EdmType). Some (expr_type schema t)) (sym is))
-
-pub empty_named : (schema : SchemaModel) (asked : List ℕ) → IsNamedBy schema (scope_in schema Empty) asked None
-empty_named schema asked = rw (scope_in-Empty schema) (refl, refl)
 
 -- a name that no variable has is a property's
 pub unbound_typed :

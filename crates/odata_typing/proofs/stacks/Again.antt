@@ -1,28 +1,10 @@
 -- Two readings of one node of the list say the same.
-use Rattle.std.proofs.Common.{◌≡◌, sym, subst, ◌∙◌, ℕ, ◌+◌, ◌-◌, ◌<◌, ◌≤◌, Bool, length}
-use Rattle.std.proofs.lemmas.Option.{same_Some}
-use Rattle.odata_syntax.specs.Places.{number_at, places_of}
-use Rattle.odata_syntax.specs.TextTree.{IsTextRange, text_in}
-use Rattle.odata_syntax.specs.Tree.{Tree, lambda, node}
-use Rattle.odata_syntax.specs.declared.node.Quantifier.{Quantifier}
+use Rattle.odata_typing.proofs.Common.{◌≡◌, sym, subst, ◌∙◌, ℕ, ◌+◌, ◌-◌, ◌<◌, ◌≤◌, Bool, length, same_Some, number_at, places_of, IsTextRange, text_in, Tree, lambda, node, Quantifier, SyntaxNode, Judged, CheckContext, Walk, IsJudged, IsNodeJudged, IsStanding, IsNodeAt, name_of, scope_of}
 use Rattle.odata_syntax.specs.declared.syntax_list.SyntaxKind.{SyntaxKind}
-use Rattle.odata_syntax.specs.declared.syntax_list.SyntaxNode.{SyntaxNode}
-use Rattle.odata_typing.specs.declared.check_context.Judged.{Judged}
-use Rattle.odata_typing.specs.declared.check_context.CheckContext.{CheckContext}
-use Rattle.odata_typing.specs.declared.judged_list.Walk.{Walk}
-use Rattle.odata_typing.specs.private.Judging.{IsJudged, IsNodeJudged, IsStanding}
 use Rattle.odata_typing.specs.private.LambdaNode.{IsLambdaReady}
-use Rattle.odata_typing.specs.private.CheckContexts.{IsNodeAt, name_of}
-use Rattle.odata_typing.specs.private.Variables.{scope_of}
 
 same_node : (context : CheckContext) (index : ℕ) (a b : Judged) → IsNodeAt context index a → IsNodeAt context index b → a.node.now ≡ b.node.now
 same_node context index a b x y = same_Some a.node.now b.node.now (sym x.at ∙ y.at)
-
-same_number : (context : CheckContext) (index : ℕ) (a b : Judged) → IsNodeAt context index a → IsNodeAt context index b → a.number ≡ b.number
-same_number context index a b x y = x.number ∙ sym y.number
-
-same_stop : (context : CheckContext) (index : ℕ) (a b : Judged) → IsNodeAt context index a → IsNodeAt context index b → a.stop ≡ b.stop
-same_stop context index a b x y = x.stop ∙ sym y.stop
 
 -- a lambda operator that can be judged by the one reading can be by the other
 pub ready_again :
@@ -32,8 +14,8 @@ pub ready_again :
     → IsLambdaReady context walk from index b quantifier base
 ready_again context walk from index a b quantifier base at ready =
     let node_is : a.node.now ≡ b.node.now = same_node context index a b ready.at at in
-    let number_is : a.number ≡ b.number = same_number context index a b ready.at at in
-    let stop_is : a.stop ≡ b.stop = same_stop context index a b ready.at at in
+    let number_is : a.number ≡ b.number = ready.at.number ∙ sym at.number in
+    let stop_is : a.stop ≡ b.stop = ready.at.stop ∙ sym at.stop in
     let Order : ℕ → ℕ → Type 0 = λ (i j : ℕ). i < j in
     let Base : ℕ → Type 0 = λ (i : ℕ). IsStanding context.schema.now context.filtered_type (scope_of context) walk (i + 1) (number_at (places_of context.nodes.now) (index - 1)) base in
     record {
@@ -61,6 +43,6 @@ pub judged_again :
 judged_again context index a b quantifier base body old new result x y judged =
     let Is : ℕ → ℕ → SyntaxNode → Type 0 = λ (i j : ℕ) (n : SyntaxNode).
     IsJudged context.schema.now context.filtered_type (scope_of context) i j (node n.span.start n.span.stop (lambda quantifier base (text_in context.text.now n.text) body)) old new result in
-    let first : Is a.number b.stop b.node.now = subst (λ (i : ℕ). Is i b.stop b.node.now) (sym (same_number context index a b x y)) judged in
-    let second : Is a.number a.stop b.node.now = subst (λ (j : ℕ). Is a.number j b.node.now) (sym (same_stop context index a b x y)) first in
+    let first : Is a.number b.stop b.node.now = subst (λ (i : ℕ). Is i b.stop b.node.now) (y.number ∙ sym x.number) judged in
+    let second : Is a.number a.stop b.node.now = subst (λ (j : ℕ). Is a.number j b.node.now) (y.stop ∙ sym x.stop) first in
     subst (λ (n : SyntaxNode). Is a.number a.stop n) (sym (same_node context index a b x y)) second

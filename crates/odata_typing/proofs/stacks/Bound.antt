@@ -1,26 +1,10 @@
 -- A lambda operator whose body has been judged, in the scope with its variable.
-use Rattle.std.proofs.Common.{◌≡◌, sym, ap, subst, ◌∙◌, inl, ℕ, ◌+◌, ◌-◌, ◌<◌, ◌≤◌, List, Bool, true, false, None, Bor, arith, Option}
-use Rattle.std.proofs.lemmas.Option.{same_Some}
-use Rattle.odata_syntax.specs.Places.{number_at, places_of, stop_at}
-use Rattle.odata_syntax.specs.Tree.{Tree}
-use Rattle.odata_syntax.specs.declared.node.Quantifier.{Quantifier}
-use Rattle.csdl_schema.specs.ExprType.{single}
-use Rattle.csdl_schema.specs.SchemaModel.{SchemaModel}
-use Rattle.odata_signatures.specs.TypeView.{single_type}
+use Rattle.odata_typing.proofs.Common.{◌≡◌, sym, ap, subst, ◌∙◌, inl, ℕ, ◌+◌, ◌-◌, ◌<◌, ◌≤◌, List, Bool, true, false, None, Bor, arith, Option, same_Some, number_at, places_of, stop_at, Tree, Quantifier, single, SchemaModel, single_type, Scope, variable_type, with_variable, CheckedNode, Judged, CheckContext, Walk, IsJudged, IsPut, IsStanding, LawsBelow, name_of, run_tree, IsNamedBy, scope_in, scope_of}
 use Rattle.odata_signatures.specs.declared.edm_type.EdmType.{EdmType}
 use Rattle.odata_signatures.specs.declared.edm_type.ValueType.{ValueType}
-use Rattle.odata_signatures.specs.Typed.{Scope, variable_type, with_variable}
-use Rattle.odata_checked_filter.specs.declared.checked_node.CheckedNode.{CheckedNode}
-use Rattle.odata_typing.specs.declared.check_context.Judged.{Judged}
-use Rattle.odata_typing.specs.declared.check_context.CheckContext.{CheckContext}
 use Rattle.odata_typing.specs.declared.variables.NamedVariable.{NamedVariable}
 use Rattle.odata_typing.specs.declared.variables.Variables.{Bound}
-use Rattle.odata_typing.specs.declared.judged_list.Walk.{Walk}
-use Rattle.odata_typing.specs.private.Judging.{IsJudged, IsPut, IsStanding}
 use Rattle.odata_typing.specs.private.LambdaNode.{IsLambdaReady, IsOverBody}
-use Rattle.odata_typing.specs.private.LawsBelow.{LawsBelow}
-use Rattle.odata_typing.specs.private.CheckContexts.{name_of, run_tree}
-use Rattle.odata_typing.specs.private.Variables.{IsNamedBy, scope_in, scope_of}
 use Rattle.odata_typing.proofs.flat.Kept.{IsOnward, kept_on, kept_wider, standing_kept}
 use Rattle.odata_typing.proofs.scopes.Scopes.{scope_in-Bound}
 
@@ -67,8 +51,7 @@ over_body laws context old mid from index judged quantifier base member name typ
     let onward : IsOnward i j old mid = record { kept = put.kept; navigates = put.navigates } in
     let body = run_tree context from index in
     let Body : Scope → ℕ → Type 0 = λ (scope : Scope) (k : ℕ). IsStanding schema n scope mid i k body in
-    let stands : IsStanding schema n (scope_of context) mid (judged.number + 1) i base =
-    standing_kept laws schema n (scope_of context) i j old mid onward (judged.number + 1) i base (inl (omega arith)) ready.base_stands in
+    let stands = standing_kept laws schema n (scope_of context) i j old mid onward (judged.number + 1) i base (inl (omega arith)) ready.base_stands in
     let order : judged.number + 1 < i = ready.base_stands.order in
     let found : stands.found ≡ ready.base_stands.found =
     same_Some stands.found ready.base_stands.found (sym stands.at ∙ (put.kept.nodes (judged.number + 1) (inl order) ∙ ready.base_stands.at)) in

@@ -1,11 +1,6 @@
 -- The children of a node are the last trees before it.
-use Rattle.std.proofs.Common.{◌≡◌, refl, ap, sym, ◌∙◌, ℕ, zero, suc, ◌+◌, ◌-◌, ◌≤◌, List, [], ◌∷◌, ◌++◌, reverse, take, drop, length, length-drop, arith}
-use Rattle.std.proofs.lemmas.List.{drop-drop, reverse-append}
-use Rattle.odata_syntax.specs.PostOrder.{Texts, child_count, last_tree, shape_over, tree_count_back, trees_back, trees_before, trees_left}
-use Rattle.odata_syntax.specs.Spans.{children_of, list_of_trees}
-use Rattle.odata_syntax.specs.Tree.{Tree, trees_of_list}
+use Rattle.odata_typing.proofs.Common.{◌≡◌, refl, ap, sym, ◌∙◌, ℕ, zero, suc, ◌+◌, ◌-◌, ◌≤◌, List, [], ◌∷◌, ◌++◌, reverse, take, drop, length, length-drop, arith, drop-drop, reverse-append, Texts, child_count, last_tree, shape_over, tree_count_back, trees_back, trees_before, trees_left, children_of, list_of_trees, Tree, trees_of_list, SyntaxNode}
 use Rattle.odata_syntax.specs.declared.syntax_list.SyntaxKind.{SyntaxKind}
-use Rattle.odata_syntax.specs.declared.syntax_list.SyntaxNode.{SyntaxNode}
 use Rattle.odata_typing.proofs.stacks.Stacks.{roots_from}
 
 pub listed_again : (trees : List Tree) → list_of_trees (trees_of_list trees) ≡ trees
@@ -26,29 +21,25 @@ pub left_over : (kind : SyntaxKind) (items : ℕ) (trees : List Tree) → trees_
 left_over (SyntaxKind.Lit kind) items trees = refl
 left_over SyntaxKind.It items trees = refl
 left_over SyntaxKind.Name items trees = refl
-left_over SyntaxKind.Member items trees = before_is trees
-left_over SyntaxKind.Count items trees = before_is trees
-left_over SyntaxKind.Neg items trees = before_is trees
-left_over SyntaxKind.Not items trees = before_is trees
 left_over (SyntaxKind.Binary operator) items trees = twice_is trees
 left_over SyntaxKind.Has items trees = twice_is trees
 left_over SyntaxKind.InList items trees = before_is (drop items trees) ∙ drop-drop 1 items trees
 left_over SyntaxKind.InPath items trees = twice_is trees
 left_over SyntaxKind.Call items trees = refl
-left_over SyntaxKind.AnyItem items trees = before_is trees
 left_over (SyntaxKind.Lambda quantifier) items trees = twice_is trees
+left_over _ items trees = before_is trees
 
-one_is : (trees : List Tree) → 1 ≤ length trees → last_tree trees ∷ [] ≡ reverse (take 1 trees)
+pub one_is : (trees : List Tree) → 1 ≤ length trees → last_tree trees ∷ [] ≡ reverse (take 1 trees)
 one_is [] enough = absurd (omega arith)
 one_is (tree ∷ trees) enough = refl
 
-two_are : (trees : List Tree) → 2 ≤ length trees → last_tree (trees_before trees) ∷ last_tree trees ∷ [] ≡ reverse (take 2 trees)
+pub two_are : (trees : List Tree) → 2 ≤ length trees → last_tree (trees_before trees) ∷ last_tree trees ∷ [] ≡ reverse (take 2 trees)
 two_are [] enough = absurd (omega arith)
 two_are (tree ∷ []) enough = absurd (omega arith)
 two_are (tree ∷ (other ∷ trees)) enough = refl
 
 -- one more of the last trees
-more_are : (items : ℕ) (trees : List Tree) → items + 1 ≤ length trees → take (items + 1) trees ≡ take items trees ++ last_tree (drop items trees) ∷ []
+pub more_are : (items : ℕ) (trees : List Tree) → items + 1 ≤ length trees → take (items + 1) trees ≡ take items trees ++ last_tree (drop items trees) ∷ []
 more_are items [] enough = absurd (omega arith)
 more_are zero (tree ∷ trees) enough = refl
 more_are (suc items) (tree ∷ trees) enough =
@@ -66,17 +57,13 @@ pub children_over : (kind : SyntaxKind) (text : List ℕ) (items : ℕ) (trees :
 children_over (SyntaxKind.Lit kind) text items trees enough = refl
 children_over SyntaxKind.It text items trees enough = refl
 children_over SyntaxKind.Name text items trees enough = refl
-children_over SyntaxKind.Member text items trees enough = one_is trees enough
-children_over SyntaxKind.Count text items trees enough = one_is trees enough
-children_over SyntaxKind.Neg text items trees enough = one_is trees enough
-children_over SyntaxKind.Not text items trees enough = one_is trees enough
 children_over (SyntaxKind.Binary operator) text items trees enough = two_are trees enough
 children_over SyntaxKind.Has text items trees enough = two_are trees enough
 children_over SyntaxKind.InList text items trees enough = listed_are items trees enough
 children_over SyntaxKind.InPath text items trees enough = two_are trees enough
 children_over SyntaxKind.Call text items trees enough = listed_again (reverse (take items trees))
-children_over SyntaxKind.AnyItem text items trees enough = one_is trees enough
 children_over (SyntaxKind.Lambda quantifier) text items trees enough = two_are trees enough
+children_over _ text items trees enough = one_is trees enough
 
 -- as many trees as there are roots
 pub trees_count : (names : Texts) (earlier : List SyntaxNode) → length (trees_back names earlier) ≡ tree_count_back earlier

@@ -1,19 +1,7 @@
 -- What is known of the nodes of a run.
-use Rattle.std.proofs.Common.{◌≡◌, ◌≢◌, ap, sym, subst, ◌∙◌, ℕ, suc, ◌+◌, ◌-◌, ◌<◌, ◌≤◌, List, [], ◌∷◌, Some, reverse, take, length, slice_get, arith}
+use Rattle.odata_typing.proofs.Common.{◌≡◌, ◌≢◌, ap, sym, subst, ◌∙◌, ℕ, suc, ◌+◌, ◌-◌, ◌<◌, ◌≤◌, List, [], ◌∷◌, Some, reverse, take, length, slice_get, arith, length-reverse, take_all, slice_get_within, BeginsBody, IsPlaced, first_at, lambda_at, nodes_before, number_at, places_of, stop_at, AreFedBack, IsWholeTree, child_count, last_tree, tree_count_back, trees_back, IsWithin, is_root, text_in, Tree, SyntaxNode, Judged, CheckContext, Walk, IsNodeAt, IsNodeReady, IsReady, IsRun, IsContext, run_tree, whole_tree}
 use Rattle.std.specs.List.{slice_range}
-use Rattle.std.proofs.lemmas.List.{length-reverse, take_all}
-use Rattle.std.proofs.lemmas.Option.{slice_get_within}
-use Rattle.odata_syntax.specs.Places.{BeginsBody, IsPlaced, first_at, lambda_at, nodes_before, number_at, places_of, stop_at}
-use Rattle.odata_syntax.specs.PostOrder.{AreFedBack, IsWholeTree, child_count, last_tree, tree_count_back, trees_back}
-use Rattle.odata_syntax.specs.Spans.{IsWithin, is_root}
-use Rattle.odata_syntax.specs.TextTree.{text_in}
-use Rattle.odata_syntax.specs.Tree.{Tree}
 use Rattle.odata_syntax.specs.declared.syntax_list.SyntaxKind.{SyntaxKind}
-use Rattle.odata_syntax.specs.declared.syntax_list.SyntaxNode.{SyntaxNode}
-use Rattle.odata_typing.specs.declared.check_context.Judged.{Judged}
-use Rattle.odata_typing.specs.declared.check_context.CheckContext.{CheckContext}
-use Rattle.odata_typing.specs.declared.judged_list.Walk.{Walk}
-use Rattle.odata_typing.specs.private.CheckContexts.{IsNodeAt, IsNodeReady, IsReady, IsRun, IsContext, run_tree, whole_tree}
 use Rattle.odata_typing.proofs.stacks.Children.{roots_count}
 use Rattle.odata_typing.proofs.stacks.Marks.{IsBodyWithin, earlier_fed_back, few_trees}
 use Rattle.odata_typing.proofs.stacks.Placed.{tiled}
@@ -109,10 +97,8 @@ body_run context index stop lambda is inside mark body =
     let nodes = context.nodes.now in
     let order : index < lambda = body.order in
     let within : lambda < stop = body.within in
-    let whole : IsWholeRun (run_before nodes index lambda) =
-    tree_run nodes (places_of context.nodes.now) index lambda is.places (fed_before context lambda is (omega arith)) body.begins order (omega arith) in
-    let part : IsWithin (run_tree context index lambda) (last_tree (trees_back (text_in context.text.now) (run_before nodes 0 (length nodes)))) =
-    run_within (text_in context.text.now) nodes 0 index lambda (length nodes) (omega arith) (omega arith) (omega arith) whole (all_whole context is) in
+    let whole = tree_run nodes (places_of context.nodes.now) index lambda is.places (fed_before context lambda is (omega arith)) body.begins order (omega arith) in
+    let part = run_within (text_in context.text.now) nodes 0 index lambda (length nodes) (omega arith) (omega arith) (omega arith) whole (all_whole context is) in
     record {
       order = order;
       inside = omega arith;

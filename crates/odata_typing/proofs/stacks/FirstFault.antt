@@ -1,32 +1,14 @@
 -- The first fault of a run is that of its tree, whatever nodes follow.
-use Rattle.std.proofs.Common.{◌≡◌, refl, ap, sym, subst, ◌∙◌, inl, inr, ◌⊎◌, ℕ, zero, suc, ◌+◌, ◌-◌, ◌<◌, ◌≤◌, List, [], ◌∷◌, ◌++◌, reverse, take, drop, length, length-append, length-drop, arith}
-use Rattle.std.proofs.lemmas.List.{append_assoc, drop-append-le, drop-drop, nil_from_length, reverse-append}
+use Rattle.odata_typing.proofs.Common.{◌≡◌, refl, ap, sym, subst, ◌∙◌, inl, inr, ◌⊎◌, ℕ, zero, suc, ◌+◌, ◌-◌, ◌<◌, ◌≤◌, List, [], ◌∷◌, ◌++◌, reverse, take, drop, length, length-append, length-drop, arith, append_assoc, drop-append-le, drop-drop, nil_from_length, reverse-append, AreFedBack, Texts, child_count, last_tree, shape_over, tree_count_back, trees_back, trees_with, IsWithin, children_of, Tree, lambda, node, Quantifier, SyntaxNode, collection, Slots, children_in_scope, IsFirstUntypable, FirstBelow, TypedIsClear, IsTyped, Scope, TypeFault}
 use Rattle.std.proofs.lemmas.Bool.{cases_lt}
 use Rattle.odata_syntax.specs.Parse.{IsExpression}
-use Rattle.odata_syntax.specs.PostOrder.{AreFedBack, Texts, child_count, last_tree, shape_over, tree_count_back, trees_back, trees_with}
-use Rattle.odata_syntax.specs.Spans.{IsWithin, children_of}
-use Rattle.odata_syntax.specs.Tree.{Tree, lambda, node}
-use Rattle.odata_syntax.specs.declared.node.Quantifier.{Quantifier}
 use Rattle.odata_syntax.specs.declared.syntax_list.SyntaxKind.{SyntaxKind}
-use Rattle.odata_syntax.specs.declared.syntax_list.SyntaxNode.{SyntaxNode}
-use Rattle.csdl_schema.specs.ExprType.{collection}
-use Rattle.csdl_schema.specs.SchemaModel.{Slots}
-use Rattle.odata_signatures.specs.Considered.{children_in_scope}
-use Rattle.odata_signatures.specs.FirstUntypable.{IsFirstUntypable}
-use Rattle.odata_signatures.specs.Laws.{FirstBelow, TypedIsClear}
-use Rattle.odata_signatures.specs.Typed.{Scope}
-use Rattle.odata_signatures.specs.declared.refusal.TypeFault.{TypeFault}
 use Rattle.odata_typing.specs.private.SpanLaws.{SpanLaws}
 use Rattle.odata_typing.proofs.stacks.Stacks.{BodiesBegin, IfLambda, NoneBegins, begin_of, onward, roots_from}
 use Rattle.odata_typing.proofs.stacks.Children.{children_over, left_over, roots_count, trees_count}
 use Rattle.odata_typing.proofs.stacks.InOrder.{first_of_children}
-use Rattle.odata_typing.proofs.stacks.Onward.{earlier_fed, stays_within, within_whole}
+use Rattle.odata_typing.proofs.stacks.Onward.{each_drop, each_take, each_turned, earlier_fed, earlier_of, stays_within, within_whole}
 use Rattle.odata_typing.proofs.untypable.Untypable.{AllTyped, IsBodiless, below_node, one_of}
-
--- of a run the bodies begin in each front
-earlier_bodies : (Begins : ℕ → Type 0) (from : ℕ) (later earlier : List SyntaxNode) → BodiesBegin Begins from (onward later earlier) → BodiesBegin Begins from earlier
-earlier_bodies Begins from [] earlier bodies = bodies
-earlier_bodies Begins from (n ∷ later) earlier bodies = (earlier_bodies Begins from later (n ∷ earlier) bodies).1
 
 -- one of the trees has the fault as its first; those before it have types, and begin no body but for the first one
 pub record HasFirst
@@ -39,26 +21,6 @@ pub record HasFirst
   pub found : IsFirstUntypable slots root scope tree fault
   pub typed : AllTyped slots root scope older
   pub apart : NoneBegins Begins (drop (length newer) roots)
-
-typed_drop : (slots : Slots) (root : List ℕ) (scope : Scope) (n : ℕ) (trees : List Tree) → AllTyped slots root scope trees → AllTyped slots root scope (drop n trees)
-typed_drop slots root scope zero trees typed = typed
-typed_drop slots root scope (suc n) [] typed = tt
-typed_drop slots root scope (suc n) (tree ∷ trees) typed = typed_drop slots root scope n trees typed.1
-
-typed_take : (slots : Slots) (root : List ℕ) (scope : Scope) (n : ℕ) (trees : List Tree) → AllTyped slots root scope trees → AllTyped slots root scope (take n trees)
-typed_take slots root scope zero trees typed = tt
-typed_take slots root scope (suc n) [] typed = tt
-typed_take slots root scope (suc n) (tree ∷ trees) typed = (typed.0, typed_take slots root scope n trees typed.1)
-
-typed_on : (slots : Slots) (root : List ℕ) (scope : Scope) (xs : List Tree) (x : Tree) → AllTyped slots root scope xs → AllTyped slots root scope (x ∷ []) → AllTyped slots root scope (xs ++ x ∷ [])
-typed_on slots root scope [] x typed one = one
-typed_on slots root scope (y ∷ xs) x typed one = (typed.0, typed_on slots root scope xs x typed.1 one)
-
-typed_turned : (slots : Slots) (root : List ℕ) (scope : Scope) (trees : List Tree) → AllTyped slots root scope trees → AllTyped slots root scope (reverse trees)
-typed_turned slots root scope [] typed = tt
-typed_turned slots root scope (tree ∷ trees) typed =
-    subst (λ (ts : List Tree). AllTyped slots root scope ts) (sym (reverse-append (tree ∷ []) trees))
-    (typed_on slots root scope (reverse trees) tree (typed_turned slots root scope trees typed.1) (typed.0, tt))
 
 -- of some of the trees and a new one in the place of the others
 pub none_after : (Begins : ℕ → Type 0) (added m : ℕ) (roots : List ℕ) → NoneBegins Begins roots → NoneBegins Begins (added ∷ drop (suc m) roots)
@@ -125,141 +87,100 @@ not_a_body Begins from [] enough begins none = absurd (omega arith)
 not_a_body Begins from (root ∷ []) enough begins none = absurd (omega arith)
 not_a_body Begins from (root ∷ (before ∷ more)) enough begins none = none.0 begins
 
-module _ (spans : SpanLaws) (clear : TypedIsClear) (below : FirstBelow) where
+module _ (spans : SpanLaws) (clear : TypedIsClear) (below : FirstBelow) (Begins : ℕ → Type 0) (slots : Slots) (root : List ℕ) (scope : Scope) (whole : Tree) (from : ℕ) (names : Texts)
+    (fault : TypeFault) (e : IsExpression whole) where
   -- a base that has an untypable node has no type, so the body over it is not judged
-  pub first_of_base :
-      (slots : Slots) (root : List ℕ) (scope : Scope) (start stop : ℕ) (quantifier : Quantifier) (variable : List ℕ) (base body : Tree) (fault : TypeFault)
+  first_of_base :
+      (start stop : ℕ) (quantifier : Quantifier) (variable : List ℕ) (base body : Tree)
       → IsFirstUntypable slots root scope base fault
       → IsFirstUntypable slots root scope (node start stop (lambda quantifier base variable body)) fault
-  first_of_base slots root scope start stop quantifier variable base body fault found =
+  first_of_base start stop quantifier variable base body found =
       below slots root scope (node start stop (lambda quantifier base variable body)) fault
       (below_node slots root scope (node start stop (lambda quantifier base variable body)) fault
       (λ at part is. clear slots root scope base found.at found.part (collection is.member_type, is.binds.over) found.untypable)
       (one_of slots root scope base fault found))
 
-  -- a lambda expression that takes the tree with the fault, as its base
-  lambda_takes :
-      (Begins : ℕ → Type 0) (slots : Slots) (root : List ℕ) (scope : Scope) (from start stop : ℕ) (quantifier : Quantifier) (text : List ℕ) (items : ℕ)
-      (newer : List Tree) (tree : Tree) (older : List Tree) (roots : List ℕ) (fault : TypeFault)
-      → length newer < 2
-      → 2 ≤ length roots
-      → Begins (begin_of from roots)
-      → NoneBegins Begins (drop (length newer) roots)
-      → IsFirstUntypable slots root scope tree fault
-      → IsFirstUntypable slots root scope (node start stop (shape_over (SyntaxKind.Lambda quantifier) text items (newer ++ (tree ∷ older)))) fault
-  lambda_takes Begins slots root scope from start stop quantifier text items [] tree older roots fault few enough begins none found =
-      absurd (not_a_body Begins from roots enough begins none)
-  lambda_takes Begins slots root scope from start stop quantifier text items (body ∷ []) tree older roots fault few enough begins none found =
-      first_of_base slots root scope start stop quantifier text tree body fault found
-  lambda_takes Begins slots root scope from start stop quantifier text items (body ∷ (other ∷ newer)) tree older roots fault few enough begins none found =
-      absurd (omega arith)
+  -- the tree of a node over these trees
+  abbrev tree_over : SyntaxNode → SyntaxKind → List Tree → Tree
+  tree_over n kind trees = node n.span.start n.span.stop (shape_over kind (names n.text) n.count trees)
 
-  -- any other node that takes it
-  plain_takes :
-      (slots : Slots) (root : List ℕ) (scope : Scope) (whole : Tree) (start stop : ℕ) (kind : SyntaxKind) (text : List ℕ) (items m : ℕ)
-      (newer : List Tree) (tree : Tree) (older : List Tree) (fault : TypeFault)
-      → IsExpression whole
-      → IsPlain kind
-      → child_count kind items ≤ length (newer ++ (tree ∷ older))
-      → child_count kind items ≡ suc (length newer + m)
-      → IsWithin (node start stop (shape_over kind text items (newer ++ (tree ∷ older)))) whole
-      → AllTyped slots root scope older
-      → IsFirstUntypable slots root scope tree fault
-      → IsFirstUntypable slots root scope (node start stop (shape_over kind text items (newer ++ (tree ∷ older)))) fault
-  plain_takes slots root scope whole start stop kind text items m newer tree older fault e plain enough count within typed found =
-      let trees = newer ++ (tree ∷ older) in
-      let children : children_of (shape_over kind text items trees) ≡ reverse (take m older) ++ (tree ∷ reverse newer) =
-      children_over kind text items trees enough
-      ∙ ap (λ (ts : List Tree). reverse ts) (take_past newer tree older (child_count kind items) m count)
-      ∙ turned_past newer tree (take m older) in
-      first_of_children spans clear below slots root scope whole (node start stop (shape_over kind text items trees)) (reverse (take m older)) tree (reverse newer) fault
-      e within
-      (plain_bodiless slots root scope kind text items trees plain)
-      (plain_children kind text items trees plain)
-      children
-      (typed_turned slots root scope (take m older) (typed_take slots root scope m older typed))
-      found
+  -- one more node, over the tree with the fault, newer ones and older ones
+  module _ (n : SyntaxNode) (newer : List Tree) (tree : Tree) (older : List Tree) (roots : List ℕ)
+      (enough : child_count n.kind n.count ≤ length (newer ++ (tree ∷ older))) (beside : length roots ≡ length (newer ++ (tree ∷ older)))
+      (within : IsWithin (tree_over n n.kind (newer ++ (tree ∷ older))) whole) (begins : IfLambda n.kind (Begins (begin_of from roots)))
+      (none : NoneBegins Begins (drop (length newer) roots)) (typed : AllTyped slots root scope older) (found : IsFirstUntypable slots root scope tree fault) where
+    -- a lambda expression takes it as its base
+    lambda_takes : (quantifier : Quantifier) → n.kind ≡ SyntaxKind.Lambda quantifier → length newer < 2 → IsFirstUntypable slots root scope (tree_over n n.kind (newer ++ (tree ∷ older))) fault
+    lambda_takes quantifier is few =
+        subst (λ (k : SyntaxKind). IsFirstUntypable slots root scope (tree_over n k (newer ++ (tree ∷ older))) fault) (sym is) (by newer few none)
+      where
+        two : 2 ≤ length roots
+        two = let count : child_count n.kind n.count ≡ 2 = ap (λ (k : SyntaxKind). child_count k n.count) is in omega arith
 
-  -- a node that takes the tree with the fault has it
-  takes_first :
-      (Begins : ℕ → Type 0) (slots : Slots) (root : List ℕ) (scope : Scope) (whole : Tree) (from : ℕ) (names : Texts) (n : SyntaxNode)
-      (newer : List Tree) (tree : Tree) (older : List Tree) (roots : List ℕ) (fault : TypeFault)
-      → IsExpression whole
-      → length newer < child_count n.kind n.count
-      → child_count n.kind n.count ≤ length (newer ++ (tree ∷ older))
-      → length roots ≡ length (newer ++ (tree ∷ older))
-      → IsWithin (node n.span.start n.span.stop (shape_over n.kind (names n.text) n.count (newer ++ (tree ∷ older)))) whole
-      → IfLambda n.kind (Begins (begin_of from roots))
-      → NoneBegins Begins (drop (length newer) roots)
-      → AllTyped slots root scope older
-      → IsFirstUntypable slots root scope tree fault
-      → IsFirstUntypable slots root scope (node n.span.start n.span.stop (shape_over n.kind (names n.text) n.count (newer ++ (tree ∷ older)))) fault
-  takes_first Begins slots root scope whole from names n newer tree older roots fault e few enough beside within begins none typed found =
-      elim (plain_or_lambda n.kind) [
-        | inl plain ↦
-            let m = child_count n.kind n.count - suc (length newer) in
-            plain_takes slots root scope whole n.span.start n.span.stop n.kind (names n.text) n.count m newer tree older fault e plain enough (omega arith) within typed found
-        | inr is ↦
-            let P : SyntaxKind → Type 0 = λ (k : SyntaxKind). IfLambda k (Begins (begin_of from roots)) in
-            let Q : SyntaxKind → Type 0 = λ (k : SyntaxKind). IsFirstUntypable slots root scope (node n.span.start n.span.stop (shape_over k (names n.text) n.count (newer ++ (tree ∷ older)))) fault in
-            let two : child_count n.kind n.count ≡ 2 = ap (λ (k : SyntaxKind). child_count k n.count) is.1 in
-            subst Q (sym is.1)
-            (lambda_takes Begins slots root scope from n.span.start n.span.stop is.0 (names n.text) n.count newer tree older roots fault
-            (omega arith) (omega arith) (subst P is.1 begins) none found)
-      ]
+        by : (first : List Tree) → length first < 2 → NoneBegins Begins (drop (length first) roots)
+            → IsFirstUntypable slots root scope (tree_over n (SyntaxKind.Lambda quantifier) (first ++ (tree ∷ older))) fault
+        by [] few none = absurd (not_a_body Begins from roots two (subst (λ (k : SyntaxKind). IfLambda k (Begins (begin_of from roots))) is begins) none)
+        by (body ∷ []) few none = first_of_base n.span.start n.span.stop quantifier (names n.text) tree body found
+        by (body ∷ (other ∷ first)) few none = absurd (omega arith)
 
-  -- one more node
-  one_onward :
-      (Begins : ℕ → Type 0) (slots : Slots) (root : List ℕ) (scope : Scope) (whole : Tree) (from added : ℕ) (names : Texts) (n : SyntaxNode)
-      (newer : List Tree) (tree : Tree) (older : List Tree) (roots : List ℕ) (fault : TypeFault)
-      → IsExpression whole
-      → child_count n.kind n.count ≤ length (newer ++ (tree ∷ older))
-      → length roots ≡ length (newer ++ (tree ∷ older))
-      → IsWithin (node n.span.start n.span.stop (shape_over n.kind (names n.text) n.count (newer ++ (tree ∷ older)))) whole
-      → IfLambda n.kind (Begins (begin_of from roots))
-      → NoneBegins Begins (drop (length newer) roots)
-      → AllTyped slots root scope older
-      → IsFirstUntypable slots root scope tree fault
-      → HasFirst Begins slots root scope fault (added ∷ drop (child_count n.kind n.count) roots) (trees_with names n (newer ++ (tree ∷ older)))
-  one_onward Begins slots root scope whole from added names n newer tree older roots fault e enough beside within begins none typed found =
-      let count = child_count n.kind n.count in
-      let trees = newer ++ (tree ∷ older) in
-      let own = node n.span.start n.span.stop (shape_over n.kind (names n.text) n.count trees) in
-      elim (cases_lt (length newer) count) [
-        | inl few ↦
-            let m = count - suc (length newer) in
-            let is : count ≡ suc (length newer + m) = omega arith in
-            record {
-              newer = [];
-              tree = own;
-              older = drop m older;
-              split = ap (λ (ts : List Tree). own ∷ ts) (left_over n.kind n.count trees ∙ drop_past newer tree older count m is);
-              found = takes_first Begins slots root scope whole from names n newer tree older roots fault e few enough beside within begins none typed found;
-              typed = typed_drop slots root scope m older typed;
-              apart = subst (λ (rs : List ℕ). NoneBegins Begins (added ∷ rs)) (sym (drop_further roots (length newer) count m is)) (none_after Begins added m (drop (length newer) roots) none);
-            }
-        | inr many ↦
-            let left : length (drop count newer) ≡ length newer - count = length-drop count newer in
-            let same : drop (length (drop count newer)) (drop count roots) ≡ drop (length newer) roots =
-            drop-drop (length (drop count newer)) count roots ∙ ap (λ (k : ℕ). drop k roots) (omega arith) in
-            record {
-              newer = own ∷ drop count newer;
-              tree = tree;
-              older = older;
-              split = ap (λ (ts : List Tree). own ∷ ts) (left_over n.kind n.count trees ∙ drop-append-le count newer (tree ∷ older) many);
-              found = found;
-              typed = typed;
-              apart = subst (λ (rs : List ℕ). NoneBegins Begins rs) (sym same) none;
-            }
-      ]
+    -- so does any other node
+    plain_takes : (m : ℕ) → IsPlain n.kind → child_count n.kind n.count ≡ suc (length newer + m) → IsFirstUntypable slots root scope (tree_over n n.kind (newer ++ (tree ∷ older))) fault
+    plain_takes m plain count =
+        let trees = newer ++ (tree ∷ older) in
+        let children : children_of (shape_over n.kind (names n.text) n.count trees) ≡ reverse (take m older) ++ (tree ∷ reverse newer) =
+        children_over n.kind (names n.text) n.count trees enough
+        ∙ ap (λ (ts : List Tree). reverse ts) (take_past newer tree older (child_count n.kind n.count) m count)
+        ∙ turned_past newer tree (take m older) in
+        first_of_children spans clear below slots root scope whole (tree_over n n.kind trees) (reverse (take m older)) tree (reverse newer) fault
+        e within
+        (plain_bodiless slots root scope n.kind (names n.text) n.count trees plain)
+        (plain_children n.kind (names n.text) n.count trees plain)
+        children
+        (each_turned (IsTyped slots root scope) (take m older) (each_take (IsTyped slots root scope) m older typed))
+        found
+
+    takes_first : length newer < child_count n.kind n.count → IsFirstUntypable slots root scope (tree_over n n.kind (newer ++ (tree ∷ older))) fault
+    takes_first few = elim (plain_or_lambda n.kind) [
+      | inl plain ↦ plain_takes (child_count n.kind n.count - suc (length newer)) plain (omega arith)
+      | inr is ↦ let two : child_count n.kind n.count ≡ 2 = ap (λ (k : SyntaxKind). child_count k n.count) is.1 in lambda_takes is.0 is.1 (omega arith)
+    ]
+
+    one_onward : (added : ℕ) → HasFirst Begins slots root scope fault (added ∷ drop (child_count n.kind n.count) roots) (trees_with names n (newer ++ (tree ∷ older)))
+    one_onward added =
+        let count = child_count n.kind n.count in
+        let trees = newer ++ (tree ∷ older) in
+        let own = tree_over n n.kind trees in
+        elim (cases_lt (length newer) count) [
+          | inl few ↦
+              let m = count - suc (length newer) in
+              let is : count ≡ suc (length newer + m) = omega arith in
+              record {
+                newer = [];
+                tree = own;
+                older = drop m older;
+                split = ap (λ (ts : List Tree). own ∷ ts) (left_over n.kind n.count trees ∙ drop_past newer tree older count m is);
+                found = takes_first few;
+                typed = each_drop (IsTyped slots root scope) m older typed;
+                apart = subst (λ (rs : List ℕ). NoneBegins Begins (added ∷ rs)) (sym (drop_further roots (length newer) count m is)) (none_after Begins added m (drop (length newer) roots) none);
+              }
+          | inr many ↦
+              let left : length (drop count newer) ≡ length newer - count = length-drop count newer in
+              let same : drop (length (drop count newer)) (drop count roots) ≡ drop (length newer) roots =
+              drop-drop (length (drop count newer)) count roots ∙ ap (λ (k : ℕ). drop k roots) (omega arith) in
+              record {
+                newer = own ∷ drop count newer;
+                tree = tree;
+                older = older;
+                split = ap (λ (ts : List Tree). own ∷ ts) (left_over n.kind n.count trees ∙ drop-append-le count newer (tree ∷ older) many);
+                found = found;
+                typed = typed;
+                apart = subst (λ (rs : List ℕ). NoneBegins Begins rs) (sym same) none;
+              }
+        ]
 
   -- at the end the whole is the tree with the fault
-  at_end :
-      (Begins : ℕ → Type 0) (slots : Slots) (root : List ℕ) (scope : Scope) (fault : TypeFault) (roots : List ℕ) (trees : List Tree)
-      → length trees ≡ 1
-      → HasFirst Begins slots root scope fault roots trees
-      → IsFirstUntypable slots root scope (last_tree trees) fault
-  at_end Begins slots root scope fault roots trees one has =
+  at_end : (roots : List ℕ) (trees : List Tree) → length trees ≡ 1 → HasFirst Begins slots root scope fault roots trees → IsFirstUntypable slots root scope (last_tree trees) fault
+  at_end roots trees one has =
       let count : length trees ≡ length has.newer + length (has.tree ∷ has.older) =
       ap (λ (ts : List Tree). length ts) has.split ∙ length-append has.newer (has.tree ∷ has.older) in
       let alone : has.newer ≡ [] = nil_from_length has.newer (omega arith) in
@@ -267,42 +188,36 @@ module _ (spans : SpanLaws) (clear : TypedIsClear) (below : FirstBelow) where
       (sym (ap (λ (ts : List Tree). last_tree ts) has.split ∙ ap (λ (ts : List Tree). last_tree (ts ++ (has.tree ∷ has.older))) alone)) has.found
 
   -- whatever nodes follow up to a whole tree, its first untypable node is this one
-  pub fault_onward :
-      (Begins : ℕ → Type 0) (slots : Slots) (root : List ℕ) (scope : Scope) (whole : Tree) (from : ℕ) (names : Texts) (fault : TypeFault) (later earlier : List SyntaxNode)
-      → IsExpression whole
+  fault_onward :
+      (later earlier : List SyntaxNode)
       → AreFedBack (onward later earlier)
       → tree_count_back (onward later earlier) ≡ 1
       → IsWithin (last_tree (trees_back names (onward later earlier))) whole
       → BodiesBegin Begins from (onward later earlier)
       → HasFirst Begins slots root scope fault (roots_from from earlier) (trees_back names earlier)
       → IsFirstUntypable slots root scope (last_tree (trees_back names (onward later earlier))) fault
-  fault_onward Begins slots root scope whole from names fault [] earlier e fed one within bodies has =
-      at_end Begins slots root scope fault (roots_from from earlier) (trees_back names earlier) (trees_count names earlier ∙ one) has
-  fault_onward Begins slots root scope whole from names fault (n ∷ later) earlier e fed one within bodies has =
+  fault_onward [] earlier fed one within bodies has = at_end (roots_from from earlier) (trees_back names earlier) (trees_count names earlier ∙ one) has
+  fault_onward (n ∷ later) earlier fed one within bodies has =
       let trees = trees_back names earlier in
+      let roots = roots_from from earlier in
       let count : length trees ≡ tree_count_back earlier = trees_count names earlier in
       let fits : child_count n.kind n.count ≤ tree_count_back earlier = (earlier_fed later (n ∷ earlier) fed).0 in
       let parts = stays_within names later (n ∷ earlier) fed one in
-      let inside : IsWithin (node n.span.start n.span.stop (shape_over n.kind (names n.text) n.count trees)) whole = within_whole parts.0 within in
-      let begins : IfLambda n.kind (Begins (begin_of from (roots_from from earlier))) = (earlier_bodies Begins from later (n ∷ earlier) bodies).0 in
-      let roots = roots_from from earlier in
+      let inside : IsWithin (tree_over n n.kind trees) whole = within_whole parts.0 within in
+      let begins : IfLambda n.kind (Begins (begin_of from roots)) = (earlier_of (BodiesBegin Begins from) (λ m ns begin. begin.1) later (n ∷ earlier) bodies).0 in
       let roots_are : length roots ≡ tree_count_back earlier = roots_count from earlier in
-      let P : List Tree → Type 0 = λ (ts : List Tree). child_count n.kind n.count ≤ length ts in
-      let Q : List Tree → Type 0 = λ (ts : List Tree). length roots ≡ length ts in
-      let R : List Tree → Type 0 = λ (ts : List Tree). IsWithin (node n.span.start n.span.stop (shape_over n.kind (names n.text) n.count ts)) whole in
-      let S : List Tree → Type 0 = λ (ts : List Tree). HasFirst Begins slots root scope fault ((from + length earlier) ∷ drop (child_count n.kind n.count) roots) (trees_with names n ts) in
       let enough : child_count n.kind n.count ≤ length trees = omega arith in
       let beside : length roots ≡ length trees = omega arith in
       let next : HasFirst Begins slots root scope fault (roots_from from (n ∷ earlier)) (trees_back names (n ∷ earlier)) =
-      subst S (sym has.split)
-      (one_onward Begins slots root scope whole from (from + length earlier) names n has.newer has.tree has.older roots fault e
-      (subst P has.split enough) (subst Q has.split beside) (subst R has.split inside) begins has.apart has.typed has.found) in
-      fault_onward Begins slots root scope whole from names fault later (n ∷ earlier) e fed one within bodies next
+      subst (λ (ts : List Tree). HasFirst Begins slots root scope fault ((from + length earlier) ∷ drop (child_count n.kind n.count) roots) (trees_with names n ts)) (sym has.split)
+      (one_onward n has.newer has.tree has.older roots
+      (subst (λ (ts : List Tree). child_count n.kind n.count ≤ length ts) has.split enough) (subst (λ (ts : List Tree). length roots ≡ length ts) has.split beside)
+      (subst (λ (ts : List Tree). IsWithin (tree_over n n.kind ts) whole) has.split inside) begins has.apart has.typed has.found (from + length earlier)) in
+      fault_onward later (n ∷ earlier) fed one within bodies next
 
   -- the newest tree of a run has a first untypable node, and the older ones have types
   pub first_fault :
-      (Begins : ℕ → Type 0) (slots : Slots) (root : List ℕ) (scope : Scope) (whole : Tree) (from : ℕ) (names : Texts) (fault : TypeFault) (later earlier : List SyntaxNode) (tree : Tree) (older : List Tree)
-      → IsExpression whole
+      (later earlier : List SyntaxNode) (tree : Tree) (older : List Tree)
       → AreFedBack (onward later earlier)
       → tree_count_back (onward later earlier) ≡ 1
       → IsWithin (last_tree (trees_back names (onward later earlier))) whole
@@ -312,6 +227,6 @@ module _ (spans : SpanLaws) (clear : TypedIsClear) (below : FirstBelow) where
       → AllTyped slots root scope older
       → IsFirstUntypable slots root scope tree fault
       → IsFirstUntypable slots root scope (last_tree (trees_back names (onward later earlier))) fault
-  first_fault Begins slots root scope whole from names fault later earlier tree older e fed one within bodies none trees typed found =
-      fault_onward Begins slots root scope whole from names fault later earlier e fed one within bodies
+  first_fault later earlier tree older fed one within bodies none trees typed found =
+      fault_onward later earlier fed one within bodies
       (record { newer = []; tree = tree; older = older; split = trees; found = found; typed = typed; apart = none })

@@ -1,17 +1,8 @@
 -- Of children in the order of the text: what is untypable in a later one starts after what is in an earlier one.
-use Rattle.std.proofs.Common.{◌≡◌, sym, subst, ◌∙◌, inl, inr, ℕ, ◌<◌, ◌≤◌, List, [], ◌∷◌, ◌++◌, arith}
-use Rattle.std.specs.List.{Contains}
+use Rattle.odata_typing.proofs.Common.{◌≡◌, sym, subst, ◌∙◌, inl, inr, ℕ, ◌<◌, ◌≤◌, List, [], ◌∷◌, ◌++◌, arith, Contains, IsWithin, children_of, in_child, is_root, Shape, Tree, lambda, shape_of, start_of, stop_of, Slots, IsAmong, IsConsidered, IsConsideredBody, IsConsideredChild, children_in_scope, considers_below, considers_itself, IsFirstUntypable, FirstBelow, TypedIsClear, Scope, TypeFault}
 use Rattle.std.proofs.lemmas.List.Elements.{Contains-append_left, Contains-append_right, Contains-push}
 use Rattle.odata_syntax.specs.Parse.{IsExpression}
-use Rattle.odata_syntax.specs.Spans.{IsWithin, children_of, in_child, is_root}
-use Rattle.odata_syntax.specs.Tree.{Shape, Tree, lambda, shape_of, start_of, stop_of}
-use Rattle.csdl_schema.specs.SchemaModel.{Slots}
-use Rattle.odata_signatures.specs.Considered.{IsAmong, IsConsidered, IsConsideredBody, IsConsideredChild, children_in_scope, considers_below, considers_itself}
 use Rattle.odata_signatures.specs.FirstAmong.{IsFirstAmong}
-use Rattle.odata_signatures.specs.FirstUntypable.{IsFirstUntypable}
-use Rattle.odata_signatures.specs.Laws.{FirstBelow, TypedIsClear}
-use Rattle.odata_signatures.specs.Typed.{Scope}
-use Rattle.odata_signatures.specs.declared.refusal.TypeFault.{TypeFault}
 use Rattle.odata_typing.specs.private.SpanLaws.{SpanLaws}
 use Rattle.odata_typing.proofs.stacks.Onward.{within_whole}
 use Rattle.odata_typing.proofs.untypable.Untypable.{AllStartFrom, AllTyped, IsBodiless, below_node, first_in_back, first_in_front, one_of, typed_start}
@@ -57,10 +48,8 @@ module _ (spans : SpanLaws) where
       → AllStartFrom slots root scope after fault.span.start
   later_start slots root scope whole parent before tree after fault e within children found at other among inner part is =
       let contained : Contains after other = among_contained scope after at other among in
-      let contained_tree : Contains (before ++ (tree ∷ after)) tree =
-      Contains-append_right before (tree ∷ after) tree (Contains-append_left (tree ∷ []) after tree (Contains-push [] tree)) in
-      let contained_other : Contains (before ++ (tree ∷ after)) other =
-      Contains-append_right before (tree ∷ after) other (Contains-append_right (tree ∷ []) after other contained) in
+      let contained_tree = Contains-append_right before (tree ∷ after) tree (Contains-append_left (tree ∷ []) after tree (Contains-push [] tree)) in
+      let contained_other = Contains-append_right before (tree ∷ after) other (Contains-append_right (tree ∷ []) after other contained) in
       let own : IsWithin tree whole =
       within_whole (in_child (subst (λ (ts : List Tree). Contains ts tree) (sym children) contained_tree) is_root) within in
       let beside : IsWithin other whole =
@@ -87,12 +76,9 @@ module _ (spans : SpanLaws) where
       → IsFirstUntypable slots root scope tree fault
       → IsFirstUntypable slots root scope parent fault
   first_of_children clear below slots root scope whole parent before tree after fault e within bodiless in_scope children typed found =
-      let later : AllStartFrom slots root scope after fault.span.start =
-      later_start slots root scope whole parent before tree after fault e within children found in
-      let front : IsFirstAmong slots root scope (tree ∷ after) fault =
-      first_in_front slots root scope (tree ∷ []) after fault (one_of slots root scope tree fault found) later in
-      let among : IsFirstAmong slots root scope (before ++ (tree ∷ after)) fault =
-      first_in_back slots root scope before (tree ∷ after) fault (typed_start clear slots root scope before fault.span.start typed) front in
+      let later = later_start slots root scope whole parent before tree after fault e within children found in
+      let front = first_in_front slots root scope (tree ∷ []) after fault (one_of slots root scope tree fault found) later in
+      let among = first_in_back slots root scope before (tree ∷ after) fault (typed_start clear slots root scope before fault.span.start typed) front in
       below slots root scope parent fault
       (below_node slots root scope parent fault bodiless
       (subst (λ (ts : List Tree). IsFirstAmong slots root scope ts fault) (sym (in_scope ∙ children)) among))

@@ -1,32 +1,18 @@
 -- The walk over a run: a lambda expression whose body begins at an index.
-use Rattle.std.proofs.Common.{◌≡◌, ◌≢◌, refl, ap, sym, subst, ◌∙◌, ℕ, suc, ◌+◌, ◌-◌, ◌<◌, ◌≤◌, List, [], ◌∷◌, ◌++◌, Some, take, drop, length, slice_get, arith}
-use Rattle.odata_syntax.specs.Places.{AreBefore, AreSideBySide, lambda_at, number_at, places_of, stop_at}
-use Rattle.odata_syntax.specs.PostOrder.{Texts, child_count, last_tree, shape_over, trees_back, trees_left, tree_count_back}
-use Rattle.odata_syntax.specs.TextTree.{HasText, text_in}
-use Rattle.odata_syntax.specs.Tree.{Shape, Tree, lambda, node}
-use Rattle.odata_syntax.specs.declared.node.Quantifier.{Quantifier}
-use Rattle.odata_syntax.specs.declared.node_places.Place.{Place}
+use Rattle.odata_typing.proofs.Common.{◌≡◌, ◌≢◌, refl, ap, sym, subst, ◌∙◌, ℕ, suc, ◌+◌, ◌-◌, ◌<◌, ◌≤◌, List, [], ◌∷◌, ◌++◌, Some, take, drop, length, slice_get, arith, AreBefore, AreSideBySide, lambda_at, number_at, places_of, stop_at, Texts, child_count, last_tree, shape_over, trees_back, trees_left, tree_count_back, HasText, text_in, Shape, Tree, lambda, node, Quantifier, Place, SyntaxNode, Judged, CheckContext, Walk, IsStanding, IsNodeAt, IsReady, IsRun, IsContext, run_tree, scope_of}
 use Rattle.odata_syntax.specs.declared.syntax_list.SyntaxKind.{SyntaxKind}
-use Rattle.odata_syntax.specs.declared.syntax_list.SyntaxNode.{SyntaxNode}
-use Rattle.odata_typing.specs.declared.check_context.Judged.{Judged}
-use Rattle.odata_typing.specs.declared.check_context.CheckContext.{CheckContext}
-use Rattle.odata_typing.specs.declared.judged_list.Walk.{Walk}
-use Rattle.odata_typing.specs.private.Judging.{IsStanding}
 use Rattle.odata_typing.specs.private.LambdaNode.{IsLambdaReady}
-use Rattle.odata_typing.specs.private.CheckContexts.{IsNodeAt, IsReady, IsRun, IsContext, run_tree}
-use Rattle.odata_typing.specs.private.Variables.{scope_of}
 use Rattle.odata_typing.proofs.stacks.Children.{roots_count, trees_count}
 use Rattle.odata_typing.proofs.stacks.FirstFault.{none_after}
 use Rattle.odata_typing.proofs.stacks.Judged.{judged_drop}
 use Rattle.odata_typing.proofs.stacks.Marks.{IsBodyWithin, IsMarked, body_within}
-use Rattle.odata_typing.proofs.stacks.Placed.{IsPlacedFrom, placed_one}
 use Rattle.odata_typing.proofs.stacks.Ranges.{one_root}
 use Rattle.odata_typing.proofs.stacks.Runs.{roots_apart}
-use Rattle.odata_typing.proofs.stacks.Contexts.{body_run, fed_within, fits_within, node_ready, whole_run}
+use Rattle.odata_typing.proofs.stacks.Contexts.{body_run, node_ready, whole_run}
 use Rattle.odata_typing.proofs.stacks.Slices.{run_joined, run_length, run_more}
 use Rattle.odata_typing.proofs.stacks.Stacks.{roots_from, run_before}
 use Rattle.odata_typing.proofs.stacks.TreeRuns.{IsWholeRun, one_more_tree}
-use Rattle.odata_typing.proofs.stacks.Walking.{AreTreesJudged, IsJoin, IsWalking, ready_still, run_roots, run_trees}
+use Rattle.odata_typing.proofs.stacks.Walking.{AreTreesJudged, IsJoin, IsOver, IsWalking, node_over, ready_still, run_roots, run_trees}
 
 -- the last root and the last tree of some, and the others
 pub record HasLast (roots : List ℕ) (trees : List Tree) : Type 0 where
@@ -48,8 +34,7 @@ pub record IsOverRuns (context : CheckContext) (from index stop last : ℕ) (n :
   pub roots_are : run_roots context from last ≡ (last - 1) ∷ run_roots context from index
   pub trees_are : run_trees context from last ≡ run_tree context index last ∷ run_trees context from index
   pub base : HasLast (run_roots context from index) (run_trees context from index)
-  pub placed : IsPlacedFrom (places_of context.nodes.now) from n (run_before context.nodes.now from last)
-  pub here : from + length (run_before context.nodes.now from last) ≡ last
+  pub at_last : IsOver context from last n
 
 pub over_runs :
     (context : CheckContext) (from index stop : ℕ)
@@ -72,13 +57,12 @@ over_runs context from index stop is run later before marked =
     let whole : IsWholeRun (run_before nodes index last) = whole_run context index last own in
     let n = body.node in
     let two : child_count n.kind n.count ≡ 2 = ap (λ (k : SyntaxKind). child_count k n.count) body.is_lambda in
-    let fits : child_count n.kind n.count ≤ tree_count_back (run_before nodes from last) =
-    fits_within context from stop last n run (omega arith) within body.at in
+    let at_last : IsOver context from last n = node_over context from stop last n is run (omega arith) within body.at in
+    let fits : child_count n.kind n.count ≤ tree_count_back (run_before nodes from last) = at_last.fits in
     let joined : run_before nodes from last ≡ run_before nodes index last ++ run_before nodes from index = run_joined nodes from index last (omega arith) (omega arith) in
     let long : length (run_before nodes from index) ≡ index - from = run_length nodes from index (omega arith) (omega arith) in
     let start : from + length (run_before nodes from index) ≡ index = omega arith in
     let body_long : length (run_before nodes index last) ≡ last - index = run_length nodes index last (omega arith) (omega arith) in
-    let all_long : length (run_before nodes from last) ≡ last - from = run_length nodes from last (omega arith) (omega arith) in
     let one : roots_from index (run_before nodes index last) ≡ (last - 1) ∷ [] = one_root index last (run_before nodes index last) (omega arith) whole.one in
     let roots : run_roots context from last ≡ (last - 1) ∷ run_roots context from index =
     ap (λ (ns : List SyntaxNode). roots_from from ns) joined
@@ -101,10 +85,7 @@ over_runs context from index stop is run later before marked =
         roots_are = roots;
         trees_are = trees;
         base = has_last (run_roots context from index) (run_trees context from index) (omega arith) (omega arith);
-        placed =
-            placed_one nodes places from last n is.places (omega arith) (omega arith) body.at
-            (fed_within context from stop last run (omega arith) (omega arith)) fits;
-        here = omega arith;
+        at_last = at_last;
       },
     )
 
@@ -125,10 +106,10 @@ base_and_body context from index stop last n quantifier over =
     over.roots_are ∙ ap (λ (rs : List ℕ). (last - 1) ∷ rs) over.base.roots_are in
     let taken : take (child_count n.kind n.count) (run_roots context from last) ≡ (last - 1) ∷ over.base.root ∷ [] =
     ap (λ (k : ℕ). take k (run_roots context from last)) two ∙ ap (λ (rs : List ℕ). take 2 rs) roots in
-    let placed : Row (from + length (run_before context.nodes.now from last)) (take (child_count n.kind n.count) (run_roots context from last)) = over.placed.children in
+    let placed : Row (from + length (run_before context.nodes.now from last)) (take (child_count n.kind n.count) (run_roots context from last)) = over.at_last.placed.children in
     let row : Row last ((last - 1) ∷ over.base.root ∷ []) =
     subst (λ (rs : List ℕ). Row last rs) taken
-    (subst (λ (k : ℕ). Row k (take (child_count n.kind n.count) (run_roots context from last))) over.here placed) in
+    (subst (λ (k : ℕ). Row k (take (child_count n.kind n.count) (run_roots context from last))) over.at_last.here placed) in
     record { starts = row.1.1; between = row.1.0; stops = row.0 }
 
 -- it can be judged
@@ -205,7 +186,7 @@ lambda_joins context from index stop last old walk n quantifier is later walking
       at = over.at;
       roots_are =
           ap (λ (ns : List SyntaxNode). roots_from from ns) next
-          ∙ ap (λ (k : ℕ). k ∷ drop (child_count n.kind n.count) (run_roots context from last)) over.here
+          ∙ ap (λ (k : ℕ). k ∷ drop (child_count n.kind n.count) (run_roots context from last)) over.at_last.here
           ∙ ap (λ (rs : List ℕ). last ∷ rs) left;
       trees_are =
           ap (λ (ns : List SyntaxNode). trees_back names ns) next
@@ -214,8 +195,8 @@ lambda_joins context from index stop last old walk n quantifier is later walking
           ∙ ap (λ (ts : List Tree). node n.span.start n.span.stop (lambda quantifier (last_tree trees) (names n.text) body) ∷ ts)
           (lambda_leaves n quantifier trees body (last_tree trees) over.is_lambda over.base.trees_are);
       before =
-          subst (λ (k : ℕ). AreBefore places (number_at places k) (drop 1 roots)) over.here
-          (subst (λ (rs : List ℕ). AreBefore places (number_at places (from + length (run_before nodes from last))) rs) left over.placed.older);
+          subst (λ (k : ℕ). AreBefore places (number_at places k) (drop 1 roots)) over.at_last.here
+          (subst (λ (rs : List ℕ). AreBefore places (number_at places (from + length (run_before nodes from last))) rs) left over.at_last.placed.older);
       judged = judged_drop context.schema.now context.filtered_type (scope_of context) walk places 1 roots trees walking.judged;
       apart = none_after (IsMarked places) last 0 roots walking.apart;
     }

@@ -1,19 +1,11 @@
 -- What the loop over a run meets at an index: a node, or the body of a lambda expression.
-use Rattle.std.proofs.Common.{◌≡◌, ◌≢◌, refl, sym, ap, subst, ◌∙◌, ℕ, ◌<◌, ◌≤◌, Some, get_or, length, slice_get, arith}
+use Rattle.odata_typing.proofs.Common.{◌≡◌, ◌≢◌, refl, sym, ap, subst, ◌∙◌, ℕ, ◌<◌, ◌≤◌, Some, get_or, length, slice_get, arith, slice_get-get_or, slice_get-map, lambda_at, lambda_of, number_at, places_of, stop_at, last_tree, Quantifier, SyntaxNode, Judged, CheckContext, Walk, IsNodeAt, IsReady, IsRun, IsContext}
 use Rattle.std.specs.Option.{option_map}
-use Rattle.std.proofs.lemmas.Option.{slice_get-get_or, slice_get-map}
-use Rattle.odata_syntax.specs.Places.{lambda_at, lambda_of, number_at, places_of, stop_at}
-use Rattle.odata_syntax.specs.PostOrder.{last_tree}
 use Rattle.odata_syntax.specs.declared.node.LiteralKind.{LiteralKind}
-use Rattle.odata_syntax.specs.declared.node.Quantifier.{Quantifier}
 use Rattle.odata_syntax.specs.declared.syntax_list.SyntaxKind.{SyntaxKind}
-use Rattle.odata_syntax.specs.declared.syntax_list.SyntaxNode.{SyntaxNode}
-use Rattle.odata_typing.specs.declared.check_context.Judged.{Judged}
-use Rattle.odata_typing.specs.declared.check_context.CheckContext.{CheckContext}
-use Rattle.odata_typing.specs.declared.judged_list.Walk.{Walk}
 use Rattle.odata_typing.specs.private.LambdaNode.{IsLambdaReady}
-use Rattle.odata_typing.specs.private.CheckContexts.{IsNodeAt, IsReady, IsRun, IsContext}
 use Rattle.odata_typing.proofs.stacks.Lambdas.{IsOverRuns, lambda_ready, over_runs}
+use Rattle.odata_typing.proofs.stacks.Steps.{IsStep, judged_tree, lambda_at_last, lambda_step}
 use Rattle.odata_typing.proofs.stacks.Walking.{IsWalking, run_trees}
 
 -- what a read of the nodes gives past their end
@@ -39,9 +31,8 @@ none_read context from stop index is run before none =
 pub record IsLambdaThere (context : CheckContext) (from stop index last : ℕ) (walk : Walk) : Type 0 where
   pub judged : Judged
   pub quantifier : Quantifier
-  pub at : IsNodeAt context last judged
-  pub over : IsOverRuns context from index stop last judged.node.now quantifier
   pub ready : IsLambdaReady context walk index last judged quantifier (last_tree (run_trees context from index))
+  pub step : IsStep context walk from stop last judged (judged_tree judged (lambda_at_last context from index last quantifier judged))
   pub later : from < index
   pub order : index < last
   pub within : last < stop
@@ -77,9 +68,8 @@ lambda_there context from stop index old walk is ready run walking inside not_fi
     record {
       judged = judged_at context last found.0;
       quantifier = found.1;
-      at = at;
-      over = over;
       ready = lambda_ready context from index stop last old walk (judged_at context last found.0) found.1 is ready walking at over;
+      step = lambda_step context from stop index last old walk (judged_at context last found.0) found.1 is walking later at over;
       later = later;
       order = over.body.order;
       within = over.body.within;

@@ -1,16 +1,10 @@
 -- Where bodies begin: at the marks of the places.
-use Rattle.std.proofs.Common.{◌≡◌, ◌≢◌, refl, ap, sym, subst, ◌∙◌, inl, inr, ℕ, zero, suc, ◌+◌, ◌-◌, ◌<◌, ◌≤◌, List, [], ◌∷◌, ◌++◌, Some, drop, length, length-drop, slice_get, arith}
+use Rattle.odata_typing.proofs.Common.{◌≡◌, ◌≢◌, refl, ap, subst, ◌∙◌, inl, inr, ℕ, zero, ◌+◌, ◌-◌, ◌<◌, ◌≤◌, List, [], ◌∷◌, ◌++◌, Some, drop, length, length-drop, slice_get, arith, slice_get_cases, slice_get_within, ArePlaces, BeginsBody, IsPlaced, first_at, lambda_at, nodes_before, roots_back, AreFedBack, child_count, tree_count_back, Quantifier, Place, SyntaxNode}
 use Rattle.std.proofs.lemmas.Bool.{cases_lt}
-use Rattle.std.proofs.lemmas.Option.{slice_get_cases, slice_get_within}
-use Rattle.odata_syntax.specs.Places.{ArePlaces, BeginsBody, IsPlaced, first_at, lambda_at, nodes_before, roots_back}
-use Rattle.odata_syntax.specs.PostOrder.{AreFedBack, child_count, tree_count_back}
-use Rattle.odata_syntax.specs.declared.node.Quantifier.{Quantifier}
-use Rattle.odata_syntax.specs.declared.node_places.Place.{Place}
 use Rattle.odata_syntax.specs.declared.syntax_list.SyntaxKind.{SyntaxKind}
-use Rattle.odata_syntax.specs.declared.syntax_list.SyntaxNode.{SyntaxNode}
 use Rattle.odata_typing.proofs.stacks.Children.{roots_count}
 use Rattle.odata_typing.proofs.stacks.Placed.{AreTiled, roots_joined, tiled}
-use Rattle.odata_typing.proofs.stacks.Slices.{before_joined, before_length, run_empty, run_length, run_more}
+use Rattle.odata_typing.proofs.stacks.Slices.{before_joined, before_length, run_each, run_length}
 use Rattle.odata_typing.proofs.stacks.Stacks.{BodiesBegin, IfLambda, begin_of, roots_from, run_before}
 
 -- a body begins with the node of this index
@@ -78,36 +72,6 @@ marked_one nodes places from index n quantifier are all order at is fed fits non
     let zero : lambda_at places (begin_of from (roots_from from run)) ≡ 0 = none in
     absurd (omega arith)
 
-marked_count :
-    (nodes : List SyntaxNode) (places : List Place) (from m : ℕ)
-    → ArePlaces nodes places
-    → AreFedBack (nodes_before nodes (from + m))
-    → from + m ≤ length nodes
-    → AreFedBack (run_before nodes from (from + m))
-    → BodiesBegin (IsMarked places) from (run_before nodes from (from + m))
-marked_count nodes places from zero are all inside fed =
-    let none : run_before nodes from (from + zero) ≡ [] = ap (λ (k : ℕ). run_before nodes from k) (omega arith) ∙ run_empty nodes from in
-    subst (λ (ns : List SyntaxNode). BodiesBegin (IsMarked places) from ns) (sym none) tt
-marked_count nodes places from (suc m) are all inside fed =
-    elim (slice_get_cases nodes (from + m)).1 [
-      | inl x ↦
-          let n = x.0 in
-          let index = from + m in
-          let at : from + suc m ≡ index + 1 = omega arith in
-          let next : run_before nodes from (from + suc m) ≡ n ∷ run_before nodes from index =
-          ap (λ (k : ℕ). run_before nodes from k) at ∙ run_more nodes from index n (omega arith) x.2 in
-          let more : AreFedBack (n ∷ run_before nodes from index) = subst (λ (ns : List SyntaxNode). AreFedBack ns) next fed in
-          let before : AreFedBack (nodes_before nodes index) =
-          earlier_fed_back (run_before nodes index (from + suc m)) (nodes_before nodes index)
-          (subst (λ (ns : List SyntaxNode). AreFedBack ns) (before_joined nodes index (from + suc m) (omega arith)) all) in
-          subst (λ (ns : List SyntaxNode). BodiesBegin (IsMarked places) from ns) (sym next) (
-            if_lambda n.kind (IsMarked places (begin_of from (roots_from from (run_before nodes from index))))
-                (λ quantifier is. marked_one nodes places from index n quantifier are before (omega arith) x.2 is more.1 more.0),
-            marked_count nodes places from m are before (omega arith) more.1,
-          )
-      | inr y ↦ let past : length nodes ≤ from + m = y.0 in absurd (omega arith)
-    ]
-
 pub bodies_marked :
     (nodes : List SyntaxNode) (places : List Place) (from index : ℕ)
     → ArePlaces nodes places
@@ -116,11 +80,15 @@ pub bodies_marked :
     → index ≤ length nodes
     → AreFedBack (run_before nodes from index)
     → BodiesBegin (IsMarked places) from (run_before nodes from index)
-bodies_marked nodes places from index are all order inside fed =
-    let at : from + (index - from) ≡ index = omega arith in
-    subst (λ (k : ℕ). BodiesBegin (IsMarked places) from (run_before nodes from k)) at
-    (marked_count nodes places from (index - from) are (subst (λ (k : ℕ). AreFedBack (nodes_before nodes k)) (sym at) all) (omega arith)
-    (subst (λ (k : ℕ). AreFedBack (run_before nodes from k)) (sym at) fed))
+bodies_marked nodes places from index are all order inside =
+    run_each nodes from index (λ ns. BodiesBegin (IsMarked places) from ns) tt
+    (λ k n after before at more rest.
+    let earlier : AreFedBack (nodes_before nodes k) =
+    earlier_fed_back (run_before nodes k index) (nodes_before nodes k) (subst (λ (ns : List SyntaxNode). AreFedBack ns) (before_joined nodes k index (omega arith)) all) in (
+      if_lambda n.kind (IsMarked places (begin_of from (roots_from from (run_before nodes from k))))
+          (λ quantifier is. marked_one nodes places from k n quantifier are earlier after at is more.1 more.0),
+      rest,
+    )) order inside
 
 -- the body of a lambda expression that is marked within a run: it ends in the run
 pub record IsBodyWithin (nodes : List SyntaxNode) (places : List Place) (index stop lambda : ℕ) : Type 0 where

@@ -1,12 +1,6 @@
 -- Each tree of a run is a part of the one tree that the run becomes.
-use Rattle.std.proofs.Common.{◌≡◌, subst, ◌∙◌, ◌+◌, ◌-◌, ◌≤◌, List, [], ◌∷◌, ◌++◌, reverse, take, drop, length, arith}
-use Rattle.std.specs.List.{AllByRecursion, Contains}
-use Rattle.std.proofs.lemmas.List.{reverse-append, take-append-drop}
+use Rattle.odata_typing.proofs.Common.{◌≡◌, subst, ◌∙◌, ◌+◌, ◌-◌, ◌≤◌, List, [], ◌∷◌, ◌++◌, reverse, take, drop, length, arith, ap, sym, ℕ, zero, suc, AllByRecursion, Contains, reverse-append, reverse-reverse, take-append-drop, AreFedBack, Texts, child_count, last_tree, shape_over, tree_count_back, trees_back, trees_with, IsWithin, children_of, in_child, is_root, Tree, node, shape_of, SyntaxNode}
 use Rattle.std.proofs.lemmas.List.Elements.{Contains-append_left, Contains-append_right, Contains-push}
-use Rattle.odata_syntax.specs.PostOrder.{AreFedBack, Texts, child_count, last_tree, shape_over, tree_count_back, trees_back, trees_with}
-use Rattle.odata_syntax.specs.Spans.{IsWithin, children_of, in_child, is_root}
-use Rattle.odata_syntax.specs.Tree.{Tree, node, shape_of}
-use Rattle.odata_syntax.specs.declared.syntax_list.SyntaxNode.{SyntaxNode}
 use Rattle.odata_typing.proofs.stacks.Stacks.{onward}
 use Rattle.odata_typing.proofs.stacks.Children.{children_over, left_over, trees_count}
 
@@ -19,23 +13,26 @@ within_whole inner (in_child c outer) = in_child c (within_whole inner outer)
 abbrev pub AllWithin : Tree → List Tree → Type 0
 AllWithin whole trees = AllByRecursion (λ tree. IsWithin tree whole) trees
 
-pub all_on : (whole : Tree) (xs ys : List Tree) → AllWithin whole xs → AllWithin whole ys → AllWithin whole (xs ++ ys)
-all_on whole [] ys first second = second
-all_on whole (x ∷ xs) ys first second = (first.0, all_on whole xs ys first.1 second)
+-- what holds of each of some trees
+module _ (P : Tree → Type 0) where
+  pub each_on : (xs ys : List Tree) → AllByRecursion P xs → AllByRecursion P ys → AllByRecursion P (xs ++ ys)
+  each_on [] ys first second = second
+  each_on (x ∷ xs) ys first second = (first.0, each_on xs ys first.1 second)
 
-all_front : (whole : Tree) (xs ys : List Tree) → AllWithin whole (xs ++ ys) → AllWithin whole xs
-all_front whole [] ys all = tt
-all_front whole (x ∷ xs) ys all = (all.0, all_front whole xs ys all.1)
+  pub each_turned : (xs : List Tree) → AllByRecursion P xs → AllByRecursion P (reverse xs)
+  each_turned [] each = tt
+  each_turned (x ∷ xs) each =
+      subst (λ (ts : List Tree). AllByRecursion P ts) (sym (reverse-append (x ∷ []) xs)) (each_on (reverse xs) (x ∷ []) (each_turned xs each.1) (each.0, tt))
 
-all_back : (whole : Tree) (xs ys : List Tree) → AllWithin whole (xs ++ ys) → AllWithin whole ys
-all_back whole [] ys all = all
-all_back whole (x ∷ xs) ys all = all_back whole xs ys all.1
+  pub each_take : (n : ℕ) (xs : List Tree) → AllByRecursion P xs → AllByRecursion P (take n xs)
+  each_take zero xs each = tt
+  each_take (suc n) [] each = tt
+  each_take (suc n) (x ∷ xs) each = (each.0, each_take n xs each.1)
 
-all_turned : (whole : Tree) (xs : List Tree) → AllWithin whole (reverse xs) → AllWithin whole xs
-all_turned whole [] all = tt
-all_turned whole (x ∷ xs) all =
-    let split : AllWithin whole (reverse xs ++ x ∷ []) = subst (λ (ts : List Tree). AllWithin whole ts) (reverse-append (x ∷ []) xs) all in
-    ((all_back whole (reverse xs) (x ∷ []) split).0, all_turned whole xs (all_front whole (reverse xs) (x ∷ []) split))
+  pub each_drop : (n : ℕ) (xs : List Tree) → AllByRecursion P xs → AllByRecursion P (drop n xs)
+  each_drop zero xs each = each
+  each_drop (suc n) [] each = tt
+  each_drop (suc n) (x ∷ xs) each = each_drop n xs each.1
 
 -- the children of a part are parts
 all_children : (whole parent : Tree) (trees : List Tree) → IsWithin parent whole → ((child : Tree) → Contains trees child → Contains (children_of (shape_of parent)) child) → AllWithin whole trees
@@ -57,17 +54,20 @@ before_within :
     → AllWithin whole trees
 before_within names whole n trees enough all =
     let count = child_count n.kind n.count in
-    let children : AllWithin whole (children_of (shape_over n.kind (names n.text) n.count trees)) =
-    children_within whole (node n.span.start n.span.stop (shape_over n.kind (names n.text) n.count trees)) all.0 in
+    let children = children_within whole (node n.span.start n.span.stop (shape_over n.kind (names n.text) n.count trees)) all.0 in
     let taken : AllWithin whole (take count trees) =
-    all_turned whole (take count trees) (subst (λ (ts : List Tree). AllWithin whole ts) (children_over n.kind (names n.text) n.count trees enough) children) in
+    subst (λ (ts : List Tree). AllWithin whole ts) (ap reverse (children_over n.kind (names n.text) n.count trees enough) ∙ reverse-reverse (take count trees))
+    (each_turned (λ tree. IsWithin tree whole) (children_of (shape_over n.kind (names n.text) n.count trees)) children) in
     let left : AllWithin whole (drop count trees) = subst (λ (ts : List Tree). AllWithin whole ts) (left_over n.kind n.count trees) all.1 in
-    subst (λ (ts : List Tree). AllWithin whole ts) (take-append-drop count trees) (all_on whole (take count trees) (drop count trees) taken left)
+    subst (λ (ts : List Tree). AllWithin whole ts) (take-append-drop count trees) (each_on (λ tree. IsWithin tree whole) (take count trees) (drop count trees) taken left)
 
 -- a fed run is fed at each node
+pub earlier_of : (F : List SyntaxNode → Type 0) → ((n : SyntaxNode) (ns : List SyntaxNode) → F (n ∷ ns) → F ns) → (later earlier : List SyntaxNode) → F (onward later earlier) → F earlier
+earlier_of F front [] earlier all = all
+earlier_of F front (n ∷ later) earlier all = front n earlier (earlier_of F front later (n ∷ earlier) all)
+
 pub earlier_fed : (later earlier : List SyntaxNode) → AreFedBack (onward later earlier) → AreFedBack earlier
-earlier_fed [] earlier fed = fed
-earlier_fed (n ∷ later) earlier fed = (earlier_fed later (n ∷ earlier) fed).1
+earlier_fed = earlier_of AreFedBack (λ n ns fed. fed.1)
 
 only_tree : (trees : List Tree) → length trees ≡ 1 → AllWithin (last_tree trees) trees
 only_tree [] one = tt

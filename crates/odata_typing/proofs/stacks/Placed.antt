@@ -1,14 +1,8 @@
 -- The places of the nodes of a run.
-use Rattle.std.proofs.Common.{◌≡◌, refl, ap, sym, subst, ◌∙◌, inl, inr, ℕ, zero, suc, ◌+◌, ◌-◌, ◌<◌, ◌≤◌, List, [], ◌∷◌, ◌++◌, Some, take, drop, length, slice_get, arith}
-use Rattle.std.proofs.lemmas.List.{drop-append-le, take-append-le}
-use Rattle.std.proofs.lemmas.Option.{slice_get_cases}
-use Rattle.odata_syntax.specs.Places.{ArePlaces, AreBefore, AreSideBySide, IsPlaced, first_at, first_over, nodes_before, number_at, roots_back, stop_at}
-use Rattle.odata_syntax.specs.PostOrder.{AreFedBack, child_count, tree_count_back}
-use Rattle.odata_syntax.specs.declared.node_places.Place.{Place}
-use Rattle.odata_syntax.specs.declared.syntax_list.SyntaxNode.{SyntaxNode}
+use Rattle.odata_typing.proofs.Common.{◌≡◌, refl, ap, sym, subst, ◌∙◌, ℕ, zero, suc, ◌+◌, ◌-◌, ◌<◌, ◌≤◌, List, [], ◌∷◌, ◌++◌, Some, take, drop, length, slice_get, arith, drop-append-le, take-append-le, ArePlaces, AreBefore, AreSideBySide, IsPlaced, first_at, first_over, nodes_before, number_at, roots_back, stop_at, AreFedBack, child_count, tree_count_back, Place, SyntaxNode}
 use Rattle.odata_typing.proofs.stacks.Children.{roots_count}
 use Rattle.odata_typing.proofs.stacks.Runs.{roots_apart}
-use Rattle.odata_typing.proofs.stacks.Slices.{before_joined, before_length, before_more, run_empty, run_length, run_more}
+use Rattle.odata_typing.proofs.stacks.Slices.{before_joined, before_length, run_all, run_each, run_length}
 use Rattle.odata_typing.proofs.stacks.Stacks.{begin_of, roots_from, run_before}
 
 -- after a node stand its children side by side, and before it the other trees of the run
@@ -87,29 +81,6 @@ placed_one nodes places from index n are order inside at fed fits =
     }
 
 -- all nodes of a run
-placed_count :
-    (nodes : List SyntaxNode) (places : List Place) (from m : ℕ)
-    → ArePlaces nodes places
-    → from + m ≤ length nodes
-    → AreFedBack (run_before nodes from (from + m))
-    → ArePlacedFrom places from (run_before nodes from (from + m))
-placed_count nodes places from zero are inside fed =
-    let none : run_before nodes from (from + zero) ≡ [] = ap (λ (k : ℕ). run_before nodes from k) (omega arith) ∙ run_empty nodes from in
-    subst (λ (ns : List SyntaxNode). ArePlacedFrom places from ns) (sym none) tt
-placed_count nodes places from (suc m) are inside fed =
-    elim (slice_get_cases nodes (from + m)).1 [
-      | inl x ↦
-          let n = x.0 in
-          let next : run_before nodes from (from + suc m) ≡ n ∷ run_before nodes from (from + m) =
-          ap (λ (k : ℕ). run_before nodes from k) (omega arith) ∙ run_more nodes from (from + m) n (omega arith) x.2 in
-          let more : AreFedBack (n ∷ run_before nodes from (from + m)) = subst (λ (ns : List SyntaxNode). AreFedBack ns) next fed in
-          subst (λ (ns : List SyntaxNode). ArePlacedFrom places from ns) (sym next) (
-            placed_one nodes places from (from + m) n are (omega arith) (omega arith) x.2 more.1 more.0,
-            placed_count nodes places from m are (omega arith) more.1,
-          )
-      | inr y ↦ let past : length nodes ≤ from + m = y.0 in absurd (omega arith)
-    ]
-
 pub placed_run :
     (nodes : List SyntaxNode) (places : List Place) (from index : ℕ)
     → ArePlaces nodes places
@@ -117,10 +88,9 @@ pub placed_run :
     → index ≤ length nodes
     → AreFedBack (run_before nodes from index)
     → ArePlacedFrom places from (run_before nodes from index)
-placed_run nodes places from index are order inside fed =
-    let at : from + (index - from) ≡ index = omega arith in
-    subst (λ (k : ℕ). ArePlacedFrom places from (run_before nodes from k)) at
-    (placed_count nodes places from (index - from) are (omega arith) (subst (λ (k : ℕ). AreFedBack (run_before nodes from k)) (sym at) fed))
+placed_run nodes places from index are order inside =
+    run_each nodes from index (λ ns. ArePlacedFrom places from ns) tt
+    (λ k n after before at fed placed. (placed_one nodes places from k n are after (omega arith) at fed.1 fed.0, placed)) order inside
 
 -- Where trees begin.
 
@@ -177,21 +147,15 @@ pub tiled :
     → index ≤ length nodes
     → AreFedBack (nodes_before nodes index)
     → AreTiled places (roots_back (nodes_before nodes index))
-tiled nodes places zero are inside fed = tt
-tiled nodes places (suc index) are inside fed =
-    elim (slice_get_cases nodes index).1 [
-      | inl x ↦
-          let n = x.0 in
-          let earlier = nodes_before nodes index in
-          let next : nodes_before nodes (suc index) ≡ n ∷ earlier = before_more nodes index n x.2 in
-          let more : AreFedBack (n ∷ earlier) = subst (λ (ns : List SyntaxNode). AreFedBack ns) next fed in
-          let rest : AreTiled places (roots_back earlier) = tiled nodes places index are (omega arith) more.1 in
-          let placed : IsPlaced places n earlier = are.placed index n x.2 in
-          let count : length (roots_back earlier) ≡ tree_count_back earlier = back_count earlier in
-          let fits : child_count n.kind n.count ≤ tree_count_back earlier = more.0 in
-          subst (λ (ns : List SyntaxNode). AreTiled places (roots_back ns)) (sym next) (
-            placed.begins ∙ first_node places earlier (child_count n.kind n.count) (roots_back earlier) refl rest (omega arith),
-            tiled_drop places (child_count n.kind n.count) (roots_back earlier) rest,
-          )
-      | inr y ↦ let past : length nodes ≤ index = y.0 in absurd (omega arith)
-    ]
+tiled nodes places index are inside fed =
+    subst (λ (ns : List SyntaxNode). AreTiled places (roots_back ns)) (run_all nodes index)
+    (run_each nodes 0 index (λ ns. AreTiled places (roots_back ns)) tt
+    (λ k n after before at more rest.
+    let earlier = run_before nodes 0 k in
+    let placed : IsPlaced places n earlier = subst (λ (ns : List SyntaxNode). IsPlaced places n ns) (sym (run_all nodes k)) (are.placed k n at) in
+    let count : length (roots_back earlier) ≡ tree_count_back earlier = back_count earlier in
+    let fits : child_count n.kind n.count ≤ tree_count_back earlier = more.0 in (
+      placed.begins ∙ first_node places earlier (child_count n.kind n.count) (roots_back earlier) refl rest (omega arith),
+      tiled_drop places (child_count n.kind n.count) (roots_back earlier) rest,
+    ))
+    (omega arith) inside (subst (λ (ns : List SyntaxNode). AreFedBack ns) (sym (run_all nodes index)) fed))

@@ -1,11 +1,7 @@
 -- The trees of a run stand within the places of the tree that it becomes.
-use Rattle.std.proofs.Common.{◌≡◌, ap, sym, subst, ◌∙◌, ℕ, ◌+◌, ◌-◌, ◌<◌, ◌≤◌, List, [], ◌∷◌, ◌++◌, Some, take, drop, length, length-drop, slice_get, arith}
+use Rattle.odata_typing.proofs.Common.{◌≡◌, ap, sym, subst, ◌∙◌, ℕ, ◌+◌, ◌-◌, ◌<◌, ◌≤◌, List, [], ◌∷◌, ◌++◌, Some, take, drop, length, length-drop, slice_get, arith, nil_from_length, take-append-drop, ArePlaces, AreSideBySide, number_at, stop_at, child_count, tree_count_back, Place, SyntaxNode}
 use Rattle.std.specs.List.{slice_range}
-use Rattle.std.proofs.lemmas.List.{nil_from_length, take-append-drop}
-use Rattle.odata_syntax.specs.Places.{ArePlaces, AreSideBySide, number_at, stop_at}
-use Rattle.odata_syntax.specs.PostOrder.{child_count, tree_count_back}
-use Rattle.odata_syntax.specs.declared.node_places.Place.{Place}
-use Rattle.odata_syntax.specs.declared.syntax_list.SyntaxNode.{SyntaxNode}
+use Rattle.odata_typing.proofs.stacks.Onward.{earlier_of}
 use Rattle.odata_typing.proofs.stacks.Children.{roots_count}
 use Rattle.odata_typing.proofs.stacks.Placed.{ArePlacedFrom, placed_run}
 use Rattle.odata_typing.proofs.stacks.Slices.{onward_run, run_length, run_more}
@@ -35,10 +31,6 @@ within_on : (places : List Place) (i j : ℕ) (xs ys : List ℕ) → AreWithin p
 within_on places i j [] ys first second = second
 within_on places i j (x ∷ xs) ys first second = (first.0, first.1, within_on places i j xs ys first.2 second)
 
-earlier_placed : (places : List Place) (from : ℕ) (later earlier : List SyntaxNode) → ArePlacedFrom places from (onward later earlier) → ArePlacedFrom places from earlier
-earlier_placed places from [] earlier placed = placed
-earlier_placed places from (n ∷ later) earlier placed = (earlier_placed places from later (n ∷ earlier) placed).1
-
 stays_placed :
     (places : List Place) (from i j : ℕ) (later earlier : List SyntaxNode)
     → ArePlacedFrom places from (onward later earlier)
@@ -51,9 +43,8 @@ stays_placed places from i j (n ∷ later) earlier placed within =
     let root = from + length earlier in
     let next : AreWithin places i j (root ∷ drop count roots) = stays_placed places from i j later (n ∷ earlier) placed within in
     let start : i ≤ number_at places root = next.0 in
-    let own = (earlier_placed places from later (n ∷ earlier) placed).0 in
-    let children : AreWithin places i j (take count roots) =
-    row_within places i j (number_at places root + 1) (stop_at places root) (take count roots) (omega arith) next.1 own.children in
+    let own = (earlier_of (ArePlacedFrom places from) (λ m ns placed. placed.1) later (n ∷ earlier) placed).0 in
+    let children = row_within places i j (number_at places root + 1) (stop_at places root) (take count roots) (omega arith) next.1 own.children in
     subst (λ (rs : List ℕ). AreWithin places i j rs) (take-append-drop count roots) (within_on places i j (take count roots) (drop count roots) children next.2)
 
 -- the one root of a whole run is its last node

@@ -1,11 +1,7 @@
 -- A run on its own, and after other nodes.
-use Rattle.std.proofs.Common.{◌≡◌, refl, ap, sym, ◌∙◌, ℕ, zero, suc, ◌+◌, ◌-◌, ◌≤◌, List, [], ◌∷◌, ◌++◌, reverse, take, drop, length, length-append, length-drop, arith}
-use Rattle.std.proofs.lemmas.List.{drop-append-le, take-append-le}
-use Rattle.odata_syntax.specs.PostOrder.{AreFedBack, Texts, child_count, last_tree, shape_over, tree_count_back, trees_back, trees_before, trees_left}
-use Rattle.odata_syntax.specs.Tree.{Shape, Tree, call, in_list, node, trees_of_list}
+use Rattle.odata_typing.proofs.Common.{◌≡◌, refl, ap, sym, ◌∙◌, ℕ, zero, suc, ◌+◌, ◌-◌, ◌≤◌, List, [], ◌∷◌, ◌++◌, reverse, take, drop, length, length-append, length-drop, arith, drop-append-le, take-append-le, AreFedBack, Texts, child_count, last_tree, shape_over, tree_count_back, trees_back, trees_before, trees_left, Shape, Tree, call, in_list, node, trees_of_list, SyntaxNode}
 use Rattle.std.specs.Str.{str_to_ascii_lowercase}
 use Rattle.odata_syntax.specs.declared.syntax_list.SyntaxKind.{SyntaxKind}
-use Rattle.odata_syntax.specs.declared.syntax_list.SyntaxNode.{SyntaxNode}
 use Rattle.odata_typing.proofs.stacks.Stacks.{begin_of, roots_from}
 use Rattle.odata_typing.proofs.stacks.Children.{left_over, roots_count, trees_count}
 
@@ -40,10 +36,6 @@ pub shape_front : (kind : SyntaxKind) (text : List ℕ) (items : ℕ) (xs ys : L
 shape_front (SyntaxKind.Lit kind) text items xs ys enough = refl
 shape_front SyntaxKind.It text items xs ys enough = refl
 shape_front SyntaxKind.Name text items xs ys enough = refl
-shape_front SyntaxKind.Member text items xs ys enough = one_front (λ t. shape_over SyntaxKind.Member text items (t ∷ [])) xs ys enough
-shape_front SyntaxKind.Count text items xs ys enough = one_front (λ t. shape_over SyntaxKind.Count text items (t ∷ [])) xs ys enough
-shape_front SyntaxKind.Neg text items xs ys enough = one_front (λ t. shape_over SyntaxKind.Neg text items (t ∷ [])) xs ys enough
-shape_front SyntaxKind.Not text items xs ys enough = one_front (λ t. shape_over SyntaxKind.Not text items (t ∷ [])) xs ys enough
 shape_front (SyntaxKind.Binary operator) text items xs ys enough = two_front (λ l r. shape_over (SyntaxKind.Binary operator) text items (r ∷ l ∷ [])) xs ys enough
 shape_front SyntaxKind.Has text items xs ys enough = two_front (λ l r. shape_over SyntaxKind.Has text items (r ∷ l ∷ [])) xs ys enough
 shape_front SyntaxKind.InList text items xs ys enough =
@@ -52,8 +44,8 @@ shape_front SyntaxKind.InList text items xs ys enough =
 shape_front SyntaxKind.InPath text items xs ys enough = two_front (λ l r. shape_over SyntaxKind.InPath text items (r ∷ l ∷ [])) xs ys enough
 shape_front SyntaxKind.Call text items xs ys enough =
     ap (λ (ts : List Tree). call (str_to_ascii_lowercase text) (trees_of_list ts)) (listed_front items xs ys enough)
-shape_front SyntaxKind.AnyItem text items xs ys enough = one_front (λ t. shape_over SyntaxKind.AnyItem text items (t ∷ [])) xs ys enough
 shape_front (SyntaxKind.Lambda quantifier) text items xs ys enough = two_front (λ l r. shape_over (SyntaxKind.Lambda quantifier) text items (r ∷ l ∷ [])) xs ys enough
+shape_front kind text items xs ys enough = one_front (λ t. shape_over kind text items (t ∷ [])) xs ys enough
 
 left_front : (kind : SyntaxKind) (items : ℕ) (xs ys : List Tree) → child_count kind items ≤ length xs → trees_left kind items (xs ++ ys) ≡ trees_left kind items xs ++ ys
 left_front kind items xs ys enough =
@@ -112,11 +104,6 @@ own_run (suc count) (n ∷ nodes) fed enough =
       trees = omega arith;
       fed_before = rest.fed_before;
     }
-
--- a fed run of no trees has no nodes
-no_nodes : (nodes : List SyntaxNode) → tree_count_back nodes ≡ 0 → nodes ≡ []
-no_nodes [] none = refl
-no_nodes (n ∷ nodes) none = absurd (omega arith)
 
 begin_before : (own : List ℕ) (before : List SyntaxNode) → length own ≡ 1 → begin_of 0 (own ++ roots_from 0 before) ≡ length before
 begin_before [] before one = absurd (omega arith)

@@ -1,10 +1,6 @@
 -- The nodes of a list from one index up to another, the last one first.
-use Rattle.std.proofs.Common.{◌≡◌, refl, ap, sym, ◌∙◌, ℕ, suc, ◌+◌, ◌-◌, ◌<◌, ◌≤◌, List, [], ◌∷◌, ◌++◌, Some, reverse, take, drop, length, length-drop, get_or, slice_get, arith}
+use Rattle.odata_typing.proofs.Common.{◌≡◌, refl, ap, sym, ◌∙◌, subst, inl, inr, ℕ, zero, suc, ◌+◌, ◌-◌, ◌<◌, ◌≤◌, List, [], ◌∷◌, ◌++◌, Some, reverse, take, drop, length, length-drop, get_or, slice_get, arith, append_assoc, drop-drop, drop-take, get_or-drop, length-reverse, length-take-le, reverse-append, take-append-drop, take-take, take_more, get_or_from_slice_get, slice_get_cases, slice_get_within, nodes_before, AreFedBack, SyntaxNode}
 use Rattle.std.specs.List.{slice_range}
-use Rattle.std.proofs.lemmas.List.{append_assoc, drop-drop, drop-take, get_or-drop, length-reverse, length-take-le, reverse-append, take-append-drop, take-take, take_more}
-use Rattle.std.proofs.lemmas.Option.{get_or_from_slice_get, slice_get_within}
-use Rattle.odata_syntax.specs.Places.{nodes_before}
-use Rattle.odata_syntax.specs.declared.syntax_list.SyntaxNode.{SyntaxNode}
 use Rattle.odata_typing.proofs.stacks.Stacks.{onward, run_before}
 
 pub run_empty : (nodes : List SyntaxNode) (from : ℕ) → run_before nodes from from ≡ []
@@ -29,6 +25,33 @@ run_more nodes from index n order at =
     ∙ ap (λ (ns : List SyntaxNode). reverse ns) (take_more (drop from nodes) m n (omega arith))
     ∙ reverse-append (take m (drop from nodes)) (get_or (drop from nodes) m n ∷ [])
     ∙ ap (λ (x : SyntaxNode). x ∷ reverse (take m (drop from nodes))) here
+
+-- what holds of no nodes, and of one more node of a run that is fed wherever it holds of those before, holds of the run
+pub run_each :
+    (nodes : List SyntaxNode) (from stop : ℕ) (P : List SyntaxNode → Type 0)
+    → P []
+    → ((index : ℕ) (n : SyntaxNode) → from ≤ index → index < stop → slice_get nodes index ≡ Some n → AreFedBack (n ∷ run_before nodes from index)
+    → P (run_before nodes from index) → P (n ∷ run_before nodes from index))
+    → from ≤ stop
+    → stop ≤ length nodes
+    → AreFedBack (run_before nodes from stop)
+    → P (run_before nodes from stop)
+run_each nodes from stop P none more order inside fed =
+    let at : from + (stop - from) ≡ stop = omega arith in
+    subst (λ (k : ℕ). P (run_before nodes from k)) at (by (stop - from) (omega arith) (subst (λ (k : ℕ). AreFedBack (run_before nodes from k)) (sym at) fed))
+  where
+    by : (m : ℕ) → from + m ≤ stop → AreFedBack (run_before nodes from (from + m)) → P (run_before nodes from (from + m))
+    by zero before fed =
+        let empty : run_before nodes from (from + zero) ≡ [] = ap (λ (k : ℕ). run_before nodes from k) (omega arith) ∙ run_empty nodes from in
+        subst P (sym empty) none
+    by (suc m) before fed = elim (slice_get_cases nodes (from + m)).1 [
+      | inl x ↦
+          let next : run_before nodes from (from + suc m) ≡ x.0 ∷ run_before nodes from (from + m) =
+          ap (λ (k : ℕ). run_before nodes from k) (omega arith) ∙ run_more nodes from (from + m) x.0 (omega arith) x.2 in
+          let all : AreFedBack (x.0 ∷ run_before nodes from (from + m)) = subst (λ (ns : List SyntaxNode). AreFedBack ns) next fed in
+          subst P (sym next) (more (from + m) x.0 (omega arith) (omega arith) x.2 all (by m (omega arith) all.1))
+      | inr y ↦ let past : length nodes ≤ from + m = y.0 in absurd (omega arith)
+    ]
 
 -- in two parts
 range_joined : (nodes : List SyntaxNode) (from middle stop : ℕ) → from ≤ middle → middle ≤ stop → slice_range nodes from middle ++ slice_range nodes middle stop ≡ slice_range nodes from stop

@@ -1,21 +1,8 @@
 -- The walk over a run, one step on: it goes on after what has been put, and is refused where something is.
-use Rattle.std.proofs.Common.{◌≡◌, subst, ◌⊎◌, ℕ, ◌+◌, ◌-◌, ◌<◌, drop, Option, Some, None, IfSome, arith}
-use Rattle.odata_syntax.specs.Places.{lambda_at, number_at, places_of, stop_at}
-use Rattle.odata_syntax.specs.PostOrder.{child_count, last_tree, shape_over}
-use Rattle.odata_syntax.specs.Tree.{Shape, Tree, lambda, node}
-use Rattle.odata_syntax.specs.declared.node.Quantifier.{Quantifier}
-use Rattle.csdl_schema.specs.SchemaModel.{slots_of, type_name_at}
-use Rattle.odata_signatures.specs.FirstUntypable.{IsFirstUntypable}
-use Rattle.odata_signatures.specs.declared.refusal.TypeFault.{TypeFault}
-use Rattle.odata_typing.specs.declared.check_context.Judged.{Judged}
-use Rattle.odata_typing.specs.declared.check_context.CheckContext.{CheckContext}
-use Rattle.odata_typing.specs.declared.judged_list.Walk.{Walk}
-use Rattle.odata_typing.specs.private.Judging.{IsPut}
-use Rattle.odata_typing.specs.private.CheckContexts.{IsNodeAt, IsRun, IsContext, name_of, run_tree}
-use Rattle.odata_typing.specs.private.LawsBelow.{LawsBelow}
-use Rattle.odata_typing.specs.private.Variables.{scope_of}
+use Rattle.odata_typing.proofs.Common.{◌≡◌, subst, ◌⊎◌, ℕ, ◌+◌, ◌<◌, ◌≤◌, List, drop, IfSome, arith, lambda_at, number_at, places_of, stop_at, child_count, last_tree, shape_over, Shape, Tree, lambda, node, Quantifier, slots_of, type_name_at, IsFirstUntypable, TypeFault, Judged, CheckContext, Walk, IsPut, IsNodeAt, IsRun, IsContext, name_of, run_tree, LawsBelow, scope_of}
+use Rattle.odata_typing.proofs.flat.Closing.{some_on}
 use Rattle.odata_typing.proofs.stacks.Lambdas.{IsOverRuns, lambda_joins}
-use Rattle.odata_typing.proofs.stacks.Walking.{IsWalking, join_faulted, join_walked, node_joins, run_roots, run_trees}
+use Rattle.odata_typing.proofs.stacks.Walking.{IsJoin, IsWalking, join_faulted, join_walked, node_joins, run_roots, run_trees}
 
 -- the node of an index, of that shape
 abbrev pub judged_tree : Judged → Shape → Tree
@@ -41,10 +28,6 @@ abbrev pub HasFirstFault : CheckContext → Tree → Walk → Type 0
 HasFirstFault context tree walk =
     IfSome walk.fault (IsFirstUntypable (slots_of context.schema.now) (type_name_at context.schema.now context.filtered_type) (scope_of context) tree)
 
-some_on : (o : Option TypeFault) (P Q : TypeFault → Type 0) → ((fault : TypeFault) → P fault → Q fault) → IfSome o P → IfSome o Q
-some_on None P Q f x = tt
-some_on (Some fault) P Q f x = f fault x
-
 put_at :
     (context : CheckContext) (index : ℕ) (judged : Judged) (tree : Tree) (old new : Walk)
     → IsNodeAt context index judged
@@ -54,92 +37,67 @@ put_at context index judged tree old new at put =
     let P : ℕ → ℕ → Type 0 = λ (i j : ℕ). IsPut context.schema.now context.filtered_type (scope_of context) i j tree old new in
     subst (λ (j : ℕ). P (number_at (places_of context.nodes.now) index) j) at.stop (subst (λ (i : ℕ). P i judged.stop) at.number put)
 
-module _ (laws : LawsBelow) where
-  -- after a node
-  pub node_goes_on :
-      (context : CheckContext) (from stop index : ℕ) (old walk new : Walk) (judged : Judged)
-      → IsContext context
-      → IsRun context from stop
-      → IsWalking context from stop index old walk
-      → index < stop
-      → IsNodeAt context index judged
-      → (lambda_at (places_of context.nodes.now) index ≡ 0) ⊎ (index ≡ from)
-      → IsTreePut context judged (judged_tree judged (shape_at context from index judged)) walk new
-      → IsWalking context from stop (index + 1) old new
-  node_goes_on context from stop index old walk new judged is run walking inside at unmarked put =
-      let n = judged.node.now in
-      let tree = judged_tree judged (shape_at context from index judged) in
-      join_walked laws context from stop index index old walk new tree
-      (drop (child_count n.kind n.count) (run_roots context from index))
-      (drop (child_count n.kind n.count) (run_trees context from index))
-      is run walking walking.order inside
-      (node_joins context from stop index old walk n is run walking inside at.at unmarked)
-      (put_at context index judged tree walk new at put)
+-- one step: the tree of a node joins those of the run
+pub record IsStep (context : CheckContext) (walk : Walk) (from stop root : ℕ) (judged : Judged) (tree : Tree) : Type 0 where
+  pub roots : List ℕ
+  pub trees : List Tree
+  pub order : from ≤ root
+  pub within : root < stop
+  pub at : IsNodeAt context root judged
+  pub join : IsJoin context walk from root tree roots trees
 
-  -- after a lambda expression
-  pub lambda_goes_on :
-      (context : CheckContext) (from stop index last : ℕ) (old walk new : Walk) (judged : Judged) (quantifier : Quantifier)
-      → IsContext context
-      → IsRun context from stop
-      → IsWalking context from stop index old walk
-      → from < index
-      → IsNodeAt context last judged
-      → IsOverRuns context from index stop last judged.node.now quantifier
-      → IsTreePut context judged (judged_tree judged (lambda_at_last context from index last quantifier judged)) walk new
-      → IsWalking context from stop (last + 1) old new
-  lambda_goes_on context from stop index last old walk new judged quantifier is run walking later at over put =
-      let tree = judged_tree judged (lambda_at_last context from index last quantifier judged) in
-      let order : index < last = over.body.order in
-      join_walked laws context from stop index last old walk new tree
-      (drop 1 (run_roots context from index))
-      (drop 1 (run_trees context from index))
-      is run walking (omega arith) over.body.within
-      (lambda_joins context from index stop last old walk judged.node.now quantifier is later walking over)
-      (put_at context last judged tree walk new at put)
+-- a node over the last trees
+pub node_step :
+    (context : CheckContext) (from stop index : ℕ) (old walk : Walk) (judged : Judged)
+    → IsContext context
+    → IsRun context from stop
+    → IsWalking context from stop index old walk
+    → index < stop
+    → IsNodeAt context index judged
+    → (lambda_at (places_of context.nodes.now) index ≡ 0) ⊎ (index ≡ from)
+    → IsStep context walk from stop index judged (judged_tree judged (shape_at context from index judged))
+node_step context from stop index old walk judged is run walking inside at unmarked =
+    let n = judged.node.now in
+    record {
+      roots = drop (child_count n.kind n.count) (run_roots context from index);
+      trees = drop (child_count n.kind n.count) (run_trees context from index);
+      order = walking.order;
+      within = inside;
+      at = at;
+      join = node_joins context from stop index old walk is run walking inside n at.at unmarked;
+    }
 
-  -- where a node is refused, its fault is the first of the run
-  pub node_refuses :
-      (context : CheckContext) (from stop index : ℕ) (old walk new : Walk) (judged : Judged)
-      → IsContext context
-      → IsRun context from stop
-      → IsWalking context from stop index old walk
-      → index < stop
-      → IsNodeAt context index judged
-      → (lambda_at (places_of context.nodes.now) index ≡ 0) ⊎ (index ≡ from)
-      → HasFirstFault context (judged_tree judged (shape_at context from index judged)) new
-      → HasFirstFault context (run_tree context from stop) new
-  node_refuses context from stop index old walk new judged is run walking inside at unmarked found =
-      let n = judged.node.now in
-      let tree = judged_tree judged (shape_at context from index judged) in
+-- a lambda expression
+pub lambda_step :
+    (context : CheckContext) (from stop index last : ℕ) (old walk : Walk) (judged : Judged) (quantifier : Quantifier)
+    → IsContext context
+    → IsWalking context from stop index old walk
+    → from < index
+    → IsNodeAt context last judged
+    → IsOverRuns context from index stop last judged.node.now quantifier
+    → IsStep context walk from stop last judged (judged_tree judged (lambda_at_last context from index last quantifier judged))
+lambda_step context from stop index last old walk judged quantifier is walking later at over =
+    let order : index < last = over.body.order in
+    record {
+      roots = drop 1 (run_roots context from index);
+      trees = drop 1 (run_trees context from index);
+      order = omega arith;
+      within = over.body.within;
+      at = at;
+      join = lambda_joins context from index stop last old walk judged.node.now quantifier is later walking over;
+    }
+
+module _ (laws : LawsBelow) (context : CheckContext) (from stop index root : ℕ) (old walk new : Walk) (judged : Judged) (tree : Tree)
+    (is : IsContext context) (run : IsRun context from stop) (walking : IsWalking context from stop index old walk) (step : IsStep context walk from stop root judged tree) where
+  -- the walk goes on after it
+  pub step_goes_on : IsTreePut context judged tree walk new → IsWalking context from stop (root + 1) old new
+  step_goes_on put =
+      join_walked laws context from stop root walk tree step.roots step.trees is run step.order step.within step.join index old new walking
+      (put_at context root judged tree walk new step.at put)
+
+  -- where it is refused, its fault is the first of the run
+  pub step_refuses : HasFirstFault context tree new → HasFirstFault context (run_tree context from stop) new
+  step_refuses found =
       let First : Tree → TypeFault → Type 0 = λ (t : Tree) (f : TypeFault). IsFirstUntypable (slots_of context.schema.now) (type_name_at context.schema.now context.filtered_type) (scope_of context) t f in
       some_on new.fault (First tree) (First (run_tree context from stop))
-      (λ fault is_first.
-      join_faulted laws context from stop index walk tree
-      (drop (child_count n.kind n.count) (run_roots context from index))
-      (drop (child_count n.kind n.count) (run_trees context from index))
-      fault is run walking.order inside
-      (node_joins context from stop index old walk n is run walking inside at.at unmarked) is_first)
-      found
-
-  -- likewise a lambda expression
-  pub lambda_refuses :
-      (context : CheckContext) (from stop index last : ℕ) (old walk new : Walk) (judged : Judged) (quantifier : Quantifier)
-      → IsContext context
-      → IsRun context from stop
-      → IsWalking context from stop index old walk
-      → from < index
-      → IsOverRuns context from index stop last judged.node.now quantifier
-      → HasFirstFault context (judged_tree judged (lambda_at_last context from index last quantifier judged)) new
-      → HasFirstFault context (run_tree context from stop) new
-  lambda_refuses context from stop index last old walk new judged quantifier is run walking later over found =
-      let tree = judged_tree judged (lambda_at_last context from index last quantifier judged) in
-      let order : index < last = over.body.order in
-      let First : Tree → TypeFault → Type 0 = λ (t : Tree) (f : TypeFault). IsFirstUntypable (slots_of context.schema.now) (type_name_at context.schema.now context.filtered_type) (scope_of context) t f in
-      some_on new.fault (First tree) (First (run_tree context from stop))
-      (λ fault is_first.
-      join_faulted laws context from stop last walk tree
-      (drop 1 (run_roots context from index))
-      (drop 1 (run_trees context from index))
-      fault is run (omega arith) over.body.within
-      (lambda_joins context from index stop last old walk judged.node.now quantifier is later walking over) is_first)
-      found
+      (join_faulted laws context from stop root walk tree step.roots step.trees is run step.order step.within step.join) found

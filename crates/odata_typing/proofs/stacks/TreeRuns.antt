@@ -1,13 +1,6 @@
 -- The nodes of one tree of a list are a whole run.
-use Rattle.std.proofs.Common.{◌≡◌, refl, ap, sym, subst, ◌∙◌, ℕ, ◌+◌, ◌-◌, ◌<◌, ◌≤◌, List, [], ◌∷◌, ◌++◌, take, length, length-append, arith}
+use Rattle.odata_typing.proofs.Common.{◌≡◌, refl, ap, sym, subst, ◌∙◌, ℕ, ◌+◌, ◌-◌, ◌<◌, ◌≤◌, List, [], ◌∷◌, ◌++◌, take, length, length-append, arith, take_at, ArePlaces, first_at, nodes_before, roots_back, AreFedBack, Texts, last_tree, tree_count_back, trees_back, IsWithin, Tree, Place, SyntaxNode}
 use Rattle.std.specs.List.{slice_range}
-use Rattle.std.proofs.lemmas.List.{take_at}
-use Rattle.odata_syntax.specs.Places.{ArePlaces, first_at, nodes_before, roots_back}
-use Rattle.odata_syntax.specs.PostOrder.{AreFedBack, Texts, last_tree, tree_count_back, trees_back}
-use Rattle.odata_syntax.specs.Spans.{IsWithin}
-use Rattle.odata_syntax.specs.Tree.{Tree}
-use Rattle.odata_syntax.specs.declared.node_places.Place.{Place}
-use Rattle.odata_syntax.specs.declared.syntax_list.SyntaxNode.{SyntaxNode}
 use Rattle.odata_typing.proofs.stacks.Children.{trees_count}
 use Rattle.odata_typing.proofs.stacks.Onward.{AllWithin, stays_within}
 use Rattle.odata_typing.proofs.stacks.Placed.{AreTiled, roots_all, tiled}

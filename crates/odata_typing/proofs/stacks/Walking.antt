@@ -1,35 +1,16 @@
 -- The walk over a run: what has been judged so far, and one more node.
-use Rattle.std.proofs.Common.{◌≡◌, ◌≢◌, ap, sym, subst, ◌∙◌, inl, inr, ◌⊎◌, ℕ, zero, suc, ◌+◌, ◌-◌, ◌<◌, ◌≤◌, List, [], ◌∷◌, false, Some, None, take, drop, length, slice_get, arith}
+use Rattle.odata_typing.proofs.Common.{◌≡◌, ◌≢◌, ap, sym, subst, ◌∙◌, inl, inr, ◌⊎◌, ℕ, zero, suc, ◌+◌, ◌-◌, ◌<◌, ◌≤◌, List, [], ◌∷◌, false, Some, None, take, drop, length, slice_get, arith, AreBefore, AreSideBySide, lambda_at, number_at, places_of, stop_at, AreFedBack, Texts, child_count, last_tree, shape_over, tree_count_back, trees_back, IsWithin, text_in, Tree, node, Quantifier, Place, SyntaxNode, slots_of, type_name_at, IsFirstUntypable, TypeFault, IsKeptOutside, Judged, CheckContext, Walk, AreLastTrees, IsPut, IsNodeAt, IsReady, IsRun, IsContext, run_tree, whole_tree, LawsBelow, scope_of}
 use Rattle.std.specs.List.{slice_range}
-use Rattle.odata_syntax.specs.Places.{AreBefore, AreSideBySide, lambda_at, number_at, places_of, stop_at}
-use Rattle.odata_syntax.specs.PostOrder.{AreFedBack, Texts, child_count, last_tree, shape_over, tree_count_back, trees_back}
-use Rattle.odata_syntax.specs.Spans.{IsWithin}
-use Rattle.odata_syntax.specs.TextTree.{text_in}
-use Rattle.odata_syntax.specs.Tree.{Tree, node}
-use Rattle.odata_syntax.specs.declared.node.Quantifier.{Quantifier}
-use Rattle.odata_syntax.specs.declared.node_places.Place.{Place}
 use Rattle.odata_syntax.specs.declared.syntax_list.SyntaxKind.{SyntaxKind}
-use Rattle.odata_syntax.specs.declared.syntax_list.SyntaxNode.{SyntaxNode}
-use Rattle.csdl_schema.specs.SchemaModel.{slots_of, type_name_at}
-use Rattle.odata_signatures.specs.FirstUntypable.{IsFirstUntypable}
-use Rattle.odata_signatures.specs.declared.refusal.TypeFault.{TypeFault}
-use Rattle.odata_checked_filter.specs.ListChanges.{IsKeptOutside}
-use Rattle.odata_typing.specs.declared.check_context.Judged.{Judged}
-use Rattle.odata_typing.specs.declared.check_context.CheckContext.{CheckContext}
-use Rattle.odata_typing.specs.declared.judged_list.Walk.{Walk}
-use Rattle.odata_typing.specs.private.Judging.{AreLastTrees, IsPut}
-use Rattle.odata_typing.specs.private.CheckContexts.{IsNodeAt, IsReady, IsRun, IsContext, run_tree, whole_tree}
-use Rattle.odata_typing.specs.private.LawsBelow.{LawsBelow}
-use Rattle.odata_typing.specs.private.Variables.{scope_of}
-use Rattle.odata_typing.proofs.flat.Kept.{kept_on, kept_wider, same_kept}
+use Rattle.odata_typing.proofs.flat.Kept.{kept_on, kept_wider}
 use Rattle.odata_typing.proofs.stacks.Children.{left_over, roots_count, trees_count}
 use Rattle.odata_typing.proofs.stacks.FirstFault.{first_fault, none_after, not_a_body}
 use Rattle.odata_typing.proofs.stacks.Judged.{AreJudged, judged_drop, judged_kept, judged_row, judged_take, judged_typed}
 use Rattle.odata_typing.proofs.stacks.Marks.{IsMarked, bodies_marked, marked_one}
 use Rattle.odata_typing.proofs.stacks.Placed.{IsPlacedFrom, placed_one}
-use Rattle.odata_typing.proofs.stacks.Ranges.{IsInRange, node_range, whole_root}
+use Rattle.odata_typing.proofs.stacks.Ranges.{node_range, whole_root}
 use Rattle.odata_typing.proofs.stacks.Contexts.{fed_before, fed_within, fits_within, whole_run}
-use Rattle.odata_typing.proofs.stacks.Slices.{onward_run, run_empty, run_length, run_more}
+use Rattle.odata_typing.proofs.stacks.Slices.{onward_run, run_length, run_more}
 use Rattle.odata_typing.proofs.stacks.Stacks.{BodiesBegin, NoneBegins, onward, roots_from, run_before}
 use Rattle.odata_typing.proofs.stacks.TreeRuns.{IsWholeRun, whole_trees}
 
@@ -54,19 +35,6 @@ pub record IsWalking (context : CheckContext) (from stop index : ℕ) (old new :
   pub judged : AreTreesJudged context new (run_roots context from index) (run_trees context from index)
   pub apart : NoneBegins (IsMarked (places_of context.nodes.now)) (run_roots context from index)
 
-pub walk_begins : (context : CheckContext) (from stop : ℕ) (walk : Walk) → IsReady context walk → from ≤ stop → IsWalking context from stop from walk walk
-walk_begins context from stop walk ready order =
-    let none : run_before context.nodes.now from from ≡ [] = run_empty context.nodes.now from in
-    record {
-      order = omega arith;
-      inside = order;
-      kept = same_kept (number_at (places_of context.nodes.now) (stop - 1)) (stop_at (places_of context.nodes.now) (stop - 1)) walk.list;
-      navigates = λ still. still;
-      fault = ready.fresh;
-      judged = subst (λ (ns : List SyntaxNode). AreTreesJudged context walk (roots_from from ns) (trees_back (text_in context.text.now) ns)) (sym none) tt;
-      apart = subst (λ (ns : List SyntaxNode). NoneBegins (IsMarked (places_of context.nodes.now)) (roots_from from ns)) (sym none) tt;
-    }
-
 pub ready_still : (context : CheckContext) (from stop index : ℕ) (old new : Walk) → IsReady context old → IsWalking context from stop index old new → IsReady context new
 ready_still context from stop index old new ready walking = record {
   source = walking.kept.source ∙ ready.source;
@@ -87,22 +55,17 @@ pub record IsJoin (context : CheckContext) (walk : Walk) (from root : ℕ) (tree
   pub judged : AreTreesJudged context walk roots trees
   pub apart : NoneBegins (IsMarked (places_of context.nodes.now)) (root ∷ roots)
 
-module _ (laws : LawsBelow) where
+module _ (laws : LawsBelow) (context : CheckContext) (from stop root : ℕ) (walk : Walk) (tree : Tree) (roots : List ℕ) (trees : List Tree)
+    (is : IsContext context) (run : IsRun context from stop) (order : from ≤ root) (inside : root < stop) (join : IsJoin context walk from root tree roots trees) where
   -- once its tree is put, one more tree has been judged
   pub join_walked :
-      (context : CheckContext) (from stop index root : ℕ) (old walk new : Walk) (tree : Tree) (roots : List ℕ) (trees : List Tree)
-      → IsContext context
-      → IsRun context from stop
+      (index : ℕ) (old new : Walk)
       → IsWalking context from stop index old walk
-      → from ≤ root
-      → root < stop
-      → IsJoin context walk from root tree roots trees
       → IsPut context.schema.now context.filtered_type (scope_of context) (number_at (places_of context.nodes.now) root) (stop_at (places_of context.nodes.now) root) tree walk new
       → IsWalking context from stop (root + 1) old new
-  join_walked context from stop index root old walk new tree roots trees is run walking order inside join put =
+  join_walked index old new walking put =
       let places = places_of context.nodes.now in
-      let range : IsInRange places stop root =
-      node_range context.nodes.now places from stop root join.n is.places order inside run.inside join.at (whole_run context from stop run) in
+      let range = node_range context.nodes.now places from stop root join.n is.places order inside run.inside join.at (whole_run context from stop run) in
       let rest : AreTreesJudged context new roots trees =
       judged_kept laws context.schema.now context.filtered_type (scope_of context) walk new places (number_at places root) (stop_at places root) (number_at places root) roots trees
       (record { kept = put.kept; navigates = put.navigates }) (omega arith) join.before join.judged in
@@ -123,15 +86,10 @@ module _ (laws : LawsBelow) where
 
   -- where its tree has a fault, that is the first one of the run
   pub join_faulted :
-      (context : CheckContext) (from stop root : ℕ) (walk : Walk) (tree : Tree) (roots : List ℕ) (trees : List Tree) (fault : TypeFault)
-      → IsContext context
-      → IsRun context from stop
-      → from ≤ root
-      → root < stop
-      → IsJoin context walk from root tree roots trees
+      (fault : TypeFault)
       → IsFirstUntypable (slots_of context.schema.now) (type_name_at context.schema.now context.filtered_type) (scope_of context) tree fault
       → IsFirstUntypable (slots_of context.schema.now) (type_name_at context.schema.now context.filtered_type) (scope_of context) (run_tree context from stop) fault
-  join_faulted context from stop root walk tree roots trees fault is run order inside join found =
+  join_faulted fault found =
       let slots = slots_of context.schema.now in
       let root_type = type_name_at context.schema.now context.filtered_type in
       let scope = scope_of context in
@@ -142,11 +100,9 @@ module _ (laws : LawsBelow) where
       let earlier = run_before nodes from (root + 1) in
       let last : stop ≤ length nodes = run.inside in
       let so_far : onward later earlier ≡ run_before nodes from stop = onward_run nodes from (root + 1) stop (omega arith) (omega arith) in
-      let marked : BodiesBegin (IsMarked places) from (run_before nodes from stop) =
-      bodies_marked nodes places from stop is.places (fed_before context stop is last) (omega arith) last run.whole.fed in
+      let marked = bodies_marked nodes places from stop is.places (fed_before context stop is last) (omega arith) last run.whole.fed in
       subst (λ (ns : List SyntaxNode). IsFirstUntypable slots root_type scope (last_tree (trees_back names ns)) fault) so_far
-      (first_fault laws.spans laws.clear laws.below (IsMarked places) slots root_type scope (whole_tree context) from names fault later earlier tree trees
-      is.expression
+      (first_fault laws.spans laws.clear laws.below (IsMarked places) slots root_type scope (whole_tree context) from names fault is.expression later earlier tree trees
       (subst (λ (ns : List SyntaxNode). AreFedBack ns) (sym so_far) run.whole.fed)
       (subst (λ (ns : List SyntaxNode). tree_count_back ns ≡ 1) (sym so_far) run.whole.one)
       (subst (λ (ns : List SyntaxNode). IsWithin (last_tree (trees_back names ns)) (whole_tree context)) (sym so_far) run.within)
@@ -156,66 +112,31 @@ module _ (laws : LawsBelow) where
       (judged_typed context.schema.now context.filtered_type scope walk places roots trees join.judged)
       found)
 
--- A node that is not a lambda expression.
+-- A node of a run stands over the trees before it.
 
--- its children have been judged
-pub node_children :
-    (context : CheckContext) (from stop index : ℕ) (old walk : Walk) (judged : Judged)
+pub record IsOver (context : CheckContext) (from index : ℕ) (n : SyntaxNode) : Type 0 where
+  pub fits : child_count n.kind n.count ≤ tree_count_back (run_before context.nodes.now from index)
+  pub placed : IsPlacedFrom (places_of context.nodes.now) from n (run_before context.nodes.now from index)
+  pub here : from + length (run_before context.nodes.now from index) ≡ index
+
+pub node_over :
+    (context : CheckContext) (from stop index : ℕ) (n : SyntaxNode)
     → IsContext context
     → IsRun context from stop
-    → IsWalking context from stop index old walk
-    → index < stop
-    → IsNodeAt context index judged
-    → AreLastTrees context walk judged (run_trees context from index)
-node_children context from stop index old walk judged is run walking inside at =
-    let nodes = context.nodes.now in
-    let places = places_of context.nodes.now in
-    let n = judged.node.now in
-    let count = child_count n.kind n.count in
-    let trees = run_trees context from index in
-    let earlier = run_before nodes from index in
-    let last : stop ≤ length nodes = run.inside in
-    let fits : count ≤ tree_count_back earlier = fits_within context from stop index n run walking.order inside at.at in
-    let many : length trees ≡ tree_count_back earlier = trees_count (text_in context.text.now) earlier in
-    let placed : IsPlacedFrom places from n earlier =
-    placed_one nodes places from index n is.places walking.order (omega arith) at.at (fed_within context from stop index run walking.order walking.inside) fits in
-    let own : length earlier ≡ index - from = run_length nodes from index walking.order (omega arith) in
-    let order : from ≤ index = walking.order in
-    let here : from + length earlier ≡ index = omega arith in
-    let Row : ℕ → Type 0 = λ (k : ℕ). AreSideBySide places (number_at places k + 1) (stop_at places k) (take count (run_roots context from index)) in
-    let row : Row index = subst Row here placed.children in
-    let number : AreSideBySide places (judged.number + 1) (stop_at places index) (take count (run_roots context from index)) =
-    subst (λ (k : ℕ). AreSideBySide places (k + 1) (stop_at places index) (take count (run_roots context from index))) (sym at.number) row in
-    let both : AreSideBySide places (judged.number + 1) judged.stop (take count (run_roots context from index)) =
-    subst (λ (k : ℕ). AreSideBySide places (judged.number + 1) k (take count (run_roots context from index))) (sym at.stop) number in
-    record {
-      enough = omega arith;
-      children =
-          judged_row context.schema.now context.filtered_type (scope_of context) walk places (judged.number + 1) judged.stop
-          (take count (run_roots context from index)) (take count trees) both
-          (judged_take context.schema.now context.filtered_type (scope_of context) walk places count (run_roots context from index) trees walking.judged);
-    }
-
--- where no body begins with it, it is not a lambda expression
-pub node_is_plain :
-    (context : CheckContext) (from stop index : ℕ) (old walk : Walk) (n : SyntaxNode) (quantifier : Quantifier)
-    → IsContext context
-    → IsRun context from stop
-    → IsWalking context from stop index old walk
+    → from ≤ index
     → index < stop
     → slice_get context.nodes.now index ≡ Some n
-    → n.kind ≢ SyntaxKind.Lambda quantifier
-node_is_plain context from stop index old walk n quantifier is run walking inside at lambda =
+    → IsOver context from index n
+node_over context from stop index n is run order inside at =
     let nodes = context.nodes.now in
-    let earlier = run_before nodes from index in
     let last : stop ≤ length nodes = run.inside in
-    let fits : child_count n.kind n.count ≤ tree_count_back earlier = fits_within context from stop index n run walking.order inside at in
-    let two : child_count n.kind n.count ≡ 2 = ap (λ (k : SyntaxKind). child_count k n.count) lambda in
-    let count : length (run_roots context from index) ≡ tree_count_back earlier = roots_count from earlier in
-    not_a_body (IsMarked (places_of context.nodes.now)) from (run_roots context from index) (omega arith)
-    (marked_one nodes (places_of context.nodes.now) from index n quantifier is.places (fed_before context index is (omega arith)) walking.order at lambda
-    (fed_within context from stop index run walking.order walking.inside) fits)
-    walking.apart
+    let fits = fits_within context from stop index n run order inside at in
+    let own : length (run_before nodes from index) ≡ index - from = run_length nodes from index order (omega arith) in
+    record {
+      fits = fits;
+      placed = placed_one nodes (places_of nodes) from index n is.places order (omega arith) at (fed_within context from stop index run order (omega arith)) fits;
+      here = omega arith;
+    }
 
 -- the trees that it leaves begin no body, and it begins none
 leaf_apart :
@@ -231,45 +152,74 @@ leaf_apart places from index zero (n ∷ earlier) long (inl unmarked) none =
 leaf_apart places from index zero (n ∷ earlier) long (inr first) none = absurd (omega arith)
 leaf_apart places from index (suc count) earlier long unmarked none = none_after (IsMarked places) index count (roots_from from earlier) none
 
--- it joins the last trees
-pub node_joins :
-    (context : CheckContext) (from stop index : ℕ) (old walk : Walk) (n : SyntaxNode)
-    → IsContext context
-    → IsRun context from stop
-    → IsWalking context from stop index old walk
-    → index < stop
-    → slice_get context.nodes.now index ≡ Some n
-    → (lambda_at (places_of context.nodes.now) index ≡ 0) ⊎ (index ≡ from)
-    → IsJoin context walk from index
-    (node n.span.start n.span.stop (shape_over n.kind (text_in context.text.now n.text) n.count (run_trees context from index)))
-    (drop (child_count n.kind n.count) (run_roots context from index))
-    (drop (child_count n.kind n.count) (run_trees context from index))
-node_joins context from stop index old walk n is run walking inside at unmarked =
-    let nodes = context.nodes.now in
-    let places = places_of context.nodes.now in
-    let count = child_count n.kind n.count in
-    let names : Texts = text_in context.text.now in
-    let earlier = run_before nodes from index in
-    let trees = run_trees context from index in
-    let roots = run_roots context from index in
-    let last : stop ≤ length nodes = run.inside in
-    let order : from ≤ index = walking.order in
-    let fits : count ≤ tree_count_back earlier = fits_within context from stop index n run walking.order inside at in
-    let placed : IsPlacedFrom places from n earlier =
-    placed_one nodes places from index n is.places walking.order (omega arith) at (fed_within context from stop index run walking.order walking.inside) fits in
-    let own : length earlier ≡ index - from = run_length nodes from index walking.order (omega arith) in
-    let here : from + length earlier ≡ index = omega arith in
-    let next : run_before nodes from (index + 1) ≡ n ∷ earlier = run_more nodes from index n walking.order at in
-    let own_tree = node n.span.start n.span.stop (shape_over n.kind (names n.text) n.count trees) in
-    record {
-      n = n;
-      at = at;
-      roots_are = ap (λ (ns : List SyntaxNode). roots_from from ns) next ∙ ap (λ (k : ℕ). k ∷ drop count roots) here;
-      trees_are = ap (λ (ns : List SyntaxNode). trees_back names ns) next ∙ ap (λ (ts : List Tree). own_tree ∷ ts) (left_over n.kind n.count trees);
-      before = subst (λ (k : ℕ). AreBefore places (number_at places k) (drop count roots)) here placed.older;
-      judged = judged_drop context.schema.now context.filtered_type (scope_of context) walk places count roots trees walking.judged;
-      apart = leaf_apart places from index count earlier here unmarked walking.apart;
-    }
+-- A node that is not a lambda expression.
+
+module _ (context : CheckContext) (from stop index : ℕ) (old walk : Walk)
+    (is : IsContext context) (run : IsRun context from stop) (walking : IsWalking context from stop index old walk) (inside : index < stop) where
+  -- its children have been judged
+  pub node_children : (judged : Judged) → IsNodeAt context index judged → AreLastTrees context walk judged (run_trees context from index)
+  node_children judged at =
+      let places = places_of context.nodes.now in
+      let n = judged.node.now in
+      let count = child_count n.kind n.count in
+      let trees = run_trees context from index in
+      let roots = run_roots context from index in
+      let earlier = run_before context.nodes.now from index in
+      let over : IsOver context from index n = node_over context from stop index n is run walking.order inside at.at in
+      let fits : count ≤ tree_count_back earlier = over.fits in
+      let many : length trees ≡ tree_count_back earlier = trees_count (text_in context.text.now) earlier in
+      let Row : ℕ → ℕ → Type 0 = λ (i j : ℕ). AreSideBySide places (i + 1) j (take count roots) in
+      let row : Row (number_at places index) (stop_at places index) = subst (λ (k : ℕ). Row (number_at places k) (stop_at places k)) over.here over.placed.children in
+      let both : Row judged.number judged.stop = subst (λ (j : ℕ). Row judged.number j) (sym at.stop) (subst (λ (i : ℕ). Row i (stop_at places index)) (sym at.number) row) in
+      record {
+        enough = omega arith;
+        children =
+            judged_row context.schema.now context.filtered_type (scope_of context) walk places (judged.number + 1) judged.stop (take count roots) (take count trees) both
+            (judged_take context.schema.now context.filtered_type (scope_of context) walk places count roots trees walking.judged);
+      }
+
+  -- where no body begins with it, it is not a lambda expression
+  pub node_is_plain : (n : SyntaxNode) (quantifier : Quantifier) → slice_get context.nodes.now index ≡ Some n → n.kind ≢ SyntaxKind.Lambda quantifier
+  node_is_plain n quantifier at lambda =
+      let nodes = context.nodes.now in
+      let earlier = run_before nodes from index in
+      let last : stop ≤ length nodes = run.inside in
+      let fits : child_count n.kind n.count ≤ tree_count_back earlier = fits_within context from stop index n run walking.order inside at in
+      let two : child_count n.kind n.count ≡ 2 = ap (λ (k : SyntaxKind). child_count k n.count) lambda in
+      let count : length (run_roots context from index) ≡ tree_count_back earlier = roots_count from earlier in
+      not_a_body (IsMarked (places_of nodes)) from (run_roots context from index) (omega arith)
+      (marked_one nodes (places_of nodes) from index n quantifier is.places (fed_before context index is (omega arith)) walking.order at lambda
+      (fed_within context from stop index run walking.order walking.inside) fits)
+      walking.apart
+
+  -- it joins the last trees
+  pub node_joins :
+      (n : SyntaxNode)
+      → slice_get context.nodes.now index ≡ Some n
+      → (lambda_at (places_of context.nodes.now) index ≡ 0) ⊎ (index ≡ from)
+      → IsJoin context walk from index
+      (node n.span.start n.span.stop (shape_over n.kind (text_in context.text.now n.text) n.count (run_trees context from index)))
+      (drop (child_count n.kind n.count) (run_roots context from index))
+      (drop (child_count n.kind n.count) (run_trees context from index))
+  node_joins n at unmarked =
+      let places = places_of context.nodes.now in
+      let count = child_count n.kind n.count in
+      let names : Texts = text_in context.text.now in
+      let earlier = run_before context.nodes.now from index in
+      let trees = run_trees context from index in
+      let roots = run_roots context from index in
+      let over : IsOver context from index n = node_over context from stop index n is run walking.order inside at in
+      let next : run_before context.nodes.now from (index + 1) ≡ n ∷ earlier = run_more context.nodes.now from index n walking.order at in
+      let own_tree = node n.span.start n.span.stop (shape_over n.kind (names n.text) n.count trees) in
+      record {
+        n = n;
+        at = at;
+        roots_are = ap (λ (ns : List SyntaxNode). roots_from from ns) next ∙ ap (λ (k : ℕ). k ∷ drop count roots) over.here;
+        trees_are = ap (λ (ns : List SyntaxNode). trees_back names ns) next ∙ ap (λ (ts : List Tree). own_tree ∷ ts) (left_over n.kind n.count trees);
+        before = subst (λ (k : ℕ). AreBefore places (number_at places k) (drop count roots)) over.here over.placed.older;
+        judged = judged_drop context.schema.now context.filtered_type (scope_of context) walk places count roots trees walking.judged;
+        apart = leaf_apart places from index count earlier over.here unmarked walking.apart;
+      }
 
 -- at the end the tree of the run has been put
 pub walk_ends :

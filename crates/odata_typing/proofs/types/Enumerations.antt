@@ -1,9 +1,9 @@
 -- Enumeration literals: their parts, and the enumeration that they name.
-use Rattle.std.proofs.Common.{◌≡◌, ◌≢◌, refl, sym, ap, ◌∙◌, subst, ℕ, ℤ, zero, suc, ◌<◌, Bool, true, false, IsTrue, FitsSigned, IfNone, IfSome, List, [], ◌∷◌, ◌++◌, Option, Some, None, get_or, length, option_map, arith}
+use Rattle.odata_typing.proofs.Common.{◌≡◌, ◌≢◌, refl, sym, ap, ◌∙◌, subst, ℕ, ℤ, zero, suc, ◌<◌, Bool, true, false, IsTrue, FitsSigned, IfNone, IfSome, List, [], ◌∷◌, ◌++◌, Option, Some, None, get_or, length, arith, none-some, same_Some, AllByRecursion, HoldsEnumeration, IsEnumerationByName, SchemaModel, enumeration_at, enumeration_named, is_enumeration, is_kind_at, place_if, slots_of, type_name_at, OneNameAndText}
+use Rattle.std.proofs.Common.{option_map}
 use Rattle.std.specs.Int.{cast_signed as to_z, cast_unsigned as of_z, w64}
 use Rattle.std.proofs.lemmas.Int.{ints, to_z-of_z}
 use Rattle.std.specs.Option.{option_and_then}
-use Rattle.std.specs.List.{AllByRecursion}
 use Rattle.edm_values.specs.StringLiteral.{quote}
 use Rattle.edm_values.specs.NumberTypes.{IsNumberOf}
 use Rattle.edm_values.specs.Val.{member}
@@ -12,13 +12,11 @@ use Rattle.edm_values.specs.declared.primitive.PrimitiveType.TheVariants as type
 use Rattle.edm_enumerations.specs.EnumerationModel.{EnumerationModel}
 use Rattle.edm_values.specs.declared.value.Value as code
 use Rattle.csdl_schema.specs.EnumerationText.{IsValueIn, IsOfUnderlying}
-use Rattle.csdl_schema.specs.SchemaModel.{HoldsEnumeration, IsEnumerationByName, SchemaModel, enumeration_at, enumeration_named, is_enumeration, is_kind_at, place_if, slots_of, type_name_at}
 use Rattle.odata_syntax.specs.declared.node.LiteralKind.{LiteralKind}
 use Rattle.odata_signatures.specs.declared.edm_type.EdmType.{EdmType}
 use Rattle.odata_typing.specs.declared.enumeration_literal.EnumerationNumber.{EnumerationNumber}
 use Rattle.odata_signatures.specs.declared.edm_type.ValueType.{ValueType}
 use Rattle.odata_typing.specs.private.Answer.{IsReading}
-use Rattle.odata_signatures.specs.Laws.{OneNameAndText}
 use Rattle.odata_signatures.specs.LiteralValue.{EnumerationLiteral, IsNameAndText, NamesNumber}
 
 -- ---- quotes
@@ -70,33 +68,23 @@ pub named_at : (schema : SchemaModel) (asked : List ℕ) (o : Option ℕ) (id : 
     → (slots_of schema).enumeration_names asked ≡ Some (type_name_at schema id)
 named_at schema asked o id named is = ap (option_map (type_name_at schema)) (sym named ∙ is)
 
-no_name : (f : ℕ → List ℕ) (o : Option ℕ) (q : List ℕ) → o ≡ None → option_map f o ≡ Some q → ⊥
-no_name f None q is named = cc
-no_name f (Some n) q is named = cc
-
 pub unnamed : (schema : SchemaModel) (asked inner : List ℕ) (o : Option ℕ) → o ≡ enumeration_named schema asked → o ≡ None
     → (qualified : List ℕ) (n : ℤ) → ¬ NamesNumber (slots_of schema) asked inner qualified n
 unnamed schema asked inner o named is qualified n names =
-    no_name (type_name_at schema) (enumeration_named schema asked) qualified (sym named ∙ is) names.named
+    none-some qualified (ap (option_map (type_name_at schema)) (sym is ∙ named) ∙ names.named)
 
 pub value_by_name : (schema : SchemaModel) (id : ℕ) (inner : List ℕ) (n : ℤ) → IsEnumerationByName schema id
     → IsValueIn (enumeration_at schema id) inner n → IsValueIn ((slots_of schema).enumerations (type_name_at schema id)) inner n
 value_by_name schema id inner n same value = subst (λ e. IsValueIn e inner n) same value
 
-same_name : (o : Option (List ℕ)) (a b : List ℕ) → o ≡ Some a → o ≡ Some b → a ≡ b
-same_name o a b x y = cc
-
-no_number : (o : Option ℤ) (n : ℤ) → o ≡ None → o ≡ Some n → ⊥
-no_number o n x y = cc
-
 pub valueless : (schema : SchemaModel) (asked inner : List ℕ) (o : Option ℕ) (id : ℕ) (found : Option ℤ) → o ≡ enumeration_named schema asked → o ≡ Some id
     → IsEnumerationByName schema id → ((n : ℤ) → IsValueIn (enumeration_at schema id) inner n → found ≡ Some n) → found ≡ None
     → (qualified : List ℕ) (n : ℤ) → ¬ NamesNumber (slots_of schema) asked inner qualified n
 valueless schema asked inner o id found named is same only none qualified n names =
-    let q : qualified ≡ type_name_at schema id = same_name _ qualified (type_name_at schema id) names.named (named_at schema asked o id named is) in
+    let q : qualified ≡ type_name_at schema id = same_Some qualified (type_name_at schema id) (sym names.named ∙ named_at schema asked o id named is) in
     let P : List ℕ → Type 0 = λ (x : List ℕ). IsValueIn ((slots_of schema).enumerations x) inner n in
     let value : IsValueIn (enumeration_at schema id) inner n = subst (λ e. IsValueIn e inner n) (sym same) (subst P q names.value) in
-    no_number found n none (only n value)
+    none-some n (sym none ∙ only n value)
 
 -- the name and the text of a literal are those that were cut
 pub cut_names : OneNameAndText → (schema : SchemaModel) (spelling asked inner : List ℕ) (qualified : List ℕ) (n : ℤ) → IsNameAndText spelling asked inner

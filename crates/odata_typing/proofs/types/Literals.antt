@@ -1,5 +1,6 @@
 -- Literals that have been read have their value and their type.
-use Rattle.std.proofs.Common.{◌≡◌, refl, ap, subst, ℕ, ℤ, Bool, List, Option, Some, None, w64, to_z, of_z}
+use Rattle.odata_typing.proofs.Common.{◌≡◌, refl, ap, subst, ℕ, ℤ, Bool, List, Option, Some, None, sym, ◌∙◌, none-some, ExprType, SchemaModel, Slots}
+use Rattle.std.proofs.Common.{w64, to_z, of_z}
 use Rattle.std.proofs.Math.Facts.{to_z-of_z}
 use Rattle.std.proofs.lemmas.Str.{IsUtf8-string_bytes}
 use Rattle.std.specs.Prelude.{IsUtf8, string_bytes}
@@ -17,8 +18,6 @@ use Rattle.edm_values.specs.declared.primitive.PrimitiveType.{PrimitiveType}
 use Rattle.edm_values.specs.declared.value.Value as code
 use Rattle.edm_values.specs.declared.value.Value.{Value}
 use Rattle.odata_syntax.specs.declared.node.LiteralKind.{LiteralKind}
-use Rattle.csdl_schema.specs.ExprType.{ExprType}
-use Rattle.csdl_schema.specs.SchemaModel.{SchemaModel, Slots}
 use Rattle.odata_signatures.specs.declared.edm_type.EdmType.{EdmType}
 use Rattle.odata_signatures.specs.declared.edm_type.ValueType.{ValueType}
 use Rattle.odata_signatures.specs.LiteralValue.{BooleanValue, LiteralTyped}
@@ -73,36 +72,12 @@ pub reads_as :
     → IsReading schema kind spelling value type
 reads_as schema kind other spelling value given type made is of by reading = rw (is, of, by) reading
 
-none_some : {X : Type 0} (o : Option X) (x : X) → o ≡ None → o ≡ Some x → ⊥
-none_some o x none some = cc
-
 -- a spelling without a value is of no type
-pub no_moment :
-    (slots : Slots) (kind : LiteralKind) (spelling : List ℕ) (found : Option MomentParts)
-    → kind ≡ LiteralKind.Moment
-    → ((m : MomentParts) → MomentValue spelling m → found ≡ Some m)
+pub no_value :
+    {X : Type 0} (slots : Slots) (kind other : LiteralKind) (spelling : List ℕ) (found : Option X)
+    → kind ≡ other
+    → ((type : ExprType) → LiteralTyped slots other spelling type → (x : X) × (found ≡ Some x))
     → found ≡ None
     → (type : ExprType) → ¬ LiteralTyped slots kind spelling type
-no_moment slots kind spelling found is only none type typed =
-    let P : LiteralKind → Type 0 = λ (k : LiteralKind). LiteralTyped slots k spelling type in
-    let t : LiteralTyped slots LiteralKind.Moment spelling type = subst P is typed in
-    none_some found t.0 none (only t.0 t.1)
-
-pub no_guid :
-    (slots : Slots) (kind : LiteralKind) (spelling : List ℕ) (found : Option (List ℕ))
-    → kind ≡ LiteralKind.Guid
-    → ((bytes : List ℕ) → GuidValue spelling bytes → found ≡ Some bytes)
-    → found ≡ None
-    → (type : ExprType) → ¬ LiteralTyped slots kind spelling type
-no_guid slots kind spelling found is only none type typed =
-    let P : LiteralKind → Type 0 = λ (k : LiteralKind). LiteralTyped slots k spelling type in
-    let t : LiteralTyped slots LiteralKind.Guid spelling type = subst P is typed in
-    none_some found t.0 none (only t.0 t.1)
-
-pub same_untyped :
-    (slots : Slots) (kind other : LiteralKind) (spelling : List ℕ) → kind ≡ other
-    → ((type : ExprType) → ¬ LiteralTyped slots other spelling type)
-    → (type : ExprType) → ¬ LiteralTyped slots kind spelling type
-same_untyped slots kind other spelling is none type typed =
-    let P : LiteralKind → Type 0 = λ (k : LiteralKind). LiteralTyped slots k spelling type in
-    none type (subst P is typed)
+no_value slots kind other spelling found is has none type typed =
+    let value = has type (subst (λ (k : LiteralKind). LiteralTyped slots k spelling type) is typed) in none-some value.0 (sym none ∙ value.1)

@@ -1,12 +1,9 @@
 -- String literals as texts of an enumeration.
-use Rattle.std.proofs.Common.{◌≡◌, ◌∙◌, sym, subst, ℕ, ℤ, IfNone, IfSome, List, [], ◌∷◌, ◌++◌, Option, Some, None}
+use Rattle.odata_typing.proofs.Common.{◌≡◌, ◌∙◌, sym, subst, ℕ, ℤ, IfNone, IfSome, List, [], ◌∷◌, ◌++◌, Option, Some, None, append_cancel_right, IsEnumerationByName, SchemaModel, Slots, enumeration_at, slots_of, type_name_at, IsQuotedNumber}
 use Rattle.std.specs.Int.{cast_signed as to_z, cast_unsigned as of_z, w64}
 use Rattle.std.proofs.lemmas.Int.{to_z-of_z}
-use Rattle.std.proofs.lemmas.List.{append_cancel_right}
 use Rattle.edm_values.specs.StringLiteral.{quote}
 use Rattle.csdl_schema.specs.EnumerationText.{IsOfUnderlying, IsValueIn}
-use Rattle.csdl_schema.specs.SchemaModel.{IsEnumerationByName, SchemaModel, Slots, enumeration_at, slots_of, type_name_at}
-use Rattle.odata_signatures.specs.QuotedNumber.{IsQuotedNumber}
 use Rattle.odata_typing.proofs.types.Enumerations.{within_fits}
 
 -- what stands after a first byte

@@ -1,34 +1,19 @@
 -- A text, its tree and its fault.
-use Rattle.std.proofs.Common.{◌≡◌, ◌≢◌, refl, sym, subst, inl, inr, ℕ, ◌≤◌, false, List, [], length}
+use Rattle.odata_typing.proofs.Common.{◌≡◌, ◌≢◌, refl, sym, subst, inl, inr, ℕ, ◌≤◌, false, List, [], length, Tree, ExprType, HoldsType, SchemaModel, Slots, slots_of, type_name_at, HasNoTree, IsFirstFault, TypeFault, Walk, IsStanding, IsBooleanOrNull, IsFirstUntypable, IsTypeFault, FewNodes, LawsBelow, tree_of_nodes, Stands, Typed, expr_type}
 use Rattle.odata_text.specs.Tokens.{token_limit}
-use Rattle.odata_syntax.specs.Tree.{Tree}
-use Rattle.csdl_schema.specs.ExprType.{ExprType}
-use Rattle.csdl_schema.specs.SchemaModel.{HoldsType, SchemaModel, Slots, slots_of, type_name_at}
 use Rattle.csdl_schema.specs.ExpansionView.{StepModel, paths_in}
 use Rattle.csdl_schema.specs.PathSet.{PropertyPath}
-use Rattle.odata_syntax.specs.TextTree.{HasNoTree, IsFirstFault}
 use Rattle.odata_syntax.specs.declared.parser.text_parser.TextOrSyntaxFault.{TextOrSyntaxFault}
 use Rattle.odata_syntax.specs.declared.syntax_fault.SyntaxFault.{SyntaxFault}
 use Rattle.odata_text.specs.declared.text_fault.TextFault.{TextFault}
 use Rattle.odata_signatures.specs.NeededPaths.{IsNeeded}
 use Rattle.odata_signatures.specs.declared.refusal.Refusal.{Refusal}
-use Rattle.odata_signatures.specs.declared.refusal.TypeFault.{TypeFault}
 use Rattle.odata_signatures.specs.declared.refusal.TypeFaultCode.{TypeFaultCode}
-use Rattle.odata_typing.specs.declared.judged_list.Walk.{Walk}
 use Rattle.odata_typing.specs.private.Answer.{IsTypeRefusal, refusal_of}
-use Rattle.odata_typing.specs.private.Judging.{IsStanding}
-use Rattle.odata_signatures.specs.ExprTypes.{IsBooleanOrNull}
-use Rattle.odata_signatures.specs.FirstUntypable.{IsFirstUntypable, IsTypeFault}
-use Rattle.odata_signatures.specs.Laws.{FewNodes}
 use Rattle.odata_checked_filter.specs.Laws.{OneTree}
-use Rattle.odata_typing.specs.private.LawsBelow.{LawsBelow}
 use Rattle.odata_signatures.specs.HasTyping.{HasTree, HasTyping, HasNoTyping, IsRefusal, UnlessMemory}
 use Rattle.odata_checked_filter.specs.Filter.{HasNeededPaths, IsFilter, filter_of}
-use Rattle.odata_checked_filter.specs.FlatTree.{tree_of_nodes}
 use Rattle.odata_signatures.specs.PreOrder.{pre_order}
-use Rattle.odata_checked_filter.specs.Stands.{Stands}
-use Rattle.odata_signatures.specs.Typed.{Typed}
-use Rattle.odata_signatures.specs.TypeView.{expr_type}
 
 -- a text whose one tree has an untypable node has no typing
 pub untypable_refuses :
@@ -51,13 +36,6 @@ other_refuses laws slots root text tree type only typed other_type = λ other ty
     let P : Tree → Type 0 = λ (t : Tree). Typed slots root [] t typing.type_of in
     let Q : ExprType → Type 0 = λ (t : ExprType). IsBooleanOrNull t in
     other_type (subst Q (laws.one_type slots root [] tree typing.type_of type (subst P (only other typing.has_tree) typing.typed) typed) typing.truth)
-
--- what follows from a refusal's fact follows from the refusal
-pub UnlessMemory-map : (P Q : Type 0) (refusal : Refusal) → (P → Q) → UnlessMemory refusal P → UnlessMemory refusal Q
-UnlessMemory-map P Q (Refusal.Text fault) f x = f x
-UnlessMemory-map P Q (Refusal.Syntax fault) f x = f x
-UnlessMemory-map P Q (Refusal.Typing fault) f x = f x
-UnlessMemory-map P Q Refusal.Memory f x = tt
 
 pub treeless : (slots : Slots) (root text : List ℕ) → HasNoTree text → HasNoTyping slots root text
 treeless slots root text none = λ tree typing. none tree typing.has_tree
@@ -116,8 +94,7 @@ module _ (one : OneTree) (schema : SchemaModel) (n : ℕ) (walk : Walk) (tree : 
 pub type_refusal : (slots : Slots) (root text : List ℕ) (tree : Tree) (refusal : Refusal) → HasTree text tree → IsTypeRefusal slots root tree (length text) refusal → UnlessMemory refusal (IsRefusal slots root text refusal)
 type_refusal slots root text tree (Refusal.Typing fault) has_tree is = record { tree = tree; has_tree = has_tree; fault_of = is }
 type_refusal slots root text tree Refusal.Memory has_tree is = tt
-type_refusal slots root text tree (Refusal.Text fault) has_tree is = absurd is
-type_refusal slots root text tree (Refusal.Syntax fault) has_tree is = absurd is
+type_refusal slots root text tree _ has_tree is = absurd is
 
 fault_refuses : LawsBelow → (slots : Slots) (root text : List ℕ) (tree : Tree) (fault : TypeFault) → ((other : Tree) → HasTree text other → other ≡ tree) → IsTypeFault slots root tree (length text) fault → HasNoTyping slots root text
 fault_refuses laws slots root text tree fault only (inl first) = untypable_refuses laws slots root text tree fault only first
@@ -126,8 +103,7 @@ fault_refuses laws slots root text tree fault only (inr other) = other_refuses l
 pub type_none : LawsBelow → (slots : Slots) (root text : List ℕ) (tree : Tree) (refusal : Refusal) → ((other : Tree) → HasTree text other → other ≡ tree) → IsTypeRefusal slots root tree (length text) refusal → UnlessMemory refusal (HasNoTyping slots root text)
 type_none laws slots root text tree (Refusal.Typing fault) only is = fault_refuses laws slots root text tree fault only is
 type_none laws slots root text tree Refusal.Memory only is = tt
-type_none laws slots root text tree (Refusal.Text fault) only is = absurd is
-type_none laws slots root text tree (Refusal.Syntax fault) only is = absurd is
+type_none laws slots root text tree _ only is = absurd is
 
 -- a tree whose type is neither Boolean nor Null
 pub not_boolean :
@@ -141,31 +117,21 @@ not_boolean schema n tree walk len refusal stands other is =
 -- ---- a text without a tree
 
 text_refused : (slots : Slots) (root text : List ℕ) (fault : TextFault) → IsFirstFault text (TextOrSyntaxFault.Text fault) → UnlessMemory (refusal_of (TextOrSyntaxFault.Text fault)) (IsRefusal slots root text (refusal_of (TextOrSyntaxFault.Text fault)))
-text_refused slots root text (TextFault.BadCharacter span) is = is
-text_refused slots root text (TextFault.UnclosedString span) is = is
-text_refused slots root text (TextFault.LeftOutLiteral span) is = is
-text_refused slots root text (TextFault.RunOn span) is = is
-text_refused slots root text (TextFault.TooLong span) is = is
 text_refused slots root text TextFault.Memory is = tt
+text_refused slots root text _ is = is
 
 -- its fault is the refusal
 pub refusal_is : (slots : Slots) (root text : List ℕ) (fault : TextOrSyntaxFault) → IsFirstFault text fault → UnlessMemory (refusal_of fault) (IsRefusal slots root text (refusal_of fault))
 refusal_is slots root text (TextOrSyntaxFault.Text fault) is = text_refused slots root text fault is
-refusal_is slots root text (TextOrSyntaxFault.Syntax (SyntaxFault.Unexpected span)) is = is (λ same. cc)
-refusal_is slots root text (TextOrSyntaxFault.Syntax (SyntaxFault.TooDeep span)) is = is (λ same. cc)
 refusal_is slots root text (TextOrSyntaxFault.Syntax SyntaxFault.Memory) is = tt
+refusal_is slots root text (TextOrSyntaxFault.Syntax _) is = is (λ same. cc)
 
 text_none : (slots : Slots) (root text : List ℕ) (fault : TextFault) → HasNoTree text → UnlessMemory (refusal_of (TextOrSyntaxFault.Text fault)) (HasNoTyping slots root text)
-text_none slots root text (TextFault.BadCharacter span) none = treeless slots root text none
-text_none slots root text (TextFault.UnclosedString span) none = treeless slots root text none
-text_none slots root text (TextFault.LeftOutLiteral span) none = treeless slots root text none
-text_none slots root text (TextFault.RunOn span) none = treeless slots root text none
-text_none slots root text (TextFault.TooLong span) none = treeless slots root text none
 text_none slots root text TextFault.Memory none = tt
+text_none slots root text _ none = treeless slots root text none
 
 -- and it has no typing
 pub refusal_none : (slots : Slots) (root text : List ℕ) (fault : TextOrSyntaxFault) → (fault ≢ TextOrSyntaxFault.Syntax SyntaxFault.Memory → HasNoTree text) → UnlessMemory (refusal_of fault) (HasNoTyping slots root text)
 refusal_none slots root text (TextOrSyntaxFault.Text fault) none = text_none slots root text fault (none (λ same. cc))
-refusal_none slots root text (TextOrSyntaxFault.Syntax (SyntaxFault.Unexpected span)) none = treeless slots root text (none (λ same. cc))
-refusal_none slots root text (TextOrSyntaxFault.Syntax (SyntaxFault.TooDeep span)) none = treeless slots root text (none (λ same. cc))
 refusal_none slots root text (TextOrSyntaxFault.Syntax SyntaxFault.Memory) none = tt
+refusal_none slots root text (TextOrSyntaxFault.Syntax _) none = treeless slots root text (none (λ same. cc))

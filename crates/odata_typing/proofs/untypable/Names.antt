@@ -1,19 +1,11 @@
 -- What is known of a property by its name.
-use Rattle.std.proofs.Common.{◌≡◌, refl, sym, ap, subst, ◌∙◌, inl, inr, ℕ, ◌<◌, ◌≤◌, Bool, true, false, List, length, Option, Some, None, IfSome, IsSomeAnd, MatchOption, slice_get, arith}
-use Rattle.std.proofs.lemmas.Option.{slice_get_cases}
-use Rattle.odata_syntax.specs.Tree.{node, name}
+use Rattle.odata_typing.proofs.Common.{◌≡◌, refl, sym, ap, subst, ◌∙◌, inl, inr, ℕ, ◌<◌, ◌≤◌, Bool, true, false, List, length, Option, Some, None, IfSome, IsSomeAnd, MatchOption, slice_get, arith, slice_get_cases, node, name, ExprType, PropertyModel, PropertyType, SchemaModel, Slots, declared, opaque, navigation, slot_named, type_name_at, IsFirstUntypable, NameReason, PropertyReason, PropertyTyped, Scope, named_type, variable_type, LawsBelow}
 use Rattle.odata_text.specs.declared.span.Span.{Span}
-use Rattle.csdl_schema.specs.ExprType.{ExprType, SingleType, enumeration, primitive, structured}
 use Rattle.csdl_schema.specs.PropertyView.{IsReadAs, PointsWithin, property_type, target_of, type_of_kind}
-use Rattle.csdl_schema.specs.Resolution.{type_of_single}
 use Rattle.csdl_schema.specs.declared.property.PropertyKind.{PropertyKind}
-use Rattle.csdl_schema.specs.SchemaModel.{PropertyModel, PropertyType, SchemaModel, Slots, declared, opaque, navigation, slot_named, type_name_at}
 use Rattle.csdl_schema.specs.declared.property.Property.{Property}
 use Rattle.odata_signatures.specs.declared.refusal.TypeFaultCode.{TypeFaultCode}
-use Rattle.odata_signatures.specs.FirstUntypable.{IsFirstUntypable, NameReason, PropertyReason}
 use Rattle.odata_signatures.specs.NeededPaths.{Navigates}
-use Rattle.odata_signatures.specs.Typed.{PropertyTyped, Scope, named_type, variable_type}
-use Rattle.odata_typing.specs.private.LawsBelow.{LawsBelow}
 use Rattle.odata_typing.proofs.untypable.Untypable.{first_itself}
 use Rattle.odata_typing.proofs.scopes.Scopes.{unbound_only}
 use Rattle.odata_typing.proofs.untypable.PropertySlots.{slot_below, property_at, property_none}
@@ -116,17 +108,11 @@ property_typed properties asked k type kind found at is_named =
 
 -- ---- navigation
 
-not_declared : (many : Bool) (t : SingleType) (target : ExprType) → ¬ (type_of_single (Some t) many ≡ navigation (Some target))
-not_declared true t target same = cc
-not_declared false t target same = cc
-
 -- a property of the code that leads to no target does not navigate
 targetless : (name_at : ℕ → List ℕ) (kind : PropertyKind) (many : Bool) (target : ExprType) → ¬ (type_of_kind name_at kind None many ≡ navigation (Some target))
-targetless name_at (PropertyKind.Prim p) many target same = not_declared many (primitive p) target same
-targetless name_at (PropertyKind.Enum e) many target same = not_declared many (enumeration (name_at e)) target same
-targetless name_at (PropertyKind.Complex t) many target same = not_declared many (structured (name_at t)) target same
 targetless name_at PropertyKind.Opaque many target same = cc
-targetless name_at PropertyKind.Navigation many target same = cc
+targetless name_at _ true target same = cc
+targetless name_at _ false target same = cc
 
 pub idle_at :
     (schema : SchemaModel) (properties : List PropertyModel) (asked : List ℕ) (k : ℕ) (p : Property)

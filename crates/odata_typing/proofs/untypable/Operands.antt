@@ -1,20 +1,12 @@
 -- Nodes over operands that have types, of which they make none.
-use Rattle.std.proofs.Common.{refl, sym, subst, ◌≡◌, ℕ, List}
-use Rattle.std.specs.List.{AllByRecursion}
-use Rattle.odata_syntax.specs.Tree.{Tree, literal, member, node}
+use Rattle.odata_typing.proofs.Common.{refl, sym, subst, ◌≡◌, ℕ, List, AllByRecursion, Tree, literal, node, ExprType, Slots, LawsBelow, InfixTyped, IsInfix, UnaryTyped, infix_shape, unary_code, unary_shape, IsFirstUntypable, IsReason, LiteralReason, StepReason, Between, IsTyped, OperandTyped, OperandsTyped, Scope, StepTyped, Typed}
+use Rattle.odata_syntax.specs.Tree.{member}
 use Rattle.odata_syntax.specs.declared.node.LiteralKind.{LiteralKind}
 use Rattle.odata_text.specs.declared.span.Span.{Span}
-use Rattle.csdl_schema.specs.ExprType.{ExprType}
-use Rattle.csdl_schema.specs.SchemaModel.{Slots}
 use Rattle.odata_signatures.specs.declared.refusal.TypeFaultCode.{TypeFaultCode}
 use Rattle.odata_checked_filter.specs.declared.checked_node.NodeKind.{NodeKind}
 use Rattle.odata_typing.specs.declared.unary_node.Unary.{Unary}
-use Rattle.odata_typing.specs.private.LawsBelow.{LawsBelow}
-use Rattle.odata_typing.specs.private.Forms.{InfixTyped, IsInfix, UnaryTyped, infix_shape, unary_code, unary_shape}
-use Rattle.odata_signatures.specs.FirstUntypable.{IsFirstUntypable, IsReason, LiteralReason, StepReason}
 use Rattle.odata_signatures.specs.LiteralValue.{LiteralTyped}
-use Rattle.odata_signatures.specs.Sides.{Between}
-use Rattle.odata_signatures.specs.Typed.{IsTyped, OperandTyped, OperandsTyped, Scope, StepTyped, Typed}
 use Rattle.odata_typing.proofs.forms.Infix.{infix_bodiless, infix_children, infix_only}
 use Rattle.odata_typing.proofs.forms.Unary.{unary_bodiless, unary_children, unary_only, unary_reason}
 use Rattle.odata_typing.proofs.untypable.Untypable.{first_itself}

@@ -1,13 +1,9 @@
 -- The slot of a name and the property of that name.
-use Rattle.std.proofs.Common.{◌≡◌, ap, ◌∙◌, ℕ, ◌<◌, ◌≤◌, List, length, Bool, Some, None, slice_get, position, arith}
-use Rattle.std.specs.List.{position_or_len}
+use Rattle.odata_typing.proofs.Common.{◌≡◌, ap, ◌∙◌, ℕ, ◌<◌, ◌≤◌, List, length, Bool, Some, None, slice_get, position, arith, position_or_len, slice_get_past, PropertyModel, slot_named, property_named}
 use Rattle.std.proofs.lemmas.Bool.Decides.{nat_tests}
 use Rattle.std.proofs.lemmas.List.Folds.{find_at}
-use Rattle.std.proofs.lemmas.Option.{slice_get_past}
 use Rattle.std.specs.Cmp.Lexicographic.{pointwise}
 use Rattle.std.specs.Prelude.{nat_eq}
-use Rattle.csdl_schema.specs.SchemaModel.{PropertyModel, slot_named}
-use Rattle.odata_signatures.specs.Typed.{property_named}
 
 slot_found : {X : Type 0} (p : X → Bool) (xs : List X) (k : ℕ) → position p xs ≡ Some k → (position_or_len p xs ≡ k) × (k < length xs)
 slot_found p xs k found = grind (arith, nat_tests)

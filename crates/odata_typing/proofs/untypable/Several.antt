@@ -1,19 +1,10 @@
 -- Nodes over several trees that have types, of which they make none.
-use Rattle.std.proofs.Common.{◌≡◌, ◌∙◌, refl, sym, ap, subst, ℕ, List, [], ◌∷◌}
-use Rattle.std.specs.List.{AllByRecursion}
-use Rattle.odata_syntax.specs.Tree.{Tree, call, in_list, node, trees_of_list}
+use Rattle.odata_typing.proofs.Common.{◌≡◌, ◌∙◌, refl, sym, ap, subst, ℕ, List, [], ◌∷◌, AllByRecursion, Tree, call, in_list, node, trees_of_list, ExprType, Slots, IsFirstUntypable, OperandReason, code_of_call, OneLacksNumber, BeforeList, AreTyped, IsTyped, Scope, Typed, LawsBelow}
 use Rattle.odata_text.specs.declared.span.Span.{Span}
-use Rattle.csdl_schema.specs.ExprType.{ExprType}
-use Rattle.csdl_schema.specs.SchemaModel.{Slots}
 use Rattle.odata_signatures.specs.CallTyped.{CallReason, CallTyped}
 use Rattle.odata_signatures.specs.CollectionTyped.{InListTyped}
 use Rattle.odata_signatures.specs.declared.call.CallFault.{CallFault}
-use Rattle.odata_signatures.specs.FirstUntypable.{IsFirstUntypable, OperandReason, code_of_call}
-use Rattle.odata_signatures.specs.Reads.{OneLacksNumber}
-use Rattle.odata_signatures.specs.Sides.{BeforeList}
-use Rattle.odata_signatures.specs.Typed.{AreTyped, IsTyped, Scope, Typed}
 use Rattle.odata_signatures.specs.declared.refusal.TypeFaultCode.{TypeFaultCode}
-use Rattle.odata_typing.specs.private.LawsBelow.{LawsBelow}
 use Rattle.odata_typing.proofs.stacks.Children.{listed_again}
 use Rattle.odata_typing.proofs.untypable.Untypable.{first_itself}
 

@@ -1,14 +1,5 @@
 -- The first untypable node among trees one after another.
-use Rattle.std.proofs.Common.{◌≡◌, refl, inl, inr, ◌⊎◌, ℕ, ◌≤◌, List, [], ◌∷◌, ◌++◌, subst, arith}
-use Rattle.std.specs.List.{AllByRecursion}
-use Rattle.odata_syntax.specs.Tree.{Shape, Tree, node, shape_of, start_of}
-use Rattle.csdl_schema.specs.SchemaModel.{Slots}
-use Rattle.odata_signatures.specs.declared.refusal.TypeFault.{TypeFault}
-use Rattle.odata_signatures.specs.Considered.{ChildrenTyped, IsAmong, IsConsideredBody, children_in_scope}
-use Rattle.odata_signatures.specs.FirstUntypable.{IsFirstUntypable, IsReason, IsUntypable}
-use Rattle.odata_signatures.specs.Laws.{TypedIsClear}
-use Rattle.odata_signatures.specs.Typed.{IsTyped, IsUntyped, Scope}
-use Rattle.odata_typing.specs.private.LawsBelow.{LawsBelow}
+use Rattle.odata_typing.proofs.Common.{◌≡◌, refl, inl, inr, ◌⊎◌, ℕ, ◌≤◌, List, [], ◌∷◌, ◌++◌, subst, arith, AllByRecursion, Shape, Tree, node, shape_of, start_of, Slots, TypeFault, ChildrenTyped, IsAmong, IsConsideredBody, children_in_scope, IsFirstUntypable, IsReason, IsUntypable, TypedIsClear, IsTyped, IsUntyped, Scope, LawsBelow}
 use Rattle.odata_signatures.specs.FirstAmong.{IsFirstAmong, IsFirstBelow, StartFrom}
 
 -- trees in one scope that all have types
@@ -65,10 +56,6 @@ front_or_back scope [] ys at tree among = inr among
 front_or_back scope (x ∷ xs) ys at tree (inl here) = inl (inl here)
 front_or_back scope (x ∷ xs) ys at tree (inr behind) =
     elim (front_or_back scope xs ys at tree behind) [ inl front ↦ inl (inr front) | inr back ↦ inr back ]
-
-pub all_typed : (slots : Slots) (root : List ℕ) (scope : Scope) (xs ys : List Tree) → AllTyped slots root scope xs → AllTyped slots root scope ys → AllTyped slots root scope (xs ++ ys)
-all_typed slots root scope [] ys first second = second
-all_typed slots root scope (x ∷ xs) ys first second = (first.0, all_typed slots root scope xs ys first.1 second)
 
 all_start :
     (slots : Slots) (root : List ℕ) (scope : Scope) (xs ys : List Tree) (k : ℕ)

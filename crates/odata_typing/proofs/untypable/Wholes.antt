@@ -1,31 +1,11 @@
 -- The walk over all nodes of a context.
-use Rattle.std.proofs.Common.{◌≡◌, refl, replicate, ◌∙◌, sym, ap, subst, ℕ, ◌-◌, ◌<◌, List, [], Bool, true, false, Option, Some, IfErr, IfOk, IfSome, Result, Ok, Err, length, slice_get, slice_range, take, arith}
-use Rattle.std.proofs.lemmas.List.{length-replicate, take_all}
-use Rattle.std.proofs.lemmas.Option.{slice_get_within}
-use Rattle.odata_syntax.specs.Places.{number_at, places_of, stop_at}
-use Rattle.odata_syntax.specs.TextTree.{listed_tree}
-use Rattle.odata_syntax.specs.Tree.{Tree}
-use Rattle.odata_syntax.specs.declared.syntax_list.SyntaxNode.{SyntaxNode}
-use Rattle.csdl_schema.specs.SchemaModel.{HoldsType, SchemaModel, slots_of, type_name_at}
-use Rattle.odata_signatures.specs.ExprTypes.{IsBooleanOrNull}
-use Rattle.odata_signatures.specs.TypeView.{expr_type}
+use Rattle.odata_typing.proofs.Common.{◌≡◌, refl, replicate, ◌∙◌, sym, ap, subst, ℕ, ◌-◌, ◌<◌, List, [], Bool, Option, Some, IfErr, IfOk, IfSome, Result, Ok, Err, length, slice_get, take, arith, length-replicate, take_all, slice_get_within, number_at, places_of, stop_at, listed_tree, Tree, SyntaxNode, HoldsType, SchemaModel, slots_of, type_name_at, IsBooleanOrNull, expr_type, FewNodes, Scope, TypeFault, FlatTree, tree_of_nodes, nothing_yet, with_room, CheckedNode, CheckContext, Walk, IsJudged, IsPut, IsStanding, IsTreeJudged, LawsBelow, IsReady, IsContext, run_tree, whole_tree, scope_of}
+use Rattle.std.proofs.Common.{slice_range}
 use Rattle.odata_signatures.specs.HasTyping.{HasTree, HasTyping}
-use Rattle.odata_signatures.specs.Laws.{FewNodes}
-use Rattle.odata_signatures.specs.Typed.{Scope}
 use Rattle.odata_signatures.specs.declared.refusal.Refusal.{Refusal}
-use Rattle.odata_signatures.specs.declared.refusal.TypeFault.{TypeFault}
 use Rattle.odata_signatures.specs.declared.refusal.TypeFaultCode.{TypeFaultCode}
-use Rattle.odata_checked_filter.specs.FlatTree.{FlatTree, tree_of_nodes}
 use Rattle.odata_checked_filter.specs.Laws.{OneTree}
-use Rattle.odata_checked_filter.specs.ListChanges.{nothing_yet, with_room}
-use Rattle.odata_checked_filter.specs.declared.checked_node.CheckedNode.{CheckedNode}
-use Rattle.odata_typing.specs.declared.check_context.CheckContext.{CheckContext}
-use Rattle.odata_typing.specs.declared.judged_list.Walk.{Walk}
 use Rattle.odata_typing.specs.private.Answer.{IsTypeRefusal}
-use Rattle.odata_typing.specs.private.Judging.{IsJudged, IsPut, IsStanding, IsTreeJudged}
-use Rattle.odata_typing.specs.private.LawsBelow.{LawsBelow}
-use Rattle.odata_typing.specs.private.CheckContexts.{IsReady, IsContext, run_tree, whole_tree}
-use Rattle.odata_typing.specs.private.Variables.{scope_of}
 use Rattle.odata_typing.specs.private.Checker.{IsRefusedFor, IsWalked}
 use Rattle.odata_typing.proofs.untypable.Checks.{not_boolean, type_none, type_refusal, whole_filter, whole_idle, whole_stands, whole_typing}
 

@@ -1,6 +1,7 @@
 use Rattle.std.proofs.Common.{◌≡◌, ◌≤◌, ◌+◌, max, sym, ◌∙◌, arith}
 use Rattle.odata_checked_filter.proofs.flat.Places.{found_before}
-use Rattle.odata_checked_filter.proofs.nesting.Lines.{first_of, first_within, is_max, line_onward, rest_behind, rest_below, rest_none}
+use Rattle.odata_checked_filter.proofs.flat.Standing.{line_onward}
+use Rattle.odata_checked_filter.proofs.nesting.Lines.{first_of, first_within, is_max, rest_behind, rest_below, rest_none}
 use Rattle.odata_checked_filter.specs.private.LambdaLines.{deepest_of}
 use Rattle.odata_checked_filter.proofs.lambda_depth.+deepest.Goals as goal
 

@@ -1,9 +1,10 @@
-use Rattle.std.proofs.Common.{◌≡◌, ◌+◌, ◌-◌, ◌∷◌, [], ℕ, List, Ok, Err, OnOk, Result, max, sym, ◌∙◌, subst, arith}
+use Rattle.std.proofs.Common.{◌≡◌, ◌+◌, ◌-◌, ◌∷◌, [], ℕ, List, max, sym, ◌∙◌, subst, arith}
 use Rattle.csdl_schema.specs.ExprType.{single}
 use Rattle.csdl_schema.specs.SchemaModel.{slots_of, type_name_at}
 use Rattle.odata_signatures.specs.NeededPaths.{path_of}
 use Rattle.odata_signatures.specs.Typed.{with_variable}
-use Rattle.odata_checked_filter.specs.private.NeededPaths.{LambdaNeeds, LeadThere, NeedsAmong, Puts, nodes_in}
+use Rattle.odata_checked_filter.specs.private.NeededPaths.{LeadThere, nodes_in}
+use Rattle.odata_checked_filter.proofs.canonical.Leaves.{on_ok}
 use Rattle.odata_checked_filter.proofs.flat.Places.{found_before}
 use Rattle.odata_checked_filter.proofs.flat.Standing.{lies_nonempty}
 use Rattle.odata_checked_filter.proofs.needed.Bodies.{lambda_puts}
@@ -16,10 +17,6 @@ use Rattle.odata_checked_filter.proofs.needed.Operators.{lambda_of, operator_sto
 use Rattle.odata_checked_filter.proofs.needed.Sets.{lead_still}
 use Rattle.odata_checked_filter.proofs.nesting.Lines.{is_max}
 use Rattle.odata_checked_filter.proofs.needed_paths.+expand.Goals as goal
-
-on_ok : {T E : Type 0} (r : Result T E) (P Q : Type 0) → (P → Q) → OnOk r P → OnOk r Q
-on_ok (Ok v) P Q by holds = by holds
-on_ok (Err e) P Q by holds = tt
 
 -- the walk begins with all trees
 pub expand-loop-place-init : goal.expand-loop-place-init
@@ -273,6 +270,6 @@ expand_lambda-returns t c scope paths base variable body is lead =
     let reached = c.in_ok-base.ensures scope paths places.body base is.base_stands lead_mid in
     let lead_inner = subst (λ (held : List ℕ). LeadThere way inner (path_of scope paths base ∷ paths) held) (sym (nodes_in-Bound c.in_ok-base.base.node c.args.variables))
     (reached.leads, lead_still mid way scope paths nodes reached.puts.leads lead_mid) in
-    on_ok c.expand-2.result (Puts way new (NeedsAmong slots root inner (path_of scope paths base ∷ paths) (body ∷ []))) (Puts old new (LambdaNeeds slots root scope paths base variable body))
+    on_ok c.expand-2.result
     (lambda_puts c.trees_have_one_type.ensures slots root scope paths base variable body old mid way new member is.body_stands.binds first reached.puts)
     (c.expand-2.ensures inner (path_of scope paths base ∷ paths) (body ∷ []) (one_line schema n inner list places.body places.stop body is.body_stands.body) lead_inner)

@@ -1,9 +1,9 @@
-use Rattle.std.proofs.Common.{◌≡◌, ◌∷◌, [], ℕ, List, Option, Some, IsSome, slice_get, sym, ◌∙◌, subst, refl, arith}
+use Rattle.std.proofs.Common.{◌≡◌, ◌∷◌, [], ℕ, List, IsSome, slice_get, subst, refl, arith}
 use Rattle.csdl_schema.specs.ExpansionView.{LeadsTo}
 use Rattle.csdl_schema.specs.SchemaModel.{properties_at}
 use Rattle.odata_checked_filter.specs.Stands.{variable_names}
 use Rattle.odata_checked_filter.specs.private.NeededPaths.{IsTargetAt, Puts, nodes_in}
-use Rattle.odata_checked_filter.proofs.flat.Places.{found_before}
+use Rattle.odata_checked_filter.proofs.flat.Places.{found_before, same_found}
 use Rattle.odata_checked_filter.proofs.needed.Kinds.{other_there, property_there, typed_there, variable_there}
 use Rattle.odata_checked_filter.proofs.needed.Levels.{as_many_nodes, level_within}
 use Rattle.odata_checked_filter.proofs.needed.Paths.{other_end, property_end, variable_end}
@@ -12,9 +12,6 @@ use Rattle.odata_checked_filter.proofs.needed.Steps.{slot_below}
 use Rattle.odata_checked_filter.proofs.needed_paths.expand_base.Goals as goal
 
 -- the text of a node is that of its shape
-same_text : (o : Option (List ℕ)) (text asked : List ℕ) → o ≡ Some text → o ≡ Some asked → text ≡ asked
-same_text o text asked a b = let same : Some text ≡ Some asked = sym a ∙ b in cc
-
 pub text-name-requires : goal.text-name-requires
 text-name-requires c =
     let r = c.requires.stands in
@@ -49,7 +46,7 @@ returns-in_ok-node-in-Property c scope paths stop tree stands lead =
     let slot = c.in-Property.slot in
     let there = property_there schema n scope list c.args.place stop slot tree c.node.result stands c.node.ensures c.in-Property.is in
     let text = c.text-name.result.now in
-    let named : text ≡ there.asked = same_text (slice_get list.texts c.args.place) text there.asked c.text-name.ensures there.text_at in
+    let named : text ≡ there.asked = same_found (slice_get list.texts c.args.place) text there.asked c.text-name.ensures there.text_at in
     let target = c.target-target.result in
     let at : IsTargetAt schema n slot target = record { property = c.property.result.now; read = c.property.ensures; target_is = c.target-target.ensures } in
     let new = c.step_to.new.expansion in

@@ -1,4 +1,4 @@
-use Rattle.std.proofs.Common.{◌≡◌, ◌+◌, ◌-◌, ◌<◌, ◌≤◌, ◌++◌, ◌∷◌, [], ℕ, List, Option, Some, IsSome, slice_get, sym, ◌∙◌, subst, arith}
+use Rattle.std.proofs.Common.{◌≡◌, ◌+◌, ◌-◌, ◌++◌, ◌∷◌, [], ℕ, List, IsSome, slice_get, sym, subst, arith}
 use Rattle.csdl_schema.specs.ExpansionView.{LeadsTo}
 use Rattle.csdl_schema.specs.SchemaModel.{slots_of, type_name_at}
 use Rattle.odata_signatures.specs.NeededPaths.{path_of}
@@ -7,16 +7,13 @@ use Rattle.odata_signatures.specs.declared.edm_type.EdmType.{EdmType}
 use Rattle.odata_signatures.specs.declared.edm_type.ValueType.{ValueType}
 use Rattle.odata_checked_filter.specs.declared.checked_node.NodeKind.{NodeKind}
 use Rattle.odata_checked_filter.specs.private.NeededPaths.{IsPathEnd, Puts}
-use Rattle.odata_checked_filter.proofs.flat.Places.{found_before}
+use Rattle.odata_checked_filter.proofs.flat.Places.{before_is, found_before, same_found}
 use Rattle.odata_checked_filter.proofs.needed.Kinds.{step_there, typed_there}
 use Rattle.odata_checked_filter.proofs.needed.Paths.{owner_there, step_end}
 use Rattle.odata_checked_filter.proofs.needed.StepRows.{stands_below, step_found, there_at}
 use Rattle.odata_checked_filter.proofs.needed_paths.expand_path.Goals as goal
 
 -- the text of a node is that of its shape
-same_text : (o : Option (List ℕ)) (text asked : List ℕ) → o ≡ Some text → o ≡ Some asked → text ≡ asked
-same_text o text asked a b = let same : Some text ≡ Some asked = sym a ∙ b in cc
-
 pub expand_base-requires-clause-stands : goal.expand_base-requires-clause-stands
 expand_base-requires-clause-stands c =
     let r = c.requires in
@@ -28,9 +25,6 @@ pub loop-at-init : goal.loop-at-init
 loop-at-init c = record { above = c.path_base-bottom.ensures.below; within = omega arith; ends = c.in_ok-end.ensures }
 
 -- the step before a node that has been reached
-before_is : (at place bottom : ℕ) → place < at → at ≤ bottom → (at - 1 + 1 ≡ at) × ((at - 1 < bottom) × (place ≤ at - 1))
-before_is at place bottom above within = (omega (arith, above), (omega (arith, above, within), omega (arith, above)))
-
 pub step_target-target-requires : goal.step_target-target-requires
 step_target-target-requires c =
     let r = c.requires in
@@ -70,7 +64,7 @@ loop-at-preserved c =
           let base_stands = subst (λ (k : ℕ). Lies schema n scope list k stop there.base) b.0 there.base_stands in
           let before = c.loop-at.invariant.ends scope paths stop there.base base_stands lead in
           let path = path_of scope paths there.base in
-          let named : c.text.result.now ≡ there.asked = same_text (slice_get list.texts at) c.text.result.now there.asked c.text.ensures there.text_at in
+          let named : c.text.result.now ≡ there.asked = same_found (slice_get list.texts at) c.text.result.now there.asked c.text.ensures there.text_at in
           let below = typed_there schema n scope list (at + 1) stop there.base there.base_stands in
           let owner = owner_there c.trees_have_one_type.ensures schema n scope list at stop step.slot tree below.0 there below.1.0 in
           let target = c.step_target-target.result in

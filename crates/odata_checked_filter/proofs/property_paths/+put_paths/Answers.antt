@@ -1,17 +1,14 @@
-use Rattle.std.proofs.Common.{◌≡◌, ◌∙◌, ◌∷◌, [], ◌<◌, ◌≤◌, ◌+◌, ℕ, List, Option, Some, ap, arith, map, refl, slice_get, string_bytes, subst, sym}
+use Rattle.std.proofs.Common.{◌≡◌, ◌∙◌, ◌∷◌, [], ◌<◌, ◌≤◌, ◌+◌, ℕ, List, ap, arith, map, refl, slice_get, string_bytes, subst, sym}
 use Rattle.csdl_schema.specs.ExprType.{null_type}
 use Rattle.odata_signatures.specs.NeededPaths.{path_of}
 use Rattle.odata_signatures.specs.Typed.{with_variable}
 use Rattle.odata_checked_filter.specs.private.LambdaLines.{AreInLine}
 use Rattle.odata_checked_filter.specs.private.PropertyPaths.{AreBound, NamedText, with_texts}
-use Rattle.odata_checked_filter.proofs.flat.Places.{found_before}
+use Rattle.odata_checked_filter.proofs.flat.Places.{found_before, same_found}
 use Rattle.odata_checked_filter.proofs.named.Texts.{bound_in-Bound, put_none}
-use Rattle.odata_checked_filter.proofs.named.Trees.{IsLeft, base_line, first_of, found_there, lambda_of, last_there, line_below, no_more, onward_there, past_lambda, past_node}
-use Rattle.odata_checked_filter.proofs.nesting.Lines.{line_onward}
+use Rattle.odata_checked_filter.proofs.named.Trees.{IsLeft, base_line, first_of, found_there, lambda_of, last_there, line_below, no_more, past_lambda, past_node}
+use Rattle.odata_checked_filter.proofs.flat.Standing.{between_onward, line_onward}
 use Rattle.odata_checked_filter.proofs.property_paths.+put_paths.Goals as goal
-
-same_text : (o : Option (List ℕ)) (text asked : List ℕ) → o ≡ Some text → o ≡ Some asked → text ≡ asked
-same_text o text asked a b = let same : Some text ≡ Some asked = sym a ∙ b in cc
 
 pub loop-place-init : goal.loop-place-init
 loop-place-init t c = (omega arith, λ trees line. ((trees, line), λ scope paths are. record { rest = trees; line = line; put = refl }))
@@ -49,7 +46,7 @@ put_paths-requires t c =
     let first = first_of list place c.args.stop left.0.0 left.0.1 c.loop-place-test.true in
     let operator = lambda_of list place first.middle first.tree c.node-node.result first.stands c.node-node.ensures (sym c.is_lambda.ensures ∙ c.if-is_lambda.true) in
     let last : c.node-body.result.stop ≡ operator.middle = last_there list (place + 1) operator.middle operator.base c.node-body.result operator.base_stands c.node-body.ensures in
-    let within : operator.middle < first.middle = onward_there list operator.middle first.middle operator.body operator.body_stands in
+    let within : operator.middle < first.middle = between_onward list operator.middle first.middle operator.body operator.body_stands in
     let onward : first.middle ≤ c.args.stop = line_onward list first.middle c.args.stop first.more first.after in
     let since = c.loop-place.invariant.0 in
     let before = c.loop-place-test.true in (
@@ -81,7 +78,7 @@ put_paths-requires-then-is_lambda t c =
     let operator = lambda_of list place first.middle first.tree c.node-node.result first.stands c.node-node.ensures (sym c.is_lambda.ensures ∙ c.if-is_lambda.true) in
     let last : c.node-body.result.stop ≡ operator.middle = last_there list (place + 1) operator.middle operator.base c.node-body.result operator.base_stands c.node-body.ensures in
     let end : c.node-node.result.stop ≡ first.middle = last_there list place first.middle first.tree c.node-node.result first.stands c.node-node.ensures in
-    let base : place + 1 < operator.middle = onward_there list (place + 1) operator.middle operator.base operator.base_stands in
+    let base : place + 1 < operator.middle = between_onward list (place + 1) operator.middle operator.base operator.base_stands in
     let onward : first.middle ≤ c.args.stop = line_onward list first.middle c.args.stop first.more first.after in
     let since = c.loop-place.invariant.0 in
     let before = c.loop-place-test.true in (
@@ -100,7 +97,7 @@ loop-place-smaller-then-is_lambda t c =
     let left = c.loop-place.invariant.1 c.requires.0 c.requires.1 in
     let first = first_of list place c.args.stop left.0.0 left.0.1 c.loop-place-test.true in
     let end : c.node-node.result.stop ≡ first.middle = last_there list place first.middle first.tree c.node-node.result first.stands c.node-node.ensures in
-    let onward : place < first.middle = onward_there list place first.middle first.tree first.stands in
+    let onward : place < first.middle = between_onward list place first.middle first.tree first.stands in
     let before = c.loop-place-test.true in
     omega (arith, end, onward, before)
 
@@ -115,7 +112,7 @@ loop-place-preserved-then-is_lambda t c =
     let some = c.loop-place.invariant.1 c.requires.0 c.requires.1 in
     let head = first_of list place stop some.0.0 some.0.1 before in
     let head_end : here.stop ≡ head.middle = last_there list place head.middle head.tree here head.stands c.node-node.ensures in
-    let onward : place < head.middle = onward_there list place head.middle head.tree head.stands in
+    let onward : place < head.middle = between_onward list place head.middle head.tree head.stands in
     let since = c.loop-place.invariant.0 in (
       omega (arith, since, head_end, onward),
       λ trees line.
@@ -132,7 +129,7 @@ loop-place-preserved-then-is_lambda t c =
                 let last : c.node-body.result.stop ≡ operator.middle = last_there list (place + 1) operator.middle operator.base c.node-body.result operator.base_stands c.node-body.ensures in
                 let inner = with_variable scope operator.variable null_type in
                 let inner_paths = path_of scope paths operator.base ∷ paths in
-                let named : c.text.result.now ≡ operator.variable = same_text (slice_get list.texts place) c.text.result.now operator.variable c.text.ensures operator.text_at in
+                let named : c.text.result.now ≡ operator.variable = same_found (slice_get list.texts place) c.text.result.now operator.variable c.text.ensures operator.text_at in
                 let own = c.in_ok-path.ensures scope paths first.middle first.tree first.stands are in
                 let base = c.in_ok-base.ensures scope paths operator.middle operator.base operator.base_stands are in
                 let bound = subst (λ (held : List NamedText). AreBound inner inner_paths held) (sym (bound_in-Bound c.text.result c.as_str.result c.args.variables))

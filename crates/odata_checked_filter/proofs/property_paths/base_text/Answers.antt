@@ -1,18 +1,15 @@
-use Rattle.std.proofs.Common.{◌≡◌, ◌∙◌, ℕ, List, IfOk, Option, Some, ap, slice_get, string_bytes, subst, sym, unwrap_or}
+use Rattle.std.proofs.Common.{◌≡◌, ◌∙◌, ℕ, List, IfOk, Some, ap, slice_get, string_bytes, subst, sym, unwrap_or}
 use Rattle.odata_syntax.specs.Tree.{Tree}
 use Rattle.odata_signatures.specs.NeededPaths.{VariablePaths, path_of}
 use Rattle.odata_signatures.specs.Typed.{Scope}
 use Rattle.odata_checked_filter.specs.FlatTree.{FlatTree}
 use Rattle.odata_checked_filter.specs.PropertyPaths.{path_text}
 use Rattle.odata_checked_filter.specs.private.PropertyPaths.{AreBound, NamedText, bound_in, text_named}
-use Rattle.odata_checked_filter.proofs.flat.Places.{found_before}
+use Rattle.odata_checked_filter.proofs.flat.Places.{found_before, same_found}
 use Rattle.odata_checked_filter.proofs.named.Texts.{name_text}
 use Rattle.odata_checked_filter.proofs.named.Trees.{IsName, found_there, no_path_there, property_name, variable_name}
 use Rattle.odata_checked_filter.proofs.needed.StepRows.{no_step}
 use Rattle.odata_checked_filter.proofs.property_paths.base_text.Goals as goal
-
-same_text : (o : Option (List ℕ)) (text asked : List ℕ) → o ≡ Some text → o ≡ Some asked → text ≡ asked
-same_text o text asked a b = let same : Some text ≡ Some asked = sym a ∙ b in cc
 
 -- the text of a name's path
 name_path_text :
@@ -22,7 +19,7 @@ name_path_text :
     → slice_get list.texts place ≡ Some beside
     → unwrap_or (text_named bound beside) beside ≡ path_text (path_of scope paths tree)
 name_path_text list place tree scope paths bound beside named are at =
-    let same : beside ≡ named.asked = same_text (slice_get list.texts place) beside named.asked at named.text_at in
+    let same : beside ≡ named.asked = same_found (slice_get list.texts place) beside named.asked at named.text_at in
     ap (λ (asked : List ℕ). unwrap_or (text_named bound asked) asked) same
     ∙ sym (name_text scope paths bound named.asked are)
     ∙ ap (λ (t : Tree). path_text (path_of scope paths t)) (sym named.is)

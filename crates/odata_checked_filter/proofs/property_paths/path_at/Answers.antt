@@ -1,16 +1,13 @@
-use Rattle.std.proofs.Common.{◌≡◌, ◌+◌, ◌-◌, ◌<◌, ◌≤◌, ◌∙◌, ℕ, List, Option, Some, ap, arith, slice_get, subst, sym}
+use Rattle.std.proofs.Common.{◌≡◌, ◌-◌, ◌∙◌, ℕ, List, ap, arith, slice_get, subst, sym}
 use Rattle.odata_syntax.specs.Tree.{Tree}
 use Rattle.odata_signatures.specs.NeededPaths.{path_of}
 use Rattle.odata_checked_filter.specs.PropertyPaths.{path_text, with_step}
 use Rattle.odata_checked_filter.specs.private.LambdaLines.{StandsBetween}
-use Rattle.odata_checked_filter.proofs.flat.Places.{found_before}
+use Rattle.odata_checked_filter.proofs.flat.Places.{before_is, found_before, same_found}
 use Rattle.odata_checked_filter.proofs.named.Texts.{step_text}
 use Rattle.odata_checked_filter.proofs.named.Trees.{step_of}
 use Rattle.odata_checked_filter.proofs.needed.StepRows.{stands_below, step_found}
 use Rattle.odata_checked_filter.proofs.property_paths.path_at.Goals as goal
-
-same_text : (o : Option (List ℕ)) (text asked : List ℕ) → o ≡ Some text → o ≡ Some asked → text ≡ asked
-same_text o text asked a b = let same : Some text ≡ Some asked = sym a ∙ b in cc
 
 pub base_text-requires-clause-stands : goal.base_text-requires-clause-stands
 base_text-requires-clause-stands c =
@@ -24,9 +21,6 @@ pub loop-at-init : goal.loop-at-init
 loop-at-init c = record { above = c.path_base-bottom.ensures.below; within = omega arith; written = c.in_ok-text.ensures }
 
 -- the step before a node that has been reached
-before_is : (at place bottom : ℕ) → place < at → at ≤ bottom → (at - 1 + 1 ≡ at) × ((at - 1 < bottom) × (place ≤ at - 1))
-before_is at place bottom above within = (omega (arith, above), (omega (arith, above, within), omega (arith, above)))
-
 pub text-requires : goal.text-requires
 text-requires c =
     let list = c.args.context.now.list.now in
@@ -46,7 +40,7 @@ loop-at-preserved c =
       written = λ scope paths stop tree stands are.
           let step = step_found list at (c.path_base-bottom.ensures.steps at b.1.0 b.1.1) in
           let there = step_of list at stop step.slot tree step.found stands step.stands_at step.kind_is in
-          let beside : c.text.result.now ≡ there.asked = same_text (slice_get list.texts at) c.text.result.now there.asked c.text.ensures there.text_at in
+          let beside : c.text.result.now ≡ there.asked = same_found (slice_get list.texts at) c.text.result.now there.asked c.text.ensures there.text_at in
           let before = c.loop-at.invariant.written scope paths stop there.base (subst (λ (k : ℕ). StandsBetween list k stop there.base) b.0 there.base_stands) are in
           c.in_ok-put_step.ensures
           ∙ ap (λ (text : List ℕ). with_step text c.text.result.now) before

@@ -21,8 +21,8 @@ returns-in-Neither c = λ l r over.
     (c.quoted_at.ensures two.left.found two.left.at) quoted_right
     c.infix_type-edm_type.result c.reason_of-code.result
     (rw c.in-Neither.is at c.operand_read-read.ensures) (c.reason_of-code.ensures schema)
-    c.infix_type-edm_type.ensures.typed c.infix_type-edm_type.ensures.there c.infix_type-edm_type.ensures.none
-    c.put_typed.ensures.some c.put_typed.ensures.put c.put_typed.ensures.none c.put_typed.ensures.refused
+    (record { typed = c.infix_type-edm_type.ensures.typed; there = c.infix_type-edm_type.ensures.there; none = c.infix_type-edm_type.ensures.none })
+    (record { some = c.put_typed.ensures.some; put_is = c.put_typed.ensures.put; none = c.put_typed.ensures.none; refused_is = c.put_typed.ensures.refused })
 
 pub put_read-requires : goal.put_read-requires
 put_read-requires c =

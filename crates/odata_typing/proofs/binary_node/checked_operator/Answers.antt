@@ -15,5 +15,5 @@ returns c = λ l r over.
     (c.type_at-left_type.ensures two.left.found two.left.at)
     (c.type_at-right_type.ensures two.right.found (ap (slice_get old.list.nodes) (c.stop_at.ensures two.left.found two.left.at ∙ two.left.last) ∙ two.right.at))
     (λ a b. c.may_be_read.ensures schema a b (not_true c.may_be_read.result c.if-may_be_read.false))
-    c.binary_type-edm_type.ensures.typed c.binary_type-edm_type.ensures.there c.binary_type-edm_type.ensures.none
-    c.put_typed.ensures.some c.put_typed.ensures.put c.put_typed.ensures.none c.put_typed.ensures.refused
+    (record { typed = c.binary_type-edm_type.ensures.typed; there = c.binary_type-edm_type.ensures.there; none = c.binary_type-edm_type.ensures.none })
+    (record { some = c.put_typed.ensures.some; put_is = c.put_typed.ensures.put; none = c.put_typed.ensures.none; refused_is = c.put_typed.ensures.refused })

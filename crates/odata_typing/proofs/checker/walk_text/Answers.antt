@@ -1,7 +1,6 @@
 use Rattle.std.proofs.Common.{length}
 use Rattle.csdl_schema.specs.SchemaModel.{slots_of, type_name_at}
-use Rattle.odata_syntax.specs.TextTree.{HasTree, listed_tree}
-use Rattle.odata_syntax.specs.Tree.{Tree}
+use Rattle.odata_syntax.specs.TextTree.{listed_tree}
 use Rattle.odata_typing.proofs.scopes.Scopes.{none_there, scope_in-Empty}
 use Rattle.odata_typing.proofs.untypable.Checks.{refusal_is, refusal_none}
 use Rattle.odata_typing.proofs.untypable.Wholes.{refused_err, room_made, typing_ok, walked_ok}
@@ -39,24 +38,15 @@ judge_nodes-requires-clause-scope c = scope_in-Empty c.args.schema.now
 
 pub returns-clause-walked : goal.returns-clause-walked
 returns-clause-walked c =
-    let text = c.args.text.now in
-    let tree : Tree = listed_tree text c.nodes-nodes.result.now in
-    let has_tree : HasTree text tree = rw c.nodes-nodes.ensures.nodes c.in-Ok.ensures.tree in
-    walked_ok c.a_list_stands_for_one_tree.ensures c.args.schema.now c.args.filtered_type text tree c.judge_nodes.new.walk
-    c.texts_have_few_nodes.ensures c.requires.held has_tree c.judge_nodes.result c.judge_nodes.ensures.stands c.judge_nodes.ensures.truth
+    walked_ok c.a_list_stands_for_one_tree.ensures c.args.schema.now c.args.filtered_type c.args.text.now (listed_tree c.args.text.now c.nodes-nodes.result.now) c.judge_nodes.new.walk
+    c.texts_have_few_nodes.ensures c.requires.held (rw c.nodes-nodes.ensures.nodes c.in-Ok.ensures.tree) c.judge_nodes.result c.judge_nodes.ensures.stands c.judge_nodes.ensures.truth
 
 pub returns-clause-typing : goal.returns-clause-typing
 returns-clause-typing c =
-    let text = c.args.text.now in
-    let tree : Tree = listed_tree text c.nodes-nodes.result.now in
-    let has_tree : HasTree text tree = rw c.nodes-nodes.ensures.nodes c.in-Ok.ensures.tree in
-    typing_ok c.a_list_stands_for_one_tree.ensures c.args.schema.now c.args.filtered_type text tree c.judge_nodes.new.walk
-    has_tree c.judge_nodes.result c.judge_nodes.ensures.stands c.judge_nodes.ensures.truth
+    typing_ok c.a_list_stands_for_one_tree.ensures c.args.schema.now c.args.filtered_type c.args.text.now (listed_tree c.args.text.now c.nodes-nodes.result.now) c.judge_nodes.new.walk
+    (rw c.nodes-nodes.ensures.nodes c.in-Ok.ensures.tree) c.judge_nodes.result c.judge_nodes.ensures.stands c.judge_nodes.ensures.truth
 
 pub returns-clause-refused : goal.returns-clause-refused
 returns-clause-refused c =
-    let text = c.args.text.now in
-    let tree : Tree = listed_tree text c.nodes-nodes.result.now in
-    let has_tree : HasTree text tree = rw c.nodes-nodes.ensures.nodes c.in-Ok.ensures.tree in
-    refused_err c.a_list_stands_for_one_tree.ensures c.args.schema.now c.args.filtered_type text tree c.judge_nodes.new.walk
-    c.laws_below.ensures has_tree (λ other has. rw c.nodes-nodes.ensures.nodes (c.in-Ok.ensures.only other has)) c.judge_nodes.result c.judge_nodes.ensures.fault
+    refused_err c.a_list_stands_for_one_tree.ensures c.args.schema.now c.args.filtered_type c.args.text.now (listed_tree c.args.text.now c.nodes-nodes.result.now) c.judge_nodes.new.walk
+    c.laws_below.ensures (rw c.nodes-nodes.ensures.nodes c.in-Ok.ensures.tree) (λ other has. rw c.nodes-nodes.ensures.nodes (c.in-Ok.ensures.only other has)) c.judge_nodes.result c.judge_nodes.ensures.fault

@@ -1,4 +1,4 @@
-use Rattle.std.proofs.Common.{◌≡◌, ◌∙◌, length, arith, true, false}
+use Rattle.std.proofs.Common.{◌≡◌, ◌∙◌, length, arith}
 use Rattle.odata_typing.proofs.placed.Listed.{listed, not_true, numbered_code, row_there, unnumbered_code}
 use Rattle.odata_typing.proofs.in_list.checked_in_list.Goals as goal
 
@@ -29,9 +29,9 @@ returns-then-is_enumeration c = λ l items over.
     let old = c.args.walk.now in
     let list = listed context old judged l items over in
     numbered_code c.laws_below.ensures context judged old c.put_list.new.walk l items c.put_list.result c.requires.ready list
-    c.type_at.result.now c.stop_at-items.result c.put_items-fit.new.walk c.put_items-fit.result
+    c.type_at.result.now c.stop_at-items.result c.put_items-fit.result
     (c.type_at.ensures list.left.found list.left.at) (c.stop_at-items.ensures list.left.found list.left.at ∙ list.left.last)
-    (c.is_enumeration.ensures.single schema c.if-is_enumeration.true)
+    c.put_items-fit.new.walk (c.is_enumeration.ensures.single schema c.if-is_enumeration.true)
     c.put_items-fit.ensures.fit c.put_items-fit.ensures.put c.put_items-fit.ensures.walk
     c.put_list.ensures.goes_on c.put_list.ensures.put
 

@@ -19,8 +19,7 @@ returns-then-is_truth c = λ quantifier base body is over.
     let schema = context.schema.now in
     let judged = c.args.judged.now in
     let old = c.args.walk.now in
-    let type : c.type_at.result.now ≡ over.body_stands.found.edm_type =
-    body_type context judged old base body over c.stop_at-body.result c.type_at.result.now (c.stop_at-body.ensures over.base_stands.found over.base_stands.at) c.type_at.ensures in
+    let type = body_type context judged old base body over c.stop_at-body.result c.type_at.result.now (c.stop_at-body.ensures over.base_stands.found over.base_stands.at) c.type_at.ensures in
     lambda_put c.laws_below.ensures context judged old c.put.new.self quantifier base body c.put.result c.requires.ready over _
     (subst (λ (t : EdmType). IsBooleanOrNull (expr_type schema t)) type ((c.is_truth.ensures schema).0 c.if-is_truth.true))
     c.put.ensures.goes_on
@@ -33,8 +32,7 @@ returns-else-is_truth c = λ quantifier base body is over.
     let schema = context.schema.now in
     let judged = c.args.judged.now in
     let old = c.args.walk.now in
-    let type : c.type_at.result.now ≡ over.body_stands.found.edm_type =
-    body_type context judged old base body over c.stop_at-body.result c.type_at.result.now (c.stop_at-body.ensures over.base_stands.found over.base_stands.at) c.type_at.ensures in
+    let type = body_type context judged old base body over c.stop_at-body.result c.type_at.result.now (c.stop_at-body.ensures over.base_stands.found over.base_stands.at) c.type_at.ensures in
     lambda_refused c.laws_below.ensures context judged old c.refuse.new.self quantifier base body c.refuse.result c.requires.ready over
     (subst (λ (t : EdmType). ¬ IsBooleanOrNull (expr_type schema t)) type (not_truth schema c.type_at.result.now c.is_truth.result (c.is_truth.ensures schema) c.if-is_truth.false))
     c.refuse.ensures.stops c.refuse.ensures.fault

@@ -1,6 +1,7 @@
 use Rattle.std.proofs.Common.{refl}
+use Rattle.odata_syntax.specs.declared.node.LiteralKind.{LiteralKind}
 use Rattle.csdl_schema.specs.SchemaModel.{slots_of}
-use Rattle.odata_typing.proofs.types.Literals.{no_guid, no_moment, reads_as, reads_date, reads_guid, reads_moment, reads_null, reads_truth}
+use Rattle.odata_typing.proofs.types.Literals.{no_value, reads_as, reads_date, reads_guid, reads_moment, reads_null, reads_truth}
 use Rattle.odata_typing.proofs.reading.read_plain.Goals as goal
 
 pub returns-in-Null-clause-right : goal.returns-in-Null-clause-right
@@ -23,7 +24,8 @@ returns-in-Some-read_moment-clause-right c =
 
 pub returns-in-None-read_moment-clause-none : goal.returns-in-None-read_moment-clause-none
 returns-in-None-read_moment-clause-none c =
-    no_moment (slots_of c.args.schema.now) c.args.kind c.args.spelling.now c.read_moment.result c.in-Moment.is c.read_moment.ensures.only c.in-None-read_moment.is
+    no_value (slots_of c.args.schema.now) c.args.kind LiteralKind.Moment c.args.spelling.now c.read_moment.result c.in-Moment.is
+    (λ type typed. (typed.0, c.read_moment.ensures.only typed.0 typed.1)) c.in-None-read_moment.is
 
 pub returns-in-Some-read_guid-clause-right : goal.returns-in-Some-read_guid-clause-right
 returns-in-Some-read_guid-clause-right c =
@@ -32,7 +34,8 @@ returns-in-Some-read_guid-clause-right c =
 
 pub returns-in-None-read_guid-clause-none : goal.returns-in-None-read_guid-clause-none
 returns-in-None-read_guid-clause-none c =
-    no_guid (slots_of c.args.schema.now) c.args.kind c.args.spelling.now c.read_guid.result c.in-Guid.is c.read_guid.ensures.only c.in-None-read_guid.is
+    no_value (slots_of c.args.schema.now) c.args.kind LiteralKind.Guid c.args.spelling.now c.read_guid.result c.in-Guid.is
+    (λ type typed. (typed.0, c.read_guid.ensures.only typed.0 typed.1)) c.in-None-read_guid.is
 
 pub returns-in-EnumLit-clause-none : goal.returns-in-EnumLit-clause-none
 returns-in-EnumLit-clause-none c = rw c.in-EnumLit.is c.read_member.ensures.none

@@ -15,4 +15,4 @@ returns c = λ operand over.
     judged_over c.laws_below.ensures context c.args.judged.now c.args.walk.now c.put_typed.new.self c.args.unary operand c.put_typed.result c.requires.ready stands
     c.unary_type-edm_type.result c.kind_of.result c.code_of.result c.type_at.result.now (c.type_at.ensures stands.found stands.at) c.kind_of.ensures c.code_of.ensures
     (c.unary_type-edm_type.ensures.typed schema) (c.unary_type-edm_type.ensures.there schema) (c.unary_type-edm_type.ensures.none schema)
-    c.put_typed.ensures.some c.put_typed.ensures.put c.put_typed.ensures.none c.put_typed.ensures.refused
+    (record { some = c.put_typed.ensures.some; put_is = c.put_typed.ensures.put; none = c.put_typed.ensures.none; refused_is = c.put_typed.ensures.refused })

@@ -1,4 +1,4 @@
-use Rattle.std.proofs.Common.{◌≡◌, ◌∙◌, sym, ap, ℕ, zero, suc, ◌-◌, List, [], ◌∷◌, length, map, replicate, take, drop, arith, refl}
+use Rattle.std.proofs.Common.{◌≡◌, ◌∙◌, ap, ℕ, zero, suc, ◌-◌, List, [], ◌∷◌, length, map, replicate, take, drop, arith, refl}
 use Rattle.std.specs.Prelude.{string_bytes}
 use Rattle.odata_syntax.specs.TextTree.{text_in}
 use Rattle.odata_checked_filter.specs.FlatTree.{FlatTree}

@@ -1,4 +1,4 @@
-use Rattle.std.proofs.Common.{◌≡◌, ◌∙◌, ap, List, ℕ, slice_set}
+use Rattle.std.proofs.Common.{◌∙◌, ap, List, ℕ, slice_set}
 use Rattle.std.proofs.lemmas.List.{map-set}
 use Rattle.std.specs.Prelude.{string_bytes}
 use Rattle.odata_syntax.specs.TextTree.{text_in}

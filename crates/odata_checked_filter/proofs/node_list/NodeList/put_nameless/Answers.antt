@@ -1,4 +1,4 @@
-use Rattle.std.proofs.Common.{◌≡◌, ◌∙◌, ap, sym, List, ℕ, zero, suc, [], ◌∷◌, IsUtf8, arith, length-set, slice_set}
+use Rattle.std.proofs.Common.{◌∙◌, ap, sym, List, ℕ, zero, suc, [], ◌∷◌, IsUtf8, arith, length-set, slice_set}
 use Rattle.std.proofs.lemmas.List.{map-set}
 use Rattle.std.proofs.lemmas.Str.{IsCharBoundary-start, IsUtf8-string_bytes}
 use Rattle.std.specs.Prelude.{string_bytes}
