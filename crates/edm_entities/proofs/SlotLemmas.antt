@@ -5,7 +5,7 @@ pub mod EntitySlots
 pub mod FaultsBelow
 pub mod FoundWalk
 pub mod ItemWalk
-pub mod LentSlots
+pub mod BorrowedSlots
 pub mod ObjectMembers
 pub mod ReadEntities
 pub mod RowReported

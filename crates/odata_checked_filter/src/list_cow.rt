@@ -9,7 +9,7 @@ use csdl_schema::Expansion;
 #[derive(Drop)]
 pub(crate) enum ListCow<'s> {
     Own(NodeList, Expansion),
-    Lent(&'s NodeList, &'s Expansion),
+    Borrowed(&'s NodeList, &'s Expansion),
 }
 
 impl ListCow<'_> {
@@ -19,7 +19,7 @@ impl ListCow<'_> {
     {
         match self {
             ListCow::Own(list, _) => list,
-            ListCow::Lent(list, _) => *list,
+            ListCow::Borrowed(list, _) => *list,
         }
     }
 
@@ -29,7 +29,7 @@ impl ListCow<'_> {
     {
         match self {
             ListCow::Own(_, expansion) => expansion,
-            ListCow::Lent(_, expansion) => *expansion,
+            ListCow::Borrowed(_, expansion) => *expansion,
         }
     }
 }

@@ -49,7 +49,7 @@ impl StoredFilter {
         Checked::of(
             schema,
             self.filtered_type,
-            ListCow::Lent(&self.list, &self.expansion),
+            ListCow::Borrowed(&self.list, &self.expansion),
         )
     }
 }

@@ -15,7 +15,9 @@ pub fn rest_of_text(text: CowStr<'_, Global>, start: i64) -> CowStr<'_, Global>
     ensures { chars (cow_str_bytes result) ≡ rest_from start (chars (cow_str_bytes text.entry)) }
 {
     match text {
-        CowStr::Borrowed(lent) => CowStr::Borrowed(&lent[offset_of(lent, from_zero(start))..]),
+        CowStr::Borrowed(borrowed) => CowStr::Borrowed(
+            &borrowed[offset_of(borrowed, from_zero(start))..],
+        ),
         CowStr::Owned(owned) => {
             let offset = offset_of(owned.as_str(), from_zero(start));
             CowStr::Owned(without_front(owned, offset))
@@ -34,7 +36,9 @@ fn front_of_text(text: CowStr<'_, Global>, most: i64) -> CowStr<'_, Global>
     ensures { chars (cow_str_bytes result) ≡ front_of most (chars (cow_str_bytes text.entry)) }
 {
     match text {
-        CowStr::Borrowed(lent) => CowStr::Borrowed(&lent[..offset_of(lent, from_zero(most))]),
+        CowStr::Borrowed(borrowed) => CowStr::Borrowed(
+            &borrowed[..offset_of(borrowed, from_zero(most))],
+        ),
         CowStr::Owned(mut owned) => {
             let offset = offset_of(owned.as_str(), from_zero(most));
             owned.truncate(offset);
@@ -48,7 +52,7 @@ pub fn trim_text(text: CowStr<'_, Global>) -> CowStr<'_, Global>
     ensures { IsTrimmed (chars (cow_str_bytes text.entry)) (chars (cow_str_bytes result)) }
 {
     match text {
-        CowStr::Borrowed(lent) => CowStr::Borrowed(trim(lent)),
+        CowStr::Borrowed(borrowed) => CowStr::Borrowed(trim(borrowed)),
         CowStr::Owned(owned) => {
             let text = owned.as_str();
             let before = text.len() - text.trim_start().len();

@@ -51,5 +51,5 @@ unexpanded schema expansion none =
     ap (expanded (slots_of schema)) same
 
 -- a row of a type with that value
-abbrev pub lent_row : SchemaModel → ℕ → List StepModel → Value → Row
-lent_row schema id steps value = record { schema = schema; type_id = id; expansion = steps; value = value }
+abbrev pub borrowed_row : SchemaModel → ℕ → List StepModel → Value → Row
+borrowed_row schema id steps value = record { schema = schema; type_id = id; expansion = steps; value = value }

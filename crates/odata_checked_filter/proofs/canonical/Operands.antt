@@ -118,7 +118,7 @@ binary_text operator a b =
     ap (λ (n : ℕ). first ++ (32 ∷ (operator_word operator ++ (32 ∷ grouped n (tree_level b) (tree_text b))))) (sym next)
     ∙ operator_text operator first (grouped (operator_level operator + 1) (tree_level b) (tree_text b))
 
--- a form whose text is those of its operands, whose places need these levels, and this between them
+-- a form whose text is those of its operands, which need these levels where they stand, and this between them
 pair_joins : (list : FlatTree) (i start stop : ℕ) (spelled : List ℕ) (low high : Level) (of : Tree → Tree → Shape) (left right : Tree)
     → ((a b : Tree) → shape_text (of a b) ≡ grouped low (tree_level a) (tree_text a) ++ (spelled ++ grouped high (tree_level b) (tree_text b)))
     → ((a b x y : Tree) → IsNormalForm a x → IsNormalForm b y → IsNormalShape (of a b) (of x y))

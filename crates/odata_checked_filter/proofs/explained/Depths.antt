@@ -41,7 +41,7 @@ one_more : (j : ℕ) (stops : List ℕ) → StopBehind j stops → StopBehind j 
 one_more j [] all = (omega arith, tt)
 one_more j (stop ∷ stops) all = (all.0, one_more j stops all.1)
 
--- all of them are around a place before that
+-- all of them are around a node before that
 all_around : (i j : ℕ) (stops : List ℕ) → i < j → StopBehind j stops → still_around i stops ≡ stops
 all_around i j [] before all = refl
 all_around i j (stop ∷ stops) before all =
@@ -62,7 +62,7 @@ passed j stops =
 one_longer : (stops : List ℕ) (j : ℕ) → length (stops ++ j ∷ []) ≡ length stops + 1
 one_longer stops j = length-append stops (j ∷ [])
 
--- a node at its place, and what is reported after it
+-- a node at its index, and what is reported after it
 top_reported :
     (schema : SchemaModel) (n : ℕ) (scope : Scope) (list : FlatTree) (i j start stop : ℕ) (shape : Shape) (stops : List ℕ)
     → IsTop schema n scope list i j start stop shape OfAnyValue

@@ -1,4 +1,4 @@
--- The lines of the nodes up to a place.
+-- The lines of the nodes up to an index.
 use Rattle.std.proofs.Common.{◌≡◌, refl, sym, ap, ◌∙◌, subst, inl, inr, ℕ, zero, suc, ◌+◌, List, [], ◌∷◌, ◌++◌, Some, append-nil, append_assoc, drop, length, length-append, slice_get, arith}
 use Rattle.std.specs.List.{flat_map}
 use Rattle.std.proofs.lemmas.List.{drop_all, flat_map_more}
@@ -70,7 +70,7 @@ line_same :
     → listed_line schema depth found beside ≡ node_line schema depth (record { variables = variables; part = part }) found.edm_type
 line_same schema depth found beside part variables span label = rw (span, label) refl
 
--- the last line is that of the place
+-- the last line is that of the node at the index
 each_more :
     (filter : Filter) (lines : List (List ℕ)) (line : List ℕ) (place k : ℕ) (other : List ℕ)
     → length lines ≡ place

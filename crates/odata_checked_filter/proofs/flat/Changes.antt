@@ -7,7 +7,7 @@ use Rattle.odata_checked_filter.specs.Stands.{text_of_shape}
 use Rattle.odata_checked_filter.proofs.flat.Places.{get_put}
 use Rattle.odata_checked_filter.proofs.flat.Lying.{IsKeptIn, children_kept, stands_kept}
 
--- another place is as it was
+-- another node is as it was
 get_elsewhere : {X : Type 0} (xs : List X) (k j : ℕ) (x : X) → j ≢ k → slice_get (slice_set xs k x) j ≡ slice_get xs j
 get_elsewhere [] k j x other = refl
 get_elsewhere (y ∷ xs) zero zero x other = absurd (other refl)
@@ -15,7 +15,7 @@ get_elsewhere (y ∷ xs) zero (suc j) x other = refl
 get_elsewhere (y ∷ xs) (suc k) zero x other = refl
 get_elsewhere (y ∷ xs) (suc k) (suc j) x other = get_elsewhere xs k j x (λ same. other (let e : j ≡ k = same in omega arith))
 
--- a place outside one is another
+-- an index outside one is another
 other_place : (k place : ℕ) → (k < place) ⊎ (place + 1 ≤ k) → k ≢ place
 other_place k place (inl before) same = let b : k < place = before in let e : k ≡ place = same in absurd (omega arith)
 other_place k place (inr after) same = let b : place + 1 ≤ k = after in let e : k ≡ place = same in absurd (omega arith)

@@ -68,7 +68,7 @@ planted_same :
 planted_same texts i j start stop found behind children rest shape text at starts stops last before from shaped =
     rw (at, starts, stops, last, before, from, shaped) refl
 
--- a node at its place, from the forest after it
+-- a node at its index, from the forest after it
 top_planted :
     (schema : SchemaModel) (n : ℕ) (scope : Scope) (list : FlatTree) (i j start stop : ℕ) (shape : Shape) (children : List Tree) (behind rest : List PlacedTree)
     → (top : IsTop schema n scope list i j start stop shape OfAnyValue)

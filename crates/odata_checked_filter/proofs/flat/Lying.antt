@@ -228,7 +228,7 @@ pub stands_lie :
     → Lies schema n scope list i j tree
 stands_lie schema n scope list i j tree stands = let goes = tree_goes i j list list (itself_kept i j list) schema n scope tree in goes.lies i j stands
 
--- between these places all stands as it did
+-- between these indices all stands as it did
 pub stands_kept :
     (from to : ℕ) (old new : FlatTree) (schema : SchemaModel) (n : ℕ) (scope : Scope) (i j : ℕ) (tree : Tree)
     → IsKeptIn from to old new

@@ -83,7 +83,7 @@ itself schema n scope list i j k tree at stands same is =
     let Q : ScopedNode → Type 0 = λ (x : ScopedNode). IsWalkOperand schema n list i (IsItself scope tree) x in
     subst P (sym same) (subst Q is (record { inner = scope; j = j; stands = stands; variables = refl; is_node = (refl, refl) }))
 
--- what holds more of it, where the place is given otherwise
+-- what holds more of it, where the index is given otherwise
 part_also :
     (schema : SchemaModel) (n : ℕ) (list : FlatTree) (place other : ℕ) (Node Also : Scope → Tree → Type 0) (at : ScopedNode)
     → place ≡ other

@@ -189,7 +189,7 @@ module _ (schema : SchemaModel) (n : ℕ) (scope : Scope) (list : FlatTree) (pat
   pub left_begin : (from : ℕ) → StandInLine schema n scope list from stop trees → IsLeft schema n scope list paths old old from stop trees
   left_begin from line = record { rest = trees; line = line; forth = λ path either. either; back = λ path either. either; leads = λ path node leads. leads }
 
-  -- past the first of them: a part of what it needs is put into the set, and trees in its place need the other part
+  -- past the first of them: a part of what it needs is put into the set, and trees that replace it need the other part
   pub left_on : (now next : List StepModel) (place onward : ℕ) (left : IsLeft schema n scope list paths old now place stop trees) (tree : Tree) (more front : List Tree) (P : PropertyPath → Type 0)
       → left.rest ≡ tree ∷ more → Puts now next P
       → ((path : PropertyPath) → IsNeeded (slots_of schema) (type_name_at schema n) scope paths tree path → P path ⊎ NeedsAmong (slots_of schema) (type_name_at schema n) scope paths front path)

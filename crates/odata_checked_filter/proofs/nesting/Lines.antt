@@ -104,7 +104,7 @@ pub first_of :
 first_of list i j found [] line before at = absurd (omega (arith, line, before))
 first_of list i j found (tree ∷ trees) line before at = first_tree list i line.middle j found tree trees line.left line.right at
 
--- the node of a line's first place is in the list
+-- the node at a line's first index is in the list
 pub first_within : (list : FlatTree) (i j : ℕ) (trees : List Tree) → AreInLine list i j trees → i < j → (found : CheckedNode) × (slice_get list.nodes i ≡ Some found)
 first_within list i j [] line before = absurd (omega (arith, line, before))
 first_within list i j (node start stop shape ∷ trees) line before = (line.left.stands.top.found, line.left.stands.top.stands_at)

@@ -287,7 +287,7 @@ walk::numeric_truth_at-truth_of-requires g t c = λ reading. value_there c.args.
 pub walk::numeric_truth_at-returns-in-Ok-clause-answers : goal.walk::numeric_truth_at-returns-in-Ok-clause-answers
 walk::numeric_truth_at-returns-in-Ok-clause-answers g t c = read_value c.args.context.now c.args.place c.datum_of_number.result (truth_val c.truth_of.result) (made_value c.args.context.now c.args.place c.datum_of_number.result (number_val c.in-Ok.number) c.in-Ok.ensures c.datum_of_number.ensures) c.truth_of.ensures
 
--- ---- a comparison in place
+-- ---- a comparison of values where they stand
 
 pub walk::compared_truth_at-right_of-right_place-requires : goal.walk::compared_truth_at-right_of-right_place-requires
 walk::compared_truth_at-right_of-right_place-requires g t c = right_there c.args.context.now c.args.place (BinaryOperator.Comparison c.args.comparison) c.requires.here (typed_part c.args.context.now c.args.place IsBooleanOrNull c.requires.stands)

@@ -239,7 +239,7 @@ module _ (filter : Filter) where
       binary_sides now held place (BinaryOperator.Logical LogicalOperator.And) here (and_unread now (place + 1)) (λ middle left stands. and_unread now middle) (λ o. o ≡ gives (boolean false))
       (λ stop l r sides. and_false_left (OfSides (BinaryOperator.Logical LogicalOperator.And) l r) (Comes now held l) (Comes now held r) (λ o means. decides sides.middle l sides.left word named now held value o has rejected means)) stop tree stands o
 
-  -- from a place of the chain to its top
+  -- from a node of the chain to its top
   pub top_false : (at : ℕ) → AndsAbove filter at → (slot : ℕ) (sieve : Sieve) → IsFalseAt filter at slot sieve → IsFalseAt filter 0 slot sieve
   top_false zero ands slot sieve decides = decides
   top_false (suc at) ands slot sieve decides =

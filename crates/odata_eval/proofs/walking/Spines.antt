@@ -405,7 +405,7 @@ module _ (context : ContextModel) where
   pub first_part : (place : ℕ) (class : WalkClass) → ¬ (class ≡ WalkClass.Leaf) → IsClassAt context.list class place → PartStands context place → OperandStands context (place + 1)
   first_part place class inner is part = operand_by (place + 1) class (first_step place class inner is part)
 
-  -- what goes on from each place to the next goes down a chain
+  -- what goes on from each node to the next goes down a chain
   down : (P Q : ℕ → Type 0) → ((i : ℕ) → P i → Q i → P (i + 1)) → (top d k : ℕ) → k ≡ top + d → P top → ((i : ℕ) → i < k → top ≤ i → Q i) → P k
   down P Q step top zero k is first all = subst P (let e : top ≡ k = omega arith in e) first
   down P Q step top (suc d) k is first all =

@@ -59,7 +59,7 @@ goes_both quantifier P Q v same =
     both (GoesOn quantifier P v) (GoesOn quantifier Q v)
     (goes_goes quantifier P Q v (there P Q same)) (goes_goes quantifier Q P v (back P Q same))
 
--- ---- one place, and those after it
+-- ---- one index, and those after it
 
 -- the first, and those after it
 before : (P : ℕ → Type 0) (n : ℕ) → P zero → ((k : ℕ) → k < n → P (suc k)) → (k : ℕ) → k < suc n → P k
@@ -112,7 +112,7 @@ module _ (quantifier : Quantifier) (n : ℕ) (At : ℕ → Outcome → Type 0) w
   pub first_both : Both (QuantifierGives quantifier (suc n) At) FromFirst
   first_both = both (QuantifierGives quantifier (suc n) At) FromFirst to_first from_first
 
--- where there is no place
+-- where there is no index
 none_there : (quantifier : Quantifier) (At : ℕ → Outcome → Type 0) → ((k : ℕ) (o : Outcome) → ¬ At k o)
     → Goes (QuantifierGives quantifier zero At) (λ o. o ≡ gives (undecided_val quantifier))
 none_there quantifier At none o (inl decides) = absurd (none decides.place decides.here.0 decides.here.1.0)

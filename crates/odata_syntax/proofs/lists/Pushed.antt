@@ -97,7 +97,7 @@ wait_machine texts frames old new frame nodes at waits =
     ∙ ap (λ k. machine_by texts k Stage.Operand old.nodes.items) waits
     ∙ ap (λ k. machine_at k (expected_of texts Stage.Operand [])) (stack_push texts frames frame (trees_in texts old.nodes.items))
 
--- a node in the place of the last one, of the same kind: what has been read is read still
+-- a node that replaces the last one, of the same kind: what has been read is read still
 pub read_again :
     (frames : List Frame) (nodes front new : List SyntaxNode) (n m : SyntaxNode)
     → nodes ≡ front ++ n ∷ []

@@ -116,7 +116,7 @@ impl Forest {
         Ok(())
     }
 
-    /// Puts the tree of a node that keeps this text over the last trees, in their place.
+    /// Puts the tree of a node that keeps this text over the last trees, which it replaces.
     pub(crate) fn grow(
         &mut self,
         kind: SyntaxKind,

@@ -56,7 +56,7 @@ kept_anywhere i j a b kept = record {
   source = kept.source;
 }
 
--- where only values were put, a change is within any places
+-- where only values were put, a change is within any indices
 pub more_within : (i j : ℕ) (old new : Walk) → IsMore old new → IsOnward i j old new
 more_within i j old new more = record { kept = kept_anywhere i j old.list new.list more.kept; navigates = more.navigates }
 

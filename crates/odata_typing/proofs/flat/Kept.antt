@@ -5,7 +5,7 @@ wider : (i j from to k : ℕ) → from ≤ i → j ≤ to → (k < from) ⊎ (to
 wider i j from to k below above (inl before) = let h : k < from = before in inl (omega arith)
 wider i j from to k below above (inr after) = let h : to ≤ k = after in inr (omega arith)
 
--- a change is within wider places
+-- a change is within wider indices
 pub kept_wider : (i j from to : ℕ) (old new : FlatTree) → from ≤ i → j ≤ to → IsKeptOutside i j old new → IsKeptOutside from to old new
 kept_wider i j from to old new below above kept = record {
   nodes = λ k outside. kept.nodes k (wider i j from to k below above outside);
@@ -46,7 +46,7 @@ pub record IsOnward (i j : ℕ) (old new : Walk) : Type 0 where
   pub kept : IsKeptOutside i j old.list new.list
   pub navigates : new.navigates ≡ false → old.navigates ≡ false
 
--- the walk has gone on in no place: only values were put
+-- the walk has gone on at no node: only values were put
 abbrev pub IsMore : Walk → Walk → Type 0
 IsMore old new = IsOnward 0 0 old new
 

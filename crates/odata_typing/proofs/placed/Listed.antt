@@ -133,7 +133,7 @@ module _ (laws : LawsBelow) (context : CheckContext) (judged : Judged) (old new 
       unjudged context judged old new (in_list l (trees_of_list items)) result (stops_else result _ goes_on (λ same. cc))
       (ap (λ (w : Walk). w.fault) is ∙ ap (λ (w : Walk). w.fault) same ∙ ready.ready.fresh)
 
-  -- the same by the type and the place that the code has
+  -- the same by the type and the index that the code has
   module _ (left : EdmType) (start : ℕ) (fit : ItemsFit) (same : left ≡ list.left.found.edm_type) (at : start ≡ list.middle) where
     by_code : (F : EdmType → ℕ → Type 0) → F left start → F list.left.found.edm_type list.middle
     by_code F here = subst (λ (k : ℕ). F list.left.found.edm_type k) at (subst (λ (t : EdmType). F t start) same here)
@@ -164,7 +164,7 @@ module _ (laws : LawsBelow) (context : CheckContext) (judged : Judged) (old new 
         (by_code (λ (t : EdmType) (k : ℕ). (row : List CheckedNode) → AreInRow old.list.nodes row k judged.stop → AreItemsFit (slots_in context) (expr_type schema t) (row_sides schema old.list k row) fit) fits list.row list.is.in_row)
         (by_code (λ (t : EdmType) (k : ℕ). (row : List CheckedNode) → AreInRow old.list.nodes row k judged.stop → AreItemsPut (slots_in context) schema (expr_type schema t) old.list k row mid.list fit) puts list.row list.is.in_row)
 
--- the nodes of the items, from the place that the code has
+-- the nodes of the items, from the index that the code has
 pub row_there :
     (context : CheckContext) (walk : Walk) (judged : Judged) (l : Tree) (items : List Tree) (list : IsListed context walk judged l items) (start : ℕ)
     → start ≡ list.middle

@@ -2,7 +2,7 @@
 use Rattle.odata_typing.proofs.Common.{◌≡◌, refl, ap, subst, ℕ, ◌<◌, ◌≤◌, ◌+◌, List, [], ◌∷◌, ◌++◌, Some, slice_get, arith, Side, quoting, IsTypeThere, expr_type, SchemaModel, CheckedNode, FlatTree, AreInRow, AreTypesThere, quoted_in, row_sides}
 use Rattle.odata_typing.proofs.placed.Rows.{joined_rows, one_row, row_onward}
 
--- the nodes from the first place up to one have been seen, those up to the last are left
+-- the nodes from the first index up to one have been seen, those up to the last are left
 pub record IsSeen (nodes seen rest : List CheckedNode) (first place last : ℕ) : Type 0 where
   pub before : AreInRow nodes seen first place
   pub after : AreInRow nodes rest place last

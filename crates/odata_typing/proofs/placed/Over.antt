@@ -10,7 +10,7 @@ use Rattle.odata_typing.proofs.flat.Kept.{same_more}
 use Rattle.odata_typing.proofs.forms.Unary.{unary_of_kind, unary_stands, unary_text, unary_typed, unary_valued}
 use Rattle.odata_typing.proofs.untypable.Operands.{refused_over}
 
--- the only child stands in all the places after the node
+-- the only child is all the nodes after the node
 pub one_child : (context : CheckContext) (walk : Walk) (judged : Judged) (child : Tree) → AreChildren context walk judged (child ∷ [])
     → IsStanding context.schema.now context.filtered_type (scope_of context) walk (judged.number + 1) judged.stop child
 one_child context walk judged child over =

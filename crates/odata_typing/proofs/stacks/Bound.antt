@@ -82,7 +82,7 @@ judged_since schema n scope i j from to tree old mid new true onward below above
 }
 judged_since schema n scope i j from to tree old mid new false onward below above found = found
 
--- the places of the body are within those of the operator
+-- the nodes of the body are among those of the operator
 pub body_places :
     (context : CheckContext) (walk : Walk) (from index : ℕ) (judged : Judged) (quantifier : Quantifier) (base : Tree)
     → (ready : IsLambdaReady context walk from index judged quantifier base)

@@ -22,7 +22,7 @@ pub record HasFirst
   pub typed : AllTyped slots root scope older
   pub apart : NoneBegins Begins (drop (length newer) roots)
 
--- of some of the trees and a new one in the place of the others
+-- of some of the trees and a new one that replaces the others
 pub none_after : (Begins : ℕ → Type 0) (added m : ℕ) (roots : List ℕ) → NoneBegins Begins roots → NoneBegins Begins (added ∷ drop (suc m) roots)
 none_after Begins added m [] none = tt
 none_after Begins added zero (root ∷ []) none = tt

@@ -1,4 +1,4 @@
--- What has been judged of a run: its trees, each in the places of its root. Of trees and of roots the last comes first.
+-- What has been judged of a run: its trees, each over its root's nodes. Of trees and of roots the last comes first.
 use Rattle.odata_typing.proofs.Common.{refl, sym, subst, inl, ℕ, zero, suc, ◌≤◌, List, [], ◌∷◌, ◌++◌, reverse, take, drop, arith, reverse-append, AreBefore, AreSideBySide, number_at, stop_at, Tree, Place, SchemaModel, slots_of, type_name_at, expr_type, Scope, Walk, IsStanding, StandInRow, LawsBelow}
 use Rattle.odata_typing.proofs.flat.Kept.{IsOnward, standing_kept}
 use Rattle.odata_typing.proofs.untypable.Untypable.{AllTyped}
@@ -71,7 +71,7 @@ judged_row schema n scope walk places from to (root ∷ roots) (tree ∷ trees) 
     (judged_row schema n scope walk places from (number_at places root) roots trees beside.1 judged.1) standing)
 judged_row schema n scope walk places from to _ _ beside judged = absurd judged
 
--- trees before the places that change stand there still
+-- trees before the nodes that change stand there still
 pub judged_kept :
     LawsBelow → (schema : SchemaModel) (n : ℕ) (scope : Scope) (old new : Walk) (places : List Place) (i j to : ℕ) (roots : List ℕ) (trees : List Tree)
     → IsOnward i j old new

@@ -1,4 +1,4 @@
--- Where bodies begin: at the marks of the places.
+-- Where bodies begin: at the marks of the nodes.
 use Rattle.odata_typing.proofs.Common.{◌≡◌, ◌≢◌, refl, ap, subst, ◌∙◌, inl, inr, ℕ, zero, ◌+◌, ◌-◌, ◌<◌, ◌≤◌, List, [], ◌∷◌, ◌++◌, Some, drop, length, length-drop, slice_get, arith, slice_get_cases, slice_get_within, ArePlaces, BeginsBody, IsPlaced, first_at, lambda_at, nodes_before, roots_back, AreFedBack, child_count, tree_count_back, Quantifier, Place, SyntaxNode}
 use Rattle.std.proofs.lemmas.Bool.{cases_lt}
 use Rattle.odata_syntax.specs.declared.syntax_list.SyntaxKind.{SyntaxKind}

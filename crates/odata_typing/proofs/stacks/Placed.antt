@@ -1,4 +1,4 @@
--- The places of the nodes of a run.
+-- The nodes of a run, by their indices.
 use Rattle.odata_typing.proofs.Common.{◌≡◌, refl, ap, sym, subst, ◌∙◌, ℕ, zero, suc, ◌+◌, ◌-◌, ◌<◌, ◌≤◌, List, [], ◌∷◌, ◌++◌, Some, take, drop, length, slice_get, arith, drop-append-le, take-append-le, ArePlaces, AreBefore, AreSideBySide, IsPlaced, first_at, first_over, nodes_before, number_at, roots_back, stop_at, AreFedBack, child_count, tree_count_back, Place, SyntaxNode}
 use Rattle.odata_typing.proofs.stacks.Children.{roots_count}
 use Rattle.odata_typing.proofs.stacks.Runs.{roots_apart}

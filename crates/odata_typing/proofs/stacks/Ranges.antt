@@ -1,4 +1,4 @@
--- The trees of a run stand within the places of the tree that it becomes.
+-- The trees of a run stand among the nodes of the tree that it becomes.
 use Rattle.odata_typing.proofs.Common.{◌≡◌, ap, sym, subst, ◌∙◌, ℕ, ◌+◌, ◌-◌, ◌<◌, ◌≤◌, List, [], ◌∷◌, ◌++◌, Some, take, drop, length, length-drop, slice_get, arith, nil_from_length, take-append-drop, ArePlaces, AreSideBySide, number_at, stop_at, child_count, tree_count_back, Place, SyntaxNode}
 use Rattle.std.specs.List.{slice_range}
 use Rattle.odata_typing.proofs.stacks.Onward.{earlier_of}
@@ -69,7 +69,7 @@ whole_root nodes from stop order inside whole =
     let count : length (run_before nodes from stop) ≡ stop - from = run_length nodes from stop order inside in
     one_root from stop (run_before nodes from stop) (omega arith) whole.one
 
--- a node of the run stands within the places of its tree
+-- a node of the run stands among the nodes of its tree
 pub record IsInRange (places : List Place) (stop index : ℕ) : Type 0 where
   pub start : number_at places (stop - 1) ≤ number_at places index
   pub end : stop_at places index ≤ stop_at places (stop - 1)

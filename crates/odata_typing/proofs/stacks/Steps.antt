@@ -18,7 +18,7 @@ abbrev pub lambda_at_last : CheckContext → ℕ → ℕ → ℕ → Quantifier 
 lambda_at_last context from index last quantifier judged =
     lambda quantifier (last_tree (run_trees context from index)) (name_of context judged) (run_tree context index last)
 
--- the tree is put in the places of the node
+-- the tree is put over the nodes of the root
 abbrev pub IsTreePut : CheckContext → Judged → Tree → Walk → Walk → Type 0
 IsTreePut context judged tree old new =
     IsPut context.schema.now context.filtered_type (scope_of context) judged.number judged.stop tree old new

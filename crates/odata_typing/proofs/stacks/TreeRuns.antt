@@ -25,7 +25,7 @@ some_trees : (nodes : List SyntaxNode) → 0 < length nodes → 1 ≤ tree_count
 some_trees [] some = absurd (omega arith)
 some_trees (n ∷ nodes) some = omega arith
 
--- the last tree begins where its place says
+-- the last tree begins where its node says
 pub first_begins : (places : List Place) (nodes : List SyntaxNode) (stop : ℕ) → length nodes ≡ stop → 0 < stop → AreTiled places (roots_back nodes) → first_at places (stop - 1) ≡ begin_of 0 (roots_from 0 nodes)
 first_begins places [] stop count some tiles = absurd (omega arith)
 first_begins places (n ∷ nodes) stop count some tiles =

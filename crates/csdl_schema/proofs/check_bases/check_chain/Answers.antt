@@ -20,8 +20,8 @@ returns-in_err-check_length c =
     let name = c.args.name.now in
     let known = not c.args.base.is_named || is_some c.args.base.index in
     let many : length ps ≡ length c.args.types.now = length-map placed_view c.args.types.now in
-    let lent : length c.deref.result.now ≡ length (all_places ps n) = ap length (c.deref.ensures.value ∙ c.in_ok-places.ensures.places ∙ ap (λ k. places_within k ps n) (sym many)) in
-    let same : length_faults name (length c.deref.result.now) (length c.args.types.now) ≡ length_faults name (length (all_places ps n)) (length ps) = λ j. length_faults name (lent j) (sym many j) in
+    let lengths : length c.deref.result.now ≡ length (all_places ps n) = ap length (c.deref.ensures.value ∙ c.in_ok-places.ensures.places ∙ ap (λ k. places_within k ps n) (sym many)) in
+    let same : length_faults name (length c.deref.result.now) (length c.args.types.now) ≡ length_faults name (length (all_places ps n)) (length ps) = λ j. length_faults name (lengths j) (sym many j) in
     let exit = err_from_is_err_and c.from_residual-in_err-check_length.result c.from_residual-in_err-check_length.ensures.1 in
     rw (exit.1 ∙ ap Err exit.2) (behind_none (fault_of c.in_err-check_length.field-0.0) (unless known (unknown_base name)) (length_faults name (length (all_places ps n)) (length ps)) (unless_none known (unknown_base name) (sym c.is_known.ensures ∙ c.if-not-is_known.false))
     (subst (λ fs. IsFirstOf fs (fault_of c.in_err-check_length.field-0.0)) same c.in_err-check_length.ensures.reported))
@@ -33,8 +33,8 @@ returns c =
     let name = c.args.name.now in
     let known = not c.args.base.is_named || is_some c.args.base.index in
     let many : length ps ≡ length c.args.types.now = length-map placed_view c.args.types.now in
-    let lent : length c.deref.result.now ≡ length (all_places ps n) = ap length (c.deref.ensures.value ∙ c.in_ok-places.ensures.places ∙ ap (λ k. places_within k ps n) (sym many)) in
-    let same : length_faults name (length c.deref.result.now) (length c.args.types.now) ≡ length_faults name (length (all_places ps n)) (length ps) = λ j. length_faults name (lent j) (sym many j) in
+    let lengths : length c.deref.result.now ≡ length (all_places ps n) = ap length (c.deref.ensures.value ∙ c.in_ok-places.ensures.places ∙ ap (λ k. places_within k ps n) (sym many)) in
+    let same : length_faults name (length c.deref.result.now) (length c.args.types.now) ≡ length_faults name (length (all_places ps n)) (length ps) = λ j. length_faults name (lengths j) (sym many j) in
     let is_known = unless_none known (unknown_base name) (sym c.is_known.ensures ∙ c.if-not-is_known.false) in
     let short = sym same ∙ c.in_ok-check_length.ensures.reported.0 in
     ((λ j. is_known j ++ short j), c.in_ok-places.ensures.places ∙ ap (λ k. places_within k ps n) (sym many))

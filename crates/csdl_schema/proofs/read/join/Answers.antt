@@ -37,11 +37,11 @@ returns-in_err-chains c =
     c.in_ok-bases.ensures.bases ∙ ap (λ ts. map (λ t. found_base (types_view ts) find t.body) (types_view ts)) c.deref-3.ensures.value in
     let types : placed_of c.in_ok-types.types.items ≡ types_with c.in_ok-kinds.kinds.items find c.in_ok-bases.bases.items ds =
     c.in_ok-types.ensures.placed ∙ (λ j. types_with (c.deref-4.ensures.value j) find (c.deref-5.ensures.value j) ds) in
-    let lent : faults_from (placed_of c.deref-6.result.now) 0 c.deref-7.result.now (placed_of c.deref-6.result.now) ≡ faults_from (placed_of c.in_ok-types.types.items) 0 c.in_ok-bases.bases.items (placed_of c.in_ok-types.types.items) =
+    let lengths : faults_from (placed_of c.deref-6.result.now) 0 c.deref-7.result.now (placed_of c.deref-6.result.now) ≡ faults_from (placed_of c.in_ok-types.types.items) 0 c.in_ok-bases.bases.items (placed_of c.in_ok-types.types.items) =
     λ j. faults_from (placed_of (c.deref-6.ensures.value j)) 0 (c.deref-7.ensures.value j) (placed_of (c.deref-6.ensures.value j)) in
     let exit = err_from_is_err_and c.from_residual-in_err-chains.result c.from_residual-in_err-chains.ensures.1 in
     rw (exit.1 ∙ ap Err exit.2) (first_kept (fault_of c.in_err-chains.field-0.0) (faults_from (placed_of c.deref-6.result.now) 0 c.deref-7.result.now (placed_of c.deref-6.result.now)) (all_base_faults ds)
-    (ap first_fault lent ∙ faults_are ds find indexed _ _ _ kinds bases types) c.in_err-chains.ensures)
+    (ap first_fault lengths ∙ faults_are ds find indexed _ _ _ kinds bases types) c.in_err-chains.ensures)
 
 pub invariant_of-result : goal.invariant_of-result
 invariant_of-result c =
@@ -53,13 +53,13 @@ invariant_of-result c =
     c.in_ok-bases.ensures.bases ∙ ap (λ ts. map (λ t. found_base (types_view ts) find t.body) (types_view ts)) c.deref-3.ensures.value in
     let types : placed_of c.in_ok-types.types.items ≡ types_with c.in_ok-kinds.kinds.items find c.in_ok-bases.bases.items ds =
     c.in_ok-types.ensures.placed ∙ (λ j. types_with (c.deref-4.ensures.value j) find (c.deref-5.ensures.value j) ds) in
-    let lent : faults_from (placed_of c.deref-6.result.now) 0 c.deref-7.result.now (placed_of c.deref-6.result.now) ≡ faults_from (placed_of c.in_ok-types.types.items) 0 c.in_ok-bases.bases.items (placed_of c.in_ok-types.types.items) =
+    let lengths : faults_from (placed_of c.deref-6.result.now) 0 c.deref-7.result.now (placed_of c.deref-6.result.now) ≡ faults_from (placed_of c.in_ok-types.types.items) 0 c.in_ok-bases.bases.items (placed_of c.in_ok-types.types.items) =
     λ j. faults_from (placed_of (c.deref-6.ensures.value j)) 0 (c.deref-7.ensures.value j) (placed_of (c.deref-6.ensures.value j)) in
     let chains : c.in_ok-chains.chains.items ≡ chains_from (placed_of c.in_ok-types.types.items) 0 (placed_of c.in_ok-types.types.items) =
     c.in_ok-chains.ensures.1 ∙ ap (λ ts. chains_from (placed_of ts) 0 (placed_of ts)) c.deref-6.ensures.value in
     record {
       indexed = found_by_name ds find indexed _ _ _ kinds bases types;
-      chains = chained ds find indexed _ _ _ kinds bases types c.in_ok-chains.chains.items chains c.requires (sym lent ∙ c.in_ok-chains.ensures.0);
+      chains = chained ds find indexed _ _ _ kinds bases types c.in_ok-chains.chains.items chains c.requires (sym lengths ∙ c.in_ok-chains.ensures.0);
     }
 
 pub returns : goal.returns
@@ -72,9 +72,9 @@ returns c =
     c.in_ok-bases.ensures.bases ∙ ap (λ ts. map (λ t. found_base (types_view ts) find t.body) (types_view ts)) c.deref-3.ensures.value in
     let types : placed_of c.in_ok-types.types.items ≡ types_with c.in_ok-kinds.kinds.items find c.in_ok-bases.bases.items ds =
     c.in_ok-types.ensures.placed ∙ (λ j. types_with (c.deref-4.ensures.value j) find (c.deref-5.ensures.value j) ds) in
-    let lent : faults_from (placed_of c.deref-6.result.now) 0 c.deref-7.result.now (placed_of c.deref-6.result.now) ≡ faults_from (placed_of c.in_ok-types.types.items) 0 c.in_ok-bases.bases.items (placed_of c.in_ok-types.types.items) =
+    let lengths : faults_from (placed_of c.deref-6.result.now) 0 c.deref-7.result.now (placed_of c.deref-6.result.now) ≡ faults_from (placed_of c.in_ok-types.types.items) 0 c.in_ok-bases.bases.items (placed_of c.in_ok-types.types.items) =
     λ j. faults_from (placed_of (c.deref-6.ensures.value j)) 0 (c.deref-7.ensures.value j) (placed_of (c.deref-6.ensures.value j)) in (
       none_first (faults_from (placed_of c.deref-6.result.now) 0 c.deref-7.result.now (placed_of c.deref-6.result.now)) (all_base_faults ds)
-          (ap first_fault lent ∙ faults_are ds find indexed _ _ _ kinds bases types) c.in_ok-chains.ensures.0,
+          (ap first_fault lengths ∙ faults_are ds find indexed _ _ _ kinds bases types) c.in_ok-chains.ensures.0,
       model_is ds find indexed _ _ _ kinds bases types,
     )

@@ -7,7 +7,7 @@ use Rattle.odata_checked_filter.proofs.lambda_depth.+deepest.Given as goal
 abbrev pub decreases-deepest : goal.decreases-deepest
 decreases-deepest l = l.stop - l.from
 
--- after the place stand trees with which the depth so far makes that of all
+-- after the node stand trees with which the depth so far makes that of all
 abbrev pub invariant-loop-place : goal.invariant-loop-place
 invariant-loop-place l =
     (l.depth + l.from ≤ l.place)

@@ -13,7 +13,7 @@ decreases-expand l = 2 * (l.stop - l.from)
 abbrev pub decreases-expand_lambda : goal.decreases-expand_lambda
 decreases-expand_lambda l = 2 * (l.places.now.stop - l.places.now.base) + 1
 
--- after the place stand trees with which the set so far makes that of all
+-- after the node stand trees with which the set so far makes that of all
 abbrev pub invariant-expand-loop-place : goal.invariant-expand-loop-place
 invariant-expand-loop-place l =
     (l.from ≤ l.place)

@@ -10,7 +10,7 @@ use Rattle.odata_checked_filter.proofs.property_paths.+put_paths.Given as goal
 abbrev pub decreases-put_paths : goal.decreases-put_paths
 decreases-put_paths l = l.stop - l.from
 
--- from the place on stand trees whose texts, put after those found so far, make those of all
+-- from the node on stand trees whose texts, put after those found so far, make those of all
 abbrev pub invariant-loop-place : goal.invariant-loop-place
 invariant-loop-place l =
     (l.from ≤ l.place)

@@ -2,7 +2,7 @@ use Rattle.std.proofs.Common.{◌-◌, length}
 use Rattle.odata_eval.specs.private.ValueTests.{AndsAbove}
 use Rattle.odata_eval.proofs.value_tests.ands_above.Given as goal
 
--- only `and`s stand before the place
+-- only `and`s stand before the node
 abbrev pub invariant-loop-place : goal.invariant-loop-place
 invariant-loop-place l = AndsAbove l.checked l.place
 

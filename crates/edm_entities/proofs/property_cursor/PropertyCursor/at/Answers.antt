@@ -1,6 +1,6 @@
 use Rattle.std.proofs.Common.{◌≡◌, ◌+◌, ◌-◌, arith}
 use Rattle.csdl_schema.specs.SchemaModel.{properties_at}
-use Rattle.edm_entities.proofs.SlotLemmas.LentSlots.{cursor_slot}
+use Rattle.edm_entities.proofs.SlotLemmas.BorrowedSlots.{cursor_slot}
 use Rattle.edm_entities.proofs.property_cursor.PropertyCursor.at.Goals as goal
 
 pub returns-then-has-clause-name : goal.returns-then-has-clause-name

@@ -10,7 +10,7 @@ use Rattle.edm_entities.specs.RowReading.{IsLineBut}
 use Rattle.edm_row_plans.specs.PassedNames.{names_passed, passed_names}
 use Rattle.edm_entities.specs.private.Passed.{FitSlotsBut}
 use Rattle.edm_entities.proofs.RowLemmas.Passing.{record_seen, seen_record}
-use Rattle.edm_entities.proofs.SlotLemmas.ReadEntities.{is_entity, lent_row, val_of-Record}
+use Rattle.edm_entities.proofs.SlotLemmas.ReadEntities.{is_entity, borrowed_row, val_of-Record}
 use Rattle.edm_entities.proofs.row_reader.RowReader.read.Goals as goal
 
 pub of_row-requires : goal.of_row-requires
@@ -21,7 +21,7 @@ of_row-requires c =
     let done = c.if-not-take_row.false in
     let read_as = c.take_row.ensures.fits done in
     let fits = read_as.2.2 in
-    subst (λ (v : Value). IsEntity (lent_row schema id steps v)) (sym read_as.1)
+    subst (λ (v : Value). IsEntity (borrowed_row schema id steps v)) (sym read_as.1)
     (is_entity schema id steps (object fits.1) read_as.0 c.requires.held (c.take_row.ensures.distinct done) refl fits.2)
 
 pub returns-clause-row : goal.returns-clause-row
@@ -40,7 +40,7 @@ returns-clause-row c =
     subst (λ (marks : List Bool). FitSlotsBut slots (passed_names ps marks) json ps values.items) c.as_slice-passed.ensures.value read_as.2.2.0 in
     let seen = seen_record slots Passed (λ name. get name json) ps values.items (c.take_row.ensures.distinct done) but in
     subst (IsLineBut c.args.line.now Passed) (sym c.of_row.ensures)
-    (subst (λ (v : Value). IsLineBut c.args.line.now Passed (lent_row schema id steps v)) (sym read_as.1)
+    (subst (λ (v : Value). IsLineBut c.args.line.now Passed (borrowed_row schema id steps v)) (sym read_as.1)
     (record {
       json = json;
       is_json = (c.in-Some.ensures.1, ap read (sym c.in-Some.ensures.0) ∙ read_as.2.1);
