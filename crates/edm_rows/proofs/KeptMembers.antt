@@ -119,7 +119,7 @@ module _ (context : ReadContext) (rows : List RowSlot) where
         filled = replicate n false;
         long = none_long n;
         marks = no_marks n;
-        members = members_begin 126 context.line from place (SoFar context rows false 0 (replicate n false) values) passed (passed_start slots Unkept ps n (replicate n false) values refl (omega arith) long);
+        members = members_begin context.depth context.line from place (SoFar context rows false 0 (replicate n false) values) passed (passed_start slots Unkept ps n (replicate n false) values refl (omega arith) long);
       }
 
   -- ---- one member more
@@ -131,14 +131,14 @@ module _ (context : ReadContext) (rows : List RowSlot) where
 
     behind : (is_left_out next : Bool) (old new : List Value) (Q : Data → Type 0)
         → ((filled : List Bool) (found : Members) (json : Data) → SoFar context rows is_left_out seen filled old found → Q json → SoFar context rows next more (slice_set filled slot.index true) new (put name json found))
-        → KeptUpTo context rows from place seen is_left_out old → ReadsTo 126 context.line value end Q → KeptRead context rows from end more next new
+        → KeptUpTo context rows from place seen is_left_out old → ReadsTo context.depth context.line value end Q → KeptRead context rows from end more next new
     behind is_left_out next old new Q by so_far reads =
         let filled = slice_set so_far.filled slot.index true in
         record {
           filled = filled;
           long = length-set so_far.filled slot.index true ∙ so_far.long;
           marks = marks_more seen slot.index so_far.filled (omega (arith, within, so_far.long)) so_far.marks;
-          members = member_then 126 context.line from place value end name (SoFar context rows is_left_out seen so_far.filled old) (SoFar context rows next more filled new) Q (λ found json holds is. by so_far.filled found json holds is) so_far.members names reads;
+          members = member_then context.depth context.line from place value end name (SoFar context rows is_left_out seen so_far.filled old) (SoFar context rows next more filled new) Q (λ found json holds is. by so_far.filled found json holds is) so_far.members names reads;
         }
 
     seen_at : (json : Data) (o : Option PropertyModel) → IfSome o (λ p. FitsSomeProperty (slots_behind (root_slots context) p.name) p.nullable p.type_of (Some json))
@@ -167,7 +167,7 @@ module _ (context : ReadContext) (rows : List RowSlot) where
 
     -- a value that is passed once another was rejected
     pub passed_left_out : (values : List Value) → (slot.is_kept ≡ true → bit_at seen slot.index ≡ 0) → KeptUpTo context rows from place seen true values
-        → ReadsTo 126 context.line value end (λ json. IfSome (slice_get (root_properties context) slot.index) (λ p. FitsSomeProperty (slots_behind (root_slots context) p.name) p.nullable p.type_of (Some json))) → KeptRead context rows from end more true values
+        → ReadsTo context.depth context.line value end (λ json. IfSome (slice_get (root_properties context) slot.index) (λ p. FitsSomeProperty (slots_behind (root_slots context) p.name) p.nullable p.type_of (Some json))) → KeptRead context rows from end more true values
     passed_left_out values fresh =
         behind true true values values (λ json. IfSome (slice_get (root_properties context) slot.index) (λ p. FitsSomeProperty (slots_behind (root_slots context) p.name) p.nullable p.type_of (Some json)))
         (λ filled found json so_far fits.
@@ -178,7 +178,7 @@ module _ (context : ReadContext) (rows : List RowSlot) where
 
     -- a value that is passed because its slot is not kept
     pub passed_unkept : (values : List Value) → slot.is_kept ≡ false → length values ≡ length (root_properties context) → KeptUpTo context rows from place seen false values
-        → ReadsTo 126 context.line value end (λ json. IfSome (slice_get (root_properties context) slot.index) (λ p. FitsSomeProperty (slots_behind (root_slots context) p.name) p.nullable p.type_of (Some json))) → KeptRead context rows from end more false values
+        → ReadsTo context.depth context.line value end (λ json. IfSome (slice_get (root_properties context) slot.index) (λ p. FitsSomeProperty (slots_behind (root_slots context) p.name) p.nullable p.type_of (Some json))) → KeptRead context rows from end more false values
     passed_unkept values unkept long =
         let there = item_at values slot.index (omega (arith, within, long)) in
         behind false false values values (λ json. IfSome (slice_get (root_properties context) slot.index) (λ p. FitsSomeProperty (slots_behind (root_slots context) p.name) p.nullable p.type_of (Some json)))
@@ -194,14 +194,14 @@ module _ (context : ReadContext) (rows : List RowSlot) where
 
     -- a value that is put into its slot
     pub taken : (values : List Value) (v : Value) → KeptUpTo context rows from place seen false values
-        → ReadsTo 126 context.line value end (λ json. IfSome (slice_get (root_properties context) slot.index) (λ p. FitsSeen (slots_behind (root_slots context) p.name) p.nullable p.type_of (Some json) (val_of v)))
+        → ReadsTo context.depth context.line value end (λ json. IfSome (slice_get (root_properties context) slot.index) (λ p. FitsSeen (slots_behind (root_slots context) p.name) p.nullable p.type_of (Some json) (val_of v)))
         → KeptRead context rows from end more false (slice_set values slot.index v)
     taken values v =
         behind false false values (slice_set values slot.index v) (λ json. IfSome (slice_get (root_properties context) slot.index) (λ p. FitsSeen (slots_behind (root_slots context) p.name) p.nullable p.type_of (Some json) (val_of v)))
         (λ filled found json so_far fits. passed_set slots Unkept found name json ps filled values slot.index v (val_of v) distinct named fits (inr refl) so_far)
 
     -- a value that is rejected
-    pub rejected_now : (values : List Value) → slot.is_kept ≡ true → KeptUpTo context rows from place seen false values → ReadsTo 126 context.line value end (IsRejectedIn context slot slot.sieve) → KeptRead context rows from end more true values
+    pub rejected_now : (values : List Value) → slot.is_kept ≡ true → KeptUpTo context rows from place seen false values → ReadsTo context.depth context.line value end (IsRejectedIn context slot slot.sieve) → KeptRead context rows from end more true values
     rejected_now values kept =
         behind false true values values (IsRejectedIn context slot slot.sieve)
         (λ filled found json so_far is. (
@@ -223,13 +223,13 @@ module _ (context : ReadContext) (rows : List RowSlot) where
         ))
 
   -- a member of no slot
-  pub other_taken : (from place end seen : ℕ) (is_left_out : Bool) (values : List Value) → KeptUpTo context rows from place seen is_left_out values → PassesOther 126 context.line (root_properties context) place end → KeptRead context rows from end seen is_left_out values
+  pub other_taken : (from place end seen : ℕ) (is_left_out : Bool) (values : List Value) → KeptUpTo context rows from place seen is_left_out values → PassesOther context.depth context.line (root_properties context) place end → KeptRead context rows from end seen is_left_out values
   other_taken from place end seen is_left_out values so_far (name, value, named, others, reads) =
       record {
         filled = so_far.filled;
         long = so_far.long;
         marks = so_far.marks;
-        members = member_then 126 context.line from place value end name (SoFar context rows is_left_out seen so_far.filled values) (SoFar context rows is_left_out seen so_far.filled values) (λ json. Unit {0})
+        members = member_then context.depth context.line from place value end name (SoFar context rows is_left_out seen so_far.filled values) (SoFar context rows is_left_out seen so_far.filled values) (λ json. Unit {0})
             (λ found json holds _. stays is_left_out so_far.filled found json holds) so_far.members named reads;
       }
     where
@@ -252,7 +252,7 @@ module _ (context : ReadContext) (rows : List RowSlot) where
 
   pub kept_comma : (from end next seen : ℕ) (is_left_out : Bool) (values : List Value) → KeptRead context rows from end seen is_left_out values → EndsMember context.line end (After.Comma next) → KeptUpTo context rows from next seen is_left_out values
   kept_comma from end next seen is_left_out values read ends =
-      record { filled = read.filled; long = read.long; marks = read.marks; members = comma_then 126 context.line from end next (SoFar context rows is_left_out seen read.filled values) read.members ends }
+      record { filled = read.filled; long = read.long; marks = read.marks; members = comma_then context.depth context.line from end next (SoFar context rows is_left_out seen read.filled values) read.members ends }
 
   -- ---- at the brace
 
@@ -334,19 +334,19 @@ module _ (context : ReadContext) (rows : List RowSlot) where
           same_slot k is = fills.seen_stay k (⊎_elim (λ none. absurd (true≢false (sym is ∙ marks.not_set k none))) (λ one. one) (two_bits seen k))
 
   pub kept_brace : (from end next seen : ℕ) (is_left_out : Bool) (old new : List Value) → length rows ≡ length (root_properties context) → FillsAbsent context rows seen old new → KeptRead context rows from end seen is_left_out old → EndsMember context.line end (After.Brace next)
-      → ReadsMembers 126 (tokens_at Fresh context.line from) (tokens_at AfterValue context.line next)
+      → ReadsMembers context.depth (tokens_at Fresh context.line from) (tokens_at AfterValue context.line next)
       (λ found. MatchBool is_left_out (IsRowRejected context rows found) (FitSlotsBut (root_slots context) (names_unkept_in (root_properties context) rows) (object found) (root_properties context) new))
   kept_brace from end next seen is_left_out old new as_many fills read ends =
-      brace_then 126 context.line from end next (SoFar context rows is_left_out seen read.filled old) (Last is_left_out new)
+      brace_then context.depth context.line from end next (SoFar context rows is_left_out seen read.filled old) (Last is_left_out new)
       (λ found holds. last_found seen read.filled is_left_out old new as_many fills read.long read.marks found holds) read.members ends
 
   -- a brace where no member stands
   pub kept_empty : (from brace : ℕ) (old new : List Value) → length rows ≡ length (root_properties context) → FillsAbsent context rows 0 old new → length old ≡ length (root_properties context) → PassesSpaces context.line from brace
-      → brace < length context.line → get_or context.line brace 32 ≡ 125 → ReadsMembers 126 (tokens_at Fresh context.line from) (tokens_at AfterValue context.line (brace + 1))
+      → brace < length context.line → get_or context.line brace 32 ≡ 125 → ReadsMembers context.depth (tokens_at Fresh context.line from) (tokens_at AfterValue context.line (brace + 1))
       (λ found. MatchBool false (IsRowRejected context rows found) (FitSlotsBut (root_slots context) (names_unkept_in (root_properties context) rows) (object found) (root_properties context) new))
   kept_empty from brace old new as_many fills long passed within closes =
       let n = length (root_properties context) in
       let filled = replicate n false in
-      no_members_read 126 context.line from brace (SoFar context rows false 0 filled old) (Last false new) passed within closes
+      no_members_read context.depth context.line from brace (SoFar context rows false 0 filled old) (Last false new) passed within closes
       (λ found holds. last_found 0 filled false old new as_many fills (none_long n) (no_marks n) found holds)
       (passed_start slots Unkept ps n filled old refl (omega arith) long)

@@ -7,11 +7,11 @@ mod KeptSlots
 mod KnownTextsStand
 mod LeavesKept
 mod NextMembers
-mod Places
+pub mod Places
 mod RootEnds
 mod RowSteps
 mod RowTypes
-mod RowsRead
+pub mod RowsRead
 mod RowsStay
 mod ContextLemmas
 mod SeenMembers

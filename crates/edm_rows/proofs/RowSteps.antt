@@ -134,21 +134,21 @@ module _ (context : ReadContext) (rows : List RowSlot) (from place value end see
       (λ json. IfSome (slice_get (root_properties context) slot.index) (λ p. FitsSomeProperty (slots_behind (root_slots context) p.name) p.nullable p.type_of (Some json)))
       (λ json held. in_slot context slot found.root (λ slots nullable type. FitsSomeProperty slots nullable type (Some json)) (found.root.is.fits json held)) passed
 
-  pub put_read : (values : List Value) (v : Value) → KeptUpTo context rows from place seen false values → ReadsTo 126 context.line value end (FitsSlotAs context slot (val_of v)) → KeptRead context rows from end (bit_or seen slot.bit) false (slice_set values slot.index v)
+  pub put_read : (values : List Value) (v : Value) → KeptUpTo context rows from place seen false values → ReadsTo context.depth context.line value end (FitsSlotAs context slot (val_of v)) → KeptRead context rows from end (bit_or seen slot.bit) false (slice_set values slot.index v)
   put_read values v so_far reads = more false (slice_set values slot.index v) (taken context rows found.distinct from place value end seen slot found.name found.is_slot found.named found.names found.within values v so_far reads)
 
-  pub rejected_read : (values : List Value) → slot.is_kept ≡ true → KeptUpTo context rows from place seen false values → ReadsTo 126 context.line value end (IsRejectedIn context slot slot.sieve) → KeptRead context rows from end (bit_or seen slot.bit) true values
+  pub rejected_read : (values : List Value) → slot.is_kept ≡ true → KeptUpTo context rows from place seen false values → ReadsTo context.depth context.line value end (IsRejectedIn context slot slot.sieve) → KeptRead context rows from end (bit_or seen slot.bit) true values
   rejected_read values kept so_far reads = more true values (rejected_now context rows found.distinct from place value end seen slot found.name found.is_slot found.named found.names found.within values kept so_far reads)
 
-  pub unkept_read : (values : List Value) → slot.is_kept ≡ false → length values ≡ length (root_properties context) → KeptUpTo context rows from place seen false values → PassesValue context slot slot.task 126 value end
+  pub unkept_read : (values : List Value) → slot.is_kept ≡ false → length values ≡ length (root_properties context) → KeptUpTo context rows from place seen false values → PassesValue context slot slot.task context.depth value end
       → KeptRead context rows from end (bit_or seen slot.bit) false values
   unkept_read values unkept long so_far passed =
-      more false values (passed_unkept context rows found.distinct from place value end seen slot found.name found.is_slot found.named found.names found.within values unkept long so_far (passes 126 passed))
+      more false values (passed_unkept context rows found.distinct from place value end seen slot found.name found.is_slot found.named found.names found.within values unkept long so_far (passes context.depth passed))
 
-  pub left_out_read : (values : List Value) → (slot.is_kept ≡ true → bit_and seen slot.bit ≡ 0) → KeptUpTo context rows from place seen true values → PassesValue context slot slot.task 126 value end → KeptRead context rows from end (bit_or seen slot.bit) true values
+  pub left_out_read : (values : List Value) → (slot.is_kept ≡ true → bit_and seen slot.bit ≡ 0) → KeptUpTo context rows from place seen true values → PassesValue context slot slot.task context.depth value end → KeptRead context rows from end (bit_or seen slot.bit) true values
   left_out_read values fresh so_far passed =
       more true values (passed_left_out context rows found.distinct from place value end seen slot found.name found.is_slot found.named found.names found.within values
-      (λ kept. bit_none seen slot.index (subst (λ (b : ℕ). bit_and seen b ≡ 0) found.bit (fresh kept))) so_far (passes 126 passed))
+      (λ kept. bit_none seen slot.index (subst (λ (b : ℕ). bit_and seen b ≡ 0) found.bit (fresh kept))) so_far (passes context.depth passed))
 
   -- the values go on to conform
   pub conforms_on : (values : List Value) (old v : Value) → slice_get values slot.index ≡ Some old → GoesOn context slot old v → RowConforms (root_slots context) (root_properties context) values
@@ -160,38 +160,38 @@ module _ (context : ReadContext) (rows : List RowSlot) (from place value end see
 -- ---- what a member that was found makes of the row
 
 -- a member of no slot
-pub none_read : (context : ReadContext) (type : RowType) (from place value seen : ℕ) (is_left_out : Bool) (values : List Value) → IsRootType context type → FindsSlot context type 126 place None value → KeptUpTo context type.slots.items from place seen is_left_out values
+pub none_read : (context : ReadContext) (type : RowType) (from place value seen : ℕ) (is_left_out : Bool) (values : List Value) → IsRootType context type → FindsSlot context type context.depth place None value → KeptUpTo context type.slots.items from place seen is_left_out values
     → KeptRead context type.slots.items from value seen is_left_out values
 none_read context type from place value seen is_left_out values root passes so_far =
-    other_taken context type.slots.items from place value seen is_left_out values so_far (subst (λ (i : ℕ). PassesOther 126 context.line (properties_at context.schema.now i) place value) root.type_id passes)
+    other_taken context type.slots.items from place value seen is_left_out values so_far (subst (λ (i : ℕ). PassesOther context.depth context.line (properties_at context.schema.now i) place value) root.type_id passes)
 
 -- the slot of one
-pub slot_found : (context : ReadContext) (type : RowType) (place value : ℕ) (slot : RowSlot) → IsRootType context type → FindsSlot context type 126 place (Some slot) value → FoundSlot context type.slots.items place value slot
+pub slot_found : (context : ReadContext) (type : RowType) (place value : ℕ) (slot : RowSlot) → IsRootType context type → FindsSlot context type context.depth place (Some slot) value → FoundSlot context type.slots.items place value slot
 slot_found context type place value slot root (index, at, names) = found_slot context type index place value slot root at names
 
-pub slot_in : (context : ReadContext) (type : RowType) (place : ℕ) (found : Found) (slot : Bor RowSlot) → found.slot ≡ Some slot → IsRootType context type → FindsMember context type 126 place found → FoundSlot context type.slots.items place found.place slot.now
+pub slot_in : (context : ReadContext) (type : RowType) (place : ℕ) (found : Found) (slot : Bor RowSlot) → found.slot ≡ Some slot → IsRootType context type → FindsMember context type context.depth place found → FoundSlot context type.slots.items place found.place slot.now
 slot_in context type place found slot is root finds =
-    slot_found context type place found.place slot.now root (subst (λ (o : Option (Bor RowSlot)). FindsSlot context type 126 place (option_map (λ s. s.now) o) found.place) is finds)
+    slot_found context type place found.place slot.now root (subst (λ (o : Option (Bor RowSlot)). FindsSlot context type context.depth place (option_map (λ s. s.now) o) found.place) is finds)
 
-pub none_in : (context : ReadContext) (type : RowType) (from place seen : ℕ) (is_left_out : Bool) (values : List Value) (found : Found) → found.slot ≡ None → IsRootType context type → FindsMember context type 126 place found → KeptUpTo context type.slots.items from place seen is_left_out values
+pub none_in : (context : ReadContext) (type : RowType) (from place seen : ℕ) (is_left_out : Bool) (values : List Value) (found : Found) → found.slot ≡ None → IsRootType context type → FindsMember context type context.depth place found → KeptUpTo context type.slots.items from place seen is_left_out values
     → KeptRead context type.slots.items from found.place seen is_left_out values
 none_in context type from place seen is_left_out values found is root finds so_far =
-    none_read context type from place found.place seen is_left_out values root (subst (λ (o : Option (Bor RowSlot)). FindsSlot context type 126 place (option_map (λ s. s.now) o) found.place) is finds) so_far
+    none_read context type from place found.place seen is_left_out values root (subst (λ (o : Option (Bor RowSlot)). FindsSlot context type context.depth place (option_map (λ s. s.now) o) found.place) is finds) so_far
 
-pub none_bounds : (context : ReadContext) (type : RowType) (place : ℕ) (found : Found) → found.slot ≡ None → FindsMember context type 126 place found → (place < found.place) × (found.place ≤ length context.line)
-none_bounds context type place found is finds = go (subst (λ (o : Option (Bor RowSlot)). FindsSlot context type 126 place (option_map (λ s. s.now) o) found.place) is finds)
+pub none_bounds : (context : ReadContext) (type : RowType) (place : ℕ) (found : Found) → found.slot ≡ None → FindsMember context type context.depth place found → (place < found.place) × (found.place ≤ length context.line)
+none_bounds context type place found is finds = go (subst (λ (o : Option (Bor RowSlot)). FindsSlot context type context.depth place (option_map (λ s. s.now) o) found.place) is finds)
   where
-    go : FindsSlot context type 126 place None found.place → (place < found.place) × (found.place ≤ length context.line)
+    go : FindsSlot context type context.depth place None found.place → (place < found.place) × (found.place ≤ length context.line)
     go (name, value, names, others, reads) = (omega (arith, names.bounds.0, reads.bounds.0), reads.bounds.1)
 
 -- where a value ends that was passed
-pub further_on : (context : ReadContext) (slot : RowSlot) (r : Option Progress) (place value : ℕ) → place < value → IfSome r (λ read. PassesValue context slot slot.task 126 value read.place) → IfSome r (λ read. read.order < 1024)
+pub further_on : (context : ReadContext) (slot : RowSlot) (r : Option Progress) (place value : ℕ) → place < value → IfSome r (λ read. PassesValue context slot slot.task context.depth value read.place) → IfSome r (λ read. read.order < 1024)
     → IfSome r (λ read. (place < read.place) × (read.place ≤ length context.line) × (read.order < 1024))
 further_on context slot None place value less passed order = tt
 further_on context slot (Some read) place value less passed order = (omega (arith, less, passed.bounds.0), passed.bounds.1, order)
 
 module _ (context : ReadContext) (type : RowType) (from place value seen : ℕ) (slot : RowSlot) (found : FoundSlot context type.slots.items place value slot) (values : List Value) (long : length values ≡ length (root_properties context)) where
-  passed_by : (b : Bool) (end : ℕ) → (slot.is_kept ≡ false) ⊎ ((b ≡ true) × (bit_and seen slot.bit ≡ 0)) → KeptUpTo context type.slots.items from place seen b values → PassesValue context slot slot.task 126 value end
+  passed_by : (b : Bool) (end : ℕ) → (slot.is_kept ≡ false) ⊎ ((b ≡ true) × (bit_and seen slot.bit ≡ 0)) → KeptUpTo context type.slots.items from place seen b values → PassesValue context slot slot.task context.depth value end
       → KeptRead context type.slots.items from end (bit_or seen slot.bit) b values
   passed_by true end (inl unkept) so_far passed = left_out_read context type.slots.items from place value end seen slot found values (λ kept. absurd (true≢false (sym kept ∙ unkept))) so_far passed
   passed_by true end (inr both) so_far passed = left_out_read context type.slots.items from place value end seen slot found values (λ _. both.1) so_far passed
@@ -200,18 +200,18 @@ module _ (context : ReadContext) (type : RowType) (from place value seen : ℕ) 
 
   -- a value that was passed
   pub passed_at : (b : Bool) (read : Progress) → (slot.is_kept ≡ false) ⊎ ((b ≡ true) × (bit_and seen slot.bit ≡ 0)) → KeptUpTo context type.slots.items from place seen b values
-      → PassesValue context slot slot.task 126 value read.place → read.seen ≡ bit_or seen slot.bit → IsReadTo context type b from values read
+      → PassesValue context slot slot.task context.depth value read.place → read.seen ≡ bit_or seen slot.bit → IsReadTo context type b from values read
   passed_at b read why so_far passed more = subst (λ (k : ℕ). KeptRead context type.slots.items from read.place k b values) (sym more) (passed_by b read.place why so_far passed)
 
   -- after one that was rejected: that of a kept slot comes once
   pub passed_later : (r : Option Progress) → (slot.is_kept ≡ true → bit_and seen slot.bit ≡ 0) → KeptUpTo context type.slots.items from place seen true values
-      → IfSome r (λ read. PassesValue context slot slot.task 126 value read.place) → IfSome r (λ read. read.seen ≡ bit_or seen slot.bit) → IfSome r (IsReadTo context type true from values)
+      → IfSome r (λ read. PassesValue context slot slot.task context.depth value read.place) → IfSome r (λ read. read.seen ≡ bit_or seen slot.bit) → IfSome r (IsReadTo context type true from values)
   passed_later None fresh so_far passed more = tt
   passed_later (Some read) fresh so_far passed more =
       subst (λ (k : ℕ). KeptRead context type.slots.items from read.place k true values) (sym more) (left_out_read context type.slots.items from place value read.place seen slot found values fresh so_far passed)
 
   -- a value that was rejected leaves the row as it was
-  pub rejected_on : (old v : Value) (end : ℕ) → slice_get values slot.index ≡ Some old → slot.is_kept ≡ true → KeptUpTo context type.slots.items from place seen false values → TakesValue context slot 126 old v value (Taken.Rejected end)
+  pub rejected_on : (old v : Value) (end : ℕ) → slice_get values slot.index ≡ Some old → slot.is_kept ≡ true → KeptUpTo context type.slots.items from place seen false values → TakesValue context slot context.depth old v value (Taken.Rejected end)
       → KeptRead context type.slots.items from end (bit_or seen slot.bit) true (slice_set values slot.index v)
   rejected_on old v end there kept so_far takes =
       subst (λ (vs : List Value). KeptRead context type.slots.items from end (bit_or seen slot.bit) true vs) (sym (slot_stays values slot.index v (there ∙ ap Some (sym takes.1))))

@@ -1,18 +1,20 @@
 -- A row that is the whole line, and an entity of it.
-use Rattle.std.proofs.Common.{◌≡◌, ◌≢◌, ◌++◌, take, ℕ, zero, suc, ◌+◌, ◌<◌, ◌≤◌, List, [], ◌∷◌, length, drop, get_or, arith, Bool, true, false, Option, None, Some, Vec, Global, IfSome, map, slice_get, refl, sym, ap, ◌∙◌, subst}
+use Rattle.std.proofs.Common.{◌≡◌, ◌≢◌, ◌++◌, take, ℕ, zero, suc, ◌+◌, ◌-◌, ◌<◌, ◌≤◌, List, [], ◌∷◌, length, drop, get_or, arith, Bool, true, false, Option, None, Some, Vec, Global, IfSome, map, slice_get, refl, sym, ap, ◌∙◌, subst}
 use Rattle.std.proofs.lemmas.List.{take_at}
 use Rattle.std.specs.List.{AllByRecursion}
 use Rattle.json.specs.Json.{value as json_value}
-use Rattle.json.specs.Lex.{tokens}
+use Rattle.json.specs.Lex.{Place, after_comma, after_key, after_value, between, fresh, lex, may_begin, punctuate, tokens}
 use Rattle.json.specs.Token.{begin_object}
 use Rattle.std.specs.Str.{IsUtf8}
 use Rattle.serde_json.specs.Data.{Data, Members, object}
 use Rattle.serde_json.specs.Find.{get, get_member}
 use Rattle.serde_json.specs.Read.{converted, of_json, read}
-use Rattle.json_tokens.proofs.LexemeLemmas.{none_left}
-use Rattle.json_tokens.specs.private.Lexemes.{PassesSpaces}
-use Rattle.json_tokens.specs.declared.lexeme.Turn.TheVariants.{AfterValue, Fresh}
-use Rattle.json_room.specs.Lexemes.{tokens_at}
+use Rattle.json_tokens.proofs.LexemeLemmas.{ends_at_end, none_left}
+use Rattle.json_tokens.specs.TokenReading.{place_of}
+use Rattle.json_tokens.specs.private.Lexemes.{PassesSpaces, may_begin_at}
+use Rattle.json_tokens.specs.declared.lexeme.Turn.{Turn}
+use Rattle.json_tokens.specs.declared.lexeme.Turn.TheVariants.{AfterComma, AfterValue, Fresh}
+use Rattle.json_room.specs.Lexemes.{EndsHere, tokens_at}
 use Rattle.csdl_schema.specs.ExpansionView.{StepModel}
 use Rattle.csdl_schema.specs.ExprType.{single, structured}
 use Rattle.csdl_schema.specs.SchemaModel.{HasDistinctNames, HoldsType, PropertyModel, SchemaModel, Slots, properties_at, slots_behind, slots_of, type_name_at}
@@ -29,14 +31,16 @@ use Rattle.edm_entities.proofs.RowLemmas.Passing.{record_seen, seen_record}
 use Rattle.edm_entities.specs.private.RowTokens.{Reads, ReadsMembers}
 use Rattle.edm_entities.proofs.RowLemmas.Tokens.{object_reads, whole_read}
 use Rattle.edm_entities.proofs.SlotLemmas.ReadEntities.{is_entity, val_of-Record}
+use Rattle.edm_rows.specs.RowItems.{IsJsonBut, IsJsonLeftOut, ValueStands}
 use Rattle.edm_rows.specs.RowsOfType.{IsLeftOut, RowsOfType, names_unkept, row_held}
 use Rattle.edm_rows.specs.declared.kept_leaf.Taken.{Taken}
 use Rattle.edm_rows.specs.declared.kept_leaf.Taken.TheVariants.{Broken, Nothing, Put, Rejected}
 use Rattle.edm_rows.specs.declared.passed_value.ReadContext.{ReadContext}
 use Rattle.edm_rows.specs.declared.row_types.RowSlot.{RowSlot}
-use Rattle.edm_rows.proofs.Places.{object_opened, spaces_at}
+use Rattle.edm_rows.proofs.Places.{object_opened, object_to, reads_to_as, spaces_at}
+use Rattle.edm_rows.specs.private.Held.{ReadsTo}
 use Rattle.edm_rows.specs.declared.row_types.RowType.{RowType}
-use Rattle.edm_rows.specs.private.HeldRows.{IsTakenWhole, IsTakenWithin, ReadsLine, ReadsSlots, TakesLine, TakesSlots, first_slots}
+use Rattle.edm_rows.specs.private.HeldRows.{IsTakenWhole, IsTakenWithin, ReadsRowAt, TakesMembers, TakesObject, first_slots}
 use Rattle.edm_rows.specs.private.KeptRows.{IsRowRejected, ReadsRow, TakesFound, TakesRow, names_unkept_in, root_properties, root_slots}
 use Rattle.edm_rows.proofs.TypesChanged.{first_slots_are}
 
@@ -45,16 +49,14 @@ module _ (schema : SchemaModel) (id : ℕ) (steps : List StepModel) (held : Hold
   pub value_entity : (value : Value) → IsRowValue (slots_at schema steps (Some 0)) (properties_at schema id) value → IsEntity (row_with schema id steps value)
   value_entity value is = subst (λ (v : Value). IsEntity (row_with schema id steps v)) (sym is.1) (is_entity schema id steps (object is.2.0) is.0 held distinct refl is.2.1)
 
-  pub line_but : (Passed : Names) (line : List ℕ) (found : Members) (values : Vec Value Global) → IsUtf8 line → read line ≡ Some (object found)
-      → FitSlotsBut (slots_at schema steps (Some 0)) Passed (object found) (properties_at schema id) values.items → IsLineBut line Passed (row_with schema id steps (Record values))
-  line_but Passed line found values utf8 is but =
+  pub json_but : (Passed : Names) (found : Members) (values : Vec Value Global) → FitSlotsBut (slots_at schema steps (Some 0)) Passed (object found) (properties_at schema id) values.items
+      → IsJsonBut (object found) Passed (row_with schema id steps (Record values))
+  json_but Passed found values but =
       let slots = expanded_by schema steps in
       let ps = properties_at schema id in
       let json = object found in
       let seen = seen_record slots Passed (λ name. get name json) ps values.items distinct but in
       record {
-        json = json;
-        is_json = (utf8, is);
         whole = field_by_name slots.properties ps seen.seens;
         fits = record_seen slots Passed json ps values.items refl seen;
         kept = field_by_name slots.properties ps (map val_of values.items);
@@ -74,11 +76,10 @@ sieve_at [] n s at = absurd (cc)
 sieve_at (r ∷ rows) zero s at = let same : r ≡ s = cc in ap (λ (x : RowSlot). Some x.sieve) same
 sieve_at (r ∷ rows) (suc n) s at = sieve_at rows n s at
 
--- a line of which a value is rejected
-pub left_out : (context : ReadContext) (kept : List Bool) (is_ready : Bool) (value : Value) (slots : List RowSlot) (line : List ℕ) (found : Members) → HasDistinctNames (root_properties context) → IsUtf8 line → read line ≡ Some (object found)
-    → IsRowRejected context slots found
-    → IsLeftOut line (record { schema = context.schema.now; type_id = context.plan.now.type_id; expansion = context.plan.now.expansion; is_whole = context.plan.now.is_whole; kept = kept; sieves = map (λ s. s.sieve) slots; is_ready = is_ready; value = value })
-left_out context kept is_ready value slots line found distinct utf8 is rejected =
+-- JSON of which a value is rejected
+pub json_left_out : (context : ReadContext) (kept : List Bool) (is_ready : Bool) (value : Value) (slots : List RowSlot) (found : Members) → HasDistinctNames (root_properties context) → IsRowRejected context slots found
+    → IsJsonLeftOut (object found) (record { schema = context.schema.now; type_id = context.plan.now.type_id; expansion = context.plan.now.expansion; is_whole = context.plan.now.is_whole; kept = kept; sieves = map (λ s. s.sieve) slots; is_ready = is_ready; value = value })
+json_left_out context kept is_ready value slots found distinct rejected =
     let props = slots_at context.schema.now context.plan.now.expansion (Some 0) in
     let ps = root_properties context in
     let json = object found in
@@ -91,8 +92,6 @@ left_out context kept is_ready value slots line found distinct utf8 is rejected 
     (λ p named here by. by (subst (λ (o : Option Data). FitsProperty (slots_behind props p.name) p.nullable p.type_of o (whole rejected.name)) (ap (λ (n : List ℕ). get_member n found) named ∙ rejected.is_found)
     (subst (λ (n : List ℕ). FitsProperty (slots_behind props p.name) p.nullable p.type_of (get p.name json) (whole n)) named here))) in
     record {
-      json = json;
-      is_json = (utf8, is);
       whole = whole;
       fits = fits;
       slot = rejected.slot.index;
@@ -105,55 +104,57 @@ left_out context kept is_ready value slots line found distinct utf8 is rejected 
       rejected = held.2;
     }
 
--- ---- the whole line
-
-pub whole_line : (line : List ℕ) (begin end : ℕ) (P : Members → Type 0) → PassesSpaces line 0 begin → begin < length line → get_or line begin 32 ≡ 123 → ReadsMembers 126 (tokens_at Fresh line (begin + 1)) (tokens_at AfterValue line end) P
-    → PassesSpaces line end (length line) → (found : Members) × (read line ≡ Some (object found)) × P found
-whole_line line begin end P passed within is members last =
-    let Whole : (Data → Type 0) = λ json. (found : Members) × (json ≡ object found) × P found in
-    let opened = object_opened Fresh line begin refl within is in
-    let whole : Reads 127 (begin_object ∷ tokens_at Fresh line (begin + 1)) (tokens_at AfterValue line end) Whole =
-    object_reads 127 (tokens_at Fresh line (begin + 1)) (tokens_at AfterValue line end) P Whole (omega arith) (λ found holds. (found, refl, holds)) members in
-    let started : tokens line ≡ begin_object ∷ tokens_at Fresh line (begin + 1) = sym (spaces_at Fresh line 0 begin passed) ∙ opened in
-    let ended : tokens_at AfterValue line end ≡ [] = none_left AfterValue line end (length line) refl last refl in
-    let text_read : read line ≡ Some whole.json =
-    whole_read line whole.json (ap (λ ts. converted of_json (json_value 127 ts)) started ∙ whole.is_read ∙ ap (λ left. Some (whole.json, left)) ended) in
-    (whole.holds.0, text_read ∙ ap Some whole.holds.1, whole.holds.2)
-
--- the members of a row, in the whole line
-pub line_taken : (context : ReadContext) (type : RowType) (begin end : ℕ) (is_left_out : Bool) (values : List Value) → slice_get context.types.now 0 ≡ Some type → PassesSpaces context.line 0 begin → begin < length context.line → get_or context.line begin 32 ≡ 123
-    → ReadsRow context type is_left_out values (begin + 1) end → PassesSpaces context.line end (length context.line) → ReadsSlots context is_left_out values
-line_taken context type begin end is_left_out values at passed within opens reads last =
-    let whole = whole_line context.line begin end (TakesFound context type is_left_out values) passed within opens reads.1 last in
-    (type, at, (whole.0, whole.1, whole.2))
-
-module _ (context : ReadContext) (type : RowType) (begin : ℕ) (values : List Value) where
-  pub taken_within : (taken : Taken) → TakesRow context type values (begin + 1) taken → IsTakenWithin context.line taken
-  taken_within Nothing took = tt
-  taken_within Broken took = tt
-  taken_within (Put to) took = took.0.1
-  taken_within (Rejected to) took = took.0.1
-
-  pub slots_taken : (taken : Taken) → slice_get context.types.now 0 ≡ Some type → PassesSpaces context.line 0 begin → begin < length context.line → get_or context.line begin 32 ≡ 123 → TakesRow context type values (begin + 1) taken → IsTakenWhole context.line taken
-      → TakesSlots context values taken
-  slots_taken Nothing at passed within opens took last = tt
-  slots_taken Broken at passed within opens took last = tt
-  slots_taken (Put to) at passed within opens took last = line_taken context type begin to false values at passed within opens took last
-  slots_taken (Rejected to) at passed within opens took last = line_taken context type begin to true values at passed within opens took last
-
 -- values that are written back over as many
-pub slots_back : (context : ReadContext) (values rest : List Value) (count : ℕ) (taken : Taken) → (taken ≢ Broken → length values ≡ count) → TakesSlots context values taken → TakesSlots context (take count (values ++ rest)) taken
-slots_back context values rest count Nothing long took = tt
-slots_back context values rest count Broken long took = tt
-slots_back context values rest count (Put to) long took = subst (ReadsSlots context false) (sym (take_at values rest count (long (λ e. absurd (cc))))) took
-slots_back context values rest count (Rejected to) long took = subst (ReadsSlots context true) (sym (take_at values rest count (long (λ e. absurd (cc))))) took
+pub members_back : (context : ReadContext) (type : RowType) (values rest : List Value) (count from : ℕ) (taken : Taken) → (taken ≢ Broken → length values ≡ count) → TakesRow context type values from taken → TakesRow context type (take count (values ++ rest)) from taken
+members_back context type values rest count from Nothing long took = tt
+members_back context type values rest count from Broken long took = tt
+members_back context type values rest count from (Put to) long took =
+    subst (λ (l : List Value). ReadsRow context type false l from to) (sym (take_at values rest count (long (λ e. absurd (cc))))) took
+members_back context type values rest count from (Rejected to) long took =
+    subst (λ (l : List Value). ReadsRow context type true l from to) (sym (take_at values rest count (long (λ e. absurd (cc))))) took
 
--- the values of a row's slots are those of the row
-pub record_taken : (context : ReadContext) (row : Value) (values : Vec Value Global) (taken : Taken) → row ≡ Record values → TakesSlots context values.items taken → TakesLine context row taken
-record_taken context row values Nothing is took = tt
-record_taken context row values Broken is took = tt
-record_taken context row values (Put to) is took = (values, is, took)
-record_taken context row values (Rejected to) is took = (values, is, took)
+-- ---- a row that begins at an offset
+
+object_at : (context : ReadContext) (type : RowType) (is_left_out : Bool) (values : List Value) (place to : ℕ) → place < length context.line → get_or context.line place 32 ≡ 123 → ReadsRow context type is_left_out values (place + 1) to
+    → ReadsTo (context.depth + 1) context.line place to (λ json. (found : Members) × (json ≡ object found) × TakesFound context type is_left_out values found)
+object_at context type is_left_out values place to within opens reads =
+    let same : context.depth ≡ context.depth + 1 - 1 = omega arith in
+    object_to (context.depth + 1) context.line place to (TakesFound context type is_left_out values) (λ json. (found : Members) × (json ≡ object found) × TakesFound context type is_left_out values found) (omega arith) within opens
+    (λ found holds. (found, refl, holds)) reads.0
+    (subst (λ (d : ℕ). ReadsMembers d (tokens_at Fresh context.line (place + 1)) (tokens_at AfterValue context.line to) (TakesFound context type is_left_out values)) same reads.1)
+
+pub object_taken : (context : ReadContext) (row : Value) (values : Vec Value Global) (place : ℕ) (taken : Taken) → row ≡ Record values → place < length context.line → get_or context.line place 32 ≡ 123
+    → TakesMembers context values.items (place + 1) taken → TakesObject context row place taken
+object_taken context row values place Nothing is within opens took = tt
+object_taken context row values place Broken is within opens took = tt
+object_taken context row values place (Put to) is within opens took = (values, is, (took.0, took.1, object_at context took.0 false values.items place to within opens took.2))
+object_taken context row values place (Rejected to) is within opens took = (values, is, (took.0, took.1, object_at context took.0 true values.items place to within opens took.2))
+
+-- a value that stands after one of these turns stands at each offset where one may begin
+pub value_stands : (depth : ℕ) (text : List ℕ) (from to : ℕ) (P : Data → Type 0) → ReadsTo depth text from to P → ValueStands depth text from to P
+value_stands depth text from to P reads = record { bounds = reads.bounds; read = by }
+  where
+    reported : (turn : Turn) → may_begin_at turn ≡ true → EndsHere text to → (json : Data) × (converted of_json (json_value depth (tokens_at turn text from)) ≡ Some (json, tokens_at AfterValue text to)) × P json
+    reported turn may here = let is = reads.reads turn may here in (is.json, is.is_read, is.holds)
+
+    by : (p : Place) → may_begin p ≡ true → EndsHere text to → (json : Data) × (converted of_json (json_value depth (punctuate p (lex between (drop from text)))) ≡ Some (json, tokens_at AfterValue text to)) × P json
+    by fresh may here = reported Fresh may here
+    by after_value may here = absurd (cc)
+    by after_comma may here = reported AfterComma may here
+    by after_key may here = absurd (cc)
+
+pub values_stand : (depth : ℕ) (text : List ℕ) (from : ℕ) (P : Data → Type 0) (o : Option ℕ) → IfSome o (λ to. ReadsTo depth text from to P) → IfSome o (λ to. ValueStands depth text from to P)
+values_stand depth text from P None reads = tt
+values_stand depth text from P (Some to) reads = value_stands depth text from to P reads
+
+-- and the other way round
+pub stands_read : (depth : ℕ) (text : List ℕ) (from to : ℕ) (P : Data → Type 0) → ValueStands depth text from to P → ReadsTo depth text from to P
+stands_read depth text from to P stands =
+    record { bounds = stands.bounds; reads = λ turn may here. let is = stands.read (place_of turn) may here in record { json = is.0; is_read = is.1; holds = is.2 } }
+
+-- what is said of a value that stands there
+pub stands_so : (depth : ℕ) (text : List ℕ) (from to : ℕ) (P Q : Data → Type 0) → ((json : Data) → P json → Q json) → ValueStands depth text from to P → ValueStands depth text from to Q
+stands_so depth text from to P Q so stands = record { bounds = stands.bounds; read = λ p may here. let is = stands.read p may here in (is.0, is.1, so is.0 is.2) }
 
 -- ---- the reader of these rows
 
@@ -170,47 +171,88 @@ rows_on context types is_ready row = record {
   value = row;
 }
 
--- its own types
-abbrev pub rows_in : ReadContext → Bool → Value → RowsOfType
-rows_in context = rows_on context context.types.now
+-- what became of an item
+module _ (context : ReadContext) (row : Value) (taken : Taken) (place to : ℕ) (is_ready : Bool) (text : List ℕ) (types : List RowType) (depth : ℕ) (took : TakesObject context row place taken) (same : context.line ≡ text) (are : context.types.now ≡ types) (as_deep : context.depth ≡ depth)
+    (held : HoldsType context.schema.now context.plan.now.type_id) (distinct : HasDistinctNames (root_properties context)) where
+  item_as : (P Q : Data → Type 0) → ((json : Data) → P json → Q json) → ReadsTo (context.depth + 1) context.line place to P → ValueStands (depth + 1) text place to Q
+  item_as P Q by reads =
+      let there = subst (λ (l : List ℕ). ReadsTo (depth + 1) l place to P) same (subst (λ (d : ℕ). ReadsTo (d + 1) context.line place to P) as_deep reads) in
+      value_stands (depth + 1) text place to Q (reads_to_as (depth + 1) text place to P Q by there)
 
-module _ (context : ReadContext) (is_ready : Bool) (row : Value) (held : HoldsType context.schema.now context.plan.now.type_id) (distinct : HasDistinctNames (root_properties context)) (utf8 : IsUtf8 context.line) where
-  -- a line that was read
-  pub row_of_line : ReadsLine context false row → IsLineBut context.line (names_unkept (rows_in context is_ready row)) (row_held (rows_in context is_ready row))
-  row_of_line reads =
-      let schema = context.schema.now in
-      let id = context.plan.now.type_id in
-      let steps = context.plan.now.expansion in
-      let values = reads.0 in
-      let type = reads.2.0 in
-      let of_line = reads.2.2 in
-      let but = line_but schema id steps held distinct (names_unkept_in (root_properties context) type.slots.items) context.line of_line.0 values utf8 of_line.1 of_line.2 in
-      subst (λ (v : Value). IsLineBut context.line (names_unkept_in (root_properties context) (first_slots context.types.now)) (row_with schema id steps v)) (sym reads.1)
-      (subst (λ (l : List RowSlot). IsLineBut context.line (names_unkept_in (root_properties context) l) (row_with schema id steps (Record values))) (sym (first_slots_are context.types.now type reads.2.1)) but)
+  pub item_taken : taken ≡ Taken.Put to → ValueStands (depth + 1) text place to (λ json. IsJsonBut json (names_unkept (rows_on context types is_ready row)) (row_held (rows_on context types is_ready row)))
+  item_taken is =
+      let there = subst (TakesObject context row place) is took in
+      let values = there.0 in
+      let type = there.2.0 in
+      let first = ap first_slots (sym are) ∙ first_slots_are context.types.now type there.2.1 in
+      let Kept : (List RowSlot → Value → Data → Type 0) = λ slots v json. IsJsonBut json (names_unkept_in (root_properties context) slots) (row_with context.schema.now context.plan.now.type_id context.plan.now.expansion v) in
+      item_as (λ json. (found : Members) × (json ≡ object found) × TakesFound context type false values.items found) (λ json. Kept (first_slots types) row json)
+      (λ json reads.
+      let but = json_but context.schema.now context.plan.now.type_id context.plan.now.expansion held distinct (names_unkept_in (root_properties context) type.slots.items) reads.0 values reads.2 in
+      subst (λ (j : Data). Kept (first_slots types) row j) (sym reads.1) (subst (λ (v : Value). Kept (first_slots types) v (object reads.0)) (sym there.1) (subst (λ (l : List RowSlot). Kept l (Record values) (object reads.0)) (sym first) but)))
+      there.2.2
 
-  -- and one that is left out
-  pub line_left_out : ReadsLine context true row → IsLeftOut context.line (rows_in context is_ready row)
-  line_left_out reads =
-      let type = reads.2.0 in
-      let of_line = reads.2.2 in
-      let kept = map (λ s. s.is_kept) (first_slots context.types.now) in
-      let out = left_out context kept is_ready row type.slots.items context.line of_line.0 distinct utf8 of_line.1 of_line.2 in
-      subst (λ (l : List RowSlot). IsLeftOut context.line (record { schema = context.schema.now; type_id = context.plan.now.type_id; expansion = context.plan.now.expansion; is_whole = context.plan.now.is_whole; kept = kept; sieves = map (λ s. s.sieve) l; is_ready = is_ready; value = row }))
-      (sym (first_slots_are context.types.now type reads.2.1)) out
+  pub item_left_out : taken ≡ Taken.Rejected to → ValueStands (depth + 1) text place to (λ json. IsJsonLeftOut json (rows_on context types is_ready row))
+  item_left_out is =
+      let there = subst (TakesObject context row place) is took in
+      let values = there.0 in
+      let type = there.2.0 in
+      let first = ap first_slots (sym are) ∙ first_slots_are context.types.now type there.2.1 in
+      let kept = map (λ s. s.is_kept) (first_slots types) in
+      let Out : (List RowSlot → Data → Type 0) = λ slots json. IsJsonLeftOut json (record { schema = context.schema.now; type_id = context.plan.now.type_id; expansion = context.plan.now.expansion; is_whole = context.plan.now.is_whole; kept = kept; sieves = map (λ s. s.sieve) slots; is_ready = is_ready; value = row }) in
+      item_as (λ json. (found : Members) × (json ≡ object found) × TakesFound context type true values.items found) (λ json. Out (first_slots types) json)
+      (λ json reads.
+      let out = json_left_out context kept is_ready row type.slots.items reads.0 distinct reads.2 in
+      subst (λ (j : Data). Out (first_slots types) j) (sym reads.1) (subst (λ (l : List RowSlot). Out l (object reads.0)) (sym first) out))
+      there.2.2
 
--- the same, by what became of a line
-module _ (context : ReadContext) (row : Value) (taken : Taken) (to : ℕ) (is_ready : Bool) (line : List ℕ) (types : List RowType) (took : TakesLine context row taken) (same : context.line ≡ line) (are : context.types.now ≡ types) (held : HoldsType context.schema.now context.plan.now.type_id)
-    (distinct : HasDistinctNames (root_properties context)) (utf8 : IsUtf8 line) where
-  utf8_there : IsUtf8 context.line
-  utf8_there = subst IsUtf8 (sym same) utf8
+-- what holds of each way that a row may be taken, holds of what was taken
+pub by_way : (P : Taken → Type 0) (taken : Taken) → ((to : ℕ) → taken ≡ Put to → P (Put to)) → ((to : ℕ) → taken ≡ Rejected to → P (Rejected to)) → P Nothing → P Broken → P taken
+by_way P Nothing put rejected none broken = none
+by_way P Broken put rejected none broken = broken
+by_way P (Put to) put rejected none broken = put to refl
+by_way P (Rejected to) put rejected none broken = rejected to refl
 
-  pub row_taken : taken ≡ Taken.Put to → IsLineBut line (names_unkept (rows_on context types is_ready row)) (row_held (rows_on context types is_ready row))
-  row_taken is =
-      subst (λ (l : List ℕ). IsLineBut l (names_unkept (rows_on context types is_ready row)) (row_held (rows_on context types is_ready row))) same
-      (subst (λ (ts : List RowType). IsLineBut context.line (names_unkept (rows_on context ts is_ready row)) (row_held (rows_on context ts is_ready row))) are
-      (row_of_line context is_ready row held distinct utf8_there (subst (TakesLine context row) is took)))
+-- ---- the whole line
 
-  pub row_left_out : taken ≡ Taken.Rejected to → IsLeftOut line (rows_on context types is_ready row)
-  row_left_out is =
-      subst (λ (l : List ℕ). IsLeftOut l (rows_on context types is_ready row)) same
-      (subst (λ (ts : List RowType). IsLeftOut context.line (rows_on context ts is_ready row)) are (line_left_out context is_ready row held distinct utf8_there (subst (TakesLine context row) is took)))
+-- a value that is the whole text, but for white space
+whole_value : (text : List ℕ) (begin to : ℕ) (P : Data → Type 0) → PassesSpaces text 0 begin → PassesSpaces text to (length text) → ValueStands 127 text begin to P → (json : Data) × (read text ≡ Some json) × P json
+whole_value text begin to P passed last stands =
+    let over = ends_at_end text to (length text) last refl in
+    let is = stands.read fresh refl (record { ends = over.ends; no_colon = over.no_colon }) in
+    let started = ap (λ ts. converted of_json (json_value 127 ts)) (sym (spaces_at Fresh text 0 begin passed)) in
+    let ended : tokens_at AfterValue text to ≡ [] = none_left AfterValue text to (length text) refl last refl in
+    (is.0, whole_read text is.0 (started ∙ is.1 ∙ ap (λ left. Some (is.0, left)) ended), is.2)
+
+module _ (text : List ℕ) (begin to : ℕ) (rows : RowsOfType) (taken : Taken) (utf8 : IsUtf8 text) (passed : PassesSpaces text 0 begin) (last : IsTakenWhole text taken) (reads : ReadsRowAt 126 text begin rows taken) where
+  pub line_kept : taken ≡ Taken.Put to → IsLineBut text (names_unkept rows) (row_held rows)
+  line_kept is =
+      let whole = whole_value text begin to (λ json. IsJsonBut json (names_unkept rows) (row_held rows)) passed (subst (IsTakenWhole text) is last) (subst (ReadsRowAt 126 text begin rows) is reads) in
+      let of_json = whole.2 in
+      record { json = whole.0; is_json = (utf8, whole.1); whole = of_json.whole; fits = of_json.fits; kept = of_json.kept; value_is = of_json.value_is; agrees = of_json.agrees }
+
+  pub line_left_out : taken ≡ Taken.Rejected to → IsLeftOut text rows
+  line_left_out is =
+      let whole = whole_value text begin to (λ json. IsJsonLeftOut json rows) passed (subst (IsTakenWhole text) is last) (subst (ReadsRowAt 126 text begin rows) is reads) in
+      let out = whole.2 in
+      record {
+        json = whole.0;
+        is_json = (utf8, whole.1);
+        whole = out.whole;
+        fits = out.fits;
+        slot = out.slot;
+        name = out.name;
+        named = out.named;
+        sieve = out.sieve;
+        is_sieve = out.is_sieve;
+        value = out.value;
+        held = out.held;
+        rejected = out.rejected;
+      }
+
+-- what was read ends within the text
+pub ends_within : (depth : ℕ) (text : List ℕ) (place : ℕ) (rows : RowsOfType) (taken : Taken) → ReadsRowAt depth text place rows taken → IsTakenWithin text taken
+ends_within depth text place rows Nothing reads = tt
+ends_within depth text place rows Broken reads = tt
+ends_within depth text place rows (Put to) reads = reads.bounds.1
+ends_within depth text place rows (Rejected to) reads = reads.bounds.1

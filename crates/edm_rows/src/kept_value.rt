@@ -28,10 +28,10 @@ fn take_value(
     requires context { IsContext context.now }
     requires slot { IsRootSlot context.now slot.now }
     requires within { place ≤ length context.now.line }
-    requires depth { cache.old.depth ≡ 126 }
-    ensures taken { TakesValue context.now slot.now 126 value.old value.new place result }
+    requires depth { cache.old.depth ≡ context.now.depth }
+    ensures taken { TakesValue context.now slot.now context.now.depth value.old value.new place result }
     ensures goes_on { result ≢ Taken.Broken → GoesOn context.now slot.now value.old value.new }
-    ensures depth { cache.new.depth ≡ 126 }
+    ensures depth { cache.new.depth ≡ context.now.depth }
 {
     let sure = take_sure(&context.line, slot, place, value);
     if let Taken::Nothing = sure {
@@ -75,10 +75,10 @@ fn take_other(
     requires context { IsContext context.now }
     requires slot { IsRootSlot context.now slot.now }
     requires within { from ≤ length context.now.line }
-    requires depth { cache.old.depth ≡ 126 }
-    ensures taken { TakesValue context.now slot.now 126 value.old value.new from result }
+    requires depth { cache.old.depth ≡ context.now.depth }
+    ensures taken { TakesValue context.now slot.now context.now.depth value.old value.new from result }
     ensures goes_on { result ≢ Taken.Broken → GoesOn context.now slot.now value.old value.new }
-    ensures depth { cache.new.depth ≡ 126 }
+    ensures depth { cache.new.depth ≡ context.now.depth }
 {
     let place = past_blanks(&context.line, from);
     if place == from {
@@ -103,10 +103,10 @@ fn take_seldom(
     requires context { IsContext context.now }
     requires slot { IsRootSlot context.now slot.now }
     requires within { place ≤ length context.now.line }
-    requires depth { cache.old.depth ≡ 126 }
-    ensures taken { TakesValue context.now slot.now 126 value.old value.new place result }
+    requires depth { cache.old.depth ≡ context.now.depth }
+    ensures taken { TakesValue context.now slot.now context.now.depth value.old value.new place result }
     ensures goes_on { result ≢ Taken.Broken → GoesOn context.now slot.now value.old value.new }
-    ensures depth { cache.new.depth ≡ 126 }
+    ensures depth { cache.new.depth ≡ context.now.depth }
 {
     match fill_value(cache, context, slot, slot.task, place, value) {
         Some(end) => Taken::Put(end),
@@ -147,7 +147,7 @@ pub(crate) fn take_members(
     requires context { IsContext context.now }
     requires plan { IsRootType context.now plan.now }
     requires within { from ≤ length context.now.line }
-    requires depth { cache.old.depth ≡ 126 }
+    requires depth { cache.old.depth ≡ context.now.depth }
     requires conforms { RowConforms (root_slots context.now) (root_properties context.now) values.old }
     ensures read { TakesRow context.now plan.now values.new from result }
     ensures conforms { result ≢ Taken.Broken
@@ -218,16 +218,16 @@ fn take_found(
 ) -> Step
     requires context { IsContext context.now }
     requires plan { IsRootType context.now plan.now }
-    requires found { FindsMember context.now plan.now 126 so_far.place found }
+    requires found { FindsMember context.now plan.now context.now.depth so_far.place found }
     requires order { so_far.order < 1024 }
-    requires depth { cache.old.depth ≡ 126 }
+    requires depth { cache.old.depth ≡ context.now.depth }
     requires long { length values.old ≡ length (root_properties context.now) }
     ensures read { (from : ℕ) → IsUpTo context.now plan.now false from values.old so_far
         → StepsTo context.now plan.now from values.new result }
     ensures further { StepsFrom so_far.place result }
     ensures conforms { RowConforms (root_slots context.now) (root_properties context.now) values.old
         → result ≢ Step.Broken → RowConforms (root_slots context.now) (root_properties context.now) values.new }
-    ensures depth { cache.new.depth ≡ 126 }
+    ensures depth { cache.new.depth ≡ context.now.depth }
 {
     let Some(slot) = found.slot else {
         return Step::Read(Progress {
@@ -270,7 +270,7 @@ fn pass_rest(
     requires plan { IsRootType context.now plan.now }
     requires within { rejected.place ≤ length context.now.line }
     requires order { rejected.order < 1024 }
-    requires depth { cache.old.depth ≡ 126 }
+    requires depth { cache.old.depth ≡ context.now.depth }
     requires conforms { RowConforms (root_slots context.now) (root_properties context.now) values.old }
     ensures read { (from : ℕ) → IsReadTo context.now plan.now true from values.old rejected
         → TakesRow context.now plan.now values.new from result }
@@ -309,15 +309,15 @@ fn pass_next(
 ) -> Option<Progress>
     requires context { IsContext context.now }
     requires plan { IsRootType context.now plan.now }
-    requires found { FindsMember context.now plan.now 126 so_far.place found }
+    requires found { FindsMember context.now plan.now context.now.depth so_far.place found }
     requires order { so_far.order < 1024 }
-    requires depth { cache.old.depth ≡ 126 }
+    requires depth { cache.old.depth ≡ context.now.depth }
     ensures read { (from : ℕ) (values : List Value) → length values ≡ length (root_properties context.now)
         → IsUpTo context.now plan.now true from values so_far
         → IfSome result (IsReadTo context.now plan.now true from values) }
     ensures further { IfSome result (λ read. (so_far.place < read.place) × (read.place ≤ length context.now.line)
         × (read.order < 1024)) }
-    ensures depth { cache.new.depth ≡ 126 }
+    ensures depth { cache.new.depth ≡ context.now.depth }
 {
     let Some(slot) = found.slot else {
         return Some(Progress {
@@ -351,12 +351,13 @@ fn pass_found(
     requires context { IsContext context.now }
     requires slot { IsRootSlot context.now slot.now }
     requires within { place ≤ length context.now.line }
-    requires depth { cache.old.depth ≡ 126 }
-    ensures passed { IfSome result (λ read. PassesValue context.now slot.now slot.now.task 126 place read.place) }
+    requires depth { cache.old.depth ≡ context.now.depth }
+    ensures passed { IfSome result
+        (λ read. PassesValue context.now slot.now slot.now.task context.now.depth place read.place) }
     ensures further { IfSome result (λ read. place < read.place) }
     ensures seen { IfSome result (λ read. read.seen ≡ bit_or seen slot.now.bit) }
     ensures order { IfSome result (λ read. read.order < 1024) }
-    ensures depth { cache.new.depth ≡ 126 }
+    ensures depth { cache.new.depth ≡ context.now.depth }
 {
     match value_end(cache, context, slot, slot.task, place) {
         Some(end) => Some(Progress {

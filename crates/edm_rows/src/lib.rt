@@ -17,4 +17,5 @@ mod slot_marks;
 mod type_rows;
 
 pub use held_schema::HeldSchema;
-pub use type_rows::{Reading, TypeRows};
+pub use passed_any::any_value_end;
+pub use type_rows::{ItemReading, Reading, TypeRows};

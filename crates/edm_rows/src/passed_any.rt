@@ -7,6 +7,7 @@ ghost use Rattle.json_tokens.specs.private.Lexemes.{IsTextAt};
 ghost use Rattle.json_tokens.specs.declared.lexeme.Turn.TheVariants.{Fresh, AfterValue};
 ghost use Rattle.json_room.specs.Lexemes.{StandsTo, tokens_at};
 ghost use Rattle.edm_entities.specs.private.RowTokens.{ReadsItems, ReadsMembers};
+ghost use Rattle.edm_rows.specs.RowItems.{ValueStands};
 ghost use Rattle.edm_rows.specs.private.Held.{PassesTo, ReadsTo};
 ghost use Rattle.edm_rows.specs.private.Members.{PassesAnyMember};
 
@@ -34,6 +35,19 @@ pub(crate) fn any_number_end(line: &RoomyLine<'_>, place: usize) -> Option<usize
         Some(_) => Some(end),
         None => None,
     }
+}
+
+/// The offset after the JSON value that stands there, nested no deeper than that.
+pub fn any_value_end(
+    line: &RoomyLine<'_>,
+    place: usize,
+    depth: usize,
+    buffer: &mut DecodeBuffer,
+) -> Option<usize>
+    requires { place ≤ length line.now }
+    ensures { IfSome result (λ to. ValueStands depth line.now place to (λ json. Unit {0})) }
+{
+    any_end(line, place, depth, buffer)
 }
 
 /// The offset after a value.

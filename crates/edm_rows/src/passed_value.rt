@@ -31,6 +31,8 @@ pub(crate) struct ReadContext<'w> {
     pub(crate) types: &'w [RowType],
     pub(crate) known: &'w KnownTexts,
     pub(crate) line: RoomyLine<'w>,
+    /// How deep the members of a row may nest.
+    pub(crate) depth: usize,
 }
 
 /// The offset after the value of a slot, or an item of it, that stands there.

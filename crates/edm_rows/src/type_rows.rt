@@ -6,7 +6,8 @@ ghost use Rattle.edm_row_plans.specs.Plans.{IsPlanOf};
 ghost use Rattle.edm_entities.specs.private.Passed.{IsRowValue};
 ghost use Rattle.json_tokens.specs.LexemesAt.{PassesSpaces};
 ghost use Rattle.edm_rows.specs.private.HeldRows.{AreTypesOf, HasFirstType, IsTakenWhole, IsTakenWithin};
-ghost use Rattle.edm_rows.specs.private.HeldRows.{TakesLine, TakesSlots};
+ghost use Rattle.edm_rows.specs.private.HeldRows.{ReadsRowAt, TakesMembers, TakesObject};
+ghost use Rattle.edm_rows.specs.RowItems.{ReadsItem};
 ghost use Rattle.edm_rows.specs.private.KnownTexts.{AreKnown};
 ghost use Rattle.edm_rows.specs.private.KeptRows.{RowConforms, root_properties, root_slots};
 ghost use Rattle.edm_rows.specs.private.RowSlots.{IsFreshType};
@@ -38,6 +39,17 @@ pub enum Reading {
     Row,
     /// It is a row, of which a value is rejected by its slot's sieve.
     LeftOut,
+}
+
+/// What became of an item of a document.
+#[derive(Clone, Copy, Drop)]
+pub enum ItemReading {
+    /// It was not read as a row, which it may yet be.
+    Unread,
+    /// It is a row, which is kept; the offset after it.
+    Row(usize),
+    /// It is a row, of which a value is rejected by its slot's sieve; the offset after it.
+    LeftOut(usize),
 }
 
 /// Reads lines as rows of a plan's type. It is kept from line to line.
@@ -155,7 +167,7 @@ impl<'s> TypeRows<'s> {
     }
 
     /// Reads the line of that length at the front of the bytes into the row.
-    #[inline(never)]
+    #[inline(always)]
     pub fn read(&mut self, bytes: &[u8], count: usize, is_ascii: bool) -> Reading
         requires within { count ≤ length bytes.now }
         requires ascii { IsTrue is_ascii → IsAscii (take count bytes.now) }
@@ -191,17 +203,71 @@ impl<'s> TypeRows<'s> {
         ensures row { result ≡ Reading.Row → IsLineBut text.now (names_unkept self.new) (row_held self.new) }
         ensures left_out { result ≡ Reading.LeftOut → IsLeftOut text.now self.new }
     {
+        let line = RoomyLine::new(text, bytes);
+        let begin = past_blanks(&line, 0);
+        let taken = self.read_object(text, bytes, begin, DEPTH - 1);
+        if ends_taken(&line, taken) {
+            reading_of(taken)
+        } else {
+            Reading::Unread
+        }
+    }
+
+    /// Reads the object at an offset of a document into the row, as an item of an array in an object.
+    ///
+    /// The document is at the front of the bytes; an LF follows it, and at least 63 bytes follow that.
+    pub fn read_item<'t>(&mut self, text: &'t str, bytes: &'t [u8], place: usize) -> ItemReading
+        requires front { take (length text.now) bytes.now ≡ text.now }
+        requires line_feed { get_or bytes.now (length text.now) 0 ≡ 10 }
+        requires room { length text.now + 64 ≤ length bytes.now }
+        requires within { place ≤ length text.now }
+        ensures same { IsSameReader self.old self.new }
+        ensures whole { result ≢ ItemReading.Unread → self.new.is_whole ≡ true }
+        ensures ready { (to : ℕ) → result ≡ ItemReading.Row to → self.new.is_ready ≡ true }
+        ensures item { ReadsItem text.now place self.new result }
+    {
+        if !self.is_ready {
+            return ItemReading::Unread;
+        }
+        let taken = self.read_object(text, bytes, place, DEPTH - 3);
+        match taken {
+            Taken::Put(end) => ItemReading::Row(end),
+            Taken::Rejected(end) => ItemReading::LeftOut(end),
+            Taken::Nothing | Taken::Broken => ItemReading::Unread,
+        }
+    }
+
+    /// Reads the object at an offset of a text into the row; its members may nest that deep. Lines and items share it.
+    #[inline(never)]
+    fn read_object<'t>(
+        &mut self,
+        text: &'t str,
+        bytes: &'t [u8],
+        place: usize,
+        depth: usize,
+    ) -> Taken
+        requires ready { self.old.is_ready ≡ true }
+        requires front { take (length text.now) bytes.now ≡ text.now }
+        requires line_feed { get_or bytes.now (length text.now) 0 ≡ 10 }
+        requires room { length text.now + 64 ≤ length bytes.now }
+        requires within { place ≤ length text.now }
+        ensures same { IsSameReader self.old self.new }
+        ensures whole { self.new.is_whole ≡ true }
+        ensures ready { result ≢ Taken.Broken → self.new.is_ready ≡ true }
+        ensures object { ReadsRowAt depth text.now place self.new result }
+    {
         let context = ReadContext {
             schema: self.schema.schema(),
             plan: &self.plan,
             types: self.types.as_slice(),
             known: &self.known,
             line: RoomyLine::new(text, bytes),
+            depth,
         };
-        let taken = take_row(&mut self.cache, &context, &mut self.row);
+        let taken = take_row(&mut self.cache, &context, place, &mut self.row);
         keep_noted(&mut self.cache, &mut self.known, self.schema.schema());
         self.is_ready = is_whole_row(taken);
-        reading_of(taken)
+        taken
     }
 
     /// The row that was read last.
@@ -246,52 +312,52 @@ fn types_of(alloc: Global, schema: &Schema, plan: &RowPlan) -> Vec<RowType>
     }
 }
 
-/// Takes the row that is the whole line, unless it is rejected.
+/// Takes the row that begins at an offset, unless it is rejected.
 #[inline(always)]
-fn take_row(cache: &mut Cache, context: &ReadContext<'_>, row: &mut Value) -> Taken
+fn take_row(cache: &mut Cache, context: &ReadContext<'_>, place: usize, row: &mut Value) -> Taken
     requires context { IsContext context.now }
     requires plan { IsPlanOf context.now.schema.now context.now.plan.now }
     requires first { HasFirstType context.now.plan.now context.now.types.now }
+    requires within { place ≤ length context.now.line }
     requires row { IsRowValue (root_slots context.now) (root_properties context.now) row.old }
-    ensures row { TakesLine context.now row.new result }
+    ensures row { TakesObject context.now row.new place result }
     ensures conforms { result ≢ Taken.Broken
         → IsRowValue (root_slots context.now) (root_properties context.now) row.new }
 {
+    if context.line.byte(place) != b'{' {
+        return Taken::Nothing;
+    }
     match row {
-        Value::Record(values) => take_slots(cache, context, values),
+        Value::Record(values) => take_object(cache, context, place + 1, values),
         _ => Taken::Nothing,
     }
 }
 
-/// Takes the values of the row that is the whole line, unless one is rejected.
+/// Takes the members of a row after its brace, unless one of them is rejected.
 #[inline(always)]
-fn take_slots(cache: &mut Cache, context: &ReadContext<'_>, values: &mut Vec<Value>) -> Taken
+fn take_object(
+    cache: &mut Cache,
+    context: &ReadContext<'_>,
+    from: usize,
+    values: &mut Vec<Value>,
+) -> Taken
     requires context { IsContext context.now }
     requires plan { IsPlanOf context.now.schema.now context.now.plan.now }
     requires first { HasFirstType context.now.plan.now context.now.types.now }
+    requires within { from ≤ length context.now.line }
     requires conforms { RowConforms (root_slots context.now) (root_properties context.now) values.old.items }
-    ensures slots { TakesSlots context.now values.new.items result }
+    ensures read { TakesMembers context.now values.new.items from result }
     ensures conforms { result ≢ Taken.Broken
         → RowConforms (root_slots context.now) (root_properties context.now) values.new.items }
 {
-    let line = &context.line;
-    let begin = past_blanks(line, 0);
-    if line.byte(begin) != b'{' {
-        return Taken::Nothing;
-    }
-    cache.depth = DEPTH - 1;
-    let taken = take_members(
+    cache.depth = context.depth;
+    take_members(
         cache,
         context,
         &context.types[0],
-        begin + 1,
+        from,
         values.as_mut_slice(),
-    );
-    if ends_taken(line, taken) {
-        taken
-    } else {
-        Taken::Nothing
-    }
+    )
 }
 
 /// Whether nothing but white space stands after what was taken of a line.

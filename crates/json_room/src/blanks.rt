@@ -1,20 +1,19 @@
-//! White space within a line (RFC 8259, section 2).
+//! White space within a line, or a document of several (RFC 8259, section 2).
 ghost use Rattle.std.specs.Prelude.{◌≡◌, ◌≢◌, ◌≤◌, length, true, IsTrue};
 ghost use Rattle.json.specs.Word.{is_space};
 ghost use Rattle.json_tokens.specs.LexemesAt.{PassesSpaces};
 
 use super::roomy_line::RoomyLine;
 
-/// Whether a byte is white space that stands within a line.
+/// Whether a byte is white space.
 #[inline(always)]
 fn is_blank(byte: u8) -> bool
-    ensures space { IsTrue result → is_space byte ≡ true }
-    ensures within { IsTrue result → byte ≢ 10 }
+    ensures { IsTrue result → is_space byte ≡ true }
 {
-    (byte == b' ') | (byte == b'\t') | (byte == b'\r')
+    (byte == b' ') | (byte == b'\t') | (byte == b'\r') | (byte == b'\n')
 }
 
-/// The first offset from there on that has no space, tab or CR: mostly this one or the next.
+/// The first offset from there on without white space of the text: mostly this one or the next.
 #[inline(always)]
 pub fn past_blanks(line: &RoomyLine<'_>, from: usize) -> usize
     requires { from ≤ length line.now }
@@ -34,8 +33,9 @@ fn past_some_blanks(line: &RoomyLine<'_>, from: usize) -> usize
     requires { from ≤ length line.now }
     ensures { PassesSpaces line.now from result }
 {
+    let end = line.text().len();
     let mut place = from;
-    while is_blank(line.byte(place)) {
+    while place < end && is_blank(line.byte(place)) {
         place += 1;
     }
     place

@@ -1,6 +1,8 @@
 pub mod CanonicalRows
 pub mod Collections
 pub mod DeviceCalls
+pub mod KnownItems
+pub mod KnownCollections
 pub mod LinesOpen
 pub mod RowLineJudges
 pub mod OneCollection

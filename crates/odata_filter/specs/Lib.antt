@@ -1,3 +1,4 @@
+pub use Rattle.collection_items.specs.JudgedItems
 pub use Rattle.command_plan.specs.CommandLine
 pub use Rattle.csdl_declarations.specs.Fault
 pub use Rattle.csdl_schema.specs.Document

@@ -1,18 +1,20 @@
-ghost use Rattle.std.specs.Prelude.{◌≡◌, IfOk, IfErr, MatchResult, option_map};
+ghost use Rattle.std.specs.Prelude.{◌≡◌, IfOk, IfErr, IsSomeAnd, MatchResult, option_map};
 ghost use Rattle.serde_json.specs.View.{items_view, view};
 ghost use Rattle.line_filter.specs.CallLogs.{FlushesLast};
 ghost use Rattle.line_filter.specs.Growth.{Writes};
-ghost use Rattle.line_filter.specs.Kept.{Filters};
+ghost use Rattle.line_filter.specs.Kept.{Filters, StopsHeld};
 ghost use Rattle.odata_filter.specs.Collection.{OfCollection, StopsCollection, array_of};
 ghost use Rattle.odata_filter.specs.DeviceFaults.{WritesUntilFault};
-ghost use Rattle.odata_filter.specs.private.Collection.{IsUnjudgedBy};
+ghost use Rattle.odata_filter.specs.RunStops.{run_stop};
+ghost use Rattle.odata_filter.specs.private.Collection.{IsUnjudgedBy, known_items};
 ghost use Rattle.csdl_schema.specs.JsonText.{IsJsonOf};
 
+use crate::known_verdicts::KnownVerdicts;
 use crate::run_fault::{RunFault, run_fault};
 use edm_values::Moment;
 use line_filter::{Tally, Unlogged, Writes, filter_places};
 use odata_typing::Checked;
-use row_judges::RowJudge;
+use row_judges::{RowJudge, verdicts_in_place};
 use serde_json::Value;
 use std::alloc::Global;
 use std::io::Write;
@@ -44,6 +46,46 @@ fn read_document(alloc: Global, document: &[u8]) -> Result<Value, RunFault>
 /// Filters as [`filter_collection`] does, by how the writer's calls are reported. It reports that the writer failed
 /// only if it did.
 pub fn filter_collection_with<W: Write, T: Writes<W>>(
+    alloc: Global,
+    checked: &Checked<'_>,
+    now: &Moment,
+    document: &[u8],
+    out: &mut W,
+) -> Result<Tally, RunFault>
+    ensures filters { IfOk result (λ tally. Writes (W.contents out.old) (W.contents out.new)
+        (λ text. OfCollection checked.now now.now document.now (λ items. Filters items text tally))) }
+    ensures stops { IfErr result (λ fault. Writes (W.contents out.old) (W.contents out.new)
+        (λ text. StopsCollection checked.now now.now document.now text fault)) }
+    ensures writes { MatchResult result (λ tally. FlushesLast (T.calls out.old) (T.calls out.new))
+        (λ fault. WritesUntilFault (T.calls out.old) (T.calls out.new) fault) }
+{
+    match verdicts_in_place(alloc, checked, now, document) {
+        Some(kept) => filter_known::<W, T>(alloc, kept.as_slice(), out),
+        None => filter_by_tree::<W, T>(alloc, checked, now, document, out),
+    }
+}
+
+/// Writes the indexes of the items that are kept, by the verdicts that are known of all of them.
+fn filter_known<W: Write, T: Writes<W>>(
+    alloc: Global,
+    kept: &[bool],
+    out: &mut W,
+) -> Result<Tally, RunFault>
+    ensures filters { IfOk result (λ tally. Writes (W.contents out.old) (W.contents out.new)
+        (λ text. Filters (known_items kept.now) text tally)) }
+    ensures stops { IfErr result (λ fault. Writes (W.contents out.old) (W.contents out.new)
+        (λ text. IsSomeAnd (run_stop fault) (StopsHeld (known_items kept.now) text))) }
+    ensures writes { MatchResult result (λ tally. FlushesLast (T.calls out.old) (T.calls out.new))
+        (λ fault. WritesUntilFault (T.calls out.old) (T.calls out.new) fault) }
+{
+    match filter_places::<KnownVerdicts, W, T>(alloc, &KnownVerdicts, kept, out) {
+        Ok(tally) => Ok(tally),
+        Err(stop) => Err(run_fault(stop)),
+    }
+}
+
+/// Filters through the tree of the document's JSON.
+fn filter_by_tree<W: Write, T: Writes<W>>(
     alloc: Global,
     checked: &Checked<'_>,
     now: &Moment,

@@ -16,6 +16,7 @@ mod command;
 mod fault_number;
 mod filter;
 mod headline;
+mod known_verdicts;
 mod laws;
 mod run_fault;
 

@@ -1,6 +1,7 @@
 pub mod BlankLines
 pub mod CostsAlone
 pub mod CostsBut
+pub mod ItemsInPlace
 pub mod NamesAlone
 pub mod OneJudgment
 pub mod RowBounds

@@ -1,3 +1,4 @@
+pub use Rattle.collection_items.specs.JudgedItems
 pub use Rattle.csdl_schema.specs.JsonText
 pub use Rattle.csdl_schema.specs.SchemaModel
 pub use Rattle.edm_entities.specs.Fits

@@ -1,6 +1,6 @@
 -- What a filter says of a row, a line of JSON (OData JSON Format 4.01, sections 4.5 and 7; OData URL Conventions 4.01,
 -- section 5.1.1).
-use Rattle.std.specs.Prelude.{◌≡◌, ◌≢◌, ℕ, List, [], true, Some}
+use Rattle.std.specs.Prelude.{◌≡◌, ◌≢◌, ℕ, List, [], Bool, true, false, Some}
 use Rattle.serde_json.specs.Data.{Data}
 use Rattle.edm_values.specs.MomentParts.{MomentParts}
 use Rattle.edm_values.specs.Val.{Val, boolean}
@@ -40,6 +40,11 @@ JudgesValue filter now json (Judgment.Fault (BadRow.NoEntity fault)) =
     IsRowFault (slots_for_filter filter) (type_name_at filter.schema filter.filtered) json fault
 JudgesValue filter now json (Judgment.Fault (BadRow.NoValue fault)) =
     (outcome : Outcome) × ((fault_outcome fault ≡ Some outcome) × HasOutcome filter now json outcome)
+
+-- a row that is kept or left out
+abbrev pub judgment_where : {F : Type 0} → Bool → Judgment F
+judgment_where true = Judgment.Kept
+judgment_where false = Judgment.LeftOut
 
 -- the line is a JSON value, of which that is said
 pub record JudgesJson (filter : Filter) (now : MomentParts) (line : List ℕ) (judgment : Judgment BadRow) : Type 0 where

@@ -14,6 +14,7 @@
 mod bad_row;
 mod bounded_judge;
 mod filter_rows;
+mod item_rows;
 mod laws;
 mod no_verdict;
 mod row_judge;
@@ -24,6 +25,7 @@ mod rows_in_place;
 pub use bad_row::BadRow;
 pub use bounded_judge::BoundedJudge;
 pub use filter_rows::FilterRows;
+pub use item_rows::verdicts_in_place;
 pub use laws::{rows_are_judged_once, rows_are_reported_once};
 pub use no_verdict::NoVerdict;
 pub use row_judge::RowJudge;

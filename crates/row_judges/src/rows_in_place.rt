@@ -3,14 +3,16 @@ ghost use Rattle.std.specs.Prelude.{◌≡◌, ◌<◌, ◌≤◌, ℕ, List, []
 ghost use Rattle.std.specs.Str.{IsAscii};
 ghost use Rattle.edm_entities.specs.RowReading.{IsLineBut};
 ghost use Rattle.edm_values.specs.declared.sieve.Sieve.{Sieve};
-ghost use Rattle.edm_rows.specs.RowsOfType.{IsLeftOut, IsSameButKept, IsSameReader, names_unkept, row_held};
+ghost use Rattle.edm_rows.specs.RowItems.{IsJsonBut, IsJsonLeftOut};
+ghost use Rattle.edm_rows.specs.RowsOfType.{IsSameButKept, IsSameReader, names_unkept, row_held};
 ghost use Rattle.line_filter.specs.Lines.{IsBlank};
 ghost use Rattle.edm_rows.specs.HeldSchema.{schema_in};
 ghost use Rattle.row_judges.specs.FilterRows.{KeepsNames};
 ghost use Rattle.row_judges.specs.RowAnswer.{ReportsRow};
-ghost use Rattle.row_judges.specs.RowJudgment.{JudgesRow};
+ghost use Rattle.row_judges.specs.RowJudgment.{JudgesRow, JudgesValue};
+ghost use Rattle.serde_json.specs.Data.{Data};
 ghost use Rattle.row_judges.specs.private.RowsInPlace.{AreRowsOf, IsRead, IsSameButSieves, IsTestAt};
-ghost use Rattle.row_judges.specs.private.ValueAnswer.{answer_reported};
+ghost use Rattle.row_judges.specs.private.ValueAnswer.{ReportsValue, answer_reported};
 
 use crate::bad_row::BadRow;
 use crate::no_verdict::NoVerdict;
@@ -220,8 +222,8 @@ impl RowJudge<'_, '_> {
         requires rows { KeepsNames self.now.checked.now rows.now }
         requires ready { rows.now.is_ready ≡ true }
         requires whole { rows.now.is_whole ≡ true }
-        ensures { (line : List ℕ) → IsLineBut line (names_unkept rows.now) (row_held rows.now)
-            → ReportsRow self.now.checked.now self.now.moment.now line (answer_reported result) }
+        ensures { (json : Data) → IsJsonBut json (names_unkept rows.now) (row_held rows.now)
+            → ReportsValue self.now.checked.now self.now.moment.now json (answer_reported result) }
     {
         let entity = rows.entity();
         self.judge_entity(&entity)
@@ -239,13 +241,13 @@ impl RowJudge<'_, '_> {
         reported(self.answer_held(rows))
     }
 
-    /// A law: the filter leaves out each line of which a slot's sieve rejects the value.
+    /// A law: the filter leaves out what a slot's sieve rejects a value of.
     #[inline(always)]
     pub(crate) fn leaves_out(&self, rows: &TypeRows<'_>)
         requires rows { AreRowsOf self.now.checked.now rows.now }
         requires whole { rows.now.is_whole ≡ true }
-        ensures { (line : List ℕ) → IsLeftOut line rows.now
-            → JudgesRow self.now.checked.now self.now.moment.now line Judgment.LeftOut }
+        ensures { (json : Data) → IsJsonLeftOut json rows.now
+            → JudgesValue self.now.checked.now self.now.moment.now json Judgment.LeftOut }
     {
         typed_trees_end_once();
         what_fits_has_its_type();

@@ -1,8 +1,7 @@
 -- For private clauses: the row that is held from line to line.
-use Rattle.std.specs.Prelude.{◌≡◌, ◌⊎◌, ◌≤◌, ℕ, length, List, [], ◌∷◌, true, false, Some, map, slice_get, Bool, Vec}
+use Rattle.std.specs.Prelude.{◌≡◌, ◌⊎◌, ◌+◌, ◌≤◌, ℕ, length, List, [], ◌∷◌, true, false, Some, map, slice_get, Bool, Vec}
 use Rattle.std.specs.declared.alloc.Global.{Global}
 use Rattle.serde_json.specs.Data.{Members, object}
-use Rattle.serde_json.specs.Read.{read}
 use Rattle.json_tokens.specs.LexemesAt.{PassesSpaces}
 use Rattle.csdl_schema.specs.ExpansionView.{StepModel}
 use Rattle.csdl_schema.specs.SchemaModel.{SchemaModel, properties_at}
@@ -12,13 +11,15 @@ use Rattle.edm_row_plans.specs.declared.row_plan.RowPlan.{RowPlan}
 use Rattle.edm_row_plans.specs.declared.type_plan.TypePlan.{TypePlan}
 use Rattle.edm_entities.specs.private.Passed.{IsRowValue}
 use Rattle.edm_rows.specs.HeldSchema.{schema_in}
-use Rattle.edm_rows.specs.RowsOfType.{RowsOfType}
+use Rattle.edm_rows.specs.RowItems.{IsJsonBut, IsJsonLeftOut, ValueStands}
+use Rattle.edm_rows.specs.RowsOfType.{RowsOfType, names_unkept, row_held}
 use Rattle.edm_values.specs.declared.sieve.Sieve.{Sieve}
 use Rattle.edm_values.specs.declared.value.Value.{Value, Record}
 use Rattle.edm_rows.specs.declared.kept_leaf.Taken.{Taken}
 use Rattle.edm_rows.specs.declared.kept_leaf.Taken.TheVariants.{Broken, Nothing, Put, Rejected}
 use Rattle.edm_rows.specs.declared.passed_value.ReadContext.{ReadContext}
-use Rattle.edm_rows.specs.private.KeptRows.{TakesFound}
+use Rattle.edm_rows.specs.private.Held.{ReadsTo}
+use Rattle.edm_rows.specs.private.KeptRows.{TakesFound, TakesRow}
 use Rattle.edm_rows.specs.declared.row_types.RowSlot.{RowSlot}
 use Rattle.edm_rows.specs.declared.row_types.RowType.{RowType}
 use Rattle.edm_rows.specs.declared.type_rows.TypeRows.TheInside.{Inside}
@@ -79,31 +80,6 @@ pub record IsRowsOfType (rows : Inside) : Type 0 where
       × IsRowValue (slots_at (schema_in rows.schema) rows.plan.expansion (Some 0))
       (properties_at (schema_in rows.schema) rows.plan.type_id) rows.row
 
--- the line is the text of an object, of which a value is rejected, or which the values of these slots fit but for those
--- that are not kept
-abbrev pub ReadsSlots : ReadContext → Bool → List Value → Type 0
-ReadsSlots context is_left_out values =
-    (type : RowType) × (slice_get context.types.now 0 ≡ Some type)
-    × ((found : Members) × (read context.line ≡ Some (object found)) × TakesFound context type is_left_out values found)
-
--- the same of a row's
-abbrev pub ReadsLine : ReadContext → Bool → Value → Type 0
-ReadsLine context is_left_out row =
-    (values : Vec Value Global) × (row ≡ Record values) × ReadsSlots context is_left_out values.items
-
--- what became of a line whose values were put into slots, and into a row
-abbrev pub TakesSlots : ReadContext → List Value → Taken → Type 0
-TakesSlots context values Nothing = Unit {0}
-TakesSlots context values Broken = Unit {0}
-TakesSlots context values (Put to) = ReadsSlots context false values
-TakesSlots context values (Rejected to) = ReadsSlots context true values
-
-abbrev pub TakesLine : ReadContext → Value → Taken → Type 0
-TakesLine context row Nothing = Unit {0}
-TakesLine context row Broken = Unit {0}
-TakesLine context row (Put to) = ReadsLine context false row
-TakesLine context row (Rejected to) = ReadsLine context true row
-
 -- what was taken of a line ends within it
 abbrev pub IsTakenWithin : List ℕ → Taken → Type 0
 IsTakenWithin line (Put to) = to ≤ length line
@@ -115,3 +91,33 @@ abbrev pub IsTakenWhole : List ℕ → Taken → Type 0
 IsTakenWhole line (Put to) = PassesSpaces line to (length line)
 IsTakenWhole line (Rejected to) = PassesSpaces line to (length line)
 IsTakenWhole line _ = Unit {0}
+
+-- what became of the members of a row of the first type
+abbrev pub TakesMembers : ReadContext → List Value → ℕ → Taken → Type 0
+TakesMembers context values from taken =
+    (type : RowType) × (slice_get context.types.now 0 ≡ Some type) × TakesRow context type values from taken
+
+-- from one offset to the other stands an object, of which a value is rejected, or which the row's values fit but for
+-- those that are not kept
+abbrev pub ReadsObject : ReadContext → Bool → Value → ℕ → ℕ → Type 0
+ReadsObject context is_left_out row from to =
+    (values : Vec Value Global) × (row ≡ Record values)
+    × ((type : RowType) × (slice_get context.types.now 0 ≡ Some type)
+    × ReadsTo (context.depth + 1) context.line from to (λ json. (found : Members) × (json ≡ object found)
+    × TakesFound context type is_left_out values.items found))
+
+-- what became of the row that begins at an offset
+abbrev pub TakesObject : ReadContext → Value → ℕ → Taken → Type 0
+TakesObject context row from Nothing = Unit {0}
+TakesObject context row from Broken = Unit {0}
+TakesObject context row from (Put to) = ReadsObject context false row from to
+TakesObject context row from (Rejected to) = ReadsObject context true row from to
+
+-- what was read of a row that begins at an offset of a text, in which its members may nest so deep
+abbrev pub ReadsRowAt : ℕ → List ℕ → ℕ → RowsOfType → Taken → Type 0
+ReadsRowAt depth text place rows Nothing = Unit {0}
+ReadsRowAt depth text place rows Broken = Unit {0}
+ReadsRowAt depth text place rows (Put to) =
+    ValueStands (depth + 1) text place to (λ json. IsJsonBut json (names_unkept rows) (row_held rows))
+ReadsRowAt depth text place rows (Rejected to) =
+    ValueStands (depth + 1) text place to (λ json. IsJsonLeftOut json rows)

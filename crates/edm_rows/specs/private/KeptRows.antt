@@ -128,7 +128,7 @@ TakesFound context type is_left_out values found =
 abbrev pub ReadsRow : ReadContext → RowType → Bool → List Value → ℕ → ℕ → Type 0
 ReadsRow context type is_left_out values from to =
     PassesTo context.line from to
-    × ReadsMembers 126 (tokens_at Fresh context.line from) (tokens_at AfterValue context.line to)
+    × ReadsMembers context.depth (tokens_at Fresh context.line from) (tokens_at AfterValue context.line to)
     (TakesFound context type is_left_out values)
 
 -- what became of a row

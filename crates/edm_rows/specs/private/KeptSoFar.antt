@@ -48,7 +48,7 @@ pub record KeptUpTo
   pub filled : List Bool
   pub long : length filled ≡ length (root_properties context)
   pub marks : SameMarks seen filled
-  pub members : MembersUpTo 126 context.line from place (SoFar context rows is_left_out seen filled values)
+  pub members : MembersUpTo context.depth context.line from place (SoFar context rows is_left_out seen filled values)
 
 pub record KeptRead
     (context : ReadContext) (rows : List RowSlot) (from end seen : ℕ) (is_left_out : Bool)
@@ -56,7 +56,7 @@ pub record KeptRead
   pub filled : List Bool
   pub long : length filled ≡ length (root_properties context)
   pub marks : SameMarks seen filled
-  pub members : MembersRead 126 context.line from end (SoFar context rows is_left_out seen filled values)
+  pub members : MembersRead context.depth context.line from end (SoFar context rows is_left_out seen filled values)
 
 -- the same of how far it was read
 abbrev pub IsUpTo : ReadContext → RowType → Bool → ℕ → List Value → Progress → Type 0

@@ -24,7 +24,7 @@ use Rattle.row_judges.specs.RowAnswer.{PassesNone}
 use Rattle.row_judges.specs.RowCosts.{FilterCosts, HasCost}
 use Rattle.row_judges.proofs.RowLemmas.CostsAlone.{costs_same}
 use Rattle.row_judges.proofs.RowLemmas.RowJudges.{IsRowOf}
-use Rattle.row_judges.proofs.RowLemmas.RowsBut.{IsRowBut, fits_but, row_but, steps_same, tree_none}
+use Rattle.row_judges.proofs.RowLemmas.RowsBut.{IsRowBut, fits_but, of_line, row_but, steps_same, tree_none}
 
 -- an entity with what the filter needs of a line, on which it costs what it costs on the line's value
 pub record IsRowCosting (filter : Filter) (now : MomentParts) (json : Data) (row : Row) : Type 0 where
@@ -90,9 +90,9 @@ kept_costs filter now line Passed row schema_is type_is paths passes read =
     let same : Costs (slots_of row.schema) (type_name_at row.schema row.type_id) now (value_of row) [] tree ≡ Costs (slots_of row.schema) (type_name_at row.schema row.type_id) now (fields read.whole) [] tree =
     ap (λ (v : Val). Costs (slots_of row.schema) (type_name_at row.schema row.type_id) now v [] tree) read.value_is ∙ costs_alike filter Passed row.schema row.type_id now read.kept read.whole passes read.agrees in
     record {
-      reported = row_but filter now line Passed row schema_is type_is paths passes read;
+      reported = row_but filter now read.json Passed row schema_is type_is paths passes (of_line line Passed row read);
       whole = fields read.whole;
-      fits = fits_but filter line Passed row schema_is type_is paths read;
+      fits = fits_but filter read.json Passed row schema_is type_is paths (of_line line Passed row read);
       costs = λ k holds. moved filter row schema_is type_is (At k) (subst (λ (C : ℕ → Type 0). C k) same holds);
       costed = λ k holds. subst (λ (C : ℕ → Type 0). C k) (sym same) (moved_back filter row schema_is type_is (At k) holds);
     }

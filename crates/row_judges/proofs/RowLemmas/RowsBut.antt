@@ -13,6 +13,7 @@ use Rattle.edm_entities.specs.Fits.{Fits}
 use Rattle.edm_entities.specs.Row.{Row, value_of}
 use Rattle.edm_entities.specs.RowReading.{IsLineBut}
 use Rattle.edm_row_plans.specs.PassedNames.{Names}
+use Rattle.edm_rows.specs.RowItems.{IsJsonBut}
 use Rattle.odata_checked_filter.specs.Filter.{Filter, slots_for_filter, tree_of_filter}
 use Rattle.odata_checked_filter.specs.declared.checked_node.CheckedNode.{CheckedNode}
 use Rattle.odata_checked_filter.specs.declared.checked_node.NodeKind.{NodeKind}
@@ -75,20 +76,24 @@ pub record IsRowBut (filter : Filter) (now : MomentParts) (json : Data) (row : R
       (o : Outcome) → (Means (slots_of filter.schema) (type_name_at filter.schema filter.filtered) now whole [] (tree_of_filter filter) o
       → Means (slots_of row.schema) (type_name_at row.schema row.type_id) now (value_of row) [] (tree_of_filter filter) o)
 
--- the line's value fits as the filter needs it
-pub fits_but : (filter : Filter) (line : List ℕ) (Passed : Names) (row : Row) → row.schema ≡ filter.schema → row.type_id ≡ filter.filtered
-    → ((path : PropertyPath) → paths_in row.expansion path ≡ paths_in filter.expansion path) → (read : IsLineBut line Passed row)
-    → Fits (slots_for_filter filter) (type_name_at filter.schema filter.filtered) read.json (fields read.whole)
-fits_but filter line Passed row schema_is type_is paths read =
+-- what is known of a line is known of its JSON
+abbrev pub of_line : (line : List ℕ) (Passed : Names) (row : Row) → (read : IsLineBut line Passed row) → IsJsonBut read.json Passed row
+of_line line Passed row read = record { whole = read.whole; fits = read.fits; kept = read.kept; value_is = read.value_is; agrees = read.agrees }
+
+-- the JSON fits as the filter needs it
+pub fits_but : (filter : Filter) (json : Data) (Passed : Names) (row : Row) → row.schema ≡ filter.schema → row.type_id ≡ filter.filtered
+    → ((path : PropertyPath) → paths_in row.expansion path ≡ paths_in filter.expansion path) → (read : IsJsonBut json Passed row)
+    → Fits (slots_for_filter filter) (type_name_at filter.schema filter.filtered) json (fields read.whole)
+fits_but filter json Passed row schema_is type_is paths read =
     let whole = fields read.whole in
-    let Paths : PathSet → Type 0 = λ p. Fits (expanded (slots_of row.schema) p) (type_name_at row.schema row.type_id) read.json whole in
-    let Schema : SchemaModel → Type 0 = λ s. Fits (expanded (slots_of s) (paths_in filter.expansion)) (type_name_at s row.type_id) read.json whole in
-    let Place : ℕ → Type 0 = λ n. Fits (slots_for_filter filter) (type_name_at filter.schema n) read.json whole in
+    let Paths : PathSet → Type 0 = λ p. Fits (expanded (slots_of row.schema) p) (type_name_at row.schema row.type_id) json whole in
+    let Schema : SchemaModel → Type 0 = λ s. Fits (expanded (slots_of s) (paths_in filter.expansion)) (type_name_at s row.type_id) json whole in
+    let Place : ℕ → Type 0 = λ n. Fits (slots_for_filter filter) (type_name_at filter.schema n) json whole in
     subst Place type_is (subst Schema schema_is (subst Paths (fun_ext paths) read.fits))
 
-pub row_but : (filter : Filter) (now : MomentParts) (line : List ℕ) (Passed : Names) (row : Row) → row.schema ≡ filter.schema → row.type_id ≡ filter.filtered
-    → ((path : PropertyPath) → paths_in row.expansion path ≡ paths_in filter.expansion path) → PassesNone filter Passed → (read : IsLineBut line Passed row) → IsRowBut filter now read.json row
-row_but filter now line Passed row schema_is type_is paths passes read =
+pub row_but : (filter : Filter) (now : MomentParts) (json : Data) (Passed : Names) (row : Row) → row.schema ≡ filter.schema → row.type_id ≡ filter.filtered
+    → ((path : PropertyPath) → paths_in row.expansion path ≡ paths_in filter.expansion path) → PassesNone filter Passed → (read : IsJsonBut json Passed row) → IsRowBut filter now json row
+row_but filter now json Passed row schema_is type_is paths passes read =
     let whole = fields read.whole in
     let tree = tree_of_filter filter in
     let At : SchemaModel → ℕ → Outcome → Type 0 = λ s n o. Means (slots_of s) (type_name_at s n) now whole [] tree o in
@@ -98,7 +103,7 @@ row_but filter now line Passed row schema_is type_is paths passes read =
       same_schema = schema_is;
       same_type = type_is;
       whole = whole;
-      fits = fits_but filter line Passed row schema_is type_is paths read;
+      fits = fits_but filter json Passed row schema_is type_is paths read;
       means = λ o holds. subst (λ n. At filter.schema n o) type_is (subst (λ s. At s row.type_id o) schema_is (subst (λ (M : Outcome → Type 0). M o) same holds));
       meant = λ o holds. subst (λ (M : Outcome → Type 0). M o) (sym same) (subst (λ s. At s row.type_id o) (sym schema_is) (subst (λ n. At filter.schema n o) (sym type_is) holds));
     }

@@ -13,6 +13,7 @@ use Rattle.edm_entities.specs.Fits.{Fits}
 use Rattle.edm_entities.specs.Row.{slots_for}
 use Rattle.edm_entities.specs.RowReading.{IsLineBut}
 use Rattle.edm_row_plans.specs.PassedNames.{Names}
+use Rattle.edm_rows.specs.RowItems.{IsJsonBut, IsJsonLeftOut}
 use Rattle.edm_rows.specs.RowsOfType.{IsLeftOut, IsSameButKept, IsSameReader, RowsOfType, names_unkept, row_held}
 use Rattle.edm_rows.specs.declared.type_rows.Reading.{Reading}
 use Rattle.edm_values.specs.declared.sieve.Sieve.{Sieve}
@@ -29,16 +30,17 @@ use Rattle.odata_filter_operations.specs.Outcome.{Outcome, gives}
 use Rattle.odata_filter_operations.specs.declared.fault.EvalFault.{EvalFault}
 use Rattle.row_judges.specs.RowAnswer.{PassesNone, ReportsRow, judgment_reported}
 use Rattle.row_judges.specs.RowCosts.{ReportsRowWithin}
-use Rattle.row_judges.specs.RowJudgment.{FilterMeans, JudgesRow}
+use Rattle.row_judges.specs.RowJudgment.{FilterMeans, JudgesRow, JudgesValue}
 use Rattle.row_judges.specs.FilterRows.{KeepsNames}
 use Rattle.row_judges.specs.private.RowsInPlace.{AreRowsOf, IsRead, IsSameButSieves, IsTestAt}
-use Rattle.row_judges.specs.private.ValueAnswer.{answer_reported}
+use Rattle.row_judges.specs.private.ValueAnswer.{ReportsValue, answer_reported}
 use Rattle.row_judges.specs.private.BoundedJudge.{stop_reported}
+use Rattle.row_judges.specs.declared.no_verdict.NoVerdict.{NoVerdict}
 use Rattle.row_judges.proofs.RowLemmas.CostsBut.{kept_costs}
 use Rattle.row_judges.proofs.RowLemmas.RowBounds.{answer_within_row, row_within}
 use Rattle.row_judges.proofs.RowLemmas.BlankLines.{json_not_blank}
 use Rattle.row_judges.proofs.RowLemmas.RowJudges.{row_judged, row_reported}
-use Rattle.row_judges.proofs.RowLemmas.RowsBut.{answer_but, row_but}
+use Rattle.row_judges.proofs.RowLemmas.RowsBut.{answer_but, of_line, row_but}
 use Rattle.row_judges.proofs.RowLemmas.SlotTests.{each_sieve, slot_of_name}
 
 -- the law of what fits and its type, as it is cited
@@ -160,18 +162,23 @@ module _ (filter : Filter) where
     answer_not_blank line (Err EvalFault.DivideByZero) reported = json_not_blank line reported.json reported.is_json
     answer_not_blank line (Err EvalFault.Memory) reported = tt
 
+    -- what is reported of each JSON that the held row stands for is reported of its line
+    pub line_reported : (rows : RowsOfType) (answer : Result Verdict NoVerdict) → ((json : Data) → IsJsonBut json (names_unkept rows) (row_held rows) → ReportsValue filter now json answer)
+        → (line : List ℕ) → IsLineBut line (names_unkept rows) (row_held rows) → ReportsRow filter now line answer
+    line_reported rows answer reported line read = row_reported filter now line read.json answer read.is_json (reported read.json (of_line line (names_unkept rows) (row_held rows) read))
+
     -- ---- a row that is held
 
     module _ (rows : RowsOfType) (names : KeepsNames filter rows) (whole : rows.is_whole ≡ true) where
       paths_same : (path : PropertyPath) → paths_in rows.expansion path ≡ paths_in filter.expansion path
       paths_same path = ap (λ (steps : List StepModel). paths_in steps path) (names.whole whole)
 
-      -- what a filter's answer to the held row reports of its line
-      pub held_reported : (line : List ℕ) (answer : Result Verdict EvalFault) → IsLineBut line (names_unkept rows) (row_held rows) → IfSome (reported_outcome answer) (IsTheOutcome (row_held rows) now (tree_of_filter filter))
-          → ReportsRow filter now line (answer_reported answer)
-      held_reported line answer read outcome =
-          let but = row_but filter now line (names_unkept rows) (row_held rows) names.schema names.type_id paths_same names.keeps read in
-          row_reported filter now line read.json (answer_reported answer) read.is_json (answer_but filter now read.json (row_held rows) answer but outcome)
+      -- what a filter's answer to the held row reports of its JSON
+      pub held_reported : (json : Data) (answer : Result Verdict EvalFault) → IsJsonBut json (names_unkept rows) (row_held rows) → IfSome (reported_outcome answer) (IsTheOutcome (row_held rows) now (tree_of_filter filter))
+          → ReportsValue filter now json (answer_reported answer)
+      held_reported json answer read outcome =
+          let but = row_but filter now json (names_unkept rows) (row_held rows) names.schema names.type_id paths_same names.keeps read in
+          answer_but filter now json (row_held rows) answer but outcome
 
       -- and within a bound
       pub held_within : (line : List ℕ) (most : ℕ) (answer : Result Verdict EvalStop) → IsLineBut line (names_unkept rows) (row_held rows) → IfSome (outcome_reported answer) (IsTheOutcome (row_held rows) now (tree_of_filter filter))
@@ -179,6 +186,15 @@ module _ (filter : Filter) where
       held_within line most answer read outcome bound =
           let costs = kept_costs filter now line (names_unkept rows) (row_held rows) names.schema names.type_id paths_same names.keeps read in
           row_within filter now line read.json most (stop_reported answer) read.is_json (answer_within_row filter now read.json (row_held rows) most answer costs outcome bound)
+
+    -- what is known of a line that is left out is known of its JSON
+    of_left : (rows : RowsOfType) (line : List ℕ) → (left : IsLeftOut line rows) → IsJsonLeftOut left.json rows
+    of_left rows line left =
+        record { whole = left.whole; fits = left.fits; slot = left.slot; name = left.name; named = left.named; sieve = left.sieve; is_sieve = left.is_sieve; value = left.value; held = left.held; rejected = left.rejected }
+
+    -- what is said of each JSON that was left out is said of its line
+    pub line_left_out : (rows : RowsOfType) → ((json : Data) → IsJsonLeftOut json rows → JudgesValue filter now json Judgment.LeftOut) → (line : List ℕ) → IsLeftOut line rows → JudgesRow filter now line Judgment.LeftOut
+    line_left_out rows said line left = record { json = left.json; is_json = left.is_json; judged = said left.json (of_left rows line left) }
 
     module _ (rows : RowsOfType) (of : AreRowsOf filter rows) (whole : rows.is_whole ≡ true) where
       -- ---- a row that is left out
@@ -196,29 +212,24 @@ module _ (filter : Filter) where
           (subst (λ (n : ℕ). slice_get (property_names filter.schema n) slot ≡ Some name) of.names.type_id (subst (λ (s : SchemaModel). slice_get (property_names s rows.type_id) slot ≡ Some name) of.names.schema at))
 
       -- of whatever the line fits, the filter is false and nothing else
-      pub left_out_said : TypedEndsOnce → FitsHasType → IsFilter filter → IsMoment now.civil now.offset_minutes → (line : List ℕ) → IsLeftOut line rows → JudgesRow filter now line Judgment.LeftOut
-      left_out_said ends has_type is_filter is_moment line left =
+      pub left_out_said : TypedEndsOnce → FitsHasType → IsFilter filter → IsMoment now.civil now.offset_minutes → (json : Data) → IsJsonLeftOut json rows → JudgesValue filter now json Judgment.LeftOut
+      left_out_said ends has_type is_filter is_moment json left =
           let slots = slots_of filter.schema in
           let root = type_name_at filter.schema filter.filtered in
           let value = fields left.whole in
-          let fits = fits_there left.json value left.fits in
+          let fits = fits_there json value left.fits in
           let test : IsTestAt filter left.slot left.sieve = subst (λ o. IfSome o (IsTestAt filter left.slot)) left.is_sieve (of.tests left.slot) in
           let false_only : (o : Outcome) → FilterMeans filter now value o → o ≡ gives (boolean false) =
           λ o means. test left.name (slot_there left.slot left.name left.named) now left.whole left.value o left.held left.rejected means in
-          let once = ends slots root now value [] (tree_of_filter filter) is_filter.type_of is_moment (has_type slots (paths_in filter.expansion) root left.json value fits) tt is_filter.typed in
-          record {
-            json = left.json;
-            is_json = left.is_json;
-            judged = (
-              boolean false,
-              (
-                (λ e. cc),
-                record {
-                  value = value;
-                  fits = fits;
-                  related = subst (λ (o : Outcome). FilterMeans filter now value o) (false_only once.outcome once.related) once.related;
-                  only = false_only;
-                },
-              ),
-            );
-          }
+          let once = ends slots root now value [] (tree_of_filter filter) is_filter.type_of is_moment (has_type slots (paths_in filter.expansion) root json value fits) tt is_filter.typed in (
+            boolean false,
+            (
+              (λ e. cc),
+              record {
+                value = value;
+                fits = fits;
+                related = subst (λ (o : Outcome). FilterMeans filter now value o) (false_only once.outcome once.related) once.related;
+                only = false_only;
+              },
+            ),
+          )

@@ -8,15 +8,15 @@ take_sure-sure-requires-clause-primitive c = root_primitive c.args.context.now c
 
 pub returns-then-place-from-clause-taken : goal.returns-then-place-from-clause-taken
 returns-then-place-from-clause-taken c =
-    value_from c.args.context.now c.args.slot.now 126 c.args.from c.past_blanks-place.result c.args.value.now c.take_seldom.new.value c.take_seldom.result c.past_blanks-place.ensures c.take_seldom.ensures.taken
+    value_from c.args.context.now c.args.slot.now c.args.context.now.depth c.args.from c.past_blanks-place.result c.args.value.now c.take_seldom.new.value c.take_seldom.result c.past_blanks-place.ensures c.take_seldom.ensures.taken
 
 pub returns-in-Nothing-clause-taken : goal.returns-in-Nothing-clause-taken
 returns-in-Nothing-clause-taken c =
     let context = c.args.context.now in
     let slot = c.args.slot.now in
     let place = c.past_blanks-place.result in
-    value_from context slot 126 c.args.from place c.args.value.now c.take_seldom-in-Nothing.new.value c.take_seldom-in-Nothing.result c.past_blanks-place.ensures
-    (subst (λ old. TakesValue context slot 126 old c.take_seldom-in-Nothing.new.value place c.take_seldom-in-Nothing.result) (c.take_sure-sure.ensures.none c.in-Nothing.is) c.take_seldom-in-Nothing.ensures.taken)
+    value_from context slot context.depth c.args.from place c.args.value.now c.take_seldom-in-Nothing.new.value c.take_seldom-in-Nothing.result c.past_blanks-place.ensures
+    (subst (λ old. TakesValue context slot context.depth old c.take_seldom-in-Nothing.new.value place c.take_seldom-in-Nothing.result) (c.take_sure-sure.ensures.none c.in-Nothing.is) c.take_seldom-in-Nothing.ensures.taken)
 
 pub returns-in-Nothing-clause-goes_on : goal.returns-in-Nothing-clause-goes_on
 returns-in-Nothing-clause-goes_on c whole =
@@ -24,7 +24,7 @@ returns-in-Nothing-clause-goes_on c whole =
 
 pub returns-clause-taken : goal.returns-clause-taken
 returns-clause-taken c =
-    value_from c.args.context.now c.args.slot.now 126 c.args.from c.past_blanks-place.result c.args.value.now c.take_sure-sure.new.value c.take_sure-sure.result c.past_blanks-place.ensures (c.take_sure-sure.ensures.taken c.args.context.now 126 refl c.requires.slot)
+    value_from c.args.context.now c.args.slot.now c.args.context.now.depth c.args.from c.past_blanks-place.result c.args.value.now c.take_sure-sure.new.value c.take_sure-sure.result c.past_blanks-place.ensures (c.take_sure-sure.ensures.taken c.args.context.now c.args.context.now.depth refl c.requires.slot)
 
 pub returns-clause-goes_on : goal.returns-clause-goes_on
 returns-clause-goes_on c whole = c.take_sure-sure.ensures.goes_on c.args.context.now c.requires.slot whole

@@ -8,14 +8,14 @@ take_sure-sure-requires-clause-primitive c = root_primitive c.args.context.now c
 
 pub returns-in-Nothing-clause-taken : goal.returns-in-Nothing-clause-taken
 returns-in-Nothing-clause-taken c =
-    subst (λ old. TakesValue c.args.context.now c.args.slot.now 126 old c.take_other.new.value c.args.place c.take_other.result) (c.take_sure-sure.ensures.none c.in-Nothing.is) c.take_other.ensures.taken
+    subst (λ old. TakesValue c.args.context.now c.args.slot.now c.args.context.now.depth old c.take_other.new.value c.args.place c.take_other.result) (c.take_sure-sure.ensures.none c.in-Nothing.is) c.take_other.ensures.taken
 
 pub returns-in-Nothing-clause-goes_on : goal.returns-in-Nothing-clause-goes_on
 returns-in-Nothing-clause-goes_on c whole =
     subst (λ old. GoesOn c.args.context.now c.args.slot.now old c.take_other.new.value) (c.take_sure-sure.ensures.none c.in-Nothing.is) (c.take_other.ensures.goes_on whole)
 
 pub returns-clause-taken : goal.returns-clause-taken
-returns-clause-taken c = c.take_sure-sure.ensures.taken c.args.context.now 126 refl c.requires.slot
+returns-clause-taken c = c.take_sure-sure.ensures.taken c.args.context.now c.args.context.now.depth refl c.requires.slot
 
 pub returns-clause-goes_on : goal.returns-clause-goes_on
 returns-clause-goes_on c whole = c.take_sure-sure.ensures.goes_on c.args.context.now c.requires.slot whole

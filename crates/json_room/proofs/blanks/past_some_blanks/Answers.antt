@@ -1,7 +1,7 @@
-use Rattle.std.proofs.Common.{◌≡◌, ◌<◌, length, get_or, true, sym, ap, ◌∙◌, subst}
+use Rattle.std.proofs.Common.{rules, ◌≡◌, ◌<◌, length, get_or, true, sym, ap, ◌∙◌}
+use Rattle.std.proofs.lemmas.List.{get_or_default}
 use Rattle.json.specs.Word.{is_space}
 use Rattle.json_tokens.proofs.LexemeLemmas.{one_more_space, stay}
-use Rattle.json_room.proofs.RoomLemmas.{other_default, within_byte}
 use Rattle.json_room.proofs.blanks.past_some_blanks.Goals as goal
 
 pub loop-place-init : goal.loop-place-init
@@ -11,8 +11,6 @@ pub loop-place-preserved : goal.loop-place-preserved
 loop-place-preserved c =
     let l = c.loop-place in
     let d = c.args.line.now in
-    let here = c.byte.ensures.here in
-    let other = c.is_blank.ensures.within c.loop-place-test.true in
-    let within : l.place < length d = within_byte d l.place c.byte.result (sym here) other in
-    let white : is_space (get_or d l.place 32) ≡ true = ap is_space (other_default d l.place c.byte.result (sym here) other) ∙ c.is_blank.ensures.space c.loop-place-test.true in
+    let within : l.place < length d = search rules in
+    let white : is_space (get_or d l.place 32) ≡ true = ap is_space (sym (get_or_default d l.place 10 32 within) ∙ sym c.byte.ensures.here) ∙ c.is_blank.ensures (search rules) in
     one_more_space d c.args.from l.place within white l.invariant

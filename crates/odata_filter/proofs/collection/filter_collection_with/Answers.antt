@@ -1,42 +1,22 @@
-use Rattle.std.proofs.Common.{Err, ap, ◌∙◌}
-use Rattle.std.proofs.lemmas.Result.{err_from_is_err_and}
-use Rattle.serde_json.specs.View.{view}
-use Rattle.odata_filter.proofs.RowLemmas.DeviceCalls.{no_writes, unjudged_writes, writes_until_fault}
-use Rattle.odata_filter.proofs.RowLemmas.Collections.{collection_filtered, collection_of, collection_stopped, no_array, unjudged}
+use Rattle.std.proofs.Common.{List, Bool, sym, subst}
+use Rattle.serde_json.specs.Data.{Data}
+use Rattle.collection_items.specs.JudgedItems.{AreJudged, IsArrayIn}
+use Rattle.row_judges.specs.RowJudgment.{JudgesValue, judgment_where}
+use Rattle.odata_filter.proofs.RowLemmas.KnownCollections.{filtered_so, stopped_so}
 use Rattle.odata_filter.proofs.collection.filter_collection_with.Goals as goal
 
-pub returns-in_err-json-clause-stops : goal.returns-in_err-json-clause-stops
-returns-in_err-json-clause-stops g c =
-    let exit = err_from_is_err_and c.from_residual.result c.from_residual.ensures.1 in
-    rw (exit.1 ∙ ap Err exit.2) (unjudged c.args.checked.now c.args.now.now c.args.document.now _ c.in_err-json.field-0.0 c.in_err-json.ensures.fault)
+pub returns-in-Some-clause-filters : goal.returns-in-Some-clause-filters
+returns-in-Some-clause-filters g c =
+    let filter = c.args.checked.now in
+    let now = c.args.now.now in
+    let document = c.args.document.now in
+    let known = subst (λ (flags : List Bool). (items : List Data) × IsArrayIn document items × AreJudged (λ json kept. JudgesValue filter now json (judgment_where kept)) items flags) (sym c.as_slice.ensures.value) c.in-Some.ensures.judged in
+    filtered_so filter now document c.as_slice.result.now (g.W.Write.contents c.args.out.now) (g.W.Write.contents c.filter_known.new.out) c.in-Some.ensures.utf8 known c.filter_known.result c.filter_known.ensures.filters
 
-pub returns-in-None-clause-stops : goal.returns-in-None-clause-stops
-returns-in-None-clause-stops g c =
-    no_array c.args.checked.now c.args.now.now c.args.document.now _ (view c.in_ok-json.json) c.array_of.result c.in_ok-json.ensures.json c.array_of.ensures c.in-None.is
-
-pub returns-in-Ok-clause-filters : goal.returns-in-Ok-clause-filters
-returns-in-Ok-clause-filters g c =
-    let (text, wrote, filtered) = c.in-Ok.ensures.filters in
-    let is = collection_of c.args.document.now (view c.in_ok-json.json) c.array_of.result c.in-Some.items c.deref.result.now c.in_ok-json.ensures.json c.array_of.ensures c.in-Some.is c.deref.ensures.value in
-    (text, wrote, collection_filtered c.args.checked.now c.args.now.now c.args.document.now c.deref.result.now is text c.in-Ok.tally filtered)
-
-pub returns-clause-stops : goal.returns-clause-stops
-returns-clause-stops g c =
-    let (text, wrote, stops) = c.in-Err.ensures.stops in
-    let is = collection_of c.args.document.now (view c.in_ok-json.json) c.array_of.result c.in-Some.items c.deref.result.now c.in_ok-json.ensures.json c.array_of.ensures c.in-Some.is c.deref.ensures.value in (
-      text,
-      wrote,
-      collection_stopped c.args.checked.now c.args.now.now c.args.document.now c.deref.result.now is text c.run_fault.result c.in-Err.stop c.run_fault.ensures stops,
-    )
-
-pub returns-in_err-json-clause-writes : goal.returns-in_err-json-clause-writes
-returns-in_err-json-clause-writes g c =
-    let exit = err_from_is_err_and c.from_residual.result c.from_residual.ensures.1 in
-    rw (exit.1 ∙ ap Err exit.2) (unjudged_writes c.args.document.now (g.T.Writes.calls c.args.out.now) c.in_err-json.field-0.0 c.in_err-json.ensures.fault)
-
-pub returns-in-None-clause-writes : goal.returns-in-None-clause-writes
-returns-in-None-clause-writes g c = no_writes (g.T.Writes.calls c.args.out.now)
-
-pub returns-clause-writes : goal.returns-clause-writes
-returns-clause-writes g c =
-    writes_until_fault (g.T.Writes.calls c.args.out.now) (g.T.Writes.calls c.filter_places.new.out) c.run_fault.result c.in-Err.stop c.run_fault.ensures c.in-Err.ensures.writes
+pub returns-in-Some-clause-stops : goal.returns-in-Some-clause-stops
+returns-in-Some-clause-stops g c =
+    let filter = c.args.checked.now in
+    let now = c.args.now.now in
+    let document = c.args.document.now in
+    let known = subst (λ (flags : List Bool). (items : List Data) × IsArrayIn document items × AreJudged (λ json kept. JudgesValue filter now json (judgment_where kept)) items flags) (sym c.as_slice.ensures.value) c.in-Some.ensures.judged in
+    stopped_so filter now document c.as_slice.result.now (g.W.Write.contents c.args.out.now) (g.W.Write.contents c.filter_known.new.out) c.in-Some.ensures.utf8 known c.filter_known.result c.filter_known.ensures.stops

@@ -6,7 +6,7 @@ use Rattle.std.proofs.lemmas.Option.{slice_get-get_or, slice_get-map, slice_get_
 use Rattle.odata_filter.specs.FaultNumbers.{name_at, names_of, unless_empty}
 use Rattle.odata_filter.proofs.fault_number.fault_name.Goals as goal
 
--- the name of a number that is not 0 stands one place before it, unless it is empty
+-- the name of a number that is not 0 stands at the index one less, unless it is empty
 name_before : (names : List (List ℕ)) (n : ℕ) → 0 < n → name_at names n ≡ option_and_then unless_empty (slice_get names (n - 1))
 name_before names zero some = absurd (omega arith)
 name_before names (suc k) some = let same : k ≡ suc k - 1 = omega arith in ap (λ (place : ℕ). option_and_then unless_empty (slice_get names place)) same

@@ -1,68 +1,38 @@
-use Rattle.std.proofs.Common.{◌≡◌, List, Some, ap, sym, ◌∙◌, subst}
-use Rattle.csdl_schema.specs.SchemaModel.{SchemaModel, properties_at}
-use Rattle.edm_entities.specs.RowReading.{IsLineBut}
-use Rattle.edm_entities.specs.private.Passed.{IsRowValue}
-use Rattle.edm_row_plans.specs.Expanded.{slots_at}
-use Rattle.edm_row_plans.specs.Plans.{IsPlanOf}
-use Rattle.edm_rows.specs.HeldSchema.{schema_in}
-use Rattle.edm_rows.specs.RowsOfType.{IsLeftOut, RowsOfType, names_unkept, row_held}
-use Rattle.edm_rows.specs.declared.row_types.RowType.{RowType}
-use Rattle.edm_rows.specs.private.HeldRows.{AreTypesOf, HasFirstType, rows_seen}
-use Rattle.edm_rows.specs.private.KnownTexts.{AreKnown}
-use Rattle.edm_rows.proofs.RowsRead.{row_left_out, row_taken}
-use Rattle.edm_rows.proofs.RowsStay.{reader_stays}
-use Rattle.edm_rows.proofs.TypesChanged.{first_distinct}
+use Rattle.std.proofs.Common.{◌≡◌, ◌≤◌, ℕ, List, length, sym, ◌∙◌, subst}
+use Rattle.json_tokens.specs.LexemesAt.{PassesSpaces}
+use Rattle.edm_rows.specs.declared.kept_leaf.Taken.{Taken}
+use Rattle.edm_rows.specs.private.HeldRows.{IsTakenWhole, IsTakenWithin}
+use Rattle.edm_rows.proofs.RowsRead.{ends_within, line_kept, line_left_out}
 use Rattle.edm_rows.proofs.type_rows.TypeRows.read_text.Goals as goal
 
-pub take_row-taken-requires-clause-first : goal.take_row-taken-requires-clause-first
-take_row-taken-requires-clause-first c =
-    let rows = c.self.inside in
-    let held = c.self.invariant.ready (ap (λ (r : RowsOfType). r.is_ready) c.self.view_is ∙ c.requires.ready) in
-    subst (λ (l : List RowType). HasFirstType rows.plan l) (sym c.as_slice.ensures.value) held.0.first
+pub read_object-taken-requires-clause-within : goal.read_object-taken-requires-clause-within
+read_object-taken-requires-clause-within c = subst (λ (l : List ℕ). c.past_blanks-begin.result ≤ length l) c.new-line.ensures c.past_blanks-begin.ensures.bounds.1
 
-pub take_row-taken-requires-clause-plan : goal.take_row-taken-requires-clause-plan
-take_row-taken-requires-clause-plan c = subst (λ s. IsPlanOf s c.self.inside.plan) (sym c.schema.ensures) c.self.invariant.is_plan
+pub ends_taken-requires : goal.ends_taken-requires
+ends_taken-requires c =
+    let taken = c.read_object-taken.result in
+    subst (λ (l : List ℕ). IsTakenWithin l taken) (sym c.new-line.ensures)
+    (ends_within 126 c.args.text.now c.past_blanks-begin.result c.read_object-taken.new.self taken c.read_object-taken.ensures.object)
 
-pub take_row-taken-requires-clause-row : goal.take_row-taken-requires-clause-row
-take_row-taken-requires-clause-row c =
-    let rows = c.self.inside in
-    let held = c.self.invariant.ready (ap (λ (r : RowsOfType). r.is_ready) c.self.view_is ∙ c.requires.ready) in
-    subst (λ s. IsRowValue (slots_at s rows.plan.expansion (Some 0)) (properties_at s rows.plan.type_id) rows.row) (sym c.schema.ensures) held.1
-
-pub keep_noted-requires : goal.keep_noted-requires
-keep_noted-requires c = subst (λ s. AreKnown s c.self.inside.known) (sym c.schema-2.ensures) c.self.invariant.known
-
-pub invariant_of-self : goal.invariant_of-self
-invariant_of-self c =
-    let rows = c.self.inside in
-    let there = c.schema.ensures in
-    let held = c.self.invariant.ready (ap (λ (r : RowsOfType). r.is_ready) c.self.view_is ∙ c.requires.ready) in
-    reader_stays rows c.self.invariant c.keep_noted.new.cache c.keep_noted.new.known c.take_row-taken.new.row (subst (λ s. AreKnown s c.keep_noted.new.known) c.schema-2.ensures c.keep_noted.ensures) c.is_whole_row-self-inside.result held.0
-    (λ whole. subst (λ s. IsRowValue (slots_at s rows.plan.expansion (Some 0)) (properties_at s rows.plan.type_id) c.take_row-taken.new.row) there
-    (c.take_row-taken.ensures.conforms (c.is_whole_row-self-inside.ensures.whole whole)))
-
-pub returns-clause-row : goal.returns-clause-row
-returns-clause-row c is =
-    let rows = c.self.inside in
-    let there = c.schema.ensures in
-    let held = c.self.invariant.ready (ap (λ (r : RowsOfType). r.is_ready) c.self.view_is ∙ c.requires.ready) in
-    let plan = subst (λ s. IsPlanOf s rows.plan) (sym there) c.self.invariant.is_plan in
-    let types = subst (λ s. AreTypesOf s rows.plan rows.types.items) (sym there) held.0 in
+pub returns-then-ends_taken-clause-ready : goal.returns-then-ends_taken-clause-ready
+returns-then-ends_taken-clause-ready c is =
     let put = c.reading_of.ensures.row is in
-    let seen : (SchemaModel → RowsOfType) = λ s. record (rows_seen rows) { schema = s; is_ready = c.is_whole_row-self-inside.result; value = c.take_row-taken.new.row } in
-    subst (λ s. IsLineBut c.args.text.now (names_unkept (seen s)) (row_held (seen s))) there
-    (row_taken _ c.take_row-taken.new.row c.take_row-taken.result put.0 c.is_whole_row-self-inside.result c.args.text.now rows.types.items c.take_row-taken.ensures.row c.new.ensures c.as_slice.ensures.value plan.held
-    (first_distinct c.schema.result.now rows.plan rows.types.items types) c.utf8.text put.1)
+    c.read_object-taken.ensures.ready (λ broken. let wrong : Taken.Put put.0 ≡ Taken.Broken = sym put.1 ∙ broken in cc)
 
-pub returns-clause-left_out : goal.returns-clause-left_out
-returns-clause-left_out c is =
-    let rows = c.self.inside in
-    let there = c.schema.ensures in
-    let held = c.self.invariant.ready (ap (λ (r : RowsOfType). r.is_ready) c.self.view_is ∙ c.requires.ready) in
-    let plan = subst (λ s. IsPlanOf s rows.plan) (sym there) c.self.invariant.is_plan in
-    let types = subst (λ s. AreTypesOf s rows.plan rows.types.items) (sym there) held.0 in
+pub returns-then-ends_taken-clause-row : goal.returns-then-ends_taken-clause-row
+returns-then-ends_taken-clause-row c is =
+    let put = c.reading_of.ensures.row is in
+    let begin = c.past_blanks-begin.result in
+    let taken = c.read_object-taken.result in
+    line_kept c.args.text.now begin put.0 c.read_object-taken.new.self taken c.utf8.text
+    (subst (λ (l : List ℕ). PassesSpaces l 0 begin) c.new-line.ensures c.past_blanks-begin.ensures)
+    (subst (λ (l : List ℕ). IsTakenWhole l taken) c.new-line.ensures (c.ends_taken.ensures.whole c.if-ends_taken.true)) c.read_object-taken.ensures.object put.1
+
+pub returns-then-ends_taken-clause-left_out : goal.returns-then-ends_taken-clause-left_out
+returns-then-ends_taken-clause-left_out c is =
     let rejected = c.reading_of.ensures.left_out is in
-    let seen : (SchemaModel → RowsOfType) = λ s. record (rows_seen rows) { schema = s; is_ready = c.is_whole_row-self-inside.result; value = c.take_row-taken.new.row } in
-    subst (λ s. IsLeftOut c.args.text.now (seen s)) there
-    (row_left_out _ c.take_row-taken.new.row c.take_row-taken.result rejected.0 c.is_whole_row-self-inside.result c.args.text.now rows.types.items c.take_row-taken.ensures.row c.new.ensures c.as_slice.ensures.value plan.held
-    (first_distinct c.schema.result.now rows.plan rows.types.items types) c.utf8.text rejected.1)
+    let begin = c.past_blanks-begin.result in
+    let taken = c.read_object-taken.result in
+    line_left_out c.args.text.now begin rejected.0 c.read_object-taken.new.self taken c.utf8.text
+    (subst (λ (l : List ℕ). PassesSpaces l 0 begin) c.new-line.ensures c.past_blanks-begin.ensures)
+    (subst (λ (l : List ℕ). IsTakenWhole l taken) c.new-line.ensures (c.ends_taken.ensures.whole c.if-ends_taken.true)) c.read_object-taken.ensures.object rejected.1

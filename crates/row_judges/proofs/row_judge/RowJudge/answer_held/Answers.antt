@@ -17,9 +17,9 @@ judge_entity-requires c =
     }
 
 pub returns : goal.returns
-returns c line read =
+returns c json read =
     let filter = c.args.self.now.checked.now in
     let now = c.args.self.now.moment.now in
     let answer = c.judge_entity.result in
-    held_reported filter now c.args.rows.now c.requires.rows c.requires.whole line answer read
+    held_reported filter now c.args.rows.now c.requires.rows c.requires.whole json answer read
     (subst (λ (r : Row). IfSome (reported_outcome answer) (IsTheOutcome r now (tree_of_filter filter))) c.entity-entity.ensures c.judge_entity.ensures.outcome)

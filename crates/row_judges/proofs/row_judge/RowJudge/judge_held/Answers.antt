@@ -1,7 +1,9 @@
 use Rattle.std.proofs.Common.{sym, subst}
 use Rattle.row_judges.specs.RowAnswer.{ReportsRow}
+use Rattle.row_judges.specs.private.ValueAnswer.{answer_reported}
+use Rattle.row_judges.proofs.RowLemmas.RowsInPlace.{line_reported}
 use Rattle.row_judges.proofs.row_judge.RowJudge.judge_held.Goals as goal
 
 pub returns : goal.returns
 returns c line read =
-    subst (ReportsRow c.args.self.now.checked.now c.args.self.now.moment.now line) (sym c.reported.ensures) (c.answer_held.ensures line read)
+    subst (ReportsRow c.args.self.now.checked.now c.args.self.now.moment.now line) (sym c.reported.ensures) (line_reported c.args.self.now.checked.now c.args.self.now.moment.now c.args.rows.now (answer_reported c.answer_held.result) c.answer_held.ensures line read)

@@ -1,0 +1,2 @@
+pub mod JudgedItems
+pub mod private
