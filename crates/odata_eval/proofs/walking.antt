@@ -16,6 +16,7 @@ pub mod MemberValues
 pub mod MembersAsked
 pub mod Operands
 pub mod Parts
+pub mod PassedSlots
 pub mod Readings
 pub mod Sides
 pub mod SlotValue

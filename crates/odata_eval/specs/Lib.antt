@@ -64,5 +64,6 @@ pub use Rattle.odata_meaning.specs.TypesAtPaths
 pub use Rattle.odata_meaning.specs.UnreadMeans
 pub mod CostsOn
 pub mod FalseWhere
+pub mod TrueWhere
 pub mod VerdictView
 pub mod private

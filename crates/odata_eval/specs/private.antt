@@ -4,6 +4,7 @@ pub mod EvalContext
 pub mod Frames
 pub mod KeptOperands
 pub mod Lambda
+pub mod PassedTests
 pub mod Place
 pub mod RemainingTerms
 pub mod Spending

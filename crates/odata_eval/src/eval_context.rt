@@ -54,7 +54,7 @@ impl<'e, 'c, 'r> Model for EvalContext<'e, 'c, 'r> {
 }
 
 /// The fields of a record. Any other value has none.
-fn fields_of(value: &Value) -> &[Value]
+pub(crate) fn fields_of(value: &Value) -> &[Value]
     ensures { (held : Vec Value Global) → value.now ≡ Record held → result.now ≡ held.items }
 {
     match value {

@@ -22,6 +22,7 @@ mod kept_terms;
 mod lambda_walk;
 mod logical;
 mod number_walk;
+mod passed_tests;
 mod stop;
 mod value_tests;
 mod verdict;
@@ -29,8 +30,8 @@ mod walk;
 mod walk_operand;
 
 pub use bounded_evaluator::evaluate_within;
-pub use evaluator::evaluate;
+pub use evaluator::{evaluate, evaluate_by};
 pub use odata_filter_operations::EvalFault;
 pub use stop::EvalStop;
-pub use value_tests::{SlotSieve, slot_sieves};
+pub use value_tests::{SlotSieve, SlotTests, slot_sieves};
 pub use verdict::Verdict;

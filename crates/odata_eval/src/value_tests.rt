@@ -1,9 +1,10 @@
 //! Tests of single values that a filter makes of its rows: where one rejects a value, the filter is false.
-ghost use Rattle.std.specs.Prelude.{◌≡◌, ◌<◌, ◌^◌, All, IfSome, IsTrue, Some, length};
+ghost use Rattle.std.specs.Prelude.{◌≡◌, ◌<◌, ◌^◌, All, IfSome, IsTrue, Some, false, length};
 ghost use Rattle.edm_values.specs.PlainVal.{plain_val};
 ghost use Rattle.edm_values.specs.Val.{Val, text as text_val, whole};
 ghost use Rattle.odata_eval.specs.FalseWhere.{IsSieveOf};
-ghost use Rattle.odata_eval.specs.private.ValueTests.{AndsAbove, IsNoNumber, IsTermSieve, Refutes};
+ghost use Rattle.odata_eval.specs.TrueWhere.{AreWhole};
+ghost use Rattle.odata_eval.specs.private.ValueTests.{AndsAbove, Decides, IsNoNumber, IsTermSieve};
 ghost use Rattle.odata_eval.specs.private.Place.{HasKind, HasOperator};
 
 use edm_values::{Sieve, Value};
@@ -19,11 +20,20 @@ pub struct SlotSieve {
     pub sieve: Sieve,
 }
 
+/// The tests that a filter makes of its type's slots.
+#[derive(Drop)]
+pub struct SlotTests {
+    pub sieves: Vec<SlotSieve>,
+    /// Whether each term of the filter is one of them.
+    pub are_whole: bool,
+}
+
 /// Returns the tests of slots that the filter's first terms make. Terms are those of a chain of `and`, else the filter
 /// itself, up to the first one that is neither a property nor its comparison with a number or a text. There are fewer
 /// where out of memory.
-pub fn slot_sieves(alloc: Global, checked: &Checked<'_>) -> Vec<SlotSieve>
-    ensures { All (IsSieveOf checked.now) result.items }
+pub fn slot_sieves(alloc: Global, checked: &Checked<'_>) -> SlotTests
+    ensures sieves { All (IsSieveOf checked.now) result.sieves.items }
+    ensures whole { IsTrue result.are_whole → AreWhole checked.now result.sieves.items }
 {
     let nodes = checked.nodes();
     let mut sieves = Vec::new(alloc);
@@ -31,20 +41,34 @@ pub fn slot_sieves(alloc: Global, checked: &Checked<'_>) -> Vec<SlotSieve>
     let mut term = at;
     loop {
         let Some(test) = term_sieve(alloc, checked, term) else {
-            return sieves;
+            return first_tests(sieves);
         };
         match sieves.push(test) {
             Ok(()) => {}
-            Err(_) => return sieves,
+            Err(_) => return first_tests(sieves),
         }
         if at == 0 {
-            return sieves;
+            return SlotTests {
+                sieves,
+                are_whole: true,
+            };
         }
         if at >= nodes.len() {
-            return sieves;
+            return first_tests(sieves);
         }
         term = nodes[at].stop;
         at -= 1;
+    }
+}
+
+/// Tests of a filter that has further terms.
+fn first_tests(sieves: Vec<SlotSieve>) -> SlotTests
+    ensures sieves { result.sieves ≡ sieves }
+    ensures not_whole { result.are_whole ≡ false }
+{
+    SlotTests {
+        sieves,
+        are_whole: false,
     }
 }
 
@@ -155,8 +179,8 @@ fn compared_sieve(
 /// The test that a comparison with a value makes, where that is a number or a text.
 fn sieve_of(alloc: Global, comparison: ComparisonOperator, literal: &Value) -> Option<Sieve>
     ensures number { IfSome result (λ _. IsNoNumber literal.now) }
-    ensures refutes { IfSome result (λ sieve. (right : Val) → plain_val literal.now ≡ Some right
-        → Refutes comparison right sieve) }
+    ensures decides { IfSome result (λ sieve. (right : Val) → plain_val literal.now ≡ Some right
+        → Decides comparison right sieve) }
 {
     match literal {
         Value::Int(n) => Some(number_sieve(comparison, *n)),
@@ -166,7 +190,7 @@ fn sieve_of(alloc: Global, comparison: ComparisonOperator, literal: &Value) -> O
 }
 
 fn number_sieve(comparison: ComparisonOperator, n: i64) -> Sieve
-    ensures { Refutes comparison (whole n) result }
+    ensures { Decides comparison (whole n) result }
 {
     match comparison {
         ComparisonOperator::Eq => Sieve::Within { low: n, high: n },
@@ -185,7 +209,7 @@ fn number_sieve(comparison: ComparisonOperator, n: i64) -> Sieve
 }
 
 fn text_sieve(alloc: Global, comparison: ComparisonOperator, text: &str) -> Option<Sieve>
-    ensures { IfSome result (Refutes comparison (text_val text.now)) }
+    ensures { IfSome result (Decides comparison (text_val text.now)) }
 {
     let Ok(copy) = String::from_str(alloc, text) else {
         return None;

@@ -8,13 +8,13 @@ ghost use Rattle.row_judges.specs.RowJudgment.{JudgesValue, judgment_where};
 ghost use Rattle.row_judges.specs.private.ValueAnswer.{answer_reported};
 
 use crate::row_judge::RowJudge;
-use crate::rows_in_place::{copy_with_room, type_rows_of};
+use crate::rows_in_place::{copy_with_room, type_rows_of, whole_tests};
 use collection_items::{JudgesItems, judged_items};
 use edm_entities::RowReader;
 use edm_rows::{ItemReading, TypeRows, any_value_end};
 use edm_values::Moment;
 use json_room::{DecodeBuffer, RoomyLine, front_text, has_room};
-use odata_eval::{EvalFault, Verdict};
+use odata_eval::{EvalFault, SlotSieve, Verdict};
 use odata_typing::Checked;
 use std::alloc::Global;
 use std::marker::Model;
@@ -28,6 +28,8 @@ pub(crate) struct ItemRows<'c, 's> {
     rows: RowJudge<'c, 's>,
     reader: RowReader,
     type_rows: TypeRows<'s>,
+    /// Tests that are the whole filter; none where it has other terms.
+    tests: Vec<SlotSieve>,
     buffer: DecodeBuffer,
 }
 
@@ -43,9 +45,10 @@ impl<'c, 's> Model for ItemRows<'c, 's> {
 
     ghost view = { λ j. record { filter = j.rows.checked.now; moment = j.rows.moment.now } };
 
+    ghost use Rattle.odata_eval.specs.TrueWhere.{AreWhole};
     ghost use Rattle.row_judges.specs.private.RowsInPlace.{AreRowsOf};
 
-    ghost invariant = { λ j. AreRowsOf j.rows.checked.now j.type_rows };
+    ghost invariant = { λ j. AreRowsOf j.rows.checked.now j.type_rows × AreWhole j.rows.checked.now j.tests.items };
 }
 
 impl JudgesItems for ItemRows<'_, '_> {
@@ -63,10 +66,15 @@ impl JudgesItems for ItemRows<'_, '_> {
             .type_rows
             .read_item(document.text(), document.bytes(), place)
         {
-            ItemReading::Row(end) => match kept_by(self.rows.answer_held(&self.type_rows)) {
-                Some(is_kept) => Some((is_kept, end)),
-                None => None,
-            },
+            ItemReading::Row(end) => {
+                let answer = self
+                    .rows
+                    .answer_held(self.tests.as_slice(), &self.type_rows);
+                match kept_by(answer) {
+                    Some(is_kept) => Some((is_kept, end)),
+                    None => None,
+                }
+            }
             ItemReading::LeftOut(end) => {
                 self.rows.leaves_out(&self.type_rows);
                 Some((false, end))
@@ -158,6 +166,7 @@ fn text_verdicts<'t>(
         },
         reader: RowReader::new(alloc),
         type_rows: type_rows_of(alloc, checked),
+        tests: whole_tests(alloc, checked),
         buffer: DecodeBuffer::new(alloc),
     };
     judged_items(alloc, &mut judge, &RoomyLine::new(text, bytes))

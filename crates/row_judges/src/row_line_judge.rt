@@ -4,11 +4,12 @@ ghost use Rattle.row_judges.specs.RowJudgment.{JudgesRow};
 use crate::bad_row::BadRow;
 use crate::row_judge::{RowJudge, judged_by, judgment_of, reported_fault};
 use crate::row_verdict::row_plan_of;
-use crate::rows_in_place::{begin_after, read_at_front, type_rows_of};
+use crate::rows_in_place::{begin_after, read_at_front, type_rows_of, whole_tests};
 use edm_entities::{RowPlan, RowReader};
 use edm_rows::TypeRows;
 use edm_values::Moment;
 use line_filter::{Judge, Judgment};
+use odata_eval::SlotSieve;
 use odata_typing::Checked;
 use std::alloc::{AllocError, Global};
 use std::marker::Model;
@@ -20,6 +21,8 @@ pub struct RowLineJudge<'c, 's> {
     plan: RowPlan,
     reader: RowReader,
     type_rows: TypeRows<'s>,
+    /// Tests that are the whole filter; none where it has other terms.
+    tests: Vec<SlotSieve>,
     /// How many lines were not read where they stand.
     unread: u64,
     /// The last line that had no room after it, in a copy that has.
@@ -39,9 +42,11 @@ impl<'c, 's> Model for RowLineJudge<'c, 's> {
     ghost view = { λ j. record { filter = j.rows.checked.now; moment = j.rows.moment.now } };
 
     ghost use Rattle.row_judges.specs.RowAnswer.{IsPlanOfFilter};
+    ghost use Rattle.odata_eval.specs.TrueWhere.{AreWhole};
     ghost use Rattle.row_judges.specs.private.RowsInPlace.{AreRowsOf};
 
-    ghost invariant = { λ j. IsPlanOfFilter j.rows.checked.now j.plan × AreRowsOf j.rows.checked.now j.type_rows };
+    ghost invariant = { λ j. IsPlanOfFilter j.rows.checked.now j.plan × AreRowsOf j.rows.checked.now j.type_rows
+        × AreWhole j.rows.checked.now j.tests.items };
 }
 
 impl<'c, 's> RowLineJudge<'c, 's> {
@@ -59,6 +64,7 @@ impl<'c, 's> RowLineJudge<'c, 's> {
                 moment,
             },
             type_rows: type_rows_of(alloc, checked),
+            tests: whole_tests(alloc, checked),
             plan: row_plan_of(alloc, checked),
             reader: RowReader::new(alloc),
             unread: 0,
@@ -80,7 +86,8 @@ impl Judge for RowLineJudge<'_, '_> {
         is_ascii: bool,
     ) -> Option<Judgment<BadRow>> {
         let reading = read_at_front(&mut self.type_rows, &mut self.room, bytes, count, is_ascii);
-        self.rows.judge_reading(&self.type_rows, reading)
+        self.rows
+            .judge_reading(self.tests.as_slice(), &self.type_rows, reading)
     }
 
     #[inline(never)]

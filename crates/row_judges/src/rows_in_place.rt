@@ -7,6 +7,7 @@ ghost use Rattle.edm_rows.specs.RowItems.{IsJsonBut, IsJsonLeftOut};
 ghost use Rattle.edm_rows.specs.RowsOfType.{IsSameButKept, IsSameReader, names_unkept, row_held};
 ghost use Rattle.line_filter.specs.Lines.{IsBlank};
 ghost use Rattle.edm_rows.specs.HeldSchema.{schema_in};
+ghost use Rattle.odata_eval.specs.TrueWhere.{AreWhole};
 ghost use Rattle.row_judges.specs.FilterRows.{KeepsNames};
 ghost use Rattle.row_judges.specs.RowAnswer.{ReportsRow};
 ghost use Rattle.row_judges.specs.RowJudgment.{JudgesRow, JudgesValue};
@@ -22,7 +23,7 @@ use edm_entities::{RowReader, what_fits_has_its_type};
 use edm_rows::{HeldSchema, Reading, TypeRows};
 use json_room::{ROOM, has_room};
 use line_filter::Judgment;
-use odata_eval::{EvalFault, Verdict, slot_sieves};
+use odata_eval::{EvalFault, SlotSieve, Verdict, evaluate_by, slot_sieves};
 use odata_meaning::typed_trees_end_once;
 use odata_typing::Checked;
 use std::alloc::{AllocError, Global};
@@ -80,9 +81,21 @@ fn sift_by_tests(rows: &mut TypeRows<'_>, alloc: Global, checked: &Checked<'_>)
     ensures same { IsSameButSieves rows.old rows.new }
     ensures tests { (slot : ℕ) → IfSome (slice_get rows.new.sieves slot) (IsTestAt checked.now slot) }
 {
-    let mut tests = slot_sieves(alloc, checked);
+    let mut tests = slot_sieves(alloc, checked).sieves;
     while let Some(test) = tests.pop() {
         rows.sift(test.slot, test.sieve);
+    }
+}
+
+/// The tests of single values that are the whole filter; none where it has other terms.
+pub(crate) fn whole_tests(alloc: Global, checked: &Checked<'_>) -> Vec<SlotSieve>
+    ensures { AreWhole checked.now result.items }
+{
+    let tests = slot_sieves(alloc, checked);
+    if tests.are_whole {
+        tests.sieves
+    } else {
+        Vec::new(alloc)
     }
 }
 
@@ -197,9 +210,11 @@ impl RowJudge<'_, '_> {
     #[inline(always)]
     pub(crate) fn judge_reading(
         &self,
+        tests: &[SlotSieve],
         rows: &TypeRows<'_>,
         reading: Reading,
     ) -> Option<Judgment<BadRow>>
+        requires tests { AreWhole self.now.checked.now tests.now }
         requires rows { AreRowsOf self.now.checked.now rows.now }
         requires read { (line : List ℕ) × IsRead reading line rows.now }
         ensures said { (line : List ℕ) → IsRead reading line rows.now
@@ -207,7 +222,7 @@ impl RowJudge<'_, '_> {
         ensures not_blank { (line : List ℕ) → IsRead reading line rows.now → IfSome result (λ _. ¬ IsBlank line) }
     {
         match reading {
-            Reading::Row => judgment_at_once(self.answer_held(rows)),
+            Reading::Row => judgment_at_once(self.answer_held(tests, rows)),
             Reading::LeftOut => {
                 self.leaves_out(rows);
                 Some(Judgment::LeftOut)
@@ -216,9 +231,14 @@ impl RowJudge<'_, '_> {
         }
     }
 
-    /// The filter's answer to the row that was read last.
+    /// The filter's answer to the row that was read last, by tests that are the whole filter, if there are any.
     #[inline(never)]
-    pub(crate) fn answer_held(&self, rows: &TypeRows<'_>) -> Result<Verdict, EvalFault>
+    pub(crate) fn answer_held(
+        &self,
+        tests: &[SlotSieve],
+        rows: &TypeRows<'_>,
+    ) -> Result<Verdict, EvalFault>
+        requires tests { AreWhole self.now.checked.now tests.now }
         requires rows { KeepsNames self.now.checked.now rows.now }
         requires ready { rows.now.is_ready ≡ true }
         requires whole { rows.now.is_whole ≡ true }
@@ -226,7 +246,7 @@ impl RowJudge<'_, '_> {
             → ReportsValue self.now.checked.now self.now.moment.now json (answer_reported result) }
     {
         let entity = rows.entity();
-        self.judge_entity(&entity)
+        evaluate_by(tests, self.alloc, self.checked, &entity, self.moment)
     }
 
     /// Judges the row that was read last.
@@ -238,7 +258,7 @@ impl RowJudge<'_, '_> {
         ensures { (line : List ℕ) → IsLineBut line (names_unkept rows.now) (row_held rows.now)
             → ReportsRow self.now.checked.now self.now.moment.now line result }
     {
-        reported(self.answer_held(rows))
+        reported(self.answer_held(&[], rows))
     }
 
     /// A law: the filter leaves out what a slot's sieve rejects a value of.

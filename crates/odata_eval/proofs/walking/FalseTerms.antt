@@ -1,8 +1,9 @@
--- Terms that a rejected value makes false, and chains of them.
-use Rattle.std.proofs.Common.{◌≡◌, ◌∙◌, ℕ, zero, suc, ◌<◌, ◌+◌, ◌-◌, Bool, true, false, List, [], ℤ, pos, neg_ℤ, ◌<ℤ◌, ◌≢◌, ◌⊎◌, Option, Some, None, nat_eq, get_or, refl, subst, sym, ap, inl, inr, arith, length}
-use Rattle.std.specs.Prelude.{String, slice_get, string_bytes}
+-- Terms that a rejected value makes false and one that passes true, and chains of them.
+use Rattle.std.proofs.Common.{◌≡◌, ◌∙◌, ℕ, zero, suc, ◌<◌, ◌+◌, ◌-◌, Bool, true, false, List, [], ◌∷◌, ◌++◌, ℤ, pos, neg_ℤ, ◌<ℤ◌, ◌≤ℤ◌, ◌≢◌, ◌⊎◌, Option, Some, None, nat_eq, get_or, refl, subst, sym, ap, inl, inr, arith, length}
+use Rattle.std.specs.Prelude.{All, String, slice_get, string_bytes}
 use Rattle.std.specs.Str.{chars}
-use Rattle.std.proofs.lemmas.Int.{ints}
+use Rattle.std.proofs.lemmas.Int.{by_lt_z, ints}
+use Rattle.std.proofs.lemmas.List.Elements.{All-pop}
 use Rattle.std.specs.Cmp.Lexicographic.{pointwise}
 use Rattle.std.proofs.lemmas.Bool.{cases_lt}
 use Rattle.std.proofs.lemmas.List.Quantifiers.{position-Some}
@@ -35,12 +36,13 @@ use Rattle.odata_filter_operations.specs.LeftFirst.{After, Then}
 use Rattle.odata_filter_operations.specs.Outcome.{GivesSome, Outcome, gives, overflow, divides_by_zero}
 use Rattle.odata_filter_operations.specs.TruthGives.{LogicalGives, JoinGives}
 use Rattle.odata_eval.specs.FalseWhere.{IsSieveOf}
+use Rattle.odata_eval.specs.TrueWhere.{AreWhole, Passes, PassesIn}
 use Rattle.odata_eval.specs.declared.value_tests.SlotSieve.{SlotSieve}
 use Rattle.odata_meaning.specs.LiteralGives.{LiteralGives}
 use Rattle.odata_meaning.specs.Means.{BinaryGives, Means}
 use Rattle.odata_meaning.specs.NameGives.{FieldGives}
 use Rattle.odata_meaning.specs.OperatorGives.{SidesGive}
-use Rattle.odata_eval.specs.private.ValueTests.{AndsAbove, GoesUp, IsFalseAt, IsNoNumber, IsTermSieve, IsValue, LeavesNoFault, Refutes, StandsFor}
+use Rattle.odata_eval.specs.private.ValueTests.{AndsAbove, AreAllBut, Decides, GoesUp, IsFalseAt, IsNoNumber, IsTermSieve, IsTrueAt, IsValue, LeavesNoFault, StandsFor}
 use Rattle.odata_eval.specs.private.Place.{HasKind, HasOperator, IsRightOf}
 use Rattle.odata_eval.specs.private.EvalContext.{NumberHere}
 use Rattle.odata_eval.specs.private.ContextModel.{ContextModel, context_in}
@@ -109,6 +111,11 @@ module _ (NodeTyped : ExprType → Type 0) (Left Right : Outcome → Type 0) whe
   and_false_left : Only (boolean false) Left → (o : Outcome) → SidesGive (BinaryOperator.Logical LogicalOperator.And) NodeTyped Left Right o → o ≡ gives (boolean false)
   and_false_left left o given = after_only Left (λ l. LogicalGives LogicalOperator.And l Right) (boolean false) left o given
 
+  and_true : Only (boolean true) Left → Only (boolean true) Right → (o : Outcome) → SidesGive (BinaryOperator.Logical LogicalOperator.And) NodeTyped Left Right o → o ≡ gives (boolean true)
+  and_true left right o given =
+      let follows = after_only Left (λ l. LogicalGives LogicalOperator.And l Right) (boolean true) left o given in
+      after_only Right (JoinGives LogicalOperator.And (Some true)) (boolean true) right o follows
+
   -- ---- comparisons
 
   module _ (comparison : ComparisonOperator) where
@@ -132,6 +139,21 @@ module _ (NodeTyped : ExprType → Type 0) (Left Right : Outcome → Type 0) whe
         refuted_false Fact not overflow is = absurd is
         refuted_false Fact not divides_by_zero is = absurd is
 
+    compared_true : (r : Val) → NoFault Left → Only r Right → ((l : Val) → Left (gives l) → ComparesTrue comparison l r) → (o : Outcome) → SidesGive (BinaryOperator.Comparison comparison) NodeTyped Left Right o → o ≡ gives (boolean true)
+    compared_true r ok right holds o (gives l, (operand, follows)) = affirmed_true (ComparesTrue comparison l r) (holds l operand) o (after_only Right (CompareGives comparison l) r right o follows).1
+      where
+        affirmed_whether : (Fact : Type 0) → Fact → (v : Val) → IsWhether Fact v → v ≡ boolean true
+        affirmed_whether Fact fact (boolean true) is = refl
+        affirmed_whether Fact fact (boolean false) is = let e : false ≡ true = is.1 fact in absurd cc
+        affirmed_whether Fact fact _ is = absurd is
+
+        affirmed_true : (Fact : Type 0) → Fact → (o : Outcome) → GivesTruth Fact o → o ≡ gives (boolean true)
+        affirmed_true Fact fact (gives v) is = ap gives (affirmed_whether Fact fact v is)
+        affirmed_true Fact fact overflow is = absurd is
+        affirmed_true Fact fact divides_by_zero is = absurd is
+    compared_true r ok right holds o (overflow, (operand, follows)) = absurd (ok overflow operand)
+    compared_true r ok right holds o (divides_by_zero, (operand, follows)) = absurd (ok divides_by_zero operand)
+
 -- ---- operands
 
 name_no_fault : (held : FieldVal) → NoFault (FieldGives held)
@@ -140,6 +162,14 @@ name_no_fault absent o is = absurd is
 
 name_only : (held : FieldVal) (v : Val) → held ≡ present v → Only v (FieldGives held)
 name_only held v is o given = subst (λ (h : FieldVal). FieldGives h o) is given
+
+name_true : (held : FieldVal) → ((v : Val) → held ≡ present v → v ≡ boolean true) → Only (boolean true) (FieldGives held)
+name_true (present v) passes o is = is ∙ ap gives (passes v refl)
+name_true absent passes o is = absurd is
+
+name_held : (held : FieldVal) (v : Val) → FieldGives held (gives v) → held ≡ present v
+name_held (present w) v is = let same : v ≡ w = cc in ap present (sym same)
+name_held absent v is = absurd is
 
 literal_only : OneLiteralValue → (slots : Slots) (kind : LiteralKind) (spelling : List ℕ) (v : Val) → LiteralValue slots kind spelling v → Only v (LiteralGives slots kind spelling)
 literal_only one slots kind spelling v is (gives w) given = ap gives (one slots kind spelling w v given is)
@@ -239,6 +269,13 @@ module _ (filter : Filter) where
       binary_sides now held place (BinaryOperator.Logical LogicalOperator.And) here (and_unread now (place + 1)) (λ middle left stands. and_unread now middle) (λ o. o ≡ gives (boolean false))
       (λ stop l r sides. and_false_left (OfSides (BinaryOperator.Logical LogicalOperator.And) l r) (Comes now held l) (Comes now held r) (λ o means. decides sides.middle l sides.left word named now held value o has rejected means)) stop tree stands o
 
+  -- where both sides are true
+  and_both_true : (now : MomentParts) (held : List ℕ → FieldVal) (place right : ℕ) → HasOperator filter.list place (BinaryOperator.Logical LogicalOperator.And) → IsRightOf filter.list place right
+      → IsTrueAt filter now held (place + 1) → IsTrueAt filter now held right → IsTrueAt filter now held place
+  and_both_true now held place right here is_right left_true right_true =
+      binary_sides now held place (BinaryOperator.Logical LogicalOperator.And) here (and_unread now (place + 1)) (λ middle left stands. and_unread now middle) (λ o. o ≡ gives (boolean true))
+      (λ stop l r sides. and_true (OfSides (BinaryOperator.Logical LogicalOperator.And) l r) (Comes now held l) (Comes now held r) (left_true sides.middle l sides.left) (right_true stop r (right_at now place right stop l r is_right sides)))
+
   -- from a node of the chain to its top
   pub top_false : (at : ℕ) → AndsAbove filter at → (slot : ℕ) (sieve : Sieve) → IsFalseAt filter at slot sieve → IsFalseAt filter 0 slot sieve
   top_false zero ands slot sieve decides = decides
@@ -264,8 +301,21 @@ module _ (filter : Filter) where
         let same : asked ≡ word = one_name (properties_at filter.schema filter.filtered) asked word slot kind.1 named in
         name_only (held asked) value (ap held same ∙ has)) stop tree stands
 
+    -- what it evaluates to passes its test
+    property_passes : (now : MomentParts) (held : List ℕ → FieldVal) (sieve : Sieve) → PassesIn filter held (record { slot = slot; sieve = sieve }) → (stop : ℕ) (tree : Tree) → StandsFor filter place stop tree
+        → (v : Val) → Comes now held tree (gives v) → Passes sieve v
+    property_passes now held sieve passes =
+        by_kind (seen now) place (NodeKind.Property slot) here (λ stop tree. (v : Val) → Comes now held tree (gives v) → Passes sieve v)
+        (λ asked stop from to stands v means. passes asked (kind_there (seen now) place (NodeKind.Property slot) here stop from to (name asked) stands).1 v (name_held (held asked) v means))
+
+    property_true : (now : MomentParts) (held : List ℕ → FieldVal) → PassesIn filter held (record { slot = slot; sieve = Sieve.True }) → IsTrueAt filter now held place
+    property_true now held passes =
+        by_kind (seen now) place (NodeKind.Property slot) here (λ stop tree. Only (boolean true) (Comes now held tree))
+        (λ asked stop from to stands. name_true (held asked) (passes asked (kind_there (seen now) place (NodeKind.Property slot) here stop from to (name asked) stands).1))
+
     pub property_sieve : IsTermSieve filter place slot Sieve.True
     property_sieve = record {
+      affirms = property_true;
       decides = λ stop tree stands word named now held value o has rejected means.
           subst (λ v. o ≡ gives v) rejected (property_only stop tree stands word named now held value has o means);
       no_fault = property_no_fault;
@@ -301,14 +351,20 @@ module _ (filter : Filter) where
 
     -- a comparison of the property with it
     pub compared_sieve : (top slot : ℕ) (comparison : ComparisonOperator) (sieve : Sieve) → HasOperator filter.list top (BinaryOperator.Comparison comparison) → HasKind filter.list (top + 1) (NodeKind.Property slot)
-        → IsRightOf filter.list top place → IsNoNumber value → ((right : Val) → plain_val value ≡ Some right → Refutes comparison right sieve) → IsTermSieve filter top slot sieve
-    compared_sieve top slot comparison sieve compares property is_right none refutes = record {
+        → IsRightOf filter.list top place → IsNoNumber value → ((right : Val) → plain_val value ≡ Some right → Decides comparison right sieve) → IsTermSieve filter top slot sieve
+    compared_sieve top slot comparison sieve compares property is_right none decided = record {
+      affirms = λ now held passes.
+          binary_sides now held top (BinaryOperator.Comparison comparison) compares (property_unread (top + 1) slot property now (BinaryOperator.Comparison comparison)) (right_unread none top is_right now (BinaryOperator.Comparison comparison)) (λ o. o ≡ gives (boolean true))
+          (λ stop l r sides.
+          let found = literal_gives stop r (right_at now top place stop l r is_right sides) now held in
+          compared_true (OfSides (BinaryOperator.Comparison comparison) l r) (Comes now held l) (Comes now held r) comparison found.0 (property_no_fault (top + 1) slot property sides.middle l sides.left now held) found.1.1
+          (λ v means. (decided found.0 found.1.0).affirms v (property_passes (top + 1) slot property now held sieve passes sides.middle l sides.left v means)));
       decides = λ stop tree stands word named now held v o has rejected.
           binary_sides now held top (BinaryOperator.Comparison comparison) compares (property_unread (top + 1) slot property now (BinaryOperator.Comparison comparison)) (right_unread none top is_right now (BinaryOperator.Comparison comparison)) (λ o. o ≡ gives (boolean false))
           (λ stop l r sides.
           let found = literal_gives stop r (right_at now top place stop l r is_right sides) now held in
           compared_false (OfSides (BinaryOperator.Comparison comparison) l r) (Comes now held l) (Comes now held r) comparison v found.0
-          (property_only (top + 1) slot property sides.middle l sides.left word named now held v has) found.1.1 (refutes found.0 found.1.0 v rejected)) stop tree stands o;
+          (property_only (top + 1) slot property sides.middle l sides.left word named now held v has) found.1.1 ((decided found.0 found.1.0).refutes v rejected)) stop tree stands o;
       no_fault = λ stop tree stands now held.
           binary_sides now held top (BinaryOperator.Comparison comparison) compares (property_unread (top + 1) slot property now (BinaryOperator.Comparison comparison)) (right_unread none top is_right now (BinaryOperator.Comparison comparison)) IsValue
           (λ stop l r sides.
@@ -334,6 +390,29 @@ module _ (filter : Filter) where
       let e : at ≡ at - 1 + 1 = omega (arith, some) in
       let left : LeavesNoFault filter (at - 1 + 1) = subst (LeavesNoFault filter) e (up.no_fault test.no_fault) in
       record { no_fault = and_no_fault (at - 1) right here is_right left; decides = and_right_false (at - 1) right here is_right left }
+
+  -- the tests of the terms so far, by whether the chain is true that they are of
+
+  pub first_but : (at : ℕ) → AreAllBut filter [] at at
+  first_but at now held passes holds = holds
+
+  -- on a record that passes the tests, and that of the term, the chain from there is true
+  true_there : (tests : List SlotSieve) (term at : ℕ) (test : SlotSieve) → AreAllBut filter tests term at → IsTermSieve filter term test.slot test.sieve
+      → (now : MomentParts) (held : List ℕ → FieldVal) → All (PassesIn filter held) (tests ++ test ∷ []) → IsTrueAt filter now held at
+  true_there tests term at test but sieve now held passes =
+      let split = All-pop (PassesIn filter held) (tests ++ test ∷ []) tests (Some test) refl passes in
+      but now held split.0 (sieve.affirms now held split.1)
+
+  pub next_but : (tests : List SlotSieve) (term at right : ℕ) (test : SlotSieve) → 0 < at → AndsAbove filter at → AreAllBut filter tests term at → IsTermSieve filter term test.slot test.sieve → IsRightOf filter.list (at - 1) right
+      → AreAllBut filter (tests ++ test ∷ []) right (at - 1)
+  next_but tests term at right test some ands but sieve is_right now held passes holds =
+      let e : at ≡ at - 1 + 1 = omega (arith, some) in
+      and_both_true now held (at - 1) right (ands (at - 1) (omega (arith, some))) is_right (subst (IsTrueAt filter now held) e (true_there tests term at test but sieve now held passes)) holds
+
+  -- at the top the tests are the whole filter
+  pub whole_tests : (tests : List SlotSieve) (term : ℕ) (test : SlotSieve) → IsFilter filter → AreAllBut filter tests term 0 → IsTermSieve filter term test.slot test.sieve → AreWhole filter (tests ++ test ∷ [])
+  whole_tests tests term test is but sieve some now held o passes =
+      true_there tests term 0 test but sieve now held passes (length filter.list.nodes) (tree_of_filter filter) is.stands o
 
   pub ands_less : (at : ℕ) → AndsAbove filter at → AndsAbove filter (at - 1)
   ands_less at ands k below = ands k (omega (arith, below))
@@ -375,3 +454,29 @@ text_refuted only t value copied (s, is, other) equal = other (subst (λ (v : Va
 
 pub other_text_refuted : {Z : Type 0} (other : String Z) (t : List ℕ) (value : Val) → string_bytes other ≡ t → (s : List ℕ) × (value ≡ text s) × (chars s ≡ chars (string_bytes other)) → ¬ (¬ AreEqual value (text t))
 other_text_refuted other t value copied (s, is, same) different = different (subst (λ (v : Val). AreEqual v (text t)) (sym is) (same ∙ ap chars copied))
+
+-- ---- and which ones a value affirms that passes
+
+pub eq_affirmed : (n : ℤ) (value : Val) → Passes (Sieve.Within n n) value → AreEqual value (whole n)
+eq_affirmed n value (k, is, low, high) = let same : k ≡ n = omega (arith, ints, low, high) in subst (λ (v : Val). AreEqual v (whole n)) (sym is) same
+
+pub ne_affirmed : (n : ℤ) (value : Val) → Passes (Sieve.Besides n) value → ¬ AreEqual value (whole n)
+ne_affirmed n value (k, is, other) equal = other (subst (λ (v : Val). AreEqual v (whole n)) is equal)
+
+at_least : (n k : ℤ) → n ≤ℤ k → (n <ℤ k) ⊎ (k ≡ n)
+at_least n k least = by_lt_z n k inl (λ most. inr (omega (arith, ints, least, most)))
+
+pub ge_affirmed : (n high : ℤ) (value : Val) → Passes (Sieve.Within n high) value → IsGreater value (whole n) ⊎ AreEqual value (whole n)
+ge_affirmed n high value (k, is, low, most) = subst (λ (v : Val). IsGreater v (whole n) ⊎ AreEqual v (whole n)) (sym is) (at_least n k low)
+
+at_most : (n k : ℤ) → k ≤ℤ n → (k <ℤ n) ⊎ (k ≡ n)
+at_most n k most = by_lt_z k n inl (λ least. inr (omega (arith, ints, least, most)))
+
+pub le_affirmed : (low n : ℤ) (value : Val) → Passes (Sieve.Within low n) value → IsGreater (whole n) value ⊎ AreEqual value (whole n)
+le_affirmed low n value (k, is, from, most) = subst (λ (v : Val). IsGreater (whole n) v ⊎ AreEqual v (whole n)) (sym is) (at_most n k most)
+
+pub text_affirmed : {Z : Type 0} (only : String Z) (t : List ℕ) (value : Val) → string_bytes only ≡ t → (s : List ℕ) × (value ≡ text s) × (chars s ≡ chars (string_bytes only)) → AreEqual value (text t)
+text_affirmed only t value copied (s, is, same) = subst (λ (v : Val). AreEqual v (text t)) (sym is) (same ∙ ap chars copied)
+
+pub other_text_affirmed : {Z : Type 0} (other : String Z) (t : List ℕ) (value : Val) → string_bytes other ≡ t → (s : List ℕ) × (value ≡ text s) × (chars s ≢ chars (string_bytes other)) → ¬ AreEqual value (text t)
+other_text_affirmed other t value copied (s, is, differ) equal = differ (subst (λ (v : Val). AreEqual v (text t)) is equal ∙ ap chars (sym copied))

@@ -21,7 +21,7 @@ pub val_of-Record : (slots : Slots) (type : ExprType) (v : Vec Value Global) →
 val_of-Record slots type v = search (rules, the_lemmas)
 
 -- names are compared alike from both sides
-same_sides : (a b : List ℕ) → pointwise nat_eq a b ≡ pointwise nat_eq b a
+pub same_sides : (a b : List ℕ) → pointwise nat_eq a b ≡ pointwise nat_eq b a
 same_sides a b = same_from_decides (pointwise nat_eq a b) (pointwise nat_eq b a) (bytes_eq-Decides a b)
     (Decides-like (pointwise nat_eq b a) sym sym (bytes_eq-Decides b a))
 

@@ -27,4 +27,4 @@ returns-in-Some-sieve_of c =
     subst (λ (k : NodeKind). HasKind filter.list left.stop k) c.in-Literal.is c.in-Some.ensures.kind in
     compared_sieve filter c.literals_have_one_value.ensures left.stop index c.in-Literal.kind literal x at c.args.place c.in-Property.slot
     c.args.comparison c.in-Some-sieve_of.sieve c.requires.here (there_found (λ (f : CheckedNode). f.kind ≡ NodeKind.Property c.in-Property.slot) found left there c.in-Property.is)
-    (there_found (λ (f : CheckedNode). f.stop ≡ left.stop) found left there refl) c.in-Some-sieve_of.ensures.number (λ right is. c.in-Some-sieve_of.ensures.refutes right is)
+    (there_found (λ (f : CheckedNode). f.stop ≡ left.stop) found left there refl) c.in-Some-sieve_of.ensures.number (λ right is. c.in-Some-sieve_of.ensures.decides right is)

@@ -1,26 +1,36 @@
 use Rattle.std.proofs.Common.{◌≡◌, ℕ, ◌<◌, ◌+◌, ◌-◌, List, Some, length, refl, sym, ap, ◌∙◌, subst, arith, slice_get}
-use Rattle.std.specs.Prelude.{All}
+use Rattle.std.specs.Prelude.{All, Vec}
+use Rattle.std.specs.declared.alloc.Global.{Global}
 use Rattle.std.proofs.lemmas.Option.{slice_get_read}
 use Rattle.std.proofs.lemmas.List.Elements.{All-push}
 use Rattle.odata_eval.specs.FalseWhere.{IsSieveOf}
 use Rattle.odata_checked_filter.specs.declared.checked_node.CheckedNode.{CheckedNode}
-use Rattle.odata_eval.specs.private.ValueTests.{GoesUp}
+use Rattle.odata_eval.specs.TrueWhere.{AreWhole}
+use Rattle.odata_eval.specs.declared.value_tests.SlotSieve.{SlotSieve}
+use Rattle.odata_eval.specs.private.ValueTests.{AreAllBut, GoesUp}
 use Rattle.odata_eval.proofs.walking.Parts.{there_found}
-use Rattle.odata_eval.proofs.walking.FalseTerms.{ands_less, chain_sieve, next_up}
+use Rattle.odata_eval.proofs.walking.FalseTerms.{ands_less, chain_sieve, next_but, next_up, whole_tests}
 use Rattle.odata_eval.proofs.value_tests.slot_sieves.Goals as goal
 
-pub returns-then-at-eq0 : goal.returns-then-at-eq0
-returns-then-at-eq0 c =
+pub returns-then-at-eq0-clause-sieves : goal.returns-then-at-eq0-clause-sieves
+returns-then-at-eq0-clause-sieves c =
     let l = c.loop-test in
     let filter = c.args.checked.now in
     subst (All (IsSieveOf filter)) (sym c.in-Ok.ensures.items)
     (All-push (IsSieveOf filter) l.sieves.items c.in-Some.test l.invariant.sieves (chain_sieve filter l.term l.at c.in-Some.test c.nodes-nodes.ensures.right l.invariant.ands l.invariant.goes_up c.in-Some.ensures))
 
-pub returns-then-at-nodes : goal.returns-then-at-nodes
-returns-then-at-nodes c =
+pub returns-then-at-eq0-clause-whole : goal.returns-then-at-eq0-clause-whole
+returns-then-at-eq0-clause-whole c is =
     let l = c.loop-test in
     let filter = c.args.checked.now in
-    subst (All (IsSieveOf filter)) (sym c.in-Ok.ensures.items)
+    subst (AreWhole filter) (sym c.in-Ok.ensures.items)
+    (whole_tests filter l.sieves.items l.term c.in-Some.test c.nodes-nodes.ensures.right (subst (AreAllBut filter l.sieves.items l.term) c.if-at-eq0.true l.invariant.but) c.in-Some.ensures)
+
+pub returns-then-at-nodes-clause-sieves : goal.returns-then-at-nodes-clause-sieves
+returns-then-at-nodes-clause-sieves c =
+    let l = c.loop-test in
+    let filter = c.args.checked.now in
+    subst (All (IsSieveOf filter)) (sym (ap (λ (v : Vec SlotSieve Global). v.items) c.first_tests-then-at-nodes.ensures.sieves ∙ c.in-Ok.ensures.items))
     (All-push (IsSieveOf filter) l.sieves.items c.in-Some.test l.invariant.sieves (chain_sieve filter l.term l.at c.in-Some.test c.nodes-nodes.ensures.right l.invariant.ands l.invariant.goes_up c.in-Some.ensures))
 
 pub loop-test-preserved : goal.loop-test-preserved
@@ -41,4 +51,7 @@ loop-test-preserved c =
       ands = ands_less filter l.at l.invariant.ands;
       goes_up = subst (λ (place : ℕ). GoesUp filter place (l.at - 1)) (ap (λ (f : CheckedNode). f.stop) c.index-nodes-at.is)
           (next_up filter l.term l.at left.stop test.slot test.sieve some l.invariant.ands l.invariant.goes_up c.in-Some.ensures right);
+      but = subst (λ (place : ℕ). AreAllBut filter c.push.new.self.items place (l.at - 1)) (ap (λ (f : CheckedNode). f.stop) c.index-nodes-at.is)
+          (subst (λ (sieves : List SlotSieve). AreAllBut filter sieves left.stop (l.at - 1)) (sym c.in-Ok.ensures.items)
+          (next_but filter l.sieves.items l.term l.at left.stop test some l.invariant.ands l.invariant.but c.in-Some.ensures right));
     }

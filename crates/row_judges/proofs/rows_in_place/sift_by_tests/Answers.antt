@@ -10,7 +10,7 @@ use Rattle.row_judges.proofs.RowLemmas.SlotTests.{sifted_sieves}
 use Rattle.row_judges.proofs.rows_in_place.sift_by_tests.Goals as goal
 
 pub loop-test-init : goal.loop-test-init
-loop-test-init c = record { same = sieves_same c.args.rows.now; tests = c.requires; left = c.slot_sieves-tests.ensures }
+loop-test-init c = record { same = sieves_same c.args.rows.now; tests = c.requires; left = c.slot_sieves.ensures.sieves }
 
 pub loop-test-preserved : goal.loop-test-preserved
 loop-test-preserved c =

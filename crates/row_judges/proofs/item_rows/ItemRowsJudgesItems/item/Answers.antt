@@ -1,5 +1,6 @@
 use Rattle.std.proofs.Common.{◌≡◌, ◌≤◌, ◌+◌, Bool, List, ℕ, Option, IfSome, length, take, get_or, sym, subst}
 use Rattle.std.specs.Prelude.{false}
+use Rattle.odata_eval.specs.TrueWhere.{AreWhole}
 use Rattle.edm_rows.specs.RowItems.{IsJsonBut, IsJsonLeftOut, ReadsItem, ValueStands}
 use Rattle.edm_rows.specs.RowsOfType.{names_unkept, row_held}
 use Rattle.row_judges.specs.RowJudgment.{JudgesValue, judgment_where}
@@ -25,15 +26,18 @@ read_item-requires-clause-within c = subst (λ (t : List ℕ). c.args.place ≤ 
 
 pub invariant_of-self : goal.invariant_of-self
 invariant_of-self c =
-    rows_again c.self.inside.rows.checked.now c.begin_at.new.rows c.read_item.new.self c.read_item.ensures.same (rows_again c.self.inside.rows.checked.now c.self.inside.type_rows c.begin_at.new.rows c.begin_at.ensures c.self.invariant)
+    (rows_again c.self.inside.rows.checked.now c.begin_at.new.rows c.read_item.new.self c.read_item.ensures.same (rows_again c.self.inside.rows.checked.now c.self.inside.type_rows c.begin_at.new.rows c.begin_at.ensures c.self.invariant.0), c.self.invariant.1)
 
-pub answer_held-requires-clause-rows : goal.answer_held-requires-clause-rows
-answer_held-requires-clause-rows c =
-    (rows_again c.self.inside.rows.checked.now c.begin_at.new.rows c.read_item.new.self c.read_item.ensures.same (rows_again c.self.inside.rows.checked.now c.self.inside.type_rows c.begin_at.new.rows c.begin_at.ensures c.self.invariant)).names
+pub answer_held-answer-requires-clause-tests : goal.answer_held-answer-requires-clause-tests
+answer_held-answer-requires-clause-tests c = subst (AreWhole c.self.inside.rows.checked.now) (sym c.as_slice.ensures.value) c.self.invariant.1
+
+pub answer_held-answer-requires-clause-rows : goal.answer_held-answer-requires-clause-rows
+answer_held-answer-requires-clause-rows c =
+    (rows_again c.self.inside.rows.checked.now c.begin_at.new.rows c.read_item.new.self c.read_item.ensures.same (rows_again c.self.inside.rows.checked.now c.self.inside.type_rows c.begin_at.new.rows c.begin_at.ensures c.self.invariant.0)).names
 
 pub leaves_out-requires-clause-rows : goal.leaves_out-requires-clause-rows
 leaves_out-requires-clause-rows c =
-    rows_again c.self.inside.rows.checked.now c.begin_at.new.rows c.read_item.new.self c.read_item.ensures.same (rows_again c.self.inside.rows.checked.now c.self.inside.type_rows c.begin_at.new.rows c.begin_at.ensures c.self.invariant)
+    rows_again c.self.inside.rows.checked.now c.begin_at.new.rows c.read_item.new.self c.read_item.ensures.same (rows_again c.self.inside.rows.checked.now c.self.inside.type_rows c.begin_at.new.rows c.begin_at.ensures c.self.invariant.0)
 
 pub returns-clause-judged : goal.returns-clause-judged
 returns-clause-judged c =
@@ -49,7 +53,7 @@ returns-clause-judged c =
           let kept = w.in-Some.is_kept in
           subst Judged (sym w.result-is)
           (stands_so 125 document place w.in-Row.end (λ json. IsJsonBut json (names_unkept new) (row_held new)) (λ json. JudgesValue filter now json (judgment_where kept))
-          (λ json but. value_judged filter now json (answer_reported w.answer_held.result) (judgment_where kept) (w.answer_held.ensures json but) w.in-Some.ensures) (subst (λ r. ReadsItem document place new r) w.in-Row.is read))
+          (λ json but. value_judged filter now json (answer_reported w.answer_held-answer.result) (judgment_where kept) (w.answer_held-answer.ensures json but) w.in-Some.ensures) (subst (λ r. ReadsItem document place new r) w.in-Row.is read))
       | in-Row+in-None w ↦ subst Judged (sym w.result-is) tt
       | in-LeftOut w ↦
           subst Judged (sym w.result-is)

@@ -1,8 +1,11 @@
-use Rattle.std.proofs.Common.{sym, subst}
+use Rattle.std.proofs.Common.{refl, sym, subst}
 use Rattle.row_judges.specs.RowAnswer.{ReportsRow}
 use Rattle.row_judges.specs.private.ValueAnswer.{answer_reported}
 use Rattle.row_judges.proofs.RowLemmas.RowsInPlace.{line_reported}
 use Rattle.row_judges.proofs.row_judge.RowJudge.judge_held.Goals as goal
+
+pub answer_held-requires-clause-tests : goal.answer_held-requires-clause-tests
+answer_held-requires-clause-tests c = λ some. absurd (some refl)
 
 pub returns : goal.returns
 returns c line read =

@@ -15,7 +15,7 @@ use Rattle.row_judges.proofs.row_line_judge.RowLineJudgeJudge.judge.Goals.{in-So
 use Rattle.row_judges.proofs.row_line_judge.RowLineJudgeJudge.judge.Goals as goal
 
 pub invariant_of-self-2 : goal.invariant_of-self-2
-invariant_of-self-2 c = (c.self.invariant.0, rows_again c.self.inside.rows.checked.now c.self.inside.type_rows c.begin_after.new.rows c.begin_after.ensures c.self.invariant.1)
+invariant_of-self-2 c = (c.self.invariant.0, rows_again c.self.inside.rows.checked.now c.self.inside.type_rows c.begin_after.new.rows c.begin_after.ensures c.self.invariant.1, c.self.invariant.2)
 
 pub returns-clause-said : goal.returns-clause-said
 returns-clause-said c =
