@@ -11,7 +11,7 @@ pub use contract.Monad.{Fun, fact}
 pub use contract.Running.{tables}
 pub use sound.WpLaws.{FmC}
 pub use types.Logic.{Logic, sem}
-pub use types.Kit.{Item, use0, ‵, raw, ◌⊛◌, some, later, prop, at_ret, Sq, ◌$◌, ◌∵◌, !, qed, move, keep, drop, use1, use2, split, join, fsplit, fjoin, fpack, feq_i, pick, await, by}
+pub use types.Kit.{Item, ‵, raw, ◌⊛◌, some, later, prop, at_ret, Sq, ◌$◌, ◌∵◌, !, qed, move, keep, drop, use1, use2, split, join, fsplit, fjoin, fpack, feq_i, pick, await, by}
 pub use types.Run.{enter, of_opd, lit, bin, addr, stop, fld, no_more, and_then, first, blocks, branches, skips, exec, returns, returns_within}
 pub use types.Part.{agg, sub, whole}
 pub use types.ByLocal.{alloc_all, pass_all, free_all, look_at, get, get_in, through, sets, lands_last, sets_last, env}

@@ -3,13 +3,13 @@ use Rattle.std.specs.Prelude.{◌≡◌, ℕ, List, [], ◌∷◌}
 use base.Fml.{Fml, fsep, feq, fex}
 use denote.RawPtr.{Ptr}
 use Rattle.odfilter_c.specs.Loans.{Loan, borrowed_fault, borrowed_handle, borrowed_judge, borrowed_bytes, borrowed_buffer, borrowed_made, borrowed_answer, left_judge, left_buffer, left_made, left_answer, unless_null, holds, of_optional, of_bytes}
-use Rattle.odfilter_c.specs.declared.c_types.Answer.{Answer}
+use Rattle.handle_calls.specs.declared.answer.Answer.{Answer}
 use Rattle.odfilter_c.specs.declared.c_types.Bytes.{Bytes}
 use Rattle.odfilter_c.specs.declared.c_types.Buffer.{Buffer}
-use Rattle.odfilter_c.specs.declared.handle.Handle.{Handle}
-use Rattle.odfilter_c.specs.declared.owned.Owned.{Owned}
-use Rattle.odfilter_c.specs.Reports.{ReadsSchema, FindsType, ChecksText, ChecksQuery, Frees, ReportsVersion, ReportsStatus, ReportsFault}
-use Rattle.odfilter_c.specs.RowReports.{ReportsNeed, MakesJudge, SetsBound, SetsMoment, JudgesOne, FiltersLines, ReportsPath}
+use Rattle.handle_calls.specs.declared.handle.Handle.{Handle}
+use Rattle.handle_calls.specs.declared.owned.Owned.{Owned}
+use Rattle.handle_calls.specs.Reports.{ReadsSchema, FindsType, ChecksText, ChecksQuery, Frees, ReportsVersion, ReportsStatus, ReportsFault}
+use Rattle.handle_calls.specs.RowReports.{ReportsNeed, MakesJudge, SetsBound, SetsMoment, JudgesOne, FiltersLines, ReportsPath}
 
 -- what `odfilter_read_schema` borrows: bytes, a buffer, the new handle's variable and the answer
 abbrev pub borrowed_by_read_schema : Loan → Bytes → Buffer → Ptr → Ptr → Fml

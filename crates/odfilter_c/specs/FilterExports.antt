@@ -3,15 +3,15 @@ use Rattle.std.specs.Prelude.{◌≡◌, ℕ, List, [], ◌∷◌}
 use base.Fml.{Fml, fsep, feq, fex}
 use denote.RawPtr.{Ptr}
 use Rattle.odfilter_c.specs.Loans.{Loan, borrowed_fault, borrowed_handle, borrowed_judge, borrowed_bytes, borrowed_buffer, borrowed_made, borrowed_answer, left_judge, left_buffer, left_made, left_answer, unless_null, holds, of_optional, of_bytes}
-use Rattle.odfilter_c.specs.declared.c_types.Answer.{Answer}
+use Rattle.handle_calls.specs.declared.answer.Answer.{Answer}
 use Rattle.odfilter_c.specs.declared.c_types.Bytes.{Bytes}
 use Rattle.odfilter_c.specs.declared.c_types.Buffer.{Buffer}
-use Rattle.odfilter_c.specs.declared.handle.Handle.{Handle}
-use Rattle.odfilter_c.specs.declared.owned.Owned.{Owned}
-use Rattle.odfilter_c.specs.UrlCalls.{ChecksUrl}
-use Rattle.odfilter_c.specs.Reports.{ReportsCanonical, ReportsNodes}
-use Rattle.odfilter_c.specs.Costs.{ReportsNodeCount, ReportsLambdaDepth, ReportsPaths}
-use Rattle.odfilter_c.specs.Sentences.{ReportsSentenceFor, ReportsSentence}
+use Rattle.handle_calls.specs.declared.handle.Handle.{Handle}
+use Rattle.handle_calls.specs.declared.owned.Owned.{Owned}
+use Rattle.handle_calls.specs.UrlCalls.{ChecksUrl}
+use Rattle.handle_calls.specs.Reports.{ReportsCanonical, ReportsNodes}
+use Rattle.handle_calls.specs.Costs.{ReportsNodeCount, ReportsLambdaDepth, ReportsPaths}
+use Rattle.handle_calls.specs.Sentences.{ReportsSentenceFor, ReportsSentence}
 
 -- what `odfilter_check_url` borrows: a handle, bytes, a buffer, the new handle's variable and the answer
 abbrev pub borrowed_by_check_url : Loan → Ptr → Bytes → Buffer → Ptr → Ptr → Fml

@@ -19,10 +19,9 @@ ghost use Rattle.odfilter_c.specs.Exports.{borrowed_by_version, left_by_version}
 ghost use Rattle.odfilter_c.specs.Exports.{borrowed_by_status_name, left_by_status_name};
 ghost use Rattle.odfilter_c.specs.Exports.{borrowed_by_fault_name, left_by_fault_name};
 
-use crate::c_types::{Answer, Buffer, Bytes};
-use crate::handle::Handle;
-use crate::owned::Owned;
-use crate::{handle_calls, null_calls};
+use crate::c_types::{Buffer, Bytes};
+use crate::null_calls;
+use handle_calls::{Answer, Handle, Owned, calls};
 use std::alloc::Global;
 use std::slice::{from_raw_parts, from_raw_parts_mut};
 
@@ -63,7 +62,7 @@ pub unsafe extern "C" fn odfilter_read_schema(
         }
     } else {
         unsafe {
-            handle_calls::read_schema(
+            calls::read_schema(
                 alloc,
                 from_raw_parts(document.at, document.length),
                 from_raw_parts_mut(names.at, names.length),
@@ -104,7 +103,7 @@ pub unsafe extern "C" fn odfilter_find_type(
         }
     } else {
         unsafe {
-            handle_calls::find_type(
+            calls::find_type(
                 alloc,
                 &*(schema as *const Handle),
                 from_raw_parts(name.at, name.length),
@@ -149,7 +148,7 @@ pub unsafe extern "C" fn odfilter_check(
         }
     } else {
         unsafe {
-            handle_calls::check(
+            calls::check(
                 alloc,
                 &*(given as *const Handle),
                 from_raw_parts(text.at, text.length),
@@ -196,7 +195,7 @@ pub unsafe extern "C" fn odfilter_check_query(
         }
     } else {
         unsafe {
-            handle_calls::check_query(
+            calls::check_query(
                 alloc,
                 &*(given as *const Handle),
                 from_raw_parts(query.at, query.length),
@@ -221,7 +220,7 @@ pub unsafe extern "C" fn odfilter_needs_moment(filter: *const u8, answer: *mut A
     if answer.is_null() {
         return 1;
     }
-    unsafe { handle_calls::needs_moment(&*(filter as *const Handle), &mut *answer) }
+    unsafe { calls::needs_moment(&*(filter as *const Handle), &mut *answer) }
 }
 
 /// Makes a judge.
@@ -235,7 +234,7 @@ pub unsafe extern "C" fn odfilter_new_judge(alloc: Global, judge: *mut Owned) ->
     if judge.is_null() {
         return 1;
     }
-    unsafe { handle_calls::new_judge(alloc, &mut *judge) }
+    unsafe { calls::new_judge(alloc, &mut *judge) }
 }
 
 /// Sets a judge's moment.
@@ -253,7 +252,7 @@ pub unsafe extern "C" fn odfilter_set_moment(judge: *mut u8, moment: Bytes) -> u
         unsafe { null_calls::set_moment_at_null(&mut *(judge as *mut Handle), moment.length) }
     } else {
         unsafe {
-            handle_calls::set_moment(
+            calls::set_moment(
                 &mut *(judge as *mut Handle),
                 from_raw_parts(moment.at, moment.length),
             )
@@ -272,7 +271,7 @@ pub unsafe extern "C" fn odfilter_set_bound(judge: *mut u8, most: u64) -> u32
     if judge.is_null() {
         return 1;
     }
-    unsafe { handle_calls::set_bound(&mut *(judge as *mut Handle), most) }
+    unsafe { calls::set_bound(&mut *(judge as *mut Handle), most) }
 }
 
 /// Judges a row.
@@ -309,7 +308,7 @@ pub unsafe extern "C" fn odfilter_judge(
         }
     } else {
         unsafe {
-            handle_calls::judge(
+            calls::judge(
                 &*(filter as *const Handle),
                 &mut *(judge as *mut Handle),
                 from_raw_parts(row.at, row.length),
@@ -360,7 +359,7 @@ pub unsafe extern "C" fn odfilter_filter_lines(
         }
     } else {
         unsafe {
-            handle_calls::filter_lines(
+            calls::filter_lines(
                 &*(filter as *const Handle),
                 &mut *(judge as *mut Handle),
                 from_raw_parts(rows.at, rows.length),
@@ -389,7 +388,7 @@ pub unsafe extern "C" fn odfilter_path(judge: *const u8, path: Buffer, answer: *
         return 1;
     }
     unsafe {
-        handle_calls::path(
+        calls::path(
             &*(judge as *const Handle),
             from_raw_parts_mut(path.at, path.length),
             &mut *answer,
@@ -408,7 +407,7 @@ pub unsafe extern "C" fn odfilter_free(alloc: Global, handle: *mut Owned) -> u32
     if handle.is_null() {
         return 1;
     }
-    unsafe { handle_calls::free(alloc, &mut *handle) }
+    unsafe { calls::free(alloc, &mut *handle) }
 }
 
 /// Writes the version.
@@ -425,7 +424,7 @@ pub unsafe extern "C" fn odfilter_version(text: Buffer, answer: *mut Answer) -> 
     if answer.is_null() {
         return 1;
     }
-    unsafe { handle_calls::version(from_raw_parts_mut(text.at, text.length), &mut *answer) }
+    unsafe { calls::version(from_raw_parts_mut(text.at, text.length), &mut *answer) }
 }
 
 /// Writes the name of a status.
@@ -443,7 +442,7 @@ pub unsafe extern "C" fn odfilter_status_name(status: u32, text: Buffer, answer:
         return 1;
     }
     unsafe {
-        handle_calls::status_name(
+        calls::status_name(
             status,
             from_raw_parts_mut(text.at, text.length),
             &mut *answer,
@@ -471,7 +470,7 @@ pub unsafe extern "C" fn odfilter_fault_name(
         return 1;
     }
     unsafe {
-        handle_calls::fault_name(
+        calls::fault_name(
             status,
             fault,
             from_raw_parts_mut(text.at, text.length),

@@ -11,10 +11,9 @@ ghost use Rattle.odfilter_c.specs.FilterExports.{borrowed_by_lambda_depth, left_
 ghost use Rattle.odfilter_c.specs.FilterExports.{borrowed_by_property_paths, left_by_property_paths};
 ghost use Rattle.odfilter_c.specs.FilterExports.{borrowed_by_fault_text, left_by_fault_text};
 
-use crate::c_types::{Answer, Buffer, Bytes};
-use crate::handle::Handle;
-use crate::owned::Owned;
-use crate::{handle_calls, null_calls};
+use crate::c_types::{Buffer, Bytes};
+use crate::null_calls;
+use handle_calls::{Answer, Handle, Owned, calls};
 use std::alloc::Global;
 use std::slice::{from_raw_parts, from_raw_parts_mut};
 
@@ -61,7 +60,7 @@ pub unsafe extern "C" fn odfilter_check_url(
         }
     } else {
         unsafe {
-            handle_calls::check_url(
+            calls::check_url(
                 alloc,
                 &*(given as *const Handle),
                 from_raw_parts(query.at, query.length),
@@ -96,7 +95,7 @@ pub unsafe extern "C" fn odfilter_canonical(
         return 1;
     }
     unsafe {
-        handle_calls::canonical(
+        calls::canonical(
             alloc,
             &*(filter as *const Handle),
             from_raw_parts_mut(text.at, text.length),
@@ -128,7 +127,7 @@ pub unsafe extern "C" fn odfilter_explain(
         return 1;
     }
     unsafe {
-        handle_calls::explain(
+        calls::explain(
             alloc,
             &*(filter as *const Handle),
             from_raw_parts_mut(text.at, text.length),
@@ -151,7 +150,7 @@ pub unsafe extern "C" fn odfilter_node_count(filter: *const u8, answer: *mut Ans
     if answer.is_null() {
         return 1;
     }
-    unsafe { handle_calls::node_count(&*(filter as *const Handle), &mut *answer) }
+    unsafe { calls::node_count(&*(filter as *const Handle), &mut *answer) }
 }
 
 /// Reports how many lambda operators of a filter stand in one another.
@@ -168,7 +167,7 @@ pub unsafe extern "C" fn odfilter_lambda_depth(filter: *const u8, answer: *mut A
     if answer.is_null() {
         return 1;
     }
-    unsafe { handle_calls::lambda_depth(&*(filter as *const Handle), &mut *answer) }
+    unsafe { calls::lambda_depth(&*(filter as *const Handle), &mut *answer) }
 }
 
 /// Writes the paths of the properties that a filter reads.
@@ -195,7 +194,7 @@ pub unsafe extern "C" fn odfilter_property_paths(
         return 1;
     }
     unsafe {
-        handle_calls::property_paths(
+        calls::property_paths(
             alloc,
             &*(filter as *const Handle),
             from_raw_parts_mut(paths.at, paths.length),
@@ -246,7 +245,7 @@ pub unsafe extern "C" fn odfilter_fault_text(
             }
         } else {
             unsafe {
-                handle_calls::fault_text_alone(
+                calls::fault_text_alone(
                     alloc,
                     status,
                     from_raw_parts(text.at, text.length),
@@ -271,7 +270,7 @@ pub unsafe extern "C" fn odfilter_fault_text(
             }
         } else {
             unsafe {
-                handle_calls::fault_text(
+                calls::fault_text(
                     alloc,
                     &*(given as *const Handle),
                     status,

@@ -6,10 +6,9 @@ ghost use Rattle.odfilter_c.specs.Loans.{Loan};
 ghost use Rattle.odfilter_c.specs.JudgeExports.{borrowed_by_new_judge_of, left_by_new_judge_of};
 ghost use Rattle.odfilter_c.specs.JudgeExports.{borrowed_by_judge_next, left_by_judge_next};
 
-use crate::c_types::{Answer, Bytes};
-use crate::handle::Handle;
-use crate::owned::Owned;
-use crate::{handle_calls, null_calls};
+use crate::c_types::Bytes;
+use crate::null_calls;
+use handle_calls::{Answer, Handle, Owned, calls};
 use std::alloc::Global;
 use std::slice::from_raw_parts;
 
@@ -31,7 +30,7 @@ pub unsafe extern "C" fn odfilter_new_judge_of(
     if judge.is_null() {
         return 1;
     }
-    unsafe { handle_calls::new_judge_of(alloc, &*(filter as *const Handle), &mut *judge) }
+    unsafe { calls::new_judge_of(alloc, &*(filter as *const Handle), &mut *judge) }
 }
 
 /// Judges a row by the judge's own filter.
@@ -54,7 +53,7 @@ pub unsafe extern "C" fn odfilter_judge_next(judge: *mut u8, row: Bytes, answer:
         }
     } else {
         unsafe {
-            handle_calls::judge_next(
+            calls::judge_next(
                 &mut *(judge as *mut Handle),
                 from_raw_parts(row.at, row.length),
                 &mut *answer,

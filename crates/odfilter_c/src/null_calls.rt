@@ -2,16 +2,12 @@
 //! status is that of a null address, and nothing is written.
 ghost use Rattle.std.specs.Prelude.{◌≡◌, []};
 ghost use Rattle.odfilter_c.specs.Loans.{UnlessLong};
-ghost use Rattle.odfilter_c.specs.Reports.{ReadsSchema, FindsType, ChecksText, ChecksQuery};
-ghost use Rattle.odfilter_c.specs.UrlCalls.{ChecksUrl};
-ghost use Rattle.odfilter_c.specs.RowReports.{SetsMoment, JudgesOne, JudgesNext, FiltersLines};
-ghost use Rattle.odfilter_c.specs.Sentences.{ReportsSentence, ReportsSentenceFor};
+ghost use Rattle.handle_calls.specs.Reports.{ReadsSchema, FindsType, ChecksText, ChecksQuery};
+ghost use Rattle.handle_calls.specs.UrlCalls.{ChecksUrl};
+ghost use Rattle.handle_calls.specs.RowReports.{SetsMoment, JudgesOne, JudgesNext, FiltersLines};
+ghost use Rattle.handle_calls.specs.Sentences.{ReportsSentence, ReportsSentenceFor};
 
-use crate::c_types::Answer;
-use crate::handle::Handle;
-use crate::handle_calls;
-use crate::judge_calls::{put_moment, report_next};
-use crate::owned::Owned;
+use handle_calls::{Answer, Handle, Owned, calls, put_moment, report_next};
 use std::alloc::Global;
 
 pub(crate) fn read_schema_at_null<'a>(
@@ -28,7 +24,7 @@ pub(crate) fn read_schema_at_null<'a>(
     if length > 0 {
         return 1;
     }
-    handle_calls::read_schema(alloc, b"".as_slice(), names, schema, answer)
+    calls::read_schema(alloc, b"".as_slice(), names, schema, answer)
 }
 
 pub(crate) fn find_type_at_null<'a>(
@@ -42,7 +38,7 @@ pub(crate) fn find_type_at_null<'a>(
     if length > 0 {
         return 1;
     }
-    handle_calls::find_type(alloc, schema, b"".as_slice(), made)
+    calls::find_type(alloc, schema, b"".as_slice(), made)
 }
 
 pub(crate) fn check_at_null<'a>(
@@ -58,7 +54,7 @@ pub(crate) fn check_at_null<'a>(
     if length > 0 {
         return 1;
     }
-    handle_calls::check(alloc, given, b"".as_slice(), made, answer)
+    calls::check(alloc, given, b"".as_slice(), made, answer)
 }
 
 pub(crate) fn check_query_at_null<'a>(
@@ -74,7 +70,7 @@ pub(crate) fn check_query_at_null<'a>(
     if length > 0 {
         return 1;
     }
-    handle_calls::check_query(alloc, given, b"".as_slice(), made, answer)
+    calls::check_query(alloc, given, b"".as_slice(), made, answer)
 }
 
 pub(crate) fn check_url_at_null<'a>(
@@ -92,7 +88,7 @@ pub(crate) fn check_url_at_null<'a>(
     if length > 0 {
         return 1;
     }
-    handle_calls::check_url(alloc, given, b"".as_slice(), text, made, answer)
+    calls::check_url(alloc, given, b"".as_slice(), text, made, answer)
 }
 
 pub(crate) fn set_moment_at_null<'a>(judge: &'a mut Handle, length: usize) -> u32
@@ -116,7 +112,7 @@ pub(crate) fn judge_at_null<'a>(
     if length > 0 {
         return 1;
     }
-    handle_calls::judge(filter, judge, b"".as_slice(), answer)
+    calls::judge(filter, judge, b"".as_slice(), answer)
 }
 
 pub(crate) fn judge_next_at_null<'a>(
@@ -147,7 +143,7 @@ pub(crate) fn filter_lines_at_null<'a>(
     if length > 0 {
         return 1;
     }
-    handle_calls::filter_lines(filter, judge, b"".as_slice(), kept, answer)
+    calls::filter_lines(filter, judge, b"".as_slice(), kept, answer)
 }
 
 pub(crate) fn fault_text_alone_at_null<'a>(
@@ -164,7 +160,7 @@ pub(crate) fn fault_text_alone_at_null<'a>(
     if length > 0 {
         return 1;
     }
-    handle_calls::fault_text_alone(alloc, status, b"".as_slice(), sentence, fault, answer)
+    calls::fault_text_alone(alloc, status, b"".as_slice(), sentence, fault, answer)
 }
 
 pub(crate) fn fault_text_at_null<'a>(
@@ -182,7 +178,7 @@ pub(crate) fn fault_text_at_null<'a>(
     if length > 0 {
         return 1;
     }
-    handle_calls::fault_text(
+    calls::fault_text(
         alloc,
         given,
         status,

@@ -3,10 +3,10 @@ use Rattle.odfilter_c.proofs.Steps.{◌≡◌, ℕ, ◌<◌, ◌^◌, List, [], 
 use Rattle.odfilter_c.proofs.Types.{Global, GlobalRow, global_val, global_lowers, global_laws, Bytes, BytesRow, bytes_val, bytes_lowers, bytes_laws, Buffer, BufferRow, buffer_val, buffer_lowers, buffer_laws, Handle, HandleRow, Owned, OwnedRow, Answer, AnswerRow}
 use Rattle.odfilter_c.specs.Loans.{Loan, borrowed_fault, borrowed_handle, borrowed_judge, borrowed_bytes, borrowed_buffer, borrowed_made, borrowed_answer, left_judge, left_buffer, left_made, left_answer, unless_null, holds, of_optional, of_bytes}
 use Rattle.odfilter_c.specs.Exports.{borrowed_by_set_bound, left_by_set_bound}
-use Rattle.odfilter_c.specs.RowReports.{SetsBound}
-use Rattle.odfilter_c.specs.contracts.handle_calls.set_bound as g
-use Rattle.odfilter_c.proofs.handle_calls.set_bound.Symbol.{name as #call}
-use Rattle.odfilter_c.proofs.handle_calls.set_bound.Met.{met as met}
+use Rattle.handle_calls.specs.RowReports.{SetsBound}
+use Rattle.handle_calls.specs.contracts.calls.set_bound as g
+use Rattle.handle_calls.proofs.calls.set_bound.Symbol.{name as #call}
+use Rattle.handle_calls.proofs.calls.set_bound.Met.{met as met}
 use Rattle.odfilter_c.specs.contracts.exports.odfilter_set_bound as f
 use Rattle.odfilter_c.proofs.exports.odfilter_set_bound.Statement.{statement}
 use Rattle.odfilter_c.proofs.exports.odfilter_set_bound.Code as code
@@ -85,4 +85,4 @@ odfilter_set_bound_spec 𝓤 𝓛 𝓜 𝓡 wired =
     qed 𝓛 (raw (on_entry 𝓛 f.signature κs qs a (rawptr_vals a.0, (vint w64 a.1.0 ∷ [], tt))) ∷ (raw (fact 𝓤 (Testable a.0)) ⊛ (‵ (flft l.lifetime l.share) ⊛ ‵ (borrowed_by_set_bound l a.0))) ∷ []) ∵
     drop ! $
     split ! $ heard ! _ (λ may. split ! $
-    runs 𝓛 𝓜.mem 𝓡.returns 𝓣.C 𝓣.Λ (framed 𝓤 𝓛.H 𝓜 𝓣) (met 𝓤 𝓛 𝓜 𝓡 (code.calls-odfilter_c::handle_calls::set_bound 𝓡.env wired)) l a.0 a.1.0 are.1.0.1 may))
+    runs 𝓛 𝓜.mem 𝓡.returns 𝓣.C 𝓣.Λ (framed 𝓤 𝓛.H 𝓜 𝓣) (met 𝓤 𝓛 𝓜 𝓡 (code.calls-handle_calls::calls::set_bound 𝓡.env wired)) l a.0 a.1.0 are.1.0.1 may))

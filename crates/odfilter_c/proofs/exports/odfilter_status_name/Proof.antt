@@ -3,10 +3,10 @@ use Rattle.odfilter_c.proofs.Steps.{◌≡◌, ℕ, ◌<◌, ◌^◌, List, [], 
 use Rattle.odfilter_c.proofs.Types.{Global, GlobalRow, global_val, global_lowers, global_laws, Bytes, BytesRow, bytes_val, bytes_lowers, bytes_laws, Buffer, BufferRow, buffer_val, buffer_lowers, buffer_laws, Handle, HandleRow, Owned, OwnedRow, Answer, AnswerRow}
 use Rattle.odfilter_c.specs.Loans.{Loan, borrowed_fault, borrowed_handle, borrowed_judge, borrowed_bytes, borrowed_buffer, borrowed_made, borrowed_answer, left_judge, left_buffer, left_made, left_answer, unless_null, holds, of_optional, of_bytes}
 use Rattle.odfilter_c.specs.Exports.{borrowed_by_status_name, left_by_status_name}
-use Rattle.odfilter_c.specs.Reports.{ReportsStatus}
-use Rattle.odfilter_c.specs.contracts.handle_calls.status_name as g
-use Rattle.odfilter_c.proofs.handle_calls.status_name.Symbol.{name as #call}
-use Rattle.odfilter_c.proofs.handle_calls.status_name.Met.{met as met}
+use Rattle.handle_calls.specs.Reports.{ReportsStatus}
+use Rattle.handle_calls.specs.contracts.calls.status_name as g
+use Rattle.handle_calls.proofs.calls.status_name.Symbol.{name as #call}
+use Rattle.handle_calls.proofs.calls.status_name.Met.{met as met}
 use Rattle.odfilter_c.specs.contracts.exports.odfilter_status_name as f
 use Rattle.odfilter_c.proofs.exports.odfilter_status_name.Statement.{statement}
 use Rattle.odfilter_c.proofs.exports.odfilter_status_name.Code as code
@@ -97,4 +97,4 @@ odfilter_status_name_spec 𝓤 𝓛 𝓜 𝓡 wired =
     qed 𝓛 (raw (on_entry 𝓛 f.signature κs qs a (vint w32 a.0 ∷ [], (buffer_val a.1.0 ∷ [], (rawptr_vals a.1.1.0, tt)))) ∷ (raw (fact 𝓤 (Testable a.1.0.at × Testable a.1.1.0)) ⊛ (‵ (flft l.lifetime l.share) ⊛ ‵ (borrowed_by_status_name l a.1.0 a.1.1.0))) ∷ []) ∵
     drop ! $
     split ! $ heard ! _ (λ may. split ! $
-    runs 𝓛 𝓜.mem 𝓡.returns 𝓣.C 𝓣.Λ (framed 𝓤 𝓛.H 𝓜 𝓣) (met 𝓤 𝓛 𝓜 𝓡 (code.calls-odfilter_c::handle_calls::status_name 𝓡.env wired)) l a.0 a.1.0.at a.1.0.length a.1.1.0 are.0.1 ((buffer_laws.lawful 𝓛).typed a.1.0 _ are.1.0) may.0 may.1))
+    runs 𝓛 𝓜.mem 𝓡.returns 𝓣.C 𝓣.Λ (framed 𝓤 𝓛.H 𝓜 𝓣) (met 𝓤 𝓛 𝓜 𝓡 (code.calls-handle_calls::calls::status_name 𝓡.env wired)) l a.0 a.1.0.at a.1.0.length a.1.1.0 are.0.1 ((buffer_laws.lawful 𝓛).typed a.1.0 _ are.1.0) may.0 may.1))

@@ -3,10 +3,10 @@ use Rattle.odfilter_c.proofs.Steps.{◌≡◌, ℕ, ◌<◌, ◌^◌, List, [], 
 use Rattle.odfilter_c.proofs.Types.{Global, GlobalRow, global_val, global_lowers, global_laws, Bytes, BytesRow, bytes_val, bytes_lowers, bytes_laws, Buffer, BufferRow, buffer_val, buffer_lowers, buffer_laws, Handle, HandleRow, Owned, OwnedRow, Answer, AnswerRow}
 use Rattle.odfilter_c.specs.Loans.{Loan, borrowed_fault, borrowed_handle, borrowed_judge, borrowed_bytes, borrowed_buffer, borrowed_made, borrowed_answer, left_judge, left_buffer, left_made, left_answer, unless_null, holds, of_optional, of_bytes}
 use Rattle.odfilter_c.specs.FilterExports.{borrowed_by_property_paths, left_by_property_paths}
-use Rattle.odfilter_c.specs.Costs.{ReportsPaths}
-use Rattle.odfilter_c.specs.contracts.handle_calls.property_paths as g
-use Rattle.odfilter_c.proofs.handle_calls.property_paths.Symbol.{name as #call}
-use Rattle.odfilter_c.proofs.handle_calls.property_paths.Met.{met as met}
+use Rattle.handle_calls.specs.Costs.{ReportsPaths}
+use Rattle.handle_calls.specs.contracts.calls.property_paths as g
+use Rattle.handle_calls.proofs.calls.property_paths.Symbol.{name as #call}
+use Rattle.handle_calls.proofs.calls.property_paths.Met.{met as met}
 use Rattle.odfilter_c.specs.contracts.filter_exports.odfilter_property_paths as f
 use Rattle.odfilter_c.proofs.filter_exports.odfilter_property_paths.Statement.{statement}
 use Rattle.odfilter_c.proofs.filter_exports.odfilter_property_paths.Code as code
@@ -110,4 +110,4 @@ odfilter_property_paths_spec 𝓤 𝓛 𝓜 𝓡 wired =
     qed 𝓛 ((‵ ftrue ⊛ ‵ (owns (types_at f.signature.params κs) a (global_val a.0 ∷ [], (rawptr_vals a.1.0, (buffer_val a.1.1.0 ∷ [], (rawptr_vals a.1.1.1.0, tt)))))) ∷ (raw (fact 𝓤 (Testable a.1.0 × Testable a.1.1.0.at × Testable a.1.1.1.0)) ⊛ (‵ (flft l.lifetime l.share) ⊛ ‵ (borrowed_by_property_paths l a.1.0 a.1.1.0 a.1.1.1.0))) ∷ []) ∵
     split ! $ drop ! $ fsplit ! $ move ! (1 ∷ []) $ drop ! $ move ! (1 ∷ []) $
     split ! $ heard ! _ (λ may. split ! $
-    runs 𝓛 𝓜.mem 𝓡.returns 𝓣.C 𝓣.Λ (framed 𝓤 𝓛.H 𝓜 𝓣) (met 𝓤 𝓛 𝓜 𝓡 (code.calls-odfilter_c::handle_calls::property_paths 𝓡.env wired)) l a.0 a.1.0 a.1.1.0.at a.1.1.0.length a.1.1.1.0 ((global_laws.lawful 𝓛).typed a.0 _ are.0) ((buffer_laws.lawful 𝓛).typed a.1.1.0 _ are.1.1.0) may.0 may.1 may.2))
+    runs 𝓛 𝓜.mem 𝓡.returns 𝓣.C 𝓣.Λ (framed 𝓤 𝓛.H 𝓜 𝓣) (met 𝓤 𝓛 𝓜 𝓡 (code.calls-handle_calls::calls::property_paths 𝓡.env wired)) l a.0 a.1.0 a.1.1.0.at a.1.1.0.length a.1.1.1.0 ((global_laws.lawful 𝓛).typed a.0 _ are.0) ((buffer_laws.lawful 𝓛).typed a.1.1.0 _ are.1.1.0) may.0 may.1 may.2))

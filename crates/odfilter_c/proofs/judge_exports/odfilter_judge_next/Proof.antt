@@ -3,10 +3,10 @@ use Rattle.odfilter_c.proofs.Steps.{◌≡◌, ℕ, ◌<◌, ◌^◌, List, [], 
 use Rattle.odfilter_c.proofs.Types.{Global, GlobalRow, global_val, global_lowers, global_laws, Bytes, BytesRow, bytes_val, bytes_lowers, bytes_laws, Buffer, BufferRow, buffer_val, buffer_lowers, buffer_laws, Handle, HandleRow, Owned, OwnedRow, Answer, AnswerRow}
 use Rattle.odfilter_c.specs.Loans.{Loan, borrowed_fault, borrowed_handle, borrowed_judge, borrowed_bytes, borrowed_buffer, borrowed_made, borrowed_answer, left_judge, left_buffer, left_made, left_answer, unless_null, holds, of_optional, of_bytes}
 use Rattle.odfilter_c.specs.JudgeExports.{borrowed_by_judge_next, left_by_judge_next}
-use Rattle.odfilter_c.specs.RowReports.{JudgesNext}
-use Rattle.odfilter_c.specs.contracts.handle_calls.judge_next as g
-use Rattle.odfilter_c.proofs.handle_calls.judge_next.Symbol.{name as #call}
-use Rattle.odfilter_c.proofs.handle_calls.judge_next.Met.{met as met}
+use Rattle.handle_calls.specs.RowReports.{JudgesNext}
+use Rattle.handle_calls.specs.contracts.calls.judge_next as g
+use Rattle.handle_calls.proofs.calls.judge_next.Symbol.{name as #call}
+use Rattle.handle_calls.proofs.calls.judge_next.Met.{met as met}
 use Rattle.odfilter_c.specs.contracts.null_calls.judge_next_at_null as g-1
 use Rattle.odfilter_c.proofs.null_calls.judge_next_at_null.Symbol.{name as #call-1}
 use Rattle.odfilter_c.proofs.null_calls.judge_next_at_null.Met.{met as met-1}
@@ -136,4 +136,4 @@ odfilter_judge_next_spec 𝓤 𝓛 𝓜 𝓡 wired =
     qed 𝓛 (raw (on_entry 𝓛 f.signature κs qs a (rawptr_vals a.0, (bytes_val a.1.0 ∷ [], (rawptr_vals a.1.1.0, tt)))) ∷ (raw (fact 𝓤 (Testable a.0 × Testable a.1.0.at × Testable a.1.1.0)) ⊛ (‵ (flft l.lifetime l.share) ⊛ ‵ (borrowed_by_judge_next l a.0 a.1.0 a.1.1.0))) ∷ []) ∵
     drop ! $
     split ! $ heard ! _ (λ may. split ! $
-    runs 𝓛 𝓜.mem 𝓡.returns 𝓣.C 𝓣.Λ (framed 𝓤 𝓛.H 𝓜 𝓣) (met 𝓤 𝓛 𝓜 𝓡 (code.calls-odfilter_c::handle_calls::judge_next 𝓡.env wired)) (met-1 𝓤 𝓛 𝓜 𝓡 (code.calls-odfilter_c::null_calls::judge_next_at_null 𝓡.env wired)) l a.0 a.1.0.at a.1.0.length a.1.1.0 ((bytes_laws.lawful 𝓛).typed a.1.0 _ are.1.0) may.0 may.1 may.2))
+    runs 𝓛 𝓜.mem 𝓡.returns 𝓣.C 𝓣.Λ (framed 𝓤 𝓛.H 𝓜 𝓣) (met 𝓤 𝓛 𝓜 𝓡 (code.calls-handle_calls::calls::judge_next 𝓡.env wired)) (met-1 𝓤 𝓛 𝓜 𝓡 (code.calls-odfilter_c::null_calls::judge_next_at_null 𝓡.env wired)) l a.0 a.1.0.at a.1.0.length a.1.1.0 ((bytes_laws.lawful 𝓛).typed a.1.0 _ are.1.0) may.0 may.1 may.2))

@@ -1,0 +1,5 @@
+pub mod Steps
+pub mod Types
+pub mod FilterSteps
+pub mod OwnedSteps
+pub mod RowSteps

@@ -1,0 +1,81 @@
+-- What holds at the moment for a filter, as what holds of the filter's handle and the judge.
+use Rattle.std.proofs.Common.{◌≡◌, ℕ, List, Result, Ok, Err, Option, None, Some, refl, subst}
+use Rattle.edm_values.specs.MomentParts.{MomentParts}
+use Rattle.line_filter.specs.declared.tally.Tally.{Tally}
+use Rattle.odata_checked_filter.specs.Filter.{Filter}
+use Rattle.odata_eval.specs.declared.verdict.Verdict.{Verdict}
+use Rattle.row_judges.specs.RowAnswer.{ReportsRow}
+use Rattle.row_judges.specs.RowCosts.{ReportsRowWithin}
+use Rattle.row_judges.specs.declared.bad_row.BadRow.{BadRow}
+use Rattle.row_judges.specs.declared.no_verdict.NoVerdict.{NoVerdict}
+use Rattle.handle_calls.specs.RowCalls.{IsMomentFor, IsOutcomeAt, IsOutcomeOn, IsRunAt, IsRunOver}
+use Rattle.handle_calls.specs.private.JudgeCalls.{row_fault}
+use Rattle.handle_calls.specs.declared.call_fault.Fault.{Fault}
+
+-- what is said at the moment that was taken, of the filter as it was put together
+pub at_moment : (P : Filter → MomentParts → Type 0) (checked filter : Filter) (given : Option MomentParts) (now : MomentParts)
+    → checked ≡ filter → IsMomentFor checked given now → P checked now → (x : MomentParts) × (IsMomentFor filter given x × P filter x)
+at_moment P checked filter given now same moment reported =
+    (now, (subst (λ (f : Filter). IsMomentFor f given now) same moment, subst (λ (f : Filter). P f now) same reported))
+
+-- a run at that moment is one over the rows
+pub run_there : (filter : Filter) (given : Option MomentParts) (rows : List ℕ) (outcome : Result Tally Fault) (text : List ℕ)
+    → (now : MomentParts) × (IsMomentFor filter given now × IsRunAt filter now rows outcome text) → IsRunOver filter given rows outcome text
+run_there filter given rows (Ok tally) text run = run
+run_there filter given rows (Err Fault.MomentNeeded) text run = absurd run.1.1
+run_there filter given rows (Err Fault.OtherKind) text run = run
+run_there filter given rows (Err Fault.NotUtf8) text run = run
+run_there filter given rows (Err Fault.Memory) text run = run
+run_there filter given rows (Err Fault.UnknownType) text run = run
+run_there filter given rows (Err Fault.NoFilter) text run = run
+run_there filter given rows (Err Fault.NotAMoment) text run = run
+run_there filter given rows (Err Fault.UnknownNumber) text run = run
+run_there filter given rows (Err (Fault.TooSmall wanted)) text run = run
+run_there filter given rows (Err (Fault.Schema why)) text run = run
+run_there filter given rows (Err (Fault.Refused why)) text run = run
+run_there filter given rows (Err (Fault.Query why)) text run = run
+run_there filter given rows (Err (Fault.Whole why)) text run = run
+run_there filter given rows (Err (Fault.Json line)) text run = run
+run_there filter given rows (Err (Fault.Row line why)) text run = run
+run_there filter given rows (Err (Fault.Evaluation line why)) text run = run
+run_there filter given rows (Err (Fault.LineTooLong line)) text run = run
+run_there filter given rows (Err Fault.TooCostly) text run = run
+
+-- an outcome at that moment is one on the row
+pub outcome_there : (filter : Filter) (given : Option MomentParts) (bound : Option ℕ) (row : List ℕ) (outcome : Result Verdict Fault)
+    → (now : MomentParts) × (IsMomentFor filter given now × IsOutcomeAt filter now bound row outcome)
+    → IsOutcomeOn filter given bound row outcome
+outcome_there filter given bound row (Ok verdict) there = there
+outcome_there filter given bound row (Err Fault.MomentNeeded) there = absurd there.1.1
+outcome_there filter given bound row (Err Fault.OtherKind) there = there
+outcome_there filter given bound row (Err Fault.NotUtf8) there = there
+outcome_there filter given bound row (Err Fault.Memory) there = there
+outcome_there filter given bound row (Err Fault.UnknownType) there = there
+outcome_there filter given bound row (Err Fault.NoFilter) there = there
+outcome_there filter given bound row (Err Fault.NotAMoment) there = there
+outcome_there filter given bound row (Err Fault.UnknownNumber) there = there
+outcome_there filter given bound row (Err (Fault.TooSmall wanted)) there = there
+outcome_there filter given bound row (Err (Fault.Schema why)) there = there
+outcome_there filter given bound row (Err (Fault.Refused why)) there = there
+outcome_there filter given bound row (Err (Fault.Query why)) there = there
+outcome_there filter given bound row (Err (Fault.Whole why)) there = there
+outcome_there filter given bound row (Err (Fault.Json line)) there = there
+outcome_there filter given bound row (Err (Fault.Row line why)) there = there
+outcome_there filter given bound row (Err (Fault.Evaluation line why)) there = there
+outcome_there filter given bound row (Err (Fault.LineTooLong line)) there = there
+outcome_there filter given bound row (Err Fault.TooCostly) there = there
+
+-- what is reported about a row without a bound, and within one
+pub plain_row : (filter : Filter) (now : MomentParts) (row : List ℕ) (why : NoVerdict) → ReportsRow filter now row (Err why)
+    → IsOutcomeAt filter now None row (Err (row_fault why))
+plain_row filter now row (NoVerdict.Bad BadRow.NotJson) reported = (refl, reported)
+plain_row filter now row (NoVerdict.Bad (BadRow.NoEntity fault)) reported = (refl, reported)
+plain_row filter now row (NoVerdict.Bad (BadRow.NoValue fault)) reported = (refl, (reported, tt))
+plain_row filter now row NoVerdict.Memory reported = tt
+
+pub bounded_row : (filter : Filter) (now : MomentParts) (row : List ℕ) (most : ℕ) (why : NoVerdict)
+    → ReportsRowWithin filter now row most (Err why) → IsOutcomeAt filter now (Some most) row (Err (row_fault why))
+bounded_row filter now row most (NoVerdict.Bad BadRow.NotJson) reported = (refl, reported)
+bounded_row filter now row most (NoVerdict.Bad (BadRow.NoEntity fault)) reported = (refl, reported)
+bounded_row filter now row most (NoVerdict.Bad (BadRow.NoValue fault)) reported = (refl, reported)
+bounded_row filter now row most NoVerdict.Memory reported = tt

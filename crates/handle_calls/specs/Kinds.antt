@@ -1,0 +1,18 @@
+-- The kinds of handles.
+use Rattle.handle_calls.specs.declared.handle.Handle.{Handle}
+
+abbrev pub IsSchema : Handle → Type 0
+IsSchema (Handle.Schema held) = Unit {0}
+IsSchema handle = ⊥
+
+abbrev pub IsType : Handle → Type 0
+IsType (Handle.Type held) = Unit {0}
+IsType handle = ⊥
+
+abbrev pub IsFilterKind : Handle → Type 0
+IsFilterKind (Handle.Filter held) = Unit {0}
+IsFilterKind handle = ⊥
+
+abbrev pub IsJudge : Handle → Type 0
+IsJudge (Handle.Judge held) = Unit {0}
+IsJudge handle = ⊥

@@ -1,0 +1,133 @@
+//! Filters, and what is asked of them.
+ghost use Rattle.std.specs.Prelude.{◌≡◌, MatchResult, string_bytes};
+ghost use Rattle.odata_checked_filter.specs.Filter.{IsFilter, filter_in};
+ghost use Rattle.handle_calls.specs.FilterCalls.{IsCanonicalOf, IsExplanationOf, IsFilterIn};
+ghost use Rattle.handle_calls.specs.FilterCalls.{IsFilterMade, IsFilterOfQuery};
+ghost use Rattle.row_judges.specs.RowAnswer.{IsPlanOfFilter};
+ghost use Rattle.handle_calls.specs.HeldType.{IsPlanOfType};
+ghost use Rattle.handle_calls.specs.FilterCalls.{IsNoFilter, IsNoQueryFilter, IsNoText, IsNotMade};
+
+use crate::call_fault::Fault;
+use crate::handle::{FilterHandle, Handle, TypeHandle};
+use edm_entities::RowPlan;
+use odata_filter::row_plan_of;
+use odata_text::{QueryFault, filter_of_query};
+use odata_typing::{Checked, StoredFilter, check_to_store};
+use std::alloc::Global;
+use std::sync::Arc;
+
+/// What rows of a filter are read by: the plan of its type where neither has anything expanded, else one of its own.
+fn plan_for(
+    alloc: Global,
+    shared: &Arc<RowPlan>,
+    checked: &Checked<'_>,
+) -> Result<Arc<RowPlan>, Fault>
+    requires { IsPlanOfType (record { schema = checked.now.schema; id = checked.now.filtered }) shared.now.value }
+    ensures { MatchResult result (λ plan. IsPlanOfFilter checked.now plan.value) (λ fault. fault ≡ Fault.Memory) }
+{
+    if shared.expansion.is_empty() && checked.expansion().is_empty() {
+        return match Arc::try_clone(shared) {
+            Ok(plan) => Ok(plan),
+            Err(_) => Err(Fault::Memory),
+        };
+    }
+    match Arc::new(alloc, row_plan_of(alloc, checked)) {
+        Ok(plan) => Ok(plan),
+        Err(_) => Err(Fault::Memory),
+    }
+}
+
+/// A filter of a type with its schema, and what its rows are read by.
+fn held_filter(alloc: Global, held: &TypeHandle, filter: StoredFilter) -> Result<Handle, Fault>
+    requires right { IsFilter (filter_in held.now.schema filter) }
+    requires filtered { filter.filtered ≡ held.now.id }
+    ensures { MatchResult result (λ made. made ≡ Handle.Filter (filter_in held.now.schema filter))
+        (λ fault. fault ≡ Fault.Memory) }
+{
+    let plan = plan_for(alloc, &held.plan, &filter.with_schema(&held.schema))?;
+    let Ok(filter) = Arc::new(alloc, filter) else {
+        return Err(Fault::Memory);
+    };
+    match Arc::try_clone(&held.schema) {
+        Ok(schema) => Ok(Handle::Filter(FilterHandle {
+            schema,
+            filter,
+            plan,
+        })),
+        Err(_) => Err(Fault::Memory),
+    }
+}
+
+/// The filter of a text, for entities of a type.
+fn filter_of_text(alloc: Global, held: &TypeHandle, text: &str) -> Result<Handle, Fault>
+    ensures { MatchResult result (IsFilterMade held.now text.now) (IsNotMade held.now text.now) }
+{
+    match check_to_store(alloc, &held.schema, held.id, text) {
+        Ok(filter) => held_filter(alloc, held, filter),
+        Err(refusal) => Err(Fault::Refused(refusal)),
+    }
+}
+
+/// The filter that the bytes of a text spell.
+pub(crate) fn filter_of(alloc: Global, handle: &Handle, text: &[u8]) -> Result<Handle, Fault>
+    ensures { MatchResult result (IsFilterIn handle.now text.now) (IsNoFilter handle.now text.now) }
+{
+    match handle {
+        Handle::Type(held) => match str::from_utf8(text) {
+            Ok(text) => filter_of_text(alloc, held, text),
+            Err(_) => Err(Fault::NotUtf8),
+        },
+        _ => Err(Fault::OtherKind),
+    }
+}
+
+/// The filter of a text, for entities of the type that a handle is.
+pub(crate) fn filter_for(alloc: Global, handle: &Handle, text: &str) -> Result<Handle, Fault>
+    ensures { MatchResult result (IsFilterIn handle.now text.now) (IsNoFilter handle.now text.now) }
+{
+    match handle {
+        Handle::Type(held) => filter_of_text(alloc, held, text),
+        _ => Err(Fault::OtherKind),
+    }
+}
+
+/// The filter of a query string.
+pub(crate) fn filter_in_query(alloc: Global, handle: &Handle, query: &[u8]) -> Result<Handle, Fault>
+    ensures { MatchResult result (IsFilterOfQuery handle.now query.now) (IsNoQueryFilter handle.now query.now) }
+{
+    match handle {
+        Handle::Type(held) => match filter_of_query(alloc, query) {
+            Ok(Some(text)) => filter_of_text(alloc, held, &text),
+            Ok(None) => Err(Fault::NoFilter),
+            Err(QueryFault::Memory) => Err(Fault::Memory),
+            Err(fault) => Err(Fault::Query(fault)),
+        },
+        _ => Err(Fault::OtherKind),
+    }
+}
+
+/// The filter's canonical text.
+pub(crate) fn canonical_of(alloc: Global, handle: &Handle) -> Result<String, Fault>
+    ensures { MatchResult result (λ text. IsCanonicalOf handle.now (string_bytes text)) (IsNoText handle.now) }
+{
+    match handle {
+        Handle::Filter(held) => match held.checked().canonical(alloc) {
+            Ok(text) => Ok(text),
+            Err(_) => Err(Fault::Memory),
+        },
+        _ => Err(Fault::OtherKind),
+    }
+}
+
+/// What each node of the filter is.
+pub(crate) fn explanation_of(alloc: Global, handle: &Handle) -> Result<String, Fault>
+    ensures { MatchResult result (λ text. IsExplanationOf handle.now (string_bytes text)) (IsNoText handle.now) }
+{
+    match handle {
+        Handle::Filter(held) => match held.checked().explain(alloc) {
+            Ok(text) => Ok(text),
+            Err(_) => Err(Fault::Memory),
+        },
+        _ => Err(Fault::OtherKind),
+    }
+}

@@ -1,0 +1,122 @@
+//! What a handle stands for.
+ghost use Rattle.std.specs.Prelude.{◌≡◌};
+
+use csdl_schema::{Schema, TypeId};
+use edm_entities::{RowFault, RowPlan, RowReader};
+use edm_values::Moment;
+use odata_filter::FilterRows;
+use odata_typing::{Checked, StoredFilter};
+use std::marker::Model;
+use std::sync::Arc;
+
+/// What a handle of the library stands for: its kind says whether a call can use it.
+#[derive(Drop)]
+pub enum Handle {
+    Schema(SchemaHandle),
+    Type(TypeHandle),
+    Filter(FilterHandle),
+    /// In a box of its own, so that the other kinds stay small.
+    Judge(Box<JudgeHandle>),
+}
+
+/// A schema, which handles of types and filters share.
+#[derive(Drop)]
+pub struct SchemaHandle {
+    pub(crate) schema: Arc<Schema>,
+}
+
+/// An entity type with its schema, and the plan of its rows where nothing is expanded. Filters share that plan.
+#[derive(Drop)]
+pub struct TypeHandle {
+    pub(crate) schema: Arc<Schema>,
+    pub(crate) id: TypeId,
+    pub(crate) plan: Arc<RowPlan>,
+}
+
+impl Model for TypeHandle {
+    ghost use Rattle.handle_calls.specs.HeldType.{EntityType};
+
+    ghost Value = { EntityType };
+
+    ghost view = { λ held. record { schema = held.schema.value; id = held.id } };
+
+    ghost use Rattle.handle_calls.specs.HeldType.{IsHeldType};
+
+    ghost invariant = { λ held. IsHeldType (record { schema = held.schema.value; id = held.id }) held.plan.value };
+}
+
+/// A filter with the schema that it was checked by, and the plan of its rows. That is its type's plan, or one of its
+/// own where it navigates.
+#[derive(Drop)]
+pub struct FilterHandle {
+    pub(crate) schema: Arc<Schema>,
+    pub(crate) filter: Arc<StoredFilter>,
+    pub(crate) plan: Arc<RowPlan>,
+}
+
+impl Model for FilterHandle {
+    ghost use Rattle.odata_checked_filter.specs.Filter.{Filter};
+    ghost use Rattle.odata_checked_filter.specs.contracts.checked_node.CheckedNode as checked_node;
+    ghost use Rattle.edm_values.specs.contracts.value.Value as value;
+    ghost use Rattle.std.specs.Coded.{codes};
+
+    ghost Value = { Filter };
+
+    ghost coded = { Prim.hlevel (codes, checked_node.the_row.coded, value.the_row.coded) };
+
+    ghost use Rattle.odata_checked_filter.specs.Filter.{filter_in};
+
+    ghost view = { λ held. filter_in held.schema.value held.filter.value };
+
+    ghost use Rattle.handle_calls.specs.Handle.{IsHeldFilter};
+
+    ghost invariant = { λ held. IsHeldFilter (filter_in held.schema.value held.filter.value) held.plan.value };
+}
+
+impl FilterHandle {
+    /// The filter, with its schema.
+    #[inline(always)]
+    pub(crate) fn checked(&self) -> Checked<'_>
+        ensures { result ≡ self.now }
+    {
+        self.filter.with_schema(&self.schema)
+    }
+}
+
+/// A filter, and what is stored from row to row for it.
+#[derive(Drop)]
+pub struct OwnFilter {
+    pub(crate) held: FilterHandle,
+    pub(crate) rows: FilterRows<'static>,
+}
+
+impl Model for OwnFilter {
+    ghost use Rattle.odata_checked_filter.specs.Filter.{Filter};
+    ghost use Rattle.odata_checked_filter.specs.contracts.checked_node.CheckedNode as checked_node;
+    ghost use Rattle.edm_values.specs.contracts.value.Value as value;
+    ghost use Rattle.std.specs.Coded.{codes};
+
+    ghost Value = { Filter };
+
+    ghost coded = { Prim.hlevel (codes, checked_node.the_row.coded, value.the_row.coded) };
+
+    ghost view = { λ own. own.held };
+
+    ghost use Rattle.row_judges.specs.FilterRows.{AreRowsOfFilter};
+
+    ghost invariant = { λ own. AreRowsOfFilter own.held own.rows };
+}
+
+/// What lasts from row to row, of any filter.
+#[derive(Drop)]
+pub struct JudgeHandle {
+    pub(crate) reader: RowReader,
+    /// What `now()` stands for, if that is known.
+    pub(crate) moment: Option<Moment>,
+    /// What a row may cost, if that is bounded.
+    pub(crate) bound: Option<u64>,
+    /// What the last row was refused for, if it was.
+    pub(crate) last: Option<RowFault>,
+    /// The filter that it was made for, if it was made for one. In a box of its own, since it is large.
+    pub(crate) own: Option<Box<OwnFilter>>,
+}

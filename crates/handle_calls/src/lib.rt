@@ -1,0 +1,30 @@
+//! Calls over handles, for a library of C: schemas, types, filters and judges that a program holds by handles, each call
+//! with a status and an answer of plain numbers, and texts in the caller's buffers.
+//!
+//! ```rust
+//! let status = calls::canonical(alloc, filter, &mut text, &mut answer);
+//! let canonical = &text[..answer.length];
+//! ```
+#![tactic(auto)]
+
+mod answer;
+mod buffer;
+mod call_answers;
+mod call_fault;
+pub mod calls;
+mod cost_calls;
+mod filter_calls;
+mod handle;
+mod judge_calls;
+mod line_calls;
+mod name_calls;
+mod owned;
+mod raw;
+mod schema_calls;
+mod sentence_calls;
+mod url_calls;
+
+pub use answer::Answer;
+pub use handle::Handle;
+pub use judge_calls::{put_moment, report_next};
+pub use owned::Owned;

@@ -1,0 +1,120 @@
+//! Rows in memory, a line each, and those that a filter keeps.
+ghost use Rattle.handle_calls.specs.RowCalls.{IsRunAt, IsRunOver};
+ghost use Rattle.handle_calls.specs.RowReports.{FiltersBy, FiltersLines, ReportsStop, ReportsTally};
+
+use crate::answer::Answer;
+use crate::buffer::write_text;
+use crate::call_answers::report_fault;
+use crate::call_fault::{Fault, measured};
+use crate::handle::{FilterHandle, Handle, JudgeHandle};
+use crate::judge_calls::{keep_fault, moment_for};
+use edm_values::Moment;
+use odata_filter::{RunFault, Tally, filter_slice};
+use odata_typing::Checked;
+use std::alloc::Global;
+
+/// The result of a run over rows, and the lines that it kept.
+#[derive(Drop)]
+struct Run {
+    outcome: Result<Tally, Fault>,
+    kept: Vec<u8>,
+}
+
+/// A run over rows at a moment. In memory nothing can fail but rows and allocations.
+fn run_at(alloc: Global, checked: &Checked<'_>, now: &Moment, rows: &[u8]) -> Run
+    ensures { IsRunAt checked.now now.now rows.now result.outcome result.kept.items }
+{
+    let mut kept = Vec::new(alloc);
+    let outcome = match filter_slice(alloc, checked, now, rows, &mut kept) {
+        Ok(tally) => Ok(tally),
+        Err(RunFault::Json { line }) => Err(Fault::Json { line }),
+        Err(RunFault::Row { line, fault }) => Err(Fault::Row { line, fault }),
+        Err(RunFault::Arithmetic { line, fault }) => Err(Fault::Evaluation { line, fault }),
+        Err(RunFault::LineTooLong { line }) => Err(Fault::LineTooLong { line }),
+        Err(_) => {
+            kept.clear();
+            Err(Fault::Memory)
+        }
+    };
+    Run { outcome, kept }
+}
+
+/// A run over rows, at the judge's moment.
+fn run_over(held: &FilterHandle, judge: &JudgeHandle, rows: &[u8]) -> Run
+    ensures { IsRunOver held.now judge.now.moment rows.now result.outcome result.kept.items }
+{
+    let alloc = judge.reader.allocator();
+    let checked = held.checked();
+    match moment_for(&checked, judge.moment) {
+        Ok(now) => run_at(alloc, &checked, &now, rows),
+        Err(fault) => Run {
+            outcome: Err(fault),
+            kept: Vec::new(alloc),
+        },
+    }
+}
+
+/// Reports how many rows a run kept, with their lines, or how large a buffer these need.
+fn report_tally(tally: &Tally, kept: &[u8], buffer: &mut [u8], answer: &mut Answer) -> u32
+    ensures { ReportsTally tally.now kept.now buffer.old buffer.new answer.new result }
+{
+    if !write_text(buffer, kept) {
+        return report_fault(&Fault::TooSmall { wanted: kept.len() }, answer);
+    }
+    *answer = measured(kept.len());
+    answer.rows = tally.rows;
+    answer.kept = tally.kept;
+    0
+}
+
+/// Reports where a run stopped, with the lines that it kept before, if the buffer takes them.
+fn report_stop(fault: &Fault, kept: &[u8], buffer: &mut [u8], answer: &mut Answer) -> u32
+    ensures { ReportsStop fault.now kept.now buffer.old buffer.new answer.new result }
+{
+    write_text(buffer, kept);
+    *answer = fault.answer();
+    answer.length = kept.len();
+    fault.status()
+}
+
+/// Judges rows, a line each, and reports what became of them.
+fn report_kept_lines(
+    held: &FilterHandle,
+    judge: &mut JudgeHandle,
+    rows: &[u8],
+    buffer: &mut [u8],
+    answer: &mut Answer,
+) -> u32
+    ensures { FiltersBy held.now judge.old judge.new rows.now buffer.old buffer.new answer.new result }
+{
+    let Run { outcome, kept } = run_over(held, judge, rows);
+    match outcome {
+        Ok(tally) => {
+            judge.last = None;
+            report_tally(&tally, &kept, buffer, answer)
+        }
+        Err(fault) => {
+            let status = report_stop(&fault, &kept, buffer, answer);
+            keep_fault(fault, judge);
+            status
+        }
+    }
+}
+
+/// Judges rows by handles, where they are a filter and a judge.
+pub(crate) fn report_rows(
+    filter: &Handle,
+    handle: &mut Handle,
+    rows: &[u8],
+    buffer: &mut [u8],
+    answer: &mut Answer,
+) -> u32
+    ensures { FiltersLines filter.now handle.old handle.new rows.now buffer.old buffer.new answer.new result }
+{
+    match (filter, handle) {
+        (Handle::Filter(held), Handle::Judge(judge)) => report_kept_lines(
+            held, judge, rows, buffer, answer,
+        ),
+        _ => report_fault(&Fault::OtherKind, answer),
+    }
+}

@@ -1,0 +1,113 @@
+//! Sentences for people about faults.
+ghost use Rattle.std.specs.Prelude.{◌≡◌, IfErr, IsTrue, IsUtf8, MatchResult};
+ghost use Rattle.handle_calls.specs.Sentences.{IsNoSentence, IsNoSentenceFor, IsSentenceFor, class_under, has_fault};
+
+use crate::answer::Answer;
+use crate::call_fault::Fault;
+use crate::handle::Handle;
+use fault_sentences::{FaultClass, Report, fault_sentence};
+use odata_text::Span;
+use std::alloc::Global;
+
+/// What is at fault under a status.
+fn class_of_status(status: u32) -> Option<FaultClass>
+    ensures { result ≡ class_under status }
+{
+    match status {
+        6 => Some(FaultClass::UnknownType),
+        7 => Some(FaultClass::NoFilter),
+        8 => Some(FaultClass::MomentNeeded),
+        9 => Some(FaultClass::NotAMoment),
+        16 => Some(FaultClass::Schema),
+        17 => Some(FaultClass::Text),
+        18 => Some(FaultClass::Syntax),
+        19 => Some(FaultClass::Typing),
+        20 => Some(FaultClass::Query),
+        21 => Some(FaultClass::Json),
+        22 => Some(FaultClass::Row),
+        23 => Some(FaultClass::Evaluation),
+        24 => Some(FaultClass::Line),
+        _ => None,
+    }
+}
+
+/// Where a fault is, as its sentence takes it: of a schema the length of the first name, of a query the number.
+fn fault_span(class: FaultClass, fault: &Answer) -> Span {
+    match class {
+        FaultClass::Schema => Span {
+            start: fault.first,
+            stop: fault.length,
+        },
+        FaultClass::Query => Span {
+            start: fault.number as usize,
+            stop: fault.number as usize,
+        },
+        _ => Span {
+            start: fault.start,
+            stop: fault.stop,
+        },
+    }
+}
+
+/// The text that a fault is about; a query that is not UTF-8 is left out of its sentence.
+fn fault_subject(class: FaultClass, text: &[u8]) -> Result<&str, Fault>
+    ensures { IfErr result (λ fault. (fault ≡ Fault.NotUtf8) × (¬ IsUtf8 text.now)) }
+{
+    match str::from_utf8(text) {
+        Ok(text) => Ok(text),
+        Err(_) => match class {
+            FaultClass::Query => Ok(""),
+            _ => Err(Fault::NotUtf8),
+        },
+    }
+}
+
+/// A sentence about a fault, which names the type where it has a name.
+pub(crate) fn sentence_of(
+    alloc: Global,
+    type_name: Option<&str>,
+    status: u32,
+    fault: &Answer,
+    text: &[u8],
+) -> Result<String, Fault>
+    ensures { MatchResult result (λ sentence. IsTrue (has_fault status fault.now.fault))
+        (IsNoSentence status fault.now.fault text.now) }
+{
+    let Some(class) = class_of_status(status) else {
+        return Err(Fault::UnknownNumber);
+    };
+    let Ok(number) = u8::try_from(fault.fault) else {
+        return Err(Fault::UnknownNumber);
+    };
+    let report = Report {
+        class,
+        number,
+        span: fault_span(class, fault),
+        text: fault_subject(class, text)?,
+        type_name,
+    };
+    match fault_sentence(alloc, &report) {
+        Ok(Some(sentence)) => Ok(sentence),
+        Ok(None) => Err(Fault::UnknownNumber),
+        Err(_) => Err(Fault::Memory),
+    }
+}
+
+/// A sentence about a fault of a filter, query or row of the type that a handle is.
+pub(crate) fn sentence_for(
+    alloc: Global,
+    handle: &Handle,
+    status: u32,
+    fault: &Answer,
+    text: &[u8],
+) -> Result<String, Fault>
+    ensures { MatchResult result (λ sentence. IsSentenceFor handle.now status fault.now.fault)
+        (IsNoSentenceFor handle.now status fault.now.fault text.now) }
+{
+    match handle {
+        Handle::Type(held) => {
+            sentence_of(alloc, held.schema.type_name(held.id), status, fault, text)
+        }
+        _ => Err(Fault::OtherKind),
+    }
+}

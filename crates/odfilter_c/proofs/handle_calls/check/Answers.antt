@@ -1,4 +1,0 @@
-use Rattle.odfilter_c.proofs.handle_calls.check.Goals as goal
-
-pub returns : goal.returns
-returns c = record { outcome = c.filter_of.result; right = c.filter_of.ensures; gives = c.give.ensures }

@@ -1,4 +1,0 @@
-use Rattle.odfilter_c.proofs.handle_calls.find_type.Goals as goal
-
-pub returns : goal.returns
-returns c = record { answer = c.give.new.answer; makes = record { outcome = c.type_of.result; right = c.type_of.ensures; gives = c.give.ensures } }
