@@ -1,4 +1,5 @@
 pub mod Lanes
+pub mod EscapesPassed
 pub mod KeysStand
 pub mod RoomLemmas
 pub mod Standing

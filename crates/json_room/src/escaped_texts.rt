@@ -1,10 +1,11 @@
 //! Texts that may have escapes (RFC 8259, section 7).
-ghost use Rattle.std.specs.Prelude.{ℕ, ◌<◌, ◌≤◌, List, length, IfSome};
+ghost use Rattle.std.specs.Prelude.{ℕ, ◌<◌, ◌≤◌, List, length, IfSome, IsTrue};
 ghost use Rattle.std.specs.Str.{IsUtf8};
 ghost use Rattle.json_tokens.specs.LexemesAt.{IsTextAt};
+ghost use Rattle.json_room.specs.private.ShortEscapes.{IsShortEscape};
 
 use super::roomy_line::RoomyLine;
-use super::texts::{text_at, text_end};
+use super::texts::{plain_end, text_at, text_end};
 use json_tokens::{Scratch, escaped_at};
 use std::alloc::Global;
 
@@ -48,9 +49,49 @@ pub fn escaped_text_end(
     ensures further { IfSome result (λ to. place < to) }
     ensures text { IfSome result (λ to. (s : List ℕ) × IsTextAt line.now place s to × IsUtf8 s) }
 {
+    if let Some(end) = short_escapes_end(line, place) {
+        return Some(end);
+    }
     match escaped_text_at(line, place, buffer) {
         Some((_, end)) => Some(end),
         None => None,
+    }
+}
+
+/// The same of a text whose escapes have one byte each after the backslash. Nothing is decoded.
+#[inline(always)]
+fn short_escapes_end(line: &RoomyLine<'_>, place: usize) -> Option<usize>
+    requires { place ≤ length line.now }
+    ensures further { IfSome result (λ to. place < to) }
+    ensures text { IfSome result (λ to. (s : List ℕ) × IsTextAt line.now place s to × IsUtf8 s) }
+{
+    if line.byte(place) != b'"' {
+        return None;
+    }
+    // The line is UTF-8.
+    let _text = line.text();
+    let mut at = plain_end(line, place + 1);
+    'escapes: while line.byte(at) == b'\\' {
+        if !is_short_escape(line.byte(at + 1)) {
+            return None;
+        }
+        at = plain_end(line, at + 2);
+    }
+    if line.byte(at) == b'"' {
+        Some(at + 1)
+    } else {
+        None
+    }
+}
+
+/// Whether a byte after a backslash is an escape by itself.
+#[inline(always)]
+fn is_short_escape(byte: u8) -> bool
+    ensures { IsTrue result → IsShortEscape byte }
+{
+    match byte {
+        b'"' | b'\\' | b'/' | b'b' | b'f' | b'n' | b'r' | b't' => true,
+        _ => false,
     }
 }
 

@@ -17,12 +17,34 @@ pub(crate) fn is_utf8(bytes: &[u8], count: usize) -> bool
     while place < count {
         let first = ascii_end(bytes, place, count);
         let end = beyond_end(bytes, first, count);
-        let Ok(_run) = str::from_utf8(&bytes[first..end]) else {
+        if !is_run_utf8(&bytes[first..end]) {
             return false;
-        };
+        }
         place = end;
     }
     true
+}
+
+/// Whether a run of bytes is in UTF-8. Most are one character of two bytes, and the last one is none.
+#[inline(always)]
+fn is_run_utf8(run: &[u8]) -> bool
+    ensures { IsTrue result → IsUtf8 run.now }
+{
+    if run.len() == 0 {
+        return true;
+    }
+    if run.len() == 2 {
+        return is_character_of_two(run[0], run[1]);
+    }
+    str::from_utf8(run).is_ok()
+}
+
+/// Whether two bytes are a character.
+#[inline(always)]
+fn is_character_of_two(first: u8, second: u8) -> bool
+    ensures { IsTrue result → (194 ≤ first) × (first < 224) × (128 ≤ second) × (second < 192) }
+{
+    (first >= 0xc2) & (first < 0xe0) & (second >= 0x80) & (second < 0xc0)
 }
 
 /// Which of sixteen bytes are beyond ASCII: the first is the lowest bit.

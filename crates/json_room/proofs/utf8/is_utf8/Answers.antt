@@ -16,7 +16,7 @@ loop-place-preserved c =
     let end = c.beyond_end-end in
     let room : first.result ≤ length d = omega (arith, first.ensures.bounds.1, c.requires) in
     let front : IsUtf8 (take first.result d) = ascii_more d l.place first.result first.ensures.bounds.0 room l.invariant.1 first.ensures.ascii in
-    (end.ensures.bounds.1, run_more d first.result end.result end.ensures.bounds.0 front c.in-Ok.ensures.cases.1)
+    (end.ensures.bounds.1, run_more d first.result end.result end.ensures.bounds.0 front (c.is_run_utf8.ensures c.if-not-is_run_utf8.false))
 
 pub returns : goal.returns
 returns c _ =
