@@ -1,19 +1,22 @@
 -- Texts that are passed piece by piece.
-use Rattle.std.proofs.Common.{◌≡◌, ◌≢◌, ◌⊎◌, ℕ, zero, suc, ◌+◌, ◌-◌, ◌<◌, ◌≤◌, ◌==◌, ◌||◌, List, [], ◌∷◌, ◌++◌, length, take, drop, get_or, true, false, Option, Some, None, option_and_then, inl, inr, refl, sym, ap, ap₂, ◌∙◌, subst, ⊎_elim, arith, append_assoc}
+use Rattle.std.proofs.Common.{◌≡◌, ◌≢◌, ◌⊎◌, ℕ, zero, suc, ◌+◌, ◌-◌, ◌*◌, ◌<◌, ◌≤◌, ◌==◌, ◌||◌, List, [], ◌∷◌, ◌++◌, length, take, drop, get_or, cond, true, false, Option, Some, None, option_and_then, inl, inr, refl, sym, ap, ap₂, ◌∙◌, subst, ⊎_elim, arith, append_assoc}
 use Rattle.std.proofs.lemmas.Bool.{cases_lt, cond-false, ne_eqb, not-true, or_parts, true≢false}
+use Rattle.std.proofs.lemmas.Bool.Decides.{nat_tests}
 use Rattle.std.proofs.lemmas.List.{append-nil, drop_more, get_or_default}
-use Rattle.std.proofs.lemmas.Str.{IsCharBoundary-after_ascii, IsCharBoundary-before_ascii, IsUtf8-append, IsUtf8-between, IsUtf8-from_ascii, IsUtf8-nil}
+use Rattle.std.proofs.lemmas.Str.{IsCharBoundary-after_ascii, IsCharBoundary-before_ascii, IsUtf8-append, IsUtf8-between, IsUtf8-encode, IsUtf8-from_ascii, IsUtf8-nil}
 use Rattle.std.proofs.lemmas.Str.Ascii.{IsAscii-cons, IsAscii-nil}
+use Rattle.std.specs.Char.{InScalarRange, IsScalar, digit_value, encode_utf8}
 use Rattle.std.specs.Str.{IsCharBoundary, IsUtf8}
 use Rattle.json.specs.Lex.{Lexeme, between, in_string, lex, string_token, token}
 use Rattle.json.specs.Run.{is_plain}
-use Rattle.json.specs.Text.{content, plain, prepend, short_escape}
+use Rattle.json.specs.Text.{after_backslash, after_high, code_unit, content, is_high_surrogate, is_low_surrogate, plain, prepend, short_escape}
 use Rattle.json.specs.Token.{string}
 use Rattle.json.specs.Written.{PlainBetween}
 use Rattle.json_tokens.specs.LexemesAt.{IsTextAt}
 use Rattle.json_tokens.proofs.EscapeLemmas.{after_backslash_passed, after_other_passed, quote_passed}
 use Rattle.json_tokens.proofs.LexemeLemmas.{from_byte, within_byte as byte_within}
-use Rattle.json_room.specs.private.ShortEscapes.{IsShortEscape, PassedUpTo, PlainUpTo}
+use Rattle.json_room.proofs.RoomLemmas.{within_byte as stands_within}
+use Rattle.json_room.specs.private.PassedTexts.{IsShortEscape, PassedUpTo, PassesEscape, PlainUpTo}
 
 -- ---- what a text stands for, by what it begins with
 
@@ -29,9 +32,21 @@ quote_ends : (xs : List ℕ) → content plain (34 ∷ xs) ≡ Some []
 unfolding content
 quote_ends xs = refl
 
-escape_begins : (x character : ℕ) (xs : List ℕ) → (x == 117) ≡ false → short_escape x ≡ Some character → content plain (92 ∷ x ∷ xs) ≡ prepend (character ∷ []) (content plain xs)
+backslash_begins : (xs : List ℕ) → content plain (92 ∷ xs) ≡ content after_backslash xs
+unfolding content
+backslash_begins xs = refl
+
+escape_begins : (x character : ℕ) (xs : List ℕ) → (x == 117) ≡ false → short_escape x ≡ Some character → content after_backslash (x ∷ xs) ≡ prepend (character ∷ []) (content plain xs)
 unfolding content
 escape_begins x character xs other reported = cond-false _ _ _ other ∙ ap (λ o. option_and_then (λ c. prepend (c ∷ []) (content plain xs)) o) reported
+
+-- four digits that write a number
+abbrev of_unit : List ℕ → ℕ → Option (List ℕ)
+of_unit xs u = cond (is_high_surrogate u) (content (after_high u) xs) (cond (is_low_surrogate u) None (prepend (encode_utf8 u) (content plain xs)))
+
+unit_begins : (a b c d : ℕ) (xs : List ℕ) → content after_backslash (117 ∷ a ∷ b ∷ c ∷ d ∷ xs) ≡ option_and_then (of_unit xs) (code_unit a b c d)
+unfolding content
+unit_begins a b c d xs = refl
 
 plain_begins : (x : ℕ) (xs : List ℕ) → is_plain x ≡ true → content plain (x ∷ xs) ≡ prepend (x ∷ []) (content plain xs)
 unfolding content
@@ -95,6 +110,75 @@ is_short x (inr (inr (inr (inr (inr (inl e)))))) = one_escape x 110 10 e refl (o
 is_short x (inr (inr (inr (inr (inr (inr (inl e))))))) = one_escape x 114 13 e refl (omega arith) (omega arith) (λ e. omega (arith, e)) (λ e. omega (arith, e))
 is_short x (inr (inr (inr (inr (inr (inr (inr e))))))) = one_escape x 116 9 e refl (omega arith) (omega arith) (λ e. omega (arith, e)) (λ e. omega (arith, e))
 
+pub short_passes : (d : List ℕ) (i : ℕ) → i < length d → IsShortEscape (get_or d i 0) → PassesEscape d i (i + 1)
+short_passes d i within short =
+    let same : i + 1 - 1 ≡ i = omega arith in
+    let one = short.character ∷ [] in
+    record {
+      bounds = (omega arith, omega (arith, within));
+      last = subst (λ k. get_or d k 0 < 128) (sym same) short.ascii;
+      bytes = one;
+      utf8 = IsUtf8-from_ascii one (IsAscii-cons short.character [] short.reported_ascii IsAscii-nil);
+      stands_for = ap (content after_backslash) (drop_more d i 0 within) ∙ escape_begins (get_or d i 0) short.character (drop (i + 1) d) (ne_eqb (get_or d i 0) 117 short.no_unit) short.stands_for;
+      digits = λ k low high. absurd (omega (arith, low, high));
+    }
+
+-- ---- escapes of four digits
+
+no_high : (unit : ℕ) → InScalarRange unit → is_high_surrogate unit ≡ false
+no_high unit scalar = grind arith
+
+no_low : (unit : ℕ) → InScalarRange unit → is_low_surrogate unit ≡ false
+no_low unit scalar = grind arith
+
+four_after : (d : List ℕ) (i : ℕ) → i + 4 ≤ length d → drop i d ≡ get_or d i 0 ∷ get_or d (i + 1) 0 ∷ get_or d (i + 2) 0 ∷ get_or d (i + 3) 0 ∷ drop (i + 4) d
+four_after d i room =
+    let two : i + 1 + 1 ≡ i + 2 = omega arith in
+    let three : i + 2 + 1 ≡ i + 3 = omega arith in
+    let four : i + 3 + 1 ≡ i + 4 = omega arith in
+    drop_more d i 0 (omega (arith, room)) ∙ ap (λ l. get_or d i 0 ∷ l)
+    (drop_more d (i + 1) 0 (omega (arith, room)) ∙ ap (λ k. get_or d (i + 1) 0 ∷ drop k d) two ∙ ap (λ l. get_or d (i + 1) 0 ∷ l)
+    (drop_more d (i + 2) 0 (omega (arith, room)) ∙ ap (λ k. get_or d (i + 2) 0 ∷ drop k d) three ∙ ap (λ l. get_or d (i + 2) 0 ∷ l)
+    (drop_more d (i + 3) 0 (omega (arith, room)) ∙ ap (λ k. get_or d (i + 3) 0 ∷ drop k d) four)))
+
+of_four : (P : ℕ → Type 0) (i : ℕ) → P i → P (i + 1) → P (i + 2) → P (i + 3) → (k : ℕ) → i ≤ k → k < i + 4 → P k
+of_four P i none one two three k low high =
+    ⊎_elim
+    (λ below. ⊎_elim (λ first. let same : i ≡ k = omega (arith, low, first) in subst P same none) (λ second. let same : i + 1 ≡ k = omega (arith, second, below) in subst P same one) (cases_lt k (i + 1)))
+    (λ above. ⊎_elim (λ third. let same : i + 2 ≡ k = omega (arith, above, third) in subst P same two) (λ last. let same : i + 3 ≡ k = omega (arith, last, high) in subst P same three) (cases_lt k (i + 3)))
+    (cases_lt k (i + 2))
+
+pub unit_passes : (d : List ℕ) (i unit : ℕ) → i + 4 ≤ length d → code_unit (get_or d i 0) (get_or d (i + 1) 0) (get_or d (i + 2) 0) (get_or d (i + 3) 0) ≡ Some unit → IsScalar unit → InScalarRange unit → PlainBetween d i (i + 4) → get_or d (i + 3) 0 < 128
+    → (j : ℕ) → j + 1 ≡ i → get_or d j 0 ≡ 117 → PassesEscape d j (i + 4)
+unit_passes d i unit room digits scalar range plain_there ascii j next lower_u =
+    let last : i + 4 - 1 ≡ i + 3 = omega arith in
+    let rest = drop (i + 4) d in
+    let four = get_or d i 0 ∷ get_or d (i + 1) 0 ∷ get_or d (i + 2) 0 ∷ get_or d (i + 3) 0 ∷ rest in
+    let begins : drop j d ≡ 117 ∷ four = drop_more d j 0 (omega (arith, next, room)) ∙ ap₂ (λ x k. x ∷ drop k d) lower_u next ∙ ap (λ l. 117 ∷ l) (four_after d i room) in
+    record {
+      bounds = (omega (arith, next), room);
+      last = subst (λ k. get_or d k 0 < 128) (sym last) ascii;
+      bytes = encode_utf8 unit;
+      utf8 = IsUtf8-encode unit scalar;
+      stands_for = ap (content after_backslash) begins ∙ unit_begins _ _ _ _ rest ∙ ap (option_and_then (of_unit rest)) digits ∙ cond-false _ _ _ (no_high unit range) ∙ cond-false _ _ _ (no_low unit range);
+      digits = λ k low high. plain_there k (omega (arith, low, next)) high;
+    }
+
+-- a plain byte stands within the line
+pub plain_inside : (d : List ℕ) (i x : ℕ) → x ≡ get_or d i 10 → is_plain x ≡ true → (i < length d) × (x ≡ get_or d i 0)
+plain_inside d i x here plain_there =
+    let feed : is_plain 10 ≡ false = refl in
+    let within : i < length d = stands_within d i x (sym here) (λ e. true≢false (sym plain_there ∙ ap is_plain e ∙ feed)) in
+    (within, here ∙ sym (get_or_default d i 0 10 within))
+
+pub unit_is : (a b c d first second third last : ℕ) → first ≡ digit_value a → second ≡ digit_value b → third ≡ digit_value c → last ≡ digit_value d → first < 16 → second < 16 → third < 16 → last < 16
+    → code_unit a b c d ≡ Some (first * 4096 + second * 256 + third * 16 + last)
+unfolding code_unit
+unit_is a b c d first second third last one two three four h1 h2 h3 h4 = rw (← one, ← two, ← three, ← four) (grind (arith, nat_tests))
+
+pub four_plain : (d : List ℕ) (i : ℕ) → is_plain (get_or d i 0) ≡ true → is_plain (get_or d (i + 1) 0) ≡ true → is_plain (get_or d (i + 2) 0) ≡ true → is_plain (get_or d (i + 3) 0) ≡ true → PlainBetween d i (i + 4)
+four_plain d i none one two three = of_four (λ k. is_plain (get_or d k 0) ≡ true) i none one two three
+
 module _ (d : List ℕ) (utf8 : IsUtf8 d) where
   -- after the opening quote
   pub begun : (i : ℕ) → i < length d → get_or d i 32 ≡ 34 → PassedUpTo d i (i + 1)
@@ -134,22 +218,22 @@ module _ (d : List ℕ) (utf8 : IsUtf8 d) where
           }
 
   -- an escape
-  pub escape_up_to : (i at : ℕ) → PassedUpTo d i at → get_or d at 32 ≡ 92 → at + 1 < length d → IsShortEscape (get_or d (at + 1) 0) → PassedUpTo d i (at + 2)
-  escape_up_to i at before backslash within short =
-      let inside : at < length d = omega (arith, within) in
-      let same : at + 1 + 1 ≡ at + 2 = omega arith in
-      let x = get_or d (at + 1) 0 in
-      let after : drop (at + 1) d ≡ x ∷ drop (at + 2) d = drop_more d (at + 1) 0 within ∙ ap (λ k. x ∷ drop k d) same in
-      let here : drop at d ≡ 92 ∷ x ∷ drop (at + 2) d = from_byte d at 92 inside backslash ∙ ap (λ l. 92 ∷ l) after in
-      let one = short.character ∷ [] in
+  pub escape_up_to : (i at next : ℕ) → PassedUpTo d i at → get_or d at 32 ≡ 92 → PassesEscape d (at + 1) next → PassedUpTo d i next
+  escape_up_to i at next before backslash escape =
+      let inside : at < length d = omega (arith, escape.bounds.0, escape.bounds.1) in
+      let first : at + 1 + 1 ≡ at + 2 = omega arith in
+      let n = next - (at + 2) in
+      let there : at + 2 + n ≡ next = omega (arith, escape.bounds.0) in
+      let digits : PlainBetween d (at + 2) (at + 2 + n) = subst (PlainBetween d (at + 2)) (sym there) (subst (λ k. PlainBetween d k next) first escape.digits) in
+      let back : next - 1 + 1 ≡ next = omega (arith, escape.bounds.0) in
+      let here : content plain (drop at d) ≡ prepend escape.bytes (content plain (drop next d)) = ap (content plain) (from_byte d at 92 inside backslash) ∙ backslash_begins (drop (at + 1) d) ∙ escape.stands_for in
       record {
-        bounds = (omega (arith, before.bounds.0), omega (arith, within));
-        boundary = subst (IsCharBoundary d) same (IsCharBoundary-after_ascii d (at + 1) utf8 within short.ascii);
-        passed = before.passed ++ one;
-        utf8 = IsUtf8-append before.passed one before.utf8 (IsUtf8-from_ascii one (IsAscii-cons short.character [] short.reported_ascii IsAscii-nil));
-        content_is = before.content_is ∙ ap (λ l. prepend before.passed (content plain l)) here ∙ ap (prepend before.passed) (escape_begins x short.character (drop (at + 2) d) (ne_eqb x 117 short.no_unit) short.stands_for)
-            ∙ both_before before.passed one (content plain (drop (at + 2) d));
-        goes_on = after_backslash_passed d at inside backslash ∙ before.goes_on;
+        bounds = (omega (arith, before.bounds.0, escape.bounds.0), escape.bounds.1);
+        boundary = subst (IsCharBoundary d) back (IsCharBoundary-after_ascii d (next - 1) utf8 (omega (arith, escape.bounds.0, escape.bounds.1)) escape.last);
+        passed = before.passed ++ escape.bytes;
+        utf8 = IsUtf8-append before.passed escape.bytes before.utf8 escape.utf8;
+        content_is = before.content_is ∙ ap (prepend before.passed) here ∙ both_before before.passed escape.bytes (content plain (drop next d));
+        goes_on = ap (λ k. lex in_string (drop k d)) (sym there) ∙ run_passed d (at + 2) n (omega (arith, there, escape.bounds.1)) digits ∙ after_backslash_passed d at inside backslash ∙ before.goes_on;
       }
 
   text_there : (xs s : List ℕ) (ls : List Lexeme) → content plain xs ≡ Some s → lex in_string xs ≡ ls → lex between (34 ∷ xs) ≡ token (string s) ∷ ls

@@ -1,4 +1,4 @@
 -- Definitions that private clauses alone cite.
-pub mod ShortEscapes
+pub mod PassedTexts
 pub mod SpelledKey
 pub mod Utf8

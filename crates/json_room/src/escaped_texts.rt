@@ -1,9 +1,9 @@
 //! Texts that may have escapes (RFC 8259, section 7).
-ghost use Rattle.std.specs.Prelude.{ℕ, ◌<◌, ◌≤◌, List, length, IfSome, IsTrue};
+ghost use Rattle.std.specs.Prelude.{ℕ, ◌<◌, ◌≤◌, List, length, IfSome};
 ghost use Rattle.std.specs.Str.{IsUtf8};
 ghost use Rattle.json_tokens.specs.LexemesAt.{IsTextAt};
-ghost use Rattle.json_room.specs.private.ShortEscapes.{IsShortEscape};
 
+use super::escapes::escape_end;
 use super::roomy_line::RoomyLine;
 use super::texts::{plain_end, text_at, text_end};
 use json_tokens::{Scratch, escaped_at};
@@ -49,7 +49,7 @@ pub fn escaped_text_end(
     ensures further { IfSome result (λ to. place < to) }
     ensures text { IfSome result (λ to. (s : List ℕ) × IsTextAt line.now place s to × IsUtf8 s) }
 {
-    if let Some(end) = short_escapes_end(line, place) {
+    if let Some(end) = passed_text_end(line, place) {
         return Some(end);
     }
     match escaped_text_at(line, place, buffer) {
@@ -58,9 +58,9 @@ pub fn escaped_text_end(
     }
 }
 
-/// The same of a text whose escapes have one byte each after the backslash. Nothing is decoded.
+/// The same, but nothing is decoded; none where a surrogate stands.
 #[inline(always)]
-fn short_escapes_end(line: &RoomyLine<'_>, place: usize) -> Option<usize>
+fn passed_text_end(line: &RoomyLine<'_>, place: usize) -> Option<usize>
     requires { place ≤ length line.now }
     ensures further { IfSome result (λ to. place < to) }
     ensures text { IfSome result (λ to. (s : List ℕ) × IsTextAt line.now place s to × IsUtf8 s) }
@@ -72,26 +72,15 @@ fn short_escapes_end(line: &RoomyLine<'_>, place: usize) -> Option<usize>
     let _text = line.text();
     let mut at = plain_end(line, place + 1);
     'escapes: while line.byte(at) == b'\\' {
-        if !is_short_escape(line.byte(at + 1)) {
+        let Some(next) = escape_end(line, at + 1) else {
             return None;
-        }
-        at = plain_end(line, at + 2);
+        };
+        at = plain_end(line, next);
     }
     if line.byte(at) == b'"' {
         Some(at + 1)
     } else {
         None
-    }
-}
-
-/// Whether a byte after a backslash is an escape by itself.
-#[inline(always)]
-fn is_short_escape(byte: u8) -> bool
-    ensures { IsTrue result → IsShortEscape byte }
-{
-    match byte {
-        b'"' | b'\\' | b'/' | b'b' | b'f' | b'n' | b'r' | b't' => true,
-        _ => false,
     }
 }
 

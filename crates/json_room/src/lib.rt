@@ -3,6 +3,7 @@
 
 mod blanks;
 mod escaped_texts;
+mod escapes;
 mod fronts;
 mod numbers;
 mod roomy_line;

@@ -1,6 +1,6 @@
 use Rattle.std.proofs.Common.{◌-◌, length}
-use Rattle.json_room.specs.private.ShortEscapes.{PlainUpTo}
-use Rattle.json_room.proofs.escaped_texts.short_escapes_end.Given as goal
+use Rattle.json_room.specs.private.PassedTexts.{PlainUpTo}
+use Rattle.json_room.proofs.escaped_texts.passed_text_end.Given as goal
 
 -- all was passed up to an escape, and plain bytes after it
 abbrev pub invariant-escapes : goal.invariant-escapes

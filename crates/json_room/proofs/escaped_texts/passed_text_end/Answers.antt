@@ -1,10 +1,8 @@
-use Rattle.std.proofs.Common.{◌≡◌, ◌+◌, ◌<◌, length, get_or, inl, inr, refl, sym, ◌∙◌, subst, arith}
-use Rattle.std.proofs.lemmas.List.{get_or_default}
+use Rattle.std.proofs.Common.{◌≡◌, ◌+◌, ◌<◌, length, get_or, inl, inr, sym, ◌∙◌, subst, arith}
 use Rattle.std.specs.Str.{IsUtf8}
-use Rattle.json_room.specs.private.ShortEscapes.{IsShortEscape}
 use Rattle.json_room.proofs.EscapesPassed.{begun, closed, escape_up_to, run_further, run_up_to}
 use Rattle.json_room.proofs.RoomLemmas.{other_default, within_byte}
-use Rattle.json_room.proofs.escaped_texts.short_escapes_end.Goals as goal
+use Rattle.json_room.proofs.escaped_texts.passed_text_end.Goals as goal
 
 pub escapes-init : goal.escapes-init
 escapes-init c =
@@ -25,10 +23,8 @@ escapes-preserved c =
     let escape : get_or d at 10 ≡ 92 = sym c.byte-in-escapes.ensures.here ∙ c.escapes-test.true in
     let inside : at < length d = within_byte d at 92 escape (λ e. omega (arith, e)) in
     let backslash = other_default d at 92 escape (λ e. omega (arith, e)) in
-    let short : IsShortEscape (get_or d (at + 1) 10) = subst IsShortEscape c.byte-in-escapes-2.ensures.here (c.is_short_escape.ensures c.if-not-is_short_escape.false) in
-    let within : at + 1 < length d = within_byte d (at + 1) (get_or d (at + 1) 10) refl short.no_line_feed in
     let run = c.plain_end-at-in-escapes in
-    run_further d i (at + 2) run.result (escape_up_to d utf8 i at (run_up_to d utf8 i at c.escapes.invariant (inr backslash)) backslash within (subst IsShortEscape (sym (get_or_default d (at + 1) 0 10 within)) short)) run.ensures.bounds.0 run.ensures.bounds.1 run.ensures.plain
+    run_further d i c.in-Some.next run.result (escape_up_to d utf8 i at c.in-Some.next (run_up_to d utf8 i at c.escapes.invariant (inr backslash)) backslash c.in-Some.ensures) run.ensures.bounds.0 run.ensures.bounds.1 run.ensures.plain
 
 pub returns-then-byte-eq34-clause-text : goal.returns-then-byte-eq34-clause-text
 returns-then-byte-eq34-clause-text c =
