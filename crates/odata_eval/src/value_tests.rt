@@ -6,6 +6,7 @@ ghost use Rattle.odata_eval.specs.FalseWhere.{IsSieveOf};
 ghost use Rattle.odata_eval.specs.TrueWhere.{AreWhole};
 ghost use Rattle.odata_eval.specs.private.ValueTests.{AndsAbove, Decides, IsNoNumber, IsTermSieve};
 ghost use Rattle.odata_eval.specs.private.Place.{HasKind, HasOperator};
+ghost use Rattle.odata_syntax.specs.declared.binary_operator.ComparisonOperator.{ComparisonOperator as Compares};
 
 use edm_values::{Sieve, Value};
 use odata_checked_filter::{Checked, NodeKind};
@@ -203,8 +204,34 @@ fn number_sieve(comparison: ComparisonOperator, n: i64) -> Sieve
             low: i64::MIN,
             high: n,
         },
-        ComparisonOperator::Gt => Sieve::All,
-        ComparisonOperator::Lt => Sieve::All,
+        ComparisonOperator::Gt => sieve_above(n),
+        ComparisonOperator::Lt => sieve_below(n),
+    }
+}
+
+/// The test that numbers above that one pass.
+fn sieve_above(n: i64) -> Sieve
+    ensures { Decides Compares.Gt (whole n) result }
+{
+    let Some(low) = n.checked_add(1) else {
+        return Sieve::All;
+    };
+    Sieve::Within {
+        low,
+        high: i64::MAX,
+    }
+}
+
+/// The test that numbers below that one pass.
+fn sieve_below(n: i64) -> Sieve
+    ensures { Decides Compares.Lt (whole n) result }
+{
+    let Some(high) = n.checked_sub(1) else {
+        return Sieve::All;
+    };
+    Sieve::Within {
+        low: i64::MIN,
+        high,
     }
 }
 

@@ -1,14 +1,13 @@
 -- Values in slots that pass tests are those of an entity's record.
-use Rattle.std.proofs.Common.{◌≡◌, ◌≢◌, ◌∙◌, ℕ, ◌+◌, List, [], ◌∷◌, true, false, cond, not, map, Option, Some, None, slice_get, refl, sym, ap, subst, nat_eq, one-add}
-use Rattle.std.specs.Prelude.{All, IsTrue, Vec, Bool as Truth}
+use Rattle.std.proofs.Common.{◌≡◌, ◌≢◌, ◌∙◌, ℕ, ◌+◌, List, [], ◌∷◌, true, false, cond, not, map, Some, None, slice_get, sym, ap, subst, nat_eq, one-add}
+use Rattle.std.specs.Prelude.{All, Bool as Truth}
 use Rattle.std.specs.List.{position_or_len}
-use Rattle.std.specs.declared.alloc.Global.{Global}
 use Rattle.std.specs.Cmp.Lexicographic.{pointwise}
 use Rattle.edm_values.specs.MomentParts.{IsMoment, MomentParts}
 use Rattle.edm_values.specs.Val.{Val, FieldVal, boolean, fields, present}
-use Rattle.edm_values.specs.declared.value.Value.{Value, Record}
+use Rattle.edm_values.specs.declared.value.Value.{Value}
 use Rattle.csdl_schema.specs.ExprType.{ExprType, single, structured}
-use Rattle.csdl_schema.specs.SchemaModel.{Slots, SchemaModel, PropertyModel, PropertyType, declared, opaque, navigation, properties_at, slot_named, slots_of, type_name_at}
+use Rattle.csdl_schema.specs.SchemaModel.{Slots, SchemaModel, PropertyModel, PropertyType, declared, opaque, navigation, properties_at, slots_of, type_name_at}
 use Rattle.edm_entities.specs.Row.{IsEntity, Row, field_by_name, field_of, val_of, value_of}
 use Rattle.odata_checked_filter.specs.Filter.{Filter, IsFilter, tree_of_filter}
 use Rattle.odata_filter_operations.specs.Outcome.{Outcome, gives}

@@ -1,4 +1,5 @@
 use Rattle.std.proofs.Common.{ℤ, subst, sym, w64}
+use mir.Val.{to_z, of_z}
 use Rattle.std.proofs.lemmas.Int.{to_z-of_z}
 use Rattle.edm_values.specs.Val.{whole}
 use Rattle.edm_values.specs.declared.sieve.Sieve.{Sieve}
@@ -28,7 +29,11 @@ returns-in-Le c =
     (subst (λ (o : ComparisonOperator). Decides o (whole c.args.n) (Sieve.Within least c.args.n)) (sym c.in-Le.is) (record { refutes = le_refuted c.args.n; affirms = le_affirmed least c.args.n }))
 
 pub returns-in-Gt : goal.returns-in-Gt
-returns-in-Gt c = record { refutes = λ value rejected. absurd rejected; affirms = λ value passes. absurd passes }
+returns-in-Gt c =
+    subst (λ (m : ℤ). Decides c.args.comparison (whole m) c.sieve_above.result) (to_z-of_z w64 c.args.n c.ranges.n)
+    (subst (λ (o : ComparisonOperator). Decides o (whole (to_z w64 (of_z w64 c.args.n))) c.sieve_above.result) (sym c.in-Gt.is) c.sieve_above.ensures)
 
 pub returns-in-Lt : goal.returns-in-Lt
-returns-in-Lt c = record { refutes = λ value rejected. absurd rejected; affirms = λ value passes. absurd passes }
+returns-in-Lt c =
+    subst (λ (m : ℤ). Decides c.args.comparison (whole m) c.sieve_below.result) (to_z-of_z w64 c.args.n c.ranges.n)
+    (subst (λ (o : ComparisonOperator). Decides o (whole (to_z w64 (of_z w64 c.args.n))) c.sieve_below.result) (sym c.in-Lt.is) c.sieve_below.ensures)
