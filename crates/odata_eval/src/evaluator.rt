@@ -65,7 +65,7 @@ pub fn evaluate(
 /// [`slot_sieves`](crate::slot_sieves) returns such tests. Where there are none, or a value does not pass one, it does
 /// what [`evaluate`] does.
 #[inline(always)]
-pub fn evaluate_by(
+pub fn evaluate_with(
     tests: &[SlotSieve],
     alloc: Global,
     checked: &Checked<'_>,

@@ -23,7 +23,7 @@ use edm_entities::{RowReader, what_fits_has_its_type};
 use edm_rows::{HeldSchema, Reading, TypeRows};
 use json_room::{ROOM, has_room};
 use line_filter::Judgment;
-use odata_eval::{EvalFault, SlotSieve, Verdict, evaluate_by, slot_sieves};
+use odata_eval::{EvalFault, SlotSieve, Verdict, evaluate_with, slot_sieves};
 use odata_meaning::typed_trees_end_once;
 use odata_typing::Checked;
 use std::alloc::{AllocError, Global};
@@ -246,7 +246,7 @@ impl RowJudge<'_, '_> {
             → ReportsValue self.now.checked.now self.now.moment.now json (answer_reported result) }
     {
         let entity = rows.entity();
-        evaluate_by(tests, self.alloc, self.checked, &entity, self.moment)
+        evaluate_with(tests, self.alloc, self.checked, &entity, self.moment)
     }
 
     /// Judges the row that was read last.

@@ -7,8 +7,8 @@ use Rattle.odata_eval.specs.VerdictView.{reported_outcome}
 use Rattle.row_judges.proofs.RowLemmas.RowsInPlace.{held_reported}
 use Rattle.row_judges.proofs.row_judge.RowJudge.answer_held.Goals as goal
 
-pub evaluate_by-requires : goal.evaluate_by-requires
-evaluate_by-requires c =
+pub evaluate_with-requires : goal.evaluate_with-requires
+evaluate_with-requires c =
     let is = c.entity-entity.ensures in
     record {
       whole = c.requires.tests;
@@ -21,6 +21,6 @@ pub returns : goal.returns
 returns c json read =
     let filter = c.args.self.now.checked.now in
     let now = c.args.self.now.moment.now in
-    let answer = c.evaluate_by.result in
+    let answer = c.evaluate_with.result in
     held_reported filter now c.args.rows.now c.requires.rows c.requires.whole json answer read
-    (subst (λ (r : Row). IfSome (reported_outcome answer) (IsTheOutcome r now (tree_of_filter filter))) c.entity-entity.ensures c.evaluate_by.ensures.outcome)
+    (subst (λ (r : Row). IfSome (reported_outcome answer) (IsTheOutcome r now (tree_of_filter filter))) c.entity-entity.ensures c.evaluate_with.ensures.outcome)
