@@ -1,0 +1,243 @@
+-- The nodes with two operands, by their kinds.
+use Rattle.std.proofs.Common.{◌≡◌, inl, inr, ℕ, ℤ, ◌+◌, List, true, Some, length, slice_get, refl, sym, subst}
+use Rattle.edm_values.specs.Val as val
+use Rattle.edm_values.specs.Val.{Val, null, items}
+use Rattle.odata_syntax.specs.Tree.{Tree, binary, literal, node}
+use Rattle.odata_syntax.specs.declared.node.LiteralKind.{LiteralKind}
+use Rattle.odata_syntax.specs.declared.binary_operator.ComparisonOperator.{ComparisonOperator}
+use Rattle.odata_syntax.specs.declared.binary_operator.BinaryOperator.{BinaryOperator}
+use Rattle.odata_syntax.specs.declared.node.Quantifier.{Quantifier}
+use Rattle.csdl_schema.specs.ExprType.{ExprType, SingleType, single, collection}
+use Rattle.csdl_schema.specs.SchemaModel.{Slots, slots_of, type_name_at}
+use Rattle.odata_signatures.specs.OperatorTyped.{IsEquality}
+use Rattle.odata_signatures.specs.TypeView.{expr_type}
+use Rattle.odata_signatures.specs.declared.edm_type.EdmType.{EdmType}
+use Rattle.odata_signatures.specs.Laws.{OneType}
+use Rattle.odata_signatures.specs.Reads.{OfEquality, ReadsNone}
+use Rattle.odata_signatures.specs.Typed.{with_variable}
+use Rattle.odata_checked_filter.specs.Filter.{Filter}
+use Rattle.odata_checked_filter.specs.Stands.{ResolvedStands, InBody, NumberStands, SideBySide, Stands}
+use Rattle.odata_checked_filter.specs.declared.checked_node.CheckedNode.{CheckedNode}
+use Rattle.odata_checked_filter.specs.declared.checked_node.NodeKind.{NodeKind}
+use Rattle.odata_checked_filter.specs.private.Layout.{Lies}
+use Rattle.odata_meaning.specs.EndsOnce.{TypedEndsOnce}
+use Rattle.odata_meaning.specs.Environment.{bound_over, scope_of}
+use Rattle.odata_meaning.specs.Means.{Means}
+use Rattle.odata_meaning.specs.ReadGives.{GivesMember}
+use Rattle.odata_meaning.specs.LiteralGives.{LiteralGives}
+use Rattle.odata_filter_operations.specs.CollectionGives.{members_of}
+use Rattle.odata_filter_operations.specs.HasGives.{HasGives}
+use Rattle.odata_filter_operations.specs.LambdaGives.{InGives, LambdaGives, MemberGives}
+use Rattle.odata_filter_operations.specs.LeftFirst.{After, Then}
+use Rattle.odata_filter_operations.specs.Outcome.{Outcome, gives, overflow, divides_by_zero}
+use Rattle.odata_ranges.specs.Kept.{IsKept}
+use Rattle.odata_ranges.specs.Ranges.{HoldsRange, IsContextOf, MeansIn, CheckContext}
+use Rattle.odata_ranges.specs.Within.{IsValueWithin, IsWithin}
+use Rattle.odata_ranges.specs.declared.range.Range.{Range}
+use Rattle.odata_ranges.specs.private.Operators.{CoversFaults, HoldsOperator}
+use Rattle.odata_ranges.proofs.Forms.{StandsIn, TypedIn, by_kind, lies, stop_there, two_parts, type_there, value_has}
+use Rattle.odata_ranges.proofs.Layouts.{stop_there as stop_lies}
+use Rattle.odata_ranges.proofs.Holding.{FaultsWithin, after_within, faults_pass}
+use Rattle.odata_ranges.proofs.HoldingTwo.{equality_within, has_within, in_within, member_faults, member_has, member_kept, quantified_within, same_member, sides_within, some_faults}
+use Rattle.odata_ranges.proofs.KeptPaths.{tree_kept}
+use Rattle.odata_ranges.proofs.StandingLies.{resolved_lies}
+
+-- an equality hands on the faults of both its sides
+equality_covers : (operator : BinaryOperator) (type : EdmType) (left right result : Range) → IsEquality operator → HoldsOperator operator type left right result → CoversFaults result left right
+equality_covers (BinaryOperator.Comparison ComparisonOperator.Eq) type left right result is holds = holds
+equality_covers (BinaryOperator.Comparison ComparisonOperator.Ne) type left right result is holds = holds
+equality_covers _ type left right result is holds = absurd is
+
+-- a literal evaluates to no fault
+literal_faults : (slots : Slots) (kind : LiteralKind) (spelling : List ℕ) (range : Range) (x : Outcome) → LiteralGives slots kind spelling x → FaultsWithin range x
+literal_faults slots kind spelling range (gives v) given = tt
+literal_faults slots kind spelling range overflow given = absurd given
+literal_faults slots kind spelling range divides_by_zero given = absurd given
+
+module _ (types : OneType) (filter : Filter) (place : ℕ) (found first : CheckedNode) (at : slice_get filter.list.nodes place ≡ Some found)
+    (first_at : slice_get filter.list.nodes (place + 1) ≡ Some first) (left right result : Range)
+    (left_holds : HoldsRange filter (place + 1) left) (right_holds : HoldsRange filter first.stop right) where
+  module _ (context : CheckContext) (is : IsContextOf filter context) where
+    -- a literal that is read evaluates to no fault by itself
+    number_faults : (number : ℤ) (i j : ℕ) (tree : Tree) (x : Outcome) → NumberStands filter.schema filter.filtered (scope_of context.environment) filter.list number i j tree
+        → MeansIn filter context tree x → FaultsWithin result x
+    number_faults number i j (node from to (literal LiteralKind.Str spelling)) x stands means = literal_faults (slots_of filter.schema) LiteralKind.Str spelling result x means
+    number_faults number i j _ x stands means = absurd stands
+
+    -- what stands beside an operand has the faults of its range
+    side_faults : (side : Range) (OtherSide : ExprType → Type 0) (i j : ℕ) (tree : Tree) → HoldsRange filter i side → (side.may_fault ≡ true → result.may_fault ≡ true)
+        → ResolvedStands filter.schema filter.filtered (scope_of context.environment) filter.list OtherSide tree (λ a b. StandsIn filter (scope_of context.environment) a b tree) i j
+        → (x : Outcome) → MeansIn filter context tree x → FaultsWithin result x
+    side_faults side OtherSide i j tree holds passes (inl read) x means = number_faults read.0 i j tree x read.2 means
+    side_faults side OtherSide i j tree holds passes (inr alone) x means = faults_pass side result x passes (holds context tree j x is alone.1 means)
+
+    -- and lies within it where it is not read
+    side_within : (side : Range) (OtherSide : ExprType → Type 0) (i j : ℕ) (tree : Tree) → HoldsRange filter i side → ReadsNone (slots_of filter.schema) OtherSide tree
+        → ResolvedStands filter.schema filter.filtered (scope_of context.environment) filter.list OtherSide tree (λ a b. StandsIn filter (scope_of context.environment) a b tree) i j
+        → (x : Outcome) → MeansIn filter context tree x → IsWithin side x
+    side_within side OtherSide i j tree holds none (inl read) x means = absurd (none read.0 read.1)
+    side_within side OtherSide i j tree holds none (inr alone) x means = holds context tree j x is alone.1 means
+
+    -- the right side stands where the left one stops
+    right_range : (i middle : ℕ) (tree : Tree) → i ≡ place + 1 → Lies filter.schema filter.filtered (scope_of context.environment) filter.list i middle tree → HoldsRange filter middle right
+    right_range i middle tree same stands =
+        subst (λ (m : ℕ). HoldsRange filter m right)
+        (stop_lies filter (scope_of context.environment) i first (subst (λ (k : ℕ). slice_get filter.list.nodes k ≡ Some first) (sym same) first_at) middle tree stands) right_holds
+
+  module _ (context : CheckContext) (is : IsContextOf filter context) (s : ℕ) (l r : Tree)
+      (two : SideBySide (λ middle. StandsIn filter (scope_of context.environment) (place + 1) middle l) (λ middle. StandsIn filter (scope_of context.environment) middle s r)) where
+    on_left : (x : Outcome) → MeansIn filter context l x → IsWithin left x
+    on_left x means = left_holds context l two.middle x is two.left means
+
+    on_right : (x : Outcome) → MeansIn filter context r x → IsWithin right x
+    on_right x means =
+        right_range context is (place + 1) two.middle l refl (lies filter (scope_of context.environment) (place + 1) two.middle l two.left) context r s x is two.right means
+
+  one_node : (context : CheckContext) (s : ℕ) (tree : Tree) → StandsIn filter (scope_of context.environment) place s tree → (type : ExprType)
+      → TypedIn filter (scope_of context.environment) tree type → type ≡ expr_type filter.schema found.edm_type
+  one_node context s tree stands type typed =
+      types (slots_of filter.schema) (type_name_at filter.schema filter.filtered) (scope_of context.environment) tree type (expr_type filter.schema found.edm_type) typed
+      (type_there filter (scope_of context.environment) place found at s tree stands)
+
+  -- each side of an operator as it stands, read or not
+  operator_given : (context : CheckContext) → IsContextOf filter context → (operator : BinaryOperator) (s from to : ℕ) (l r : Tree) (o : Outcome) → found.kind ≡ NodeKind.Binary operator
+      → HoldsOperator operator found.edm_type left right result → StandsIn filter (scope_of context.environment) place s (node from to (binary operator l r))
+      → MeansIn filter context (node from to (binary operator l r)) o → IsWithin result o
+  operator_given context is operator s from to l r o kind_is holds stands given =
+      let slots = slots_of filter.schema in
+      let scope = scope_of context.environment in
+      let LeftBeside : ExprType → Type 0 = OfEquality operator (TypedIn filter scope r) in
+      let RightBeside : ExprType → Type 0 = OfEquality operator (TypedIn filter scope l) in
+      let whole = node from to (binary operator l r) in
+      let two = two_parts (ResolvedStands filter.schema filter.filtered scope filter.list LeftBeside l (λ a b. StandsIn filter scope a b l))
+      (ResolvedStands filter.schema filter.filtered scope filter.list RightBeside r (λ a b. StandsIn filter scope a b r)) (place + 1) s stands.children in
+      let left_lies = resolved_lies filter.schema filter.filtered scope filter.list LeftBeside l (λ a b. StandsIn filter scope a b l) (place + 1) two.middle
+      (lies filter scope (place + 1) two.middle l) two.left in
+      let of_range : HoldsRange filter two.middle right = right_range context is (place + 1) two.middle l refl left_lies in
+      elim given [
+        | inl read ↦ (
+            let covers = equality_covers operator found.edm_type left right result read.1.beside.0 holds in
+            equality_within operator result (TypedIn filter scope whole) (MeansIn filter context l) (GivesMember read.0) o read.1.beside.0
+            (side_faults context is left LeftBeside (place + 1) two.middle l left_holds covers.first two.left) (member_faults result read.0) read.2
+            )
+        | inr others ↦ elim others.1 [
+          | inl read ↦ (
+              let covers = equality_covers operator found.edm_type left right result read.1.beside.0 holds in
+              equality_within operator result (TypedIn filter scope whole) (GivesMember read.0) (MeansIn filter context r) o read.1.beside.0
+              (member_faults result read.0) (side_faults context is right RightBeside two.middle s r of_range covers.second two.right) read.2
+              )
+          | inr unread ↦
+              sides_within filter found left right result operator (TypedIn filter scope whole) (MeansIn filter context l) (MeansIn filter context r) o holds
+              (one_node context s whole stands)
+              (side_within context is left LeftBeside (place + 1) two.middle l left_holds unread.0 two.left)
+              (side_within context is right RightBeside two.middle s r of_range others.0 two.right) unread.1
+        ]
+      ]
+
+  pub operator_holds : (operator : BinaryOperator) → found.kind ≡ NodeKind.Binary operator → HoldsOperator operator found.edm_type left right result → HoldsRange filter place result
+  operator_holds operator kind_is holds = λ context tree stop o is stands means.
+      by_kind filter (scope_of context.environment) place found at (NodeKind.Binary operator) kind_is
+      (λ s t. StandsIn filter (scope_of context.environment) place s t → MeansIn filter context t o → IsWithin result o)
+      (λ l r s from to there stands_there given.
+      operator_given context is operator s from to l r o kind_is holds stands_there given)
+      stop tree stands stands means
+
+  pub has_holds : found.kind ≡ NodeKind.Has → CoversFaults result left right → (left.may_be_null ≡ true → result.may_be_null ≡ true) → (right.may_be_null ≡ true → result.may_be_null ≡ true)
+      → HoldsRange filter place result
+  has_holds kind_is faults left_nulls right_nulls = λ context tree stop o is stands means.
+      by_kind filter (scope_of context.environment) place found at NodeKind.Has kind_is
+      (λ s t. StandsIn filter (scope_of context.environment) place s t → MeansIn filter context t o → IsWithin result o)
+      (λ l r s from to there stands_there given.
+      let scope = scope_of context.environment in
+      let two = two_parts (λ a b. StandsIn filter scope a b l)
+      (ResolvedStands filter.schema filter.filtered scope filter.list (TypedIn filter scope l) r (λ a b. StandsIn filter scope a b r)) (place + 1) s stands_there.children in
+      let of_left : (x : Outcome) → MeansIn filter context l x → IsWithin left x = λ x m. left_holds context l two.middle x is two.left m in
+      let of_range : HoldsRange filter two.middle right = right_range context is (place + 1) two.middle l refl (lies filter scope (place + 1) two.middle l two.left) in
+      elim given [
+        | inl read ↦
+            after_within result (MeansIn filter context l) (λ v. HasGives v (val.member read.0)) o (λ x m. faults_pass left result x faults.first (of_left x m))
+            (λ v m goes. has_within left right result v (val.member read.0) o left_nulls (λ none_there. absurd (cc)) (of_left (gives v) m) goes) read.2
+        | inr unread ↦
+            after_within result (MeansIn filter context l) (λ v. After (MeansIn filter context r) (HasGives v)) o (λ x m. faults_pass left result x faults.first (of_left x m))
+            (λ v m goes. after_within result (MeansIn filter context r) (HasGives v) o
+            (side_faults context is right (TypedIn filter scope l) two.middle s r of_range faults.second two.right)
+            (λ w k more. has_within left right result v w o left_nulls
+            (λ none_there. right_nulls (subst (λ (u : Val). IsValueWithin right u) none_there
+            (side_within context is right (TypedIn filter scope l) two.middle s r of_range unread.0 two.right (gives w) k)))
+            (of_left (gives v) m) more)
+            goes)
+            unread.1
+      ])
+      stop tree stands stands means
+
+  pub in_path_holds : found.kind ≡ NodeKind.InPath → CoversFaults result left right → (right.may_be_null ≡ true → result.may_be_null ≡ true) → HoldsRange filter place result
+  in_path_holds kind_is faults nulls = λ context tree stop o is stands means.
+      by_kind filter (scope_of context.environment) place found at NodeKind.InPath kind_is
+      (λ s t. StandsIn filter (scope_of context.environment) place s t → MeansIn filter context t o → IsWithin result o)
+      (λ l r s from to there stands_there given.
+      let scope = scope_of context.environment in
+      let two = two_parts (λ a b. StandsIn filter scope a b l) (λ a b. StandsIn filter scope a b r) (place + 1) s stands_there.children in
+      after_within result (MeansIn filter context l) _ o (λ x m. faults_pass left result x faults.first (on_left context is s l r two x m))
+      (λ v m goes. after_within result (MeansIn filter context r) (InGives v) o (λ x k. faults_pass right result x faults.second (on_right context is s l r two x k))
+      (λ w k more. in_within result v w o
+      (λ none_there. nulls (subst (λ (u : Val). IsValueWithin right u) none_there (on_right context is s l r two (gives w) k))) more)
+      goes)
+      given)
+      stop tree stands stands means
+
+  -- the body at a member of the collection
+  body_given : TypedEndsOnce → (context : CheckContext) → IsContextOf filter context → (quantifier : Quantifier) (s : ℕ) (base body : Tree) (variable : List ℕ) (member_type : SingleType)
+      (v : Val) (o : Outcome) → (left.may_be_null ≡ true → result.may_be_null ≡ true) → (right.may_fault ≡ true → result.may_fault ≡ true)
+      → TypedIn filter (scope_of context.environment) base (collection member_type)
+      → Stands filter.schema filter.filtered (with_variable (scope_of context.environment) variable (single member_type)) filter.list first.stop s body
+      → IsValueWithin left v → MeansIn filter context base (gives v) → IsKept (slots_of filter.schema) (collection member_type) v
+      → LambdaGives quantifier (TypedIn filter (scope_of context.environment) base)
+      (λ t w. Means (slots_of filter.schema) (type_name_at filter.schema filter.filtered) context.now context.entity (bound_over context.environment variable t w) body) v o
+      → IsWithin result o
+  body_given ends context is quantifier s base body variable member_type null o nulls faults typed stands within means kept given = subst (IsWithin result) (sym given) (nulls within)
+  body_given ends context is quantifier s base body variable member_type (items vs) o nulls faults typed stands within means kept given =
+      let slots = slots_of filter.schema in
+      let root = type_name_at filter.schema filter.filtered in
+      let same : member_type ≡ given.0 = same_member member_type given.0 (types slots root (scope_of context.environment) base (collection member_type) (collection given.0) typed given.1) in
+      let has = value_has ends filter context is base (collection member_type) (items vs) typed means in
+      let Body : Val → Outcome → Type 0 = λ w. Means slots root context.now context.entity (bound_over context.environment variable (single given.0) w) body in
+      quantified_within result quantifier (length (members_of vs)) (MemberGives Body vs) o
+      (λ k x at_place. some_faults result Body (slice_get (members_of vs) k) x
+      (λ w found_there body_means.
+      let inner : CheckContext = record { now = context.now; entity = context.entity; environment = bound_over context.environment variable (single member_type) w } in
+      let inner_is : IsContextOf filter inner = record {
+        moment = is.moment;
+        held = is.held;
+        is_record = is.is_record;
+        typed = is.typed;
+        kept = is.kept;
+        fitting = (member_has slots member_type vs k w has found_there, is.fitting);
+        variables = (member_kept slots member_type vs k w kept.1 found_there, is.variables);
+      } in
+      faults_pass right result x faults
+      (right_holds inner body s x inner_is stands
+      (subst (λ (t : SingleType). Means slots root context.now context.entity (bound_over context.environment variable (single t) w) body x) (sym same) body_means)))
+      at_place)
+      given.2
+  body_given ends context is quantifier s base body variable member_type _ o nulls faults typed stands within means kept given = absurd given
+
+  pub lambda_holds : TypedEndsOnce → (quantifier : Quantifier) → found.kind ≡ NodeKind.Lambda quantifier → (left.may_be_null ≡ true → result.may_be_null ≡ true)
+      → (right.may_fault ≡ true → result.may_fault ≡ true) → HoldsRange filter place result
+  lambda_holds ends quantifier kind_is nulls faults = λ context tree stop o is stands means.
+      by_kind filter (scope_of context.environment) place found at (NodeKind.Lambda quantifier) kind_is
+      (λ s t. StandsIn filter (scope_of context.environment) place s t → MeansIn filter context t o → IsWithin result o)
+      (λ base variable body s from to there stands_there given.
+      let scope = scope_of context.environment in
+      let two = two_parts (λ a b. StandsIn filter scope a b base)
+      (λ a b. InBody scope variable (TypedIn filter scope base) (λ at. Stands filter.schema filter.filtered at filter.list a b body)) (place + 1) s stands_there.children in
+      let same : first.stop ≡ two.middle = stop_there filter scope (place + 1) first first_at two.middle base two.left in
+      let inner = two.right in
+      let body_stands = subst (λ (m : ℕ). Stands filter.schema filter.filtered (with_variable scope variable (single inner.member_type)) filter.list m s body) (sym same) inner.body in
+      let collected = tree_kept filter context is base (collection inner.member_type) given.0 tt inner.binds.over given.1.0 in
+      let within : IsWithin left given.0 = left_holds context base two.middle given.0 is two.left given.1.0 in
+      body_given ends context is quantifier s base body variable inner.member_type collected.0 o nulls faults inner.binds.over body_stands
+      (subst (IsWithin left) collected.1 within) (subst (λ (x : Outcome). MeansIn filter context base x) collected.1 given.1.0) collected.2
+      (subst (λ (x : Outcome). Then x (LambdaGives quantifier (TypedIn filter scope base)
+      (λ t w. Means (slots_of filter.schema) (type_name_at filter.schema filter.filtered) context.now context.entity (bound_over context.environment variable t w) body)) o)
+      collected.1 given.1.1))
+      stop tree stands stands means

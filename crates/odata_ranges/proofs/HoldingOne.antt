@@ -1,0 +1,165 @@
+-- What nodes with one operand evaluate to lies within the ranges that are made for them.
+use Rattle.std.proofs.Common.{◌≡◌, ℕ, ◌≤◌, ◌+◌, ℤ, pos, neg_ℤ, ◌-ℤ◌, ◌≤ℤ◌, true, false, Option, Some, None, Result, Ok, Err, length, slice_get, refl, sym, subst, arith}
+use Rattle.std.specs.Prelude.{FitsSigned}
+use Rattle.std.specs.Int.{w64}
+use Rattle.std.proofs.lemmas.Int.{ints}
+use Rattle.edm_values.specs.NumberTypes.{IsNumberOf}
+use Rattle.edm_values.specs.Val.{Val, null, boolean, whole, items, Vals, no_items, item}
+use Rattle.edm_values.specs.declared.primitive.PrimitiveType.{PrimitiveType}
+use Rattle.odata_syntax.specs.Tree.{any_item, count, negation, node}
+use Rattle.csdl_schema.specs.ExprType.{ExprType, single, collection, primitive}
+use Rattle.csdl_schema.specs.SchemaModel.{slots_of, type_name_at}
+use Rattle.odata_functions.specs.Arithmetic.{ComesWithin, NumbersGive}
+use Rattle.odata_functions.specs.declared.arithmetic.ArithFault.{ArithFault}
+use Rattle.odata_functions.specs.declared.arithmetic.ArithFault.TheVariants.{Overflow, DivideByZero}
+use Rattle.odata_syntax.specs.declared.binary_operator.ArithmeticOperator.{ArithmeticOperator}
+use Rattle.odata_signatures.specs.CollectionTyped.{IsCollection}
+use Rattle.odata_signatures.specs.OperatorTyped.{NegationTyped}
+use Rattle.odata_signatures.specs.TypeView.{expr_type}
+use Rattle.odata_signatures.specs.Laws.{OneType}
+use Rattle.odata_signatures.specs.Typed.{OperandTyped}
+use Rattle.odata_checked_filter.specs.Filter.{Filter}
+use Rattle.odata_checked_filter.specs.declared.checked_node.CheckedNode.{CheckedNode}
+use Rattle.odata_checked_filter.specs.declared.checked_node.NodeKind.{NodeKind}
+use Rattle.odata_eval.proofs.walking.Children.{one_there}
+use Rattle.odata_meaning.specs.Environment.{scope_of}
+use Rattle.odata_meaning.specs.OperatorGives.{InType}
+use Rattle.odata_filter_operations.specs.CalculationGives.{CalculationGives, GivesNumber, NegatedGives, number_outcome}
+use Rattle.odata_filter_operations.specs.CollectionGives.{AnyItemGives, CountGives, members_of}
+use Rattle.odata_filter_operations.specs.LeftFirst.{Then}
+use Rattle.odata_filter_operations.specs.Outcome.{Outcome, gives}
+use Rattle.odata_filter_operations.specs.TruthGives.{NotGives}
+use Rattle.odata_ranges.specs.Kept.{IsKept}
+use Rattle.odata_ranges.specs.Ranges.{HoldsRange, MeansIn}
+use Rattle.odata_ranges.specs.Reach.{HoldsNumber}
+use Rattle.odata_ranges.specs.Within.{IsValueWithin, IsWithin}
+use Rattle.odata_ranges.specs.declared.range.Range.{Range}
+use Rattle.odata_ranges.specs.private.Operators.{HoldsArithmetic}
+use Rattle.odata_ranges.proofs.Forms.{StandsIn, TypedIn, by_kind, type_there}
+use Rattle.odata_ranges.proofs.Holding.{after_within, faults_pass}
+use Rattle.odata_ranges.proofs.KeptPaths.{IsPathType, tree_kept}
+
+pub collection_path : (type : ExprType) → IsCollection type → IsPathType type
+collection_path (collection member) is = tt
+collection_path _ is = absurd is
+
+-- a number of the type within the range
+number_within : (result : Range) (p : PrimitiveType) (n : ℤ) (o : Outcome) → IsNumberOf p n → HoldsNumber result n → GivesNumber p n o → IsWithin result o
+number_within result p n o fits holds given = subst (IsWithin result) (sym given.2) (answered given.0 given.1)
+  where
+    answered : (answer : Result (Option ℤ) ArithFault) → ComesWithin p n answer → IsWithin result (number_outcome answer)
+    answered (Ok (Some m)) comes =
+        let number : Some m ≡ Some n = comes.0 in
+        let same : m ≡ n = cc in
+        subst (HoldsNumber result) (sym same) holds
+    answered (Ok None) comes = let none : None ≡ Some n = comes.0 in cc
+    answered (Err fault) comes = absurd (comes.1 fits)
+
+-- ---- collections
+
+count_given : (result : Range) (v : Val) (o : Outcome) → (v ≡ null → result.may_be_null ≡ true)
+    → ((vs : Vals) → v ≡ items vs → length (members_of vs) ≤ 4_294_967_296) → result.low ≤ℤ pos 0 → pos 4_294_967_296 ≤ℤ result.high
+    → CountGives v o → IsWithin result o
+count_given result null o none few low high given = subst (IsWithin result) (sym given) (none refl)
+count_given result (items vs) o none few low high given =
+    let members = few vs refl in
+    let fits : FitsSigned w64 (pos (length (members_of vs))) = omega (arith, ints, members) in
+    number_within result PrimitiveType.Int64 (pos (length (members_of vs))) o fits (omega (arith, ints, low), omega (arith, ints, high, members)) given
+count_given result _ o none few low high given = absurd given
+
+any_item_given : (result : Range) (v : Val) (o : Outcome) → (v ≡ null → result.may_be_null ≡ true) → AnyItemGives v o → IsWithin result o
+any_item_given result null o none given = subst (IsWithin result) (sym given) (none refl)
+any_item_given result (items no_items) o none given = subst (IsWithin result) (sym given) tt
+any_item_given result (items (item v more)) o none given = subst (IsWithin result) (sym given) tt
+any_item_given result _ o none given = absurd given
+
+not_given : (range result : Range) (v : Val) (o : Outcome) → (range.may_be_null ≡ true → result.may_be_null ≡ true) → IsValueWithin range v → NotGives v o → IsWithin result o
+not_given range result null o nulls within given = subst (IsWithin result) (sym given) (nulls within)
+not_given range result (boolean true) o nulls within given = subst (IsWithin result) (sym given) tt
+not_given range result (boolean false) o nulls within given = subst (IsWithin result) (sym given) tt
+not_given range result _ o nulls within given = absurd given
+
+few_members : (type : ExprType) (filter : Filter) (vs : Vals) → IsCollection type → IsKept (slots_of filter.schema) type (items vs)
+    → length (members_of vs) ≤ 4_294_967_296
+few_members (collection member) filter vs is kept = kept.0
+few_members _ filter vs is kept = absurd is
+
+-- ---- negation
+
+pub minus_given : (type : ExprType) (w : Val) (o : Outcome) → NegatedGives type w o → CalculationGives ArithmeticOperator.Sub type (whole (pos 0)) w o
+minus_given type null o given = given
+minus_given (single (primitive p)) (whole a) o given = (given.0, numbers given.0 given.1, given.2)
+  where
+    difference : neg_ℤ a ≡ pos 0 -ℤ a
+    difference = omega (arith, ints)
+
+    numbers : (answer : Result (Option ℤ) ArithFault) → ComesWithin p (neg_ℤ a) answer → NumbersGive ArithmeticOperator.Sub p (pos 0) a answer
+    numbers (Ok answer) comes = (neg_ℤ a, difference, comes)
+    numbers (Err Overflow) comes = (neg_ℤ a, difference, comes)
+    numbers (Err DivideByZero) comes = let other : DivideByZero ≡ Overflow = comes.0 in absurd (cc)
+minus_given _ _ o given = absurd given
+
+module _ (types : OneType) (filter : Filter) (place : ℕ) (found : CheckedNode) (at : slice_get filter.list.nodes place ≡ Some found) (operand result : Range)
+    (holds : HoldsRange filter (place + 1) operand) where
+  pub count_holds : found.kind ≡ NodeKind.Count → (operand.may_be_null ≡ true → result.may_be_null ≡ true) → result.low ≤ℤ pos 0 → pos 4_294_967_296 ≤ℤ result.high
+      → HoldsRange filter place result
+  count_holds kind_is nulls low high = λ context tree stop o is stands means.
+      by_kind filter (scope_of context.environment) place found at NodeKind.Count kind_is
+      (λ s t. StandsIn filter (scope_of context.environment) place s t → MeansIn filter context t o → IsWithin result o)
+      (λ base s from to there stands_there given.
+      let typed = type_there filter (scope_of context.environment) place found at s (node from to (count base)) stands_there in
+      let first = tree_kept filter context is base typed.operand given.0 (collection_path typed.operand typed.makes.0) typed.operand_typed given.1.0 in
+      let within : IsWithin operand given.0 =
+      holds context base s given.0 is (one_there filter.schema filter.filtered (scope_of context.environment) filter.list (place + 1) s base stands_there.children) given.1.0 in
+      count_given result first.0 o
+      (λ none. nulls (subst (λ (v : Val). IsValueWithin operand v) none (subst (IsWithin operand) first.1 within)))
+      (λ vs same. few_members typed.operand filter vs typed.makes.0 (subst (λ (v : Val). IsKept (slots_of filter.schema) typed.operand v) same first.2))
+      low high (subst (λ (x : Outcome). Then x CountGives o) first.1 given.1.1))
+      stop tree stands stands means
+
+  pub any_item_holds : found.kind ≡ NodeKind.AnyItem → (operand.may_be_null ≡ true → result.may_be_null ≡ true) → HoldsRange filter place result
+  any_item_holds kind_is nulls = λ context tree stop o is stands means.
+      by_kind filter (scope_of context.environment) place found at NodeKind.AnyItem kind_is
+      (λ s t. StandsIn filter (scope_of context.environment) place s t → MeansIn filter context t o → IsWithin result o)
+      (λ base s from to there stands_there given.
+      let typed = type_there filter (scope_of context.environment) place found at s (node from to (any_item base)) stands_there in
+      let first = tree_kept filter context is base typed.operand given.0 (collection_path typed.operand typed.makes.0) typed.operand_typed given.1.0 in
+      let within : IsWithin operand given.0 =
+      holds context base s given.0 is (one_there filter.schema filter.filtered (scope_of context.environment) filter.list (place + 1) s base stands_there.children) given.1.0 in
+      any_item_given result first.0 o
+      (λ none. nulls (subst (λ (v : Val). IsValueWithin operand v) none (subst (IsWithin operand) first.1 within)))
+      (subst (λ (x : Outcome). Then x AnyItemGives o) first.1 given.1.1))
+      stop tree stands stands means
+
+  pub not_holds : found.kind ≡ NodeKind.Not → (operand.may_be_null ≡ true → result.may_be_null ≡ true) → (operand.may_fault ≡ true → result.may_fault ≡ true)
+      → HoldsRange filter place result
+  not_holds kind_is nulls faults = λ context tree stop o is stands means.
+      by_kind filter (scope_of context.environment) place found at NodeKind.Not kind_is
+      (λ s t. StandsIn filter (scope_of context.environment) place s t → MeansIn filter context t o → IsWithin result o)
+      (λ inner s from to there stands_there given.
+      let below = one_there filter.schema filter.filtered (scope_of context.environment) filter.list (place + 1) s inner stands_there.children in
+      after_within result (MeansIn filter context inner) NotGives o
+      (λ x means_x. faults_pass operand result x faults (holds context inner s x is below means_x))
+      (λ v means_v goes. not_given operand result v o nulls (holds context inner s (gives v) is below means_v) goes)
+      given)
+      stop tree stands stands means
+
+  pub negation_holds : (zero : Range) → found.kind ≡ NodeKind.Neg → IsValueWithin zero (whole (pos 0)) → HoldsArithmetic ArithmeticOperator.Sub found.edm_type zero operand result
+      → HoldsRange filter place result
+  negation_holds zero kind_is holds_zero holds_difference = λ context tree stop o is stands means.
+      by_kind filter (scope_of context.environment) place found at NodeKind.Neg kind_is
+      (λ s t. StandsIn filter (scope_of context.environment) place s t → MeansIn filter context t o → IsWithin result o)
+      (λ inner s from to there stands_there given.
+      let scope = scope_of context.environment in
+      let type = expr_type filter.schema found.edm_type in
+      let typed = type_there filter scope place found at s (node from to (negation inner)) stands_there in
+      let below = one_there filter.schema filter.filtered scope filter.list (place + 1) s inner stands_there.children in
+      after_within result (MeansIn filter context inner) (λ v. InType (OperandTyped (TypedIn filter scope inner) NegationTyped) (λ t. NegatedGives t v)) o
+      (λ x means_x. faults_pass operand result x holds_difference.faults.second (holds context inner s x is below means_x))
+      (λ v means_v goes.
+      let same : goes.0 ≡ type =
+      types (slots_of filter.schema) (type_name_at filter.schema filter.filtered) scope (node from to (negation inner)) goes.0 type goes.1 typed in
+      holds_difference.values filter.schema (whole (pos 0)) v o holds_zero (holds context inner s (gives v) is below means_v)
+      (minus_given type v o (subst (λ (t : ExprType). NegatedGives t v o) same goes.2)))
+      given)
+      stop tree stands stands means

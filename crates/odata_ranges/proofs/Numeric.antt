@@ -1,0 +1,88 @@
+-- Arithmetic is in a number type, or in that of null.
+use Rattle.std.proofs.Common.{◌≡◌, inl, inr, ℕ, Bool, true, false, cond, ◌||◌, Option, Some, None, slice_get, sym, subst}
+use Rattle.std.specs.Prelude.{IfSome}
+use Rattle.edm_values.specs.NumberTypes.{IsNumberType}
+use Rattle.edm_values.specs.declared.primitive.PrimitiveType.{PrimitiveType}
+use Rattle.edm_values.specs.declared.primitive.PrimitiveType.TheVariants.{Int16, Int32, Int64}
+use Rattle.csdl_schema.specs.ExprType.{ExprType, single, primitive}
+use Rattle.csdl_schema.specs.SchemaModel.{SchemaModel}
+use Rattle.odata_functions.specs.Promotion.{is_int32, is_int64, negation_type, promotion, wider_type}
+use Rattle.odata_signatures.specs.ExprTypes.{number_or_null}
+use Rattle.odata_signatures.specs.OperatorTyped.{OperatorByTypes, IsEquality}
+use Rattle.odata_signatures.specs.TypeView.{expr_type}
+use Rattle.odata_signatures.specs.declared.edm_type.EdmType.{EdmType}
+use Rattle.odata_signatures.specs.declared.edm_type.ValueType.{ValueType}
+use Rattle.odata_syntax.specs.declared.binary_operator.BinaryOperator.{BinaryOperator}
+use Rattle.odata_syntax.specs.declared.binary_operator.BinaryOperator.TheVariants.{Logical, Comparison, Arithmetic}
+use Rattle.odata_syntax.specs.declared.binary_operator.ComparisonOperator.{ComparisonOperator}
+use Rattle.odata_syntax.specs.Tree.{binary, negation, node}
+use Rattle.odata_checked_filter.specs.Filter.{Filter, IsFilter}
+use Rattle.odata_checked_filter.specs.declared.checked_node.CheckedNode.{CheckedNode}
+use Rattle.odata_checked_filter.specs.declared.checked_node.NodeKind.{NodeKind}
+use Rattle.odata_checked_filter.proofs.flat.Numbered.{numbered}
+use Rattle.odata_ranges.specs.private.Operators.{IsNumericIn}
+use Rattle.odata_ranges.specs.private.Values.{IsNumeric}
+use Rattle.odata_ranges.proofs.Layouts.{LiesIn, by_kind, type_there}
+
+chosen : (a b : Bool) → IsNumberType (cond a Int64 (cond b Int32 Int16))
+chosen true b = tt
+chosen false true = tt
+chosen false false = tt
+
+wider_number : (left right : Option PrimitiveType) → IsNumberType (wider_type left right)
+wider_number left right = chosen (is_int64 left || is_int64 right) (is_int32 left || is_int32 right)
+
+pub promoted : (left right : Option PrimitiveType) → IfSome (promotion left right) IsNumberType
+promoted None None = tt
+promoted None (Some right) = wider_number None (Some right)
+promoted (Some left) right = wider_number (Some left) right
+
+pub negated : (number : Option PrimitiveType) → IfSome (negation_type number) IsNumberType
+negated None = tt
+negated (Some p) = promoted (Some p) (Some Int16)
+
+same_prim : (p q : PrimitiveType) → single (primitive p) ≡ single (primitive q) → p ≡ q
+same_prim p q is = cc
+
+numeric : (schema : SchemaModel) (type : EdmType) (number : Option PrimitiveType) → IfSome number IsNumberType → expr_type schema type ≡ number_or_null number → IsNumeric type
+numeric schema EdmType.Null number is same = tt
+numeric schema (EdmType.Single (ValueType.Prim p)) None is same = absurd (cc)
+numeric schema (EdmType.Single (ValueType.Prim p)) (Some q) is same = subst IsNumberType (sym (same_prim p q same)) is
+numeric schema (EdmType.Single (ValueType.Enum e)) None is same = absurd (cc)
+numeric schema (EdmType.Single (ValueType.Enum e)) (Some q) is same = absurd (cc)
+numeric schema (EdmType.Single (ValueType.Structured t)) None is same = absurd (cc)
+numeric schema (EdmType.Single (ValueType.Structured t)) (Some q) is same = absurd (cc)
+numeric schema (EdmType.Collection s) None is same = absurd (cc)
+numeric schema (EdmType.Collection s) (Some q) is same = absurd (cc)
+
+class_numeric : (schema : SchemaModel) (type : EdmType) (class : BinaryOperator) (left right : ExprType) → OperatorByTypes class left right (expr_type schema type) → IsNumericIn class type
+class_numeric schema type (Logical connective) left right typed = tt
+class_numeric schema type (Comparison comparison) left right typed = tt
+class_numeric schema type (Arithmetic arithmetic) left right typed = numeric schema type _ (promoted typed.left_number typed.right_number) typed.type_is
+
+equality_numeric : (type : EdmType) (operator : BinaryOperator) → IsEquality operator → IsNumericIn operator type
+equality_numeric type (BinaryOperator.Comparison ComparisonOperator.Eq) is = tt
+equality_numeric type (BinaryOperator.Comparison ComparisonOperator.Ne) is = tt
+equality_numeric type _ is = absurd is
+
+module _ (filter : Filter) (is : IsFilter filter) (place : ℕ) (found : CheckedNode) (at : slice_get filter.list.nodes place ≡ Some found) where
+  pub negation_numeric : found.kind ≡ NodeKind.Neg → IsNumeric found.edm_type
+  negation_numeric kind_is =
+      let there = numbered filter place found is at in
+      by_kind filter there.scope place found at NodeKind.Neg kind_is (λ s t. LiesIn filter there.scope place s t → IsNumeric found.edm_type)
+      (λ operand s from to stands stands_there.
+      let typed = type_there filter there.scope place found at s (node from to (negation operand)) stands_there in
+      numeric filter.schema found.edm_type _ (negated typed.makes.number) typed.makes.type_is)
+      there.stop there.part there.stands there.stands
+
+  pub operator_numeric : (operator : BinaryOperator) → found.kind ≡ NodeKind.Binary operator → IsNumericIn operator found.edm_type
+  operator_numeric operator kind_is =
+      let there = numbered filter place found is at in
+      by_kind filter there.scope place found at (NodeKind.Binary operator) kind_is (λ s t. LiesIn filter there.scope place s t → IsNumericIn operator found.edm_type)
+      (λ left right s from to stands stands_there.
+      let typed = type_there filter there.scope place found at s (node from to (binary operator left right)) stands_there in
+      elim typed.makes [
+        | inl by_class ↦ class_numeric filter.schema found.edm_type operator _ _ by_class
+        | inr one ↦ equality_numeric found.edm_type operator one.0.0
+      ])
+      there.stop there.part there.stands there.stands

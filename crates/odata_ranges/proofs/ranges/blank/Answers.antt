@@ -1,0 +1,20 @@
+use Rattle.std.proofs.Common.{◌∙◌, length, ap, arith}
+use Rattle.odata_ranges.proofs.Put.{long_push}
+use Rattle.odata_ranges.proofs.ranges.blank.Goals as goal
+
+pub loop-made-init : goal.loop-made-init
+loop-made-init c = (ap length c.in_ok-ranges.ensures.items, omega arith)
+
+pub loop-made-preserved : goal.loop-made-preserved
+loop-made-preserved c =
+    let l = c.loop-made in
+    let long = ap length c.in_ok-push.ensures.items ∙ long_push l.ranges.items c.plain.result in
+    let was = l.invariant.0 in
+    (omega (arith, long, was), omega arith)
+
+pub returns : goal.returns
+returns c =
+    let l = c.loop-made in
+    let was = l.invariant.0 in
+    let most = l.invariant.1 in
+    omega (arith, was, most)

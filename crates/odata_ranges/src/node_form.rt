@@ -1,0 +1,39 @@
+//! Nodes by how the range of each is made.
+ghost use Rattle.std.specs.Prelude.{◌≡◌};
+ghost use Rattle.odata_ranges.specs.private.NodeForm.{form_of};
+
+use odata_checked_filter::NodeKind;
+
+/// A node without children, a step of a path, a node with one operand or with two, `in` before a list, and a call.
+#[derive(Clone, Copy, Debug, PartialEq, Eq)]
+pub(crate) enum NodeForm {
+    Leaf,
+    Step,
+    One,
+    Two,
+    List,
+    Call,
+}
+
+pub(crate) fn form_of(kind: NodeKind) -> NodeForm
+    ensures { result ≡ form_of kind }
+{
+    match kind {
+        NodeKind::Literal { .. } => NodeForm::Leaf,
+        NodeKind::It => NodeForm::Leaf,
+        NodeKind::Property { .. } => NodeForm::Leaf,
+        NodeKind::Variable { .. } => NodeForm::Leaf,
+        NodeKind::Now => NodeForm::Leaf,
+        NodeKind::Member { .. } => NodeForm::Step,
+        NodeKind::Count => NodeForm::One,
+        NodeKind::AnyItem => NodeForm::One,
+        NodeKind::Neg => NodeForm::One,
+        NodeKind::Not => NodeForm::One,
+        NodeKind::Binary { .. } => NodeForm::Two,
+        NodeKind::Has => NodeForm::Two,
+        NodeKind::InPath => NodeForm::Two,
+        NodeKind::Lambda { .. } => NodeForm::Two,
+        NodeKind::InList => NodeForm::List,
+        NodeKind::Call { .. } => NodeForm::Call,
+    }
+}

@@ -1,0 +1,15 @@
+pub mod Arities
+pub mod Bindings
+pub mod CodeTexts
+pub mod Elements
+pub mod FixedReading
+pub mod MemberTexts
+pub mod NameQuotes
+pub mod PathPieces
+pub mod PathReading
+pub mod Printing
+pub mod Reading
+pub mod Shapes
+pub mod Steps
+pub mod TreeReading
+pub mod Written

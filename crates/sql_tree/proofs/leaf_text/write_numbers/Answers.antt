@@ -1,0 +1,12 @@
+use Rattle.std.proofs.Common.{◌++◌, arith, string_bytes}
+use Rattle.csdl_schema.specs.EnumerationText.{members_in}
+use Rattle.csdl_schema.specs.SchemaModel.{enumeration_at}
+use Rattle.sql_tree.specs.LeafText.{numbers_text}
+use Rattle.sql_tree.proofs.MemberTexts.{number_step}
+use Rattle.sql_tree.proofs.leaf_text.write_numbers.Goals as goal
+
+pub loop-place-preserved : goal.loop-place-preserved
+loop-place-preserved c =
+    let members = members_in (enumeration_at c.args.schema.now c.args.id) in
+    number_step (string_bytes c.loop-place.out) (string_bytes c.write_number_at.new.out) (string_bytes c.args.out.now ++ numbers_text members) members c.loop-place.place
+    (omega arith) c.in_ok-write_number_at.ensures c.loop-place.invariant
