@@ -1,0 +1,4 @@
+pub mod JsonAnswers
+pub mod RangesFollow
+pub mod StatementAnswers
+pub mod Statements

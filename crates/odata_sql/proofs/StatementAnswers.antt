@@ -1,0 +1,139 @@
+-- What the statements of a whole filter say.
+use Rattle.std.proofs.Common.{◌≡◌, ◌++◌, ◌∷◌, ◌∙◌, [], ℕ, List, Vec, String, Some, Result, Ok, Err, IfOk, true, false, length, refl, sym, ap, subst, Bool, IsTrue, ◌<◌, arith}
+use Rattle.std.specs.Prelude.{IsSomeAnd, slice_get}
+use Rattle.std.specs.declared.alloc.Global.{Global}
+use Rattle.edm_values.specs.MomentParts.{IsMoment}
+use Rattle.csdl_schema.specs.SchemaModel.{slots_of, type_name_at, SchemaModel}
+use Rattle.odata_syntax.specs.declared.binary_operator.ComparisonOperator.{ComparisonOperator}
+use Rattle.odata_signatures.specs.ExprTypes.{IsBooleanOrNull}
+use Rattle.odata_signatures.specs.TypeView.{expr_type}
+use Rattle.odata_signatures.specs.Laws.{OneType}
+use Rattle.odata_checked_filter.specs.Filter.{Filter, IsFilter, tree_of_filter}
+use Rattle.odata_checked_filter.specs.FlatTree.{tree_of_nodes}
+use Rattle.odata_checked_filter.specs.declared.checked_node.CheckedNode.{CheckedNode}
+use Rattle.odata_meaning.specs.EndsOnce.{EndsOnceOnEntities}
+use Rattle.odata_eval.proofs.walking.Parts.{there_found, some_there}
+use Rattle.odata_ranges.specs.Within.{IsWithin}
+use Rattle.odata_ranges.specs.declared.range.Range.{Range}
+use Rattle.sql_meaning.specs.OneMeaning.{HaveOneMeaning}
+use Rattle.odata_sql.specs.private.ShapedTrees.{IsOfShape, IsTextOfShape}
+use Rattle.sql_tree.specs.TableModel.{TableModel, StorageModel}
+use Rattle.sql_tree.specs.Term.{nodes_of, Term}
+use Rattle.sql_tree.specs.declared.dialect.Dialect.{Dialect}
+use Rattle.sql_tree.specs.declared.node.Digit.{Digit}
+use Rattle.sql_tree.specs.declared.node.SqlNode.{SqlNode}
+use Rattle.sql_tree.specs.declared.node.SqlType.{SqlType}
+use Rattle.sql_tree.specs.declared.parameter.Parameter.{Parameter}
+use Rattle.sql_draft.specs.declared.draft.Draft.{Draft}
+use Rattle.odata_filter_operations.specs.Outcome.{Outcome, gives, overflow, divides_by_zero}
+use Rattle.odata_sql.specs.Conditions.{FaultsIt, SaysOfEach, asked_of}
+use Rattle.odata_sql.specs.Translation.{NeverFaults, Says, table_of}
+use Rattle.sql_forms.specs.declared.terms.Form.{Form}
+use Rattle.odata_sql.specs.declared.translation.Statement.{Statement}
+use Rattle.sql_forms.specs.Forms.{IsInForm}
+use Rattle.sql_draft.specs.Growth.{GrowsBy}
+use Rattle.sql_draft.specs.Kinds.{kind_of_type}
+use Rattle.sql_draft.specs.Rows.{IsFault}
+use Rattle.sql_draft.specs.Translated.{AreRanges, IsTruthAt, IsTruthKind}
+use Rattle.sql_draft.specs.World.{IsAskedOf, OfPlace, Puts, Question, World}
+use Rattle.sql_draft.proofs.Composing.{by_node}
+use Rattle.sql_forms.proofs.nodes.BinaryPlaces.{top_node}
+use Rattle.sql_forms.proofs.outcomes.ChainWalk.{truth_kind}
+use Rattle.sql_forms.proofs.outcomes.FaultConditions.{fault_condition}
+use Rattle.odata_sql.proofs.Statements.{says_of_each}
+use Rattle.sql_tree.specs.Numbered.{AreNumbered, parameters_of}
+use Rattle.sql_tree.specs.Printed.{IsOfTree, IsTextOf}
+use Rattle.sql_tree.specs.TreeText.{IsWhole}
+use Rattle.sql_tree.specs.Shapes.{IsShaped}
+use Rattle.sql_tree.specs.declared.tree.SqlTree.{SqlTree}
+use Rattle.odata_ranges.proofs.Forms.{inside_there}
+use Rattle.sql_forms.proofs.puts.FormsPut.{code_there}
+
+-- a filter is of type Boolean or Null
+pub filter_truth : (filter : Filter) → IsFilter filter → OneType → IsTruthAt filter 0
+filter_truth filter right types =
+    let top = top_node filter [] 0 (length filter.list.nodes) (tree_of_nodes filter.list) right.stands in
+    let same : right.type_of ≡ expr_type filter.schema top.found.edm_type =
+    types (slots_of filter.schema) (type_name_at filter.schema filter.filtered) [] (tree_of_nodes filter.list) right.type_of (expr_type filter.schema top.found.edm_type) right.typed top.typed in
+    there_found (λ (n : CheckedNode). IsTruthKind (kind_of_type n.edm_type)) (slice_get filter.list.nodes 0) top.found top.at
+    (truth_kind filter.schema top.found.edm_type (subst IsBooleanOrNull same right.truth))
+
+-- what is printed of a tree whose names are there
+module _ (dialect : Dialect) (table : TableModel) (tree : SqlTree) where
+  -- that names are there makes a tree of that shape whole
+  abbrev MakesWhole : Bool → Type 0
+  MakesWhole answer = IsTrue answer → (d : Dialect) (t : Term) → tree.nodes.items ≡ nodes_of t → IsShaped t → IsWhole d table tree.paths.items t
+
+  pub printed_shape : IsOfShape tree → (answer : Bool) → MakesWhole answer → IsTrue answer → IsOfTree dialect table tree
+  printed_shape shape answer makes holds = (shape.0, record { nodes_are = shape.1; whole = makes holds dialect shape.0 shape.1 shape.2 })
+
+  pub shape_printed : (answer : Bool) → MakesWhole answer → IsTrue answer → (text : String Global) → IsTextOf dialect table tree text → IsTextOfShape dialect table tree text
+  shape_printed answer makes holds text is = λ t nodes shaped.
+      let whole = makes holds dialect t nodes shaped in (whole, is t (record { nodes_are = nodes; whole = whole }))
+
+module _ (question : Question) (dialect : Dialect) (table : TableModel) (old new : Draft) (right : IsFilter question.filter) (no_nodes : old.tree.nodes.items ≡ []) (no_parameters : old.tree.parameters.items ≡ []) (no_depth : old.depth ≡ 0)
+    (no_members : old.members.items ≡ []) (Shown : Outcome → Outcome → Type 0) (put : Puts question old new (OfPlace question.filter 0) Shown) where
+  nodes_are : new.tree.nodes.items ≡ nodes_of put.t
+  nodes_are = put.grows.nodes_are ∙ ap (λ (nodes : List SqlNode). nodes ++ nodes_of put.t) no_nodes
+
+  pub of_shape : IsOfShape new.tree
+  of_shape = (put.t, nodes_are, put.shaped)
+
+  module _ (Holds : Outcome → Outcome → Type 0) (one : HaveOneMeaning) (form : (o x : Outcome) → Shown o x → Holds o x) where
+    pub says_it : (statement : Statement) → IsTextOfShape dialect table new.tree statement.text → statement.parameters ≡ new.tree.parameters → Says question.filter question.now dialect table statement Holds
+    says_it statement text parameters = record {
+      t = put.t;
+      paths = new.tree.paths.items;
+      whole = (text put.t nodes_are put.shaped).0;
+      text_is = (text put.t nodes_are put.shaped).1;
+      numbered = subst (λ (ps : Vec Parameter Global). AreNumbered 0 (parameters_of (nodes_of put.t)) (length ps.items)) (sym parameters)
+          (subst (λ (ps : List Parameter). AreNumbered (length ps) (parameters_of (nodes_of put.t)) (length new.tree.parameters.items)) no_parameters put.grows.numbered);
+      says = subst (λ (ps : Vec Parameter Global). SaysOfEach question.filter question.now new.tree.paths.items ps.items put.t Holds) (sym parameters)
+          (says_of_each question old new right no_depth no_members Shown Holds one form put);
+    }
+
+    pub ok_says : {E : Type 0} (r : Result Statement E) → IfOk r (λ s. IsTextOfShape dialect table new.tree s.text) → IfOk r (λ s. s.parameters ≡ new.tree.parameters)
+        → IfOk r (λ s. Says question.filter question.now dialect table s Holds)
+    ok_says (Ok statement) text parameters = says_it statement text parameters
+    ok_says (Err fault) text parameters = tt
+
+-- the condition of a fault
+pub fault_is_put : (question : Question) (ranges : List Range) → AreRanges question ranges → EndsOnceOnEntities → IsMoment question.now.civil question.now.offset_minutes → IsTruthAt question.filter 0
+    → (old middle next new : Draft) → GrowsBy old middle (SqlNode.Compare ComparisonOperator.Ge SqlType.Whole ∷ []) [] [] → Puts question middle next (OfPlace question.filter 0) (IsInForm Form.Code)
+    → GrowsBy next new (SqlNode.Number Digit.Three ∷ []) [] [] → Puts question old new (OfPlace question.filter 0) FaultsIt
+fault_is_put question ranges are ends is_moment truth old middle next new compares code three =
+    fault_condition question (OfPlace question.filter 0) old middle next new (by_node old middle (SqlNode.Compare ComparisonOperator.Ge SqlType.Whole) refl compares) code
+    (by_node next new (SqlNode.Number Digit.Three) refl three) (λ world o is has. code_there question ranges are ends is_moment 0 truth world o is.seen has)
+
+-- where the whole filter evaluates to no fault, no row has one
+module _ (question : Question) (ranges : List Range) (are : AreRanges question ranges) (right : IsFilter question.filter) (range : Range) (at : slice_get ranges 0 ≡ Some range) (plain : range.may_fault ≡ false) where
+  no_fault : (o : Outcome) → IsWithin range o → IsFault o → ⊥
+  no_fault (gives v) within is = absurd is
+  no_fault overflow within is = let clash : true ≡ false = sym within ∙ plain in absurd (cc)
+  no_fault divides_by_zero within is = let clash : true ≡ false = sym within ∙ plain in absurd (cc)
+
+  pub never_faults : NeverFaults question.filter question.now
+  never_faults row o is_row means is =
+      let world : World = record { row = row; now = question.now; environment = []; asked = asked_of row question.now [] []; bound = [] } in
+      let seen : IsAskedOf question world = record { row_is = is_row; moment_is = refl; fitting = tt; kept = tt } in
+      no_fault o (are.within 0 range world o at seen (tree_of_filter question.filter, record { stop = length question.filter.list.nodes; stands = right.stands }, means)) is
+
+pub never_by_range : (question : Question) (ranges : List Range) → AreRanges question ranges → IsFilter question.filter → (may : Bool) → IsSomeAnd (slice_get ranges 0) (λ range. may ≡ range.may_fault) → may ≡ false
+    → NeverFaults question.filter question.now
+never_by_range question ranges are right may is none =
+    let first = some_there (λ (range : Range). may ≡ range.may_fault) (slice_get ranges 0) is in
+    never_faults question ranges are right first.0 first.1.0 (sym first.1.1 ∙ none)
+
+-- the whole filter has a range
+pub first_inside : (question : Question) (ranges : List Range) → AreRanges question ranges → IsFilter question.filter → 0 < length ranges
+first_inside question ranges are right =
+    let inside : 0 < length question.filter.list.nodes = inside_there question.filter [] 0 (length question.filter.list.nodes) (tree_of_nodes question.filter.list) right.stands in
+    let many : length ranges ≡ length question.filter.list.nodes = are.count in
+    omega (arith, inside, many)
+
+-- the table that is asked is the filter's
+pub own_table : (filter : Filter) (schema : SchemaModel) (row_type : ℕ) (storage : StorageModel) → schema ≡ filter.schema → row_type ≡ filter.filtered
+    → record { schema = schema; row_type = row_type; storage = storage } ≡ table_of filter storage
+own_table filter schema row_type storage same_schema same_type =
+    ap (λ (s : SchemaModel). record { schema = s; row_type = row_type; storage = storage }) same_schema
+    ∙ ap (λ (n : ℕ). record { schema = filter.schema; row_type = n; storage = storage }) same_type

@@ -1,0 +1,11 @@
+use Rattle.sql_tree.specs.TableModel.{table_in}
+use Rattle.odata_sql.proofs.StatementAnswers.{printed_shape, shape_printed}
+use Rattle.odata_sql.proofs.translation.statement_of.Goals as goal
+
+pub print-requires : goal.print-requires
+print-requires c =
+    printed_shape c.args.dialect (table_in c.args.table.now) c.args.tree c.requires c.names_what_is.result c.names_what_is.ensures.whole c.if-not-names_what_is.false
+
+pub returns-clause-text : goal.returns-clause-text
+returns-clause-text c =
+    shape_printed c.args.dialect (table_in c.args.table.now) c.args.tree c.names_what_is.result c.names_what_is.ensures.whole c.if-not-names_what_is.false c.in_ok-text.text c.in_ok-text.ensures

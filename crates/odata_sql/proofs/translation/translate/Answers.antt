@@ -1,0 +1,70 @@
+use Rattle.std.proofs.Common.{◌≡◌, ℤ, subst, sym}
+use Rattle.std.specs.Prelude.{IfSome}
+use Rattle.edm_values.specs.MomentParts.{IsMoment}
+use Rattle.odata_ranges.specs.Ranges.{AreRangesOf}
+use Rattle.odata_sql.specs.Conditions.{FaultsIt}
+use Rattle.edm_values.specs.Civil.{DateTime}
+use Rattle.edm_values.specs.MomentParts.{IsFourDigitYear, IsOffset}
+use Rattle.sql_tree.specs.TableModel.{TableModel, storage_in}
+use Rattle.odata_sql.specs.Conditions.{IsItsCode, KeepsIt}
+use Rattle.odata_sql.specs.Translation.{Says}
+use Rattle.odata_sql.specs.declared.translation.Statement.{Statement}
+use Rattle.odata_sql.proofs.StatementAnswers.{own_table}
+use Rattle.odata_sql.proofs.RangesFollow.{ranges_follow}
+use Rattle.sql_forms.proofs.nodes.Contexts.{entities_typed}
+use Rattle.odata_sql.proofs.translation.translate.Goals as goal
+
+-- the moment that is given, by what its methods say
+is_moment : (own civil : DateTime) (own_offset offset : ℤ) → civil ≡ own → IsFourDigitYear civil.date.year → offset ≡ own_offset → IsOffset offset → IsMoment own own_offset
+is_moment own civil own_offset offset civil_is year offset_is within = (subst (λ (d : DateTime). IsFourDigitYear d.date.year) civil_is year, subst IsOffset offset_is within)
+
+pub outcome_of-requires-clause-translated : goal.outcome_of-requires-clause-translated
+outcome_of-requires-clause-translated c = record {
+  moment = is_moment c.args.now.now.civil c.civil-civil.result c.args.now.now.offset_minutes c.offset_minutes-offset.result c.civil-civil.ensures.value c.civil-civil.ensures.year c.offset_minutes-offset.ensures.value c.offset_minutes-offset.ensures.within;
+  right = c.nodes-nodes.ensures.right;
+  ranges =
+      ranges_follow (record { filter = c.args.checked.now; now = c.args.now.now }) (is_moment c.args.now.now.civil c.civil-civil.result c.args.now.now.offset_minutes c.offset_minutes-offset.result c.civil-civil.ensures.value c.civil-civil.ensures.year c.offset_minutes-offset.ensures.value c.offset_minutes-offset.ensures.within) (entities_typed c.what_fits_has_its_type.ensures) c.entities_are_kept.ensures
+      c.as_slice.result.now (subst (AreRangesOf c.args.checked.now) (sym c.as_slice.ensures.value) c.in_ok-ranges.ensures);
+}
+
+pub outcome_of-requires-clause-stored : goal.outcome_of-requires-clause-stored
+outcome_of-requires-clause-stored c = own_table c.args.checked.now c.schema.result.now c.filtered_type.result (storage_in c.args.storage) c.schema.ensures c.filtered_type.ensures.same
+
+pub keep_of-requires-clause-translated : goal.keep_of-requires-clause-translated
+keep_of-requires-clause-translated c = record {
+  moment = is_moment c.args.now.now.civil c.civil-civil.result c.args.now.now.offset_minutes c.offset_minutes-offset.result c.civil-civil.ensures.value c.civil-civil.ensures.year c.offset_minutes-offset.ensures.value c.offset_minutes-offset.ensures.within;
+  right = c.nodes-nodes.ensures.right;
+  ranges =
+      ranges_follow (record { filter = c.args.checked.now; now = c.args.now.now }) (is_moment c.args.now.now.civil c.civil-civil.result c.args.now.now.offset_minutes c.offset_minutes-offset.result c.civil-civil.ensures.value c.civil-civil.ensures.year c.offset_minutes-offset.ensures.value c.offset_minutes-offset.ensures.within) (entities_typed c.what_fits_has_its_type.ensures) c.entities_are_kept.ensures
+      c.as_slice.result.now (subst (AreRangesOf c.args.checked.now) (sym c.as_slice.ensures.value) c.in_ok-ranges.ensures);
+}
+
+pub keep_of-requires-clause-stored : goal.keep_of-requires-clause-stored
+keep_of-requires-clause-stored c = own_table c.args.checked.now c.schema.result.now c.filtered_type.result (storage_in c.args.storage) c.schema.ensures c.filtered_type.ensures.same
+
+pub fault_of-requires-clause-translated : goal.fault_of-requires-clause-translated
+fault_of-requires-clause-translated c = record {
+  moment = is_moment c.args.now.now.civil c.civil-civil.result c.args.now.now.offset_minutes c.offset_minutes-offset.result c.civil-civil.ensures.value c.civil-civil.ensures.year c.offset_minutes-offset.ensures.value c.offset_minutes-offset.ensures.within;
+  right = c.nodes-nodes.ensures.right;
+  ranges =
+      ranges_follow (record { filter = c.args.checked.now; now = c.args.now.now }) (is_moment c.args.now.now.civil c.civil-civil.result c.args.now.now.offset_minutes c.offset_minutes-offset.result c.civil-civil.ensures.value c.civil-civil.ensures.year c.offset_minutes-offset.ensures.value c.offset_minutes-offset.ensures.within) (entities_typed c.what_fits_has_its_type.ensures) c.entities_are_kept.ensures
+      c.as_slice.result.now (subst (AreRangesOf c.args.checked.now) (sym c.as_slice.ensures.value) c.in_ok-ranges.ensures);
+}
+
+pub fault_of-requires-clause-stored : goal.fault_of-requires-clause-stored
+fault_of-requires-clause-stored c = own_table c.args.checked.now c.schema.result.now c.filtered_type.result (storage_in c.args.storage) c.schema.ensures c.filtered_type.ensures.same
+
+pub returns-clause-outcome : goal.returns-clause-outcome
+returns-clause-outcome c =
+    subst (λ (table : TableModel). Says c.args.checked.now c.args.now.now c.args.dialect table c.in_ok-outcome_of.field-0 IsItsCode)
+    (own_table c.args.checked.now c.schema.result.now c.filtered_type.result (storage_in c.args.storage) c.schema.ensures c.filtered_type.ensures.same) c.in_ok-outcome_of.ensures
+
+pub returns-clause-keep : goal.returns-clause-keep
+returns-clause-keep c =
+    subst (λ (table : TableModel). Says c.args.checked.now c.args.now.now c.args.dialect table c.in_ok-keep_of.field-0 KeepsIt)
+    (own_table c.args.checked.now c.schema.result.now c.filtered_type.result (storage_in c.args.storage) c.schema.ensures c.filtered_type.ensures.same) c.in_ok-keep_of.ensures
+
+pub returns-clause-fault : goal.returns-clause-fault
+returns-clause-fault c =
+    subst (λ (table : TableModel). IfSome c.in_ok-fault_of.field-0 (λ (s : Statement). Says c.args.checked.now c.args.now.now c.args.dialect table s FaultsIt))
+    (own_table c.args.checked.now c.schema.result.now c.filtered_type.result (storage_in c.args.storage) c.schema.ensures c.filtered_type.ensures.same) c.in_ok-fault_of.ensures.some

@@ -1,0 +1,3 @@
+-- Definitions that private clauses alone cite.
+pub mod ShapedTrees
+pub mod StatementData

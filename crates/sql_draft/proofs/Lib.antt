@@ -1,0 +1,9 @@
+pub mod BinaryNodes
+pub mod Composing
+pub mod Leaves
+pub mod PathKinds
+pub mod PathLeads
+pub mod PathNodes
+pub mod PathsPut
+pub mod Places
+pub mod RowPaths

@@ -1,0 +1,128 @@
+-- What a translation goes by.
+use Rattle.std.specs.Prelude.{◌≡◌, ◌≢◌, ◌<◌, ℕ, All, List, Some, IsSomeAnd, true, false, length, slice_get}
+use Rattle.edm_values.specs.Civil.{Date}
+use Rattle.edm_values.specs.MomentParts.{IsFourDigitYear, IsMoment}
+use Rattle.edm_values.specs.declared.value.Value.{Value}
+use Rattle.odata_checked_filter.specs.Filter.{Filter, IsFilter}
+use Rattle.odata_checked_filter.specs.declared.checked_node.CheckedNode.{CheckedNode}
+use Rattle.odata_checked_filter.specs.declared.checked_node.NodeKind.{NodeKind}
+use Rattle.odata_ranges.specs.Faults.{IsQuietKind}
+use Rattle.odata_ranges.specs.Reach.{IsBounded}
+use Rattle.odata_filter_operations.specs.Outcome.{Outcome}
+use Rattle.odata_ranges.specs.Within.{IsWithin}
+use Rattle.odata_ranges.specs.declared.range.Range.{Range}
+use Rattle.sql_tree.specs.declared.node.SqlType.{SqlType}
+use Rattle.sql_draft.specs.declared.sql_context.Kind.{Kind}
+use Rattle.sql_draft.specs.declared.sql_context.SqlContext.{SqlContext}
+use Rattle.sql_draft.specs.Kinds.{kind_of_type}
+use Rattle.sql_draft.specs.World.{IsAskedOf, OfPlace, Question, World}
+
+abbrev pub question_of : SqlContext → Question
+question_of context = record { filter = context.checked.now; now = context.moment.now }
+
+-- numbers, texts and truth values may be faults
+abbrev pub IsCarriedKind : Kind → Type 0
+IsCarriedKind (Kind.Value SqlType.Truth) = Unit {0}
+IsCarriedKind (Kind.Value SqlType.Whole) = Unit {0}
+IsCarriedKind (Kind.Value SqlType.Text) = Unit {0}
+IsCarriedKind kind = ⊥
+
+-- there is a range for each node, with bounds in order, and what the node evaluates to lies within it; what stands
+-- below a node that evaluates to no fault evaluates to none; `$it` is not null
+pub record AreRanges (question : Question) (ranges : List Range) : Type 0 where
+  pub count : length ranges ≡ length question.filter.list.nodes
+  pub bounded : (place : ℕ) (range : Range) → slice_get ranges place ≡ Some range → IsBounded range
+  pub within :
+      (place : ℕ) (range : Range) (world : World) (o : Outcome) → slice_get ranges place ≡ Some range
+      → IsAskedOf question world → OfPlace question.filter place world o → IsWithin range o
+  pub inherits :
+      (place child : ℕ) (node : CheckedNode) (range inner : Range) → slice_get question.filter.list.nodes place
+      ≡ Some node
+      → slice_get ranges place ≡ Some range → slice_get ranges child ≡ Some inner → place < child → child < node.stop
+      → range.may_fault ≡ false → inner.may_fault ≡ false
+  pub carries :
+      (place : ℕ) (node : CheckedNode) (range : Range) → slice_get question.filter.list.nodes place ≡ Some node
+      → slice_get ranges place ≡ Some range → range.may_fault ≡ true → IsCarriedKind (kind_of_type node.edm_type)
+  pub plain :
+      (place : ℕ) (node : CheckedNode) (range : Range) → slice_get question.filter.list.nodes place ≡ Some node
+      → slice_get ranges place ≡ Some range → IsQuietKind node.kind → range.may_fault ≡ false
+  pub entity :
+      (place : ℕ) (node : CheckedNode) (range : Range) → slice_get question.filter.list.nodes place ≡ Some node
+      → slice_get ranges place ≡ Some range → node.kind ≡ NodeKind.It → range.may_be_null ≡ false
+
+pub record IsTranslated (context : SqlContext) : Type 0 where
+  pub moment : IsMoment context.moment.now.civil context.moment.now.offset_minutes
+  pub right : IsFilter context.checked.now
+  pub ranges : AreRanges (question_of context) context.ranges.now
+
+-- a truth value there evaluates to no fault
+abbrev pub IsPlainAt : Filter → List Range → ℕ → Type 0
+IsPlainAt filter ranges place =
+    (node : CheckedNode) (range : Range) → slice_get filter.list.nodes place ≡ Some node
+    → slice_get ranges place ≡ Some range → kind_of_type node.edm_type ≡ Kind.Value SqlType.Truth
+    → range.may_fault ≡ false
+
+-- a Guid: sixteen bytes
+abbrev pub IsGuid : List ℕ → Type 0
+IsGuid bytes = (length bytes ≡ 16) × All (λ b. b < 256) bytes
+
+-- a literal that is a date or a Guid has a spelling
+abbrev pub IsSpelled : Filter → ℕ → Type 0
+IsSpelled filter place =
+    ((date : Date) → slice_get filter.list.values place ≡ Some (Value.Date date) → IsFourDigitYear date.year)
+    × ((bytes : List ℕ) → slice_get filter.list.values place ≡ Some (Value.Guid bytes) → IsGuid bytes)
+
+-- the node there is of that kind
+abbrev pub IsKindAt : Filter → ℕ → NodeKind → Type 0
+IsKindAt filter place kind = IsSomeAnd (slice_get filter.list.nodes place) (λ node. node.kind ≡ kind)
+
+-- a property, a member of what stands after it, or a range variable
+abbrev pub IsStep : NodeKind → Type 0
+IsStep (NodeKind.Property slot) = Unit {0}
+IsStep (NodeKind.Variable level) = Unit {0}
+IsStep (NodeKind.Member slot) = Unit {0}
+IsStep kind = ⊥
+
+abbrev pub IsPathAt : Filter → ℕ → Type 0
+IsPathAt filter place = IsSomeAnd (slice_get filter.list.nodes place) (λ node. IsStep node.kind)
+
+-- a node of type Boolean or Null
+abbrev pub IsTruthKind : Kind → Type 0
+IsTruthKind Kind.Null = Unit {0}
+IsTruthKind (Kind.Value SqlType.Truth) = Unit {0}
+IsTruthKind kind = ⊥
+
+abbrev pub IsTruthAt : Filter → ℕ → Type 0
+IsTruthAt filter place = IsSomeAnd (slice_get filter.list.nodes place)
+    (λ node. IsTruthKind (kind_of_type node.edm_type))
+
+-- a node of type Boolean
+abbrev pub IsBooleanAt : Filter → ℕ → Type 0
+IsBooleanAt filter place =
+    IsSomeAnd (slice_get filter.list.nodes place) (λ node. kind_of_type node.edm_type ≡ Kind.Value SqlType.Truth)
+
+-- what asks a collection, flags or a list, and a path
+abbrev pub IsOtherKind : NodeKind → Type 0
+IsOtherKind NodeKind.AnyItem = Unit {0}
+IsOtherKind NodeKind.Has = Unit {0}
+IsOtherKind NodeKind.InList = Unit {0}
+IsOtherKind NodeKind.InPath = Unit {0}
+IsOtherKind (NodeKind.Lambda quantifier) = Unit {0}
+IsOtherKind (NodeKind.Property slot) = Unit {0}
+IsOtherKind (NodeKind.Variable level) = Unit {0}
+IsOtherKind (NodeKind.Member slot) = Unit {0}
+IsOtherKind kind = ⊥
+
+abbrev pub IsFaultless : List Range → ℕ → Type 0
+IsFaultless ranges place = IsSomeAnd (slice_get ranges place) (λ range. range.may_fault ≡ false)
+
+-- a node that is no entity and no complex value
+abbrev pub IsValuedAt : Filter → ℕ → Type 0
+IsValuedAt filter place =
+    IsSomeAnd (slice_get filter.list.nodes place) (λ node. kind_of_type node.edm_type ≢ Kind.Structured)
+
+-- a node of a type that SQL has values of
+abbrev pub HasValueKind : Filter → ℕ → Type 0
+HasValueKind filter place =
+    IsSomeAnd (slice_get filter.list.nodes place)
+    (λ node. (type : SqlType) × (kind_of_type node.edm_type ≡ Kind.Value type))

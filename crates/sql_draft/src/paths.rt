@@ -1,0 +1,130 @@
+//! Properties, members and range variables as columns and positions in JSON.
+ghost use Rattle.std.specs.Prelude.{◌≡◌, ◌<◌, ◌≤◌, ◌+◌, [], ℕ, List, IfOk, IsSomeAnd, slice_get};
+ghost use Rattle.odata_ranges.specs.Owners.{NamesProperty, NamesSlotOf};
+ghost use Rattle.sql_draft.specs.Paths.{IsBottomOf, IsFirstStep, PutsMemberPath, PutsPath, StepsLead};
+ghost use Rattle.sql_draft.specs.Translated.{IsPathAt, IsTranslated, question_of};
+
+use super::draft::Draft;
+use super::fault::SqlFault;
+use super::sql_context::SqlContext;
+use odata_checked_filter::NodeKind;
+use odata_ranges::owner_of;
+use odata_signatures::trees_have_one_type;
+use sql_tree::{Base, Path, Step, Storage};
+
+/// The index of the node with which a path begins that stops with the node at an index.
+fn lowest_of(context: &SqlContext<'_, '_>, place: usize) -> usize
+    requires translated { IsTranslated context.now }
+    requires path { IsPathAt context.now.checked.now place }
+    ensures { IsBottomOf context.now.checked.now place result }
+{
+    let mut at = place;
+    while let NodeKind::Member { .. } = context.node(at).kind {
+        at += 1;
+    }
+    at
+}
+
+/// The slot in its owner that the node at an index names.
+fn slot_of(context: &SqlContext<'_, '_>, place: usize) -> usize
+    requires { NamesProperty context.now.checked.now place }
+    ensures { IsSomeAnd (slice_get context.now.checked.now.list.nodes place) (λ node. NamesSlotOf node.kind result) }
+{
+    match context.node(place).kind {
+        NodeKind::Property { slot } => slot,
+        NodeKind::Member { slot } => slot,
+        _ => unreachable!(),
+    }
+}
+
+/// Where the path of the node at an index begins, by its lowest node, and the index from which on its steps go up.
+fn base_of(
+    context: &SqlContext<'_, '_>,
+    draft: &Draft,
+    place: usize,
+    lowest: usize,
+) -> (Base, usize)
+    requires translated { IsTranslated context.now }
+    requires path { IsPathAt context.now.checked.now place }
+    requires bottom { IsBottomOf context.now.checked.now place lowest }
+    ensures after { place ≤ result.1 }
+    ensures inside { result.1 ≤ lowest + 1 }
+    ensures names { (k : ℕ) → place ≤ k → k < result.1 → NamesProperty context.now.checked.now k }
+    ensures leads { StepsLead (question_of context.now) draft.now.members.items result.0 [] lowest result.1 }
+{
+    match context.node(lowest).kind {
+        NodeKind::Variable { level } => (
+            Base::Member {
+                level: draft.member_level(level),
+            },
+            lowest,
+        ),
+        // A step from `$it` is one from the row.
+        NodeKind::It => base_of_row(context, place, lowest, lowest - 1),
+        _ => base_of_row(context, place, lowest, lowest),
+    }
+}
+
+/// The same of a path from the row, by the index of the node that is its first step.
+fn base_of_row(
+    context: &SqlContext<'_, '_>,
+    place: usize,
+    lowest: usize,
+    first: usize,
+) -> (Base, usize)
+    requires translated { IsTranslated context.now }
+    requires bottom { IsBottomOf context.now.checked.now place lowest }
+    requires first { IsFirstStep context.now.checked.now lowest first }
+    requires within { place ≤ first }
+    ensures after { place ≤ result.1 }
+    ensures inside { result.1 ≤ lowest + 1 }
+    ensures names { (k : ℕ) → place ≤ k → k < result.1 → NamesProperty context.now.checked.now k }
+    ensures leads { (levels : List ℕ) → StepsLead (question_of context.now) levels result.0 [] lowest result.1 }
+{
+    trees_have_one_type();
+    match context.storage {
+        Storage::Document(_) => (Base::Document, first + 1),
+        Storage::Columns(_) => (
+            Base::Column {
+                slot: slot_of(context, first),
+            },
+            first,
+        ),
+    }
+}
+
+/// Adds the path that stops with the node at an index, and returns its number.
+pub fn put_path(
+    context: &SqlContext<'_, '_>,
+    draft: &mut Draft,
+    place: usize,
+) -> Result<usize, SqlFault>
+    requires translated { IsTranslated context.now }
+    requires path { IsPathAt context.now.checked.now place }
+    ensures { IfOk result (λ number. PutsPath (question_of context.now) draft.old draft.new place number) }
+{
+    trees_have_one_type();
+    let lowest = lowest_of(context, place);
+    let (base, after) = base_of(context, draft, place, lowest);
+    let mut steps = Vec::new(draft.alloc);
+    let mut at = after;
+    while place < at {
+        at -= 1;
+        steps.push(Step {
+            owner: owner_of(context.checked, at),
+            slot: slot_of(context, at),
+        })?;
+    }
+    draft.add_path(Path { base, steps })
+}
+
+/// Adds the path of the member at a level, and returns its number.
+pub fn put_member_path(draft: &mut Draft, level: usize) -> Result<usize, SqlFault>
+    ensures { IfOk result (λ number. PutsMemberPath draft.old draft.new level number) }
+{
+    let steps = Vec::new(draft.alloc);
+    draft.add_path(Path {
+        base: Base::Member { level },
+        steps,
+    })
+}

@@ -1,0 +1,20 @@
+-- What functions return, by what they call.
+pub mod AlongAnswers
+pub mod AskedAnswers
+pub mod CallAnswers
+pub mod CodedAnswers
+pub mod ConstantAnswers
+pub mod DecidedAnswers
+pub mod EqualAnswers
+pub mod FlagAnswers
+pub mod FunctionAnswers
+pub mod HalfAnswers
+pub mod InPathAnswers
+pub mod ListAnswers
+pub mod LoopAnswers
+pub mod MemberAnswers
+pub mod NodeAnswers
+pub mod NumberAnswers
+pub mod PathAnswers
+pub mod RequiredAnswers
+pub mod ZeroAnswers

@@ -1,0 +1,101 @@
+-- Operands of a `Let`, as its body has them, may be tested as they may outside.
+use Rattle.sql_forms.proofs.Common.{◌≡◌, ◌≢◌, ◌+◌, ◌∷◌, ◌∙◌, [], ℕ, zero, suc, List, Bool, true, false, Option, Some, None, refl, sym, ap, subst, All, slice_get, AllByRecursion, Filter, Range, Carrier, SqlType, Lifted, Operand, Source, Kind, IsFaulty, IsFaultyKind, AreChosen, AreValued, IsLifted, bound_operand, carrier_in, chosen, within_let, AreCompared, IsPut, IsSourceOf, IsTestable, IsTested, bound_source}
+use Rattle.sql_forms.proofs.outcomes.LiftedOperands.{each, got}
+
+module _ (filter : Filter) (ranges : List Range) where
+  -- one that is bound
+  module _ (operand : Operand) (level : ℕ) (valued : operand.kind ≢ Kind.Structured) where
+    bound_source_is : (c : Option Carrier) → IsSourceOf filter ranges (bound_operand level operand) (bound_source c level)
+    bound_source_is None = tt
+    bound_source_is (Some carrier) = tt
+
+    bound_may : IsPut filter ranges (bound_operand level operand)
+    bound_may = record { source = bound_source_is (carrier_in operand); valued = valued; plain = λ truth. refl }
+
+    bound_by : (c : Option Carrier) (kind : Kind) → operand.kind ≡ kind → IsTestable filter ranges (bound_operand level operand) (bound_source c level) kind
+    bound_by None Kind.Structured same = absurd (valued same)
+    bound_by (Some carrier) Kind.Structured same = absurd (valued same)
+    bound_by _ _ same = bound_may
+
+    bound_tested : IsTested filter ranges (bound_operand level operand)
+    bound_tested = bound_by (carrier_in operand) operand.kind refl
+
+  all_tested : (choices : List Bool) (operands : List Operand) (level : ℕ) → AreChosen choices operands → AreValued choices operands → AllByRecursion (IsTested filter ranges) operands
+      → AllByRecursion (IsTested filter ranges) (within_let level choices operands)
+  all_tested [] [] level are valued tested = tt
+  all_tested [] (operand ∷ operands) level are valued tested = absurd are
+  all_tested (true ∷ choices) [] level are valued tested = absurd are
+  all_tested (false ∷ choices) [] level are valued tested = absurd are
+  all_tested (true ∷ choices) (operand ∷ operands) level are valued tested = (bound_tested operand level valued.0, all_tested choices operands (level + 1) are valued.1 tested.1)
+  all_tested (false ∷ choices) (operand ∷ operands) level are valued tested = (tested.0, all_tested choices operands level are.1 valued tested.1)
+
+  -- one of those that the body has
+  pub tested_inside_let : (operands : List Operand) (depth : ℕ) (lifted : Lifted) → IsLifted operands depth lifted → AllByRecursion (IsTested filter ranges) operands → (n : ℕ) (x : Operand)
+      → slice_get lifted.inner.items n ≡ Some x → IsTested filter ranges x
+  tested_inside_let operands depth lifted is tested n x at =
+      got (IsTested filter ranges) (within_let depth is.choices operands) n x (all_tested is.choices operands depth is.are is.valued tested) (subst (λ (xs : List Operand). slice_get xs n ≡ Some x) is.inner at)
+
+  -- those that are bound may be put
+  module _ (operand : Operand) (valued : operand.kind ≢ Kind.Structured) where
+    put_by : (source : Source) (kind : Kind) → operand.kind ≡ kind → IsTestable filter ranges operand source kind → IsPut filter ranges operand
+    put_by (Source.Place path) kind same is = absurd (valued (same ∙ is))
+    put_by source Kind.Structured same is = absurd (valued same)
+    put_by source Kind.Null same is = is
+    put_by source (Kind.Value type) same is = is
+
+    pub tested_put : IsTested filter ranges operand → IsPut filter ranges operand
+    tested_put is = put_by operand.source operand.kind refl is
+
+  all_may : (choices : List Bool) (operands : List Operand) → AreChosen choices operands → AreValued choices operands → AllByRecursion (IsTested filter ranges) operands
+      → AllByRecursion (IsPut filter ranges) (chosen choices operands)
+  all_may [] [] are valued tested = tt
+  all_may [] (operand ∷ operands) are valued tested = absurd are
+  all_may (true ∷ choices) [] are valued tested = absurd are
+  all_may (false ∷ choices) [] are valued tested = absurd are
+  all_may (true ∷ choices) (operand ∷ operands) are valued tested = (tested_put operand valued.0 tested.0, all_may choices operands are valued.1 tested.1)
+  all_may (false ∷ choices) (operand ∷ operands) are valued tested = all_may choices operands are.1 valued tested.1
+
+  pub bound_may_be_put : (operands : List Operand) (depth : ℕ) (lifted : Lifted) → IsLifted operands depth lifted → AllByRecursion (IsTested filter ranges) operands → All (IsPut filter ranges) lifted.bound.items
+  bound_may_be_put operands depth lifted is tested =
+      subst (All (IsPut filter ranges)) (sym is.bound) (each (IsPut filter ranges) (chosen is.choices operands) (all_may is.choices operands is.are is.valued tested))
+
+  -- none that is a truth value is put by its code
+  untrue_kind : (operand : Operand) (kind : Kind) → kind ≢ Kind.Value SqlType.Truth → IsFaultyKind filter ranges operand kind → IsTested filter ranges operand
+  untrue_kind operand (Kind.Value SqlType.Truth) other faulty = absurd (other refl)
+  untrue_kind operand kind other faulty = faulty
+
+  pub untrue_tested : (operand : Operand) → operand.kind ≢ Kind.Value SqlType.Truth → IsFaulty filter ranges operand → IsTested filter ranges operand
+  untrue_tested operand other faulty = untrue_kind operand operand.kind other faulty
+
+-- ---- kinds are kept
+
+same_kind : (choices : List Bool) (operands : List Operand) (level : ℕ) → AreChosen choices operands → (n : ℕ) (x y : Operand) → slice_get operands n ≡ Some x → slice_get (within_let level choices operands) n ≡ Some y → y.kind ≡ x.kind
+same_kind [] [] level are n x y at inside = let none : None ≡ Some x = at in absurd (cc)
+same_kind [] (operand ∷ operands) level are n x y at inside = absurd are
+same_kind (true ∷ choices) [] level are n x y at inside = absurd are
+same_kind (false ∷ choices) [] level are n x y at inside = absurd are
+same_kind (true ∷ choices) (operand ∷ operands) level are zero x y at inside =
+    let first : Some operand ≡ Some x = at in
+    let second : Some (bound_operand level operand) ≡ Some y = inside in
+    let same : operand ≡ x = cc in
+    let other : bound_operand level operand ≡ y = cc in
+    sym (ap (λ (o : Operand). o.kind) other) ∙ ap (λ (o : Operand). o.kind) same
+same_kind (true ∷ choices) (operand ∷ operands) level are (suc n) x y at inside = same_kind choices operands (level + 1) are n x y at inside
+same_kind (false ∷ choices) (operand ∷ operands) level are zero x y at inside =
+    let first : Some operand ≡ Some x = at in
+    let second : Some operand ≡ Some y = inside in
+    let same : operand ≡ x = cc in
+    let other : operand ≡ y = cc in
+    sym (ap (λ (o : Operand). o.kind) other) ∙ ap (λ (o : Operand). o.kind) same
+same_kind (false ∷ choices) (operand ∷ operands) level are (suc n) x y at inside = same_kind choices operands level are.1 n x y at inside
+
+pub kind_inside_let : (operands : List Operand) (depth : ℕ) (lifted : Lifted) → IsLifted operands depth lifted → (n : ℕ) (x y : Operand) → slice_get operands n ≡ Some x → slice_get lifted.inner.items n ≡ Some y → y.kind ≡ x.kind
+kind_inside_let operands depth lifted is n x y at inside =
+    same_kind is.choices operands depth is.are n x y at (subst (λ (xs : List Operand). slice_get xs n ≡ Some y) is.inner inside)
+
+pub compared_inside_let : (left right first second : Operand) (depth : ℕ) (lifted : Lifted) → IsLifted (left ∷ right ∷ []) depth lifted → slice_get lifted.inner.items 0 ≡ Some first → slice_get lifted.inner.items 1 ≡ Some second
+    → AreCompared left.kind right.kind → AreCompared first.kind second.kind
+compared_inside_let left right first second depth lifted is at_first at_second compared =
+    let one = kind_inside_let (left ∷ right ∷ []) depth lifted is 0 left first refl at_first in
+    let two = kind_inside_let (left ∷ right ∷ []) depth lifted is 1 right second refl at_second in
+    subst (λ (k : Kind). AreCompared k second.kind) (sym one) (subst (λ (k : Kind). AreCompared left.kind k) (sym two) compared)

@@ -1,0 +1,207 @@
+-- `has` over flags, and whether a collection has members.
+use Rattle.sql_forms.proofs.Common.{IsOfType, ◌≡◌, inl, inr, ◌<◌, ◌+◌, ◌∷◌, [], ℕ, suc, ℤ, pos, List, true, false, Some, length, refl, sym, subst, ◌∙◌, arith, ◌<ℤ◌, IsSomeAnd, slice_get, ints, IsMoment, Val, item, items, member, no_items, null, whole, ExprType, slots_of, type_name_at, Tree, node, ComparisonOperator, OneType, ReadsNumber, Typed, CheckedNode, NodeKind, scope_of, EndsOnceOnEntities, GivesMember, UnlessRead, HasKind, one_there, some_there, AnyItemGives, members_of, GivesTruth, After, Outcome, gives, overflow, divides_by_zero, Range, StrictlyGives, CountedGives, NodeMeans, SqlMeans, Asked, Bound, Term, more_terms, no_terms, Digit, SqlNode, SqlType, Draft, Operand, Source, FlagsHave, Grows, IsSideAt, OperandHas, SourceHas, IsPathTo, IsQuietKind, AreRanges, Has, IsAskedOf, OfPlace, Puts, Question, World, BesideIn, MeansOf, means_in, means_of, only_part, grows_then, puts_as, puts_leaf, puts_two, world_before, by_kind, stop_is, path_says}
+use Rattle.sql_forms.specs.private.AskedForms.{Itself}
+use Rattle.odata_syntax.specs.Tree.{has as flags}
+use Rattle.odata_filter_operations.specs.HasGives.{HasGives}
+use Rattle.sql_forms.proofs.nodes.InPathNodes.{at_place, within_list}
+use Rattle.sql_forms.proofs.outcomes.Operators.{compare_means}
+use Rattle.sql_forms.proofs.nodes.Sides.{OneNumber, side_cases, side_comes, side_operand}
+
+-- ---- flags of two values
+
+flags_means : (asked : Asked) (bound : Bound) (a b : Term) (l r : Val) (o : Outcome) → SqlMeans asked bound a (gives l) → SqlMeans asked bound b (gives r) → HasGives l r o
+    → NodeMeans asked bound SqlNode.HasBits (more_terms a (more_terms b no_terms)) o
+flags_means asked bound a b null null o first second given = (gives null, first, (gives null, second, given))
+flags_means asked bound a b null (member n) o first second given = (gives null, first, (gives (member n), second, given))
+flags_means asked bound a b (member m) null o first second given = (gives (member m), first, (gives null, second, given))
+flags_means asked bound a b (member m) (member n) o first second given = (gives (member m), first, (gives (member n), second, given))
+flags_means asked bound a b _ _ o first second given = absurd given
+
+module _ (question : Question) where
+  pub flags_put : (left right : Operand) (old middle next new : Draft) → Grows old middle (SqlNode.HasBits ∷ []) → Puts question middle next (OperandHas question.filter left) Itself
+      → Puts question next new (OperandHas question.filter right) Itself → Puts question old new (FlagsHave question.filter left right) Itself
+  flags_put left right old middle next new grows first second =
+      puts_two question SqlNode.HasBits refl (λ x y z. (l : Val) × (r : Val) × (x ≡ gives l) × (y ≡ gives r) × HasGives l r z) old middle next new (OperandHas question.filter left) (OperandHas question.filter right)
+      (FlagsHave question.filter left right) Itself Itself Itself
+      (λ asked bound a b x y z one two op. flags_means asked bound a b op.0 op.1 z (subst (SqlMeans asked bound a) op.2 one) (subst (SqlMeans asked bound b) op.3 two) op.4)
+      grows first second
+      (λ world o is has. (gives has.0, gives has.1, has.2, has.3, λ x y one two. (o, (has.0, has.1, one, two, has.4), refl)))
+
+-- ---- nodes that evaluate to values
+
+module _ (question : Question) (ranges : List Range) (are : AreRanges question ranges) (place : ℕ) (kind : NodeKind) (plain : IsQuietKind kind) (here : HasKind question.filter.list place kind) where
+  pub plain_value : (world : World) (o : Outcome) → IsAskedOf question world → OfPlace question.filter place world o → (v : Val) × (o ≡ gives v)
+  plain_value world o seen has = by o refl
+    where
+      found : (n : CheckedNode) × ((slice_get question.filter.list.nodes place ≡ Some n) × (n.kind ≡ kind))
+      found = some_there (λ (n : CheckedNode). n.kind ≡ kind) (slice_get question.filter.list.nodes place) here
+
+      range : (r : Range) × (slice_get ranges place ≡ Some r)
+      range =
+          let inside = within_list question.filter.list.nodes place found.0 found.1.0 in
+          let many = are.count in
+          at_place ranges place (omega (arith, inside, many))
+
+      never : range.0.may_fault ≡ true → ⊥
+      never faults =
+          let no : range.0.may_fault ≡ false = are.plain place found.0 range.0 found.1.0 range.1 (subst IsQuietKind (sym found.1.1) plain) in
+          let e : true ≡ false = sym faults ∙ no in
+          absurd (cc)
+
+      by : (q : Outcome) → o ≡ q → (v : Val) × (o ≡ gives v)
+      by (gives v) same = (v, same)
+      by overflow same = absurd (never (are.within place range.0 world overflow range.1 seen (subst (OfPlace question.filter place world) same has)))
+      by divides_by_zero same = absurd (never (are.within place range.0 world divides_by_zero range.1 seen (subst (OfPlace question.filter place world) same has)))
+
+-- what a value follows is a value
+after_value : (First : Outcome → Type 0) (Goes : Val → Outcome → Type 0) (o : Outcome) (v : Val) → o ≡ gives v → After First Goes o → (w : Val) × First (gives w) × Goes w o
+after_value First Goes o v value (gives w, (first, goes)) = (w, first, goes)
+after_value First Goes o v value (overflow, (first, goes)) = let e : overflow ≡ gives v = sym goes ∙ value in absurd (cc)
+after_value First Goes o v value (divides_by_zero, (first, goes)) = let e : divides_by_zero ≡ gives v = sym goes ∙ value in absurd (cc)
+
+-- what follows a value may be said otherwise
+after_goes : (First : Outcome → Type 0) (Goes Also : Val → Outcome → Type 0) (o : Outcome) → ((v : Val) → Goes v o → Also v o) → After First Goes o → After First Also o
+after_goes First Goes Also o goes (gives v, (first, given)) = (gives v, (first, goes v given))
+after_goes First Goes Also o goes (overflow, (first, is)) = (overflow, (first, is))
+after_goes First Goes Also o goes (divides_by_zero, (first, is)) = (divides_by_zero, (first, is))
+
+-- ---- nodes of flags
+
+module _ (question : Question) (types : OneType) (one : OneNumber) (ranges : List Range) (are : AreRanges question ranges) (ends : EndsOnceOnEntities)
+    (is_moment : IsMoment question.now.civil question.now.offset_minutes) (place : ℕ) (left right : Operand) (left_source : left.source ≡ Source.Node (place + 1)) where
+  of_source : (operand : Operand) (at : ℕ) → operand.source ≡ Source.Node at → (world : World) (p : Outcome) → OfPlace question.filter at world p → OperandHas question.filter operand world p
+  of_source operand at source world p has = subst (λ (s : Source). SourceHas question.filter s world p) (sym source) has
+
+  module _ (world : World) (o : Outcome) (seen : IsAskedOf question world) where
+    -- the types beside which a text on the right is read
+    abbrev BesideOf : Tree → ExprType → Type 0
+    BesideOf a = Typed (slots_of question.filter.schema) (type_name_at question.filter.schema question.filter.filtered) (scope_of world.environment) a
+
+    -- the right side, by its number or its tree
+    abbrev RightOf : Tree → Tree → Outcome → Type 0
+    RightOf a b = UnlessRead (ReadsNumber (slots_of question.filter.schema) (BesideOf a) b) GivesMember (MeansOf question world seen b)
+
+    both_sides : (a b : Tree) (from to : ℕ) → MeansOf question world seen (node from to (flags a b)) o → After (MeansOf question world seen a) (λ l. After (RightOf a b) (HasGives l)) o
+    both_sides a b from to means = elim means [
+      | inl read ↦ after_goes (MeansOf question world seen a) (λ l. HasGives l (member read.0)) (λ l. After (RightOf a b) (HasGives l)) o (λ l given. (gives (member read.0), (inl (read.0, read.1, refl), given))) read.2
+      | inr none ↦
+          after_goes (MeansOf question world seen a) (λ l. After (MeansOf question world seen b) (HasGives l)) (λ l. After (RightOf a b) (HasGives l)) o
+          (λ l given. (given.0, (inr (none.0, given.1.0), given.1.1))) none.1
+    ]
+
+    pub flags_come : (second : ℕ) → IsSideAt question.filter ranges second right → IsSomeAnd (slice_get question.filter.list.nodes (place + 1)) (λ n. n.stop ≡ second)
+        → HasKind question.filter.list place NodeKind.Has → OfPlace question.filter place world o → FlagsHave question.filter left right world o
+    flags_come second right_is is_second here entire =
+        by_kind question.filter.schema question.filter.filtered (scope_of world.environment) question.filter.list place NodeKind.Has here
+        (λ stop tree. MeansOf question world seen tree o → FlagsHave question.filter left right world o)
+        (λ a b stop from to stands means.
+        let filter = question.filter in
+        let scope = scope_of world.environment in
+        let v = plain_value question ranges are place NodeKind.Has tt here world o seen entire in
+        let middle : ℕ = stands.children.middle in
+        let left_node = some_there (λ (n : CheckedNode). n.stop ≡ second) (slice_get filter.list.nodes (place + 1)) is_second in
+        let stops : left_node.0.stop ≡ middle = stop_is filter.schema filter.filtered scope filter.list (place + 1) left_node.0 left_node.1.0 middle a stands.children.left in
+        let beside : BesideIn filter scope (BesideOf a) b second stop =
+        subst (λ (k : ℕ). BesideIn filter scope (BesideOf a) b k stop) (sym stops ∙ left_node.1.1) (only_part (BesideIn filter scope (BesideOf a) b) middle stop stands.children.right) in
+        let either = side_cases filter ranges scope (BesideOf a) b second stop right right_is beside in
+        let l = after_value (MeansOf question world seen a) (λ x. After (RightOf a b) (HasGives x)) o v.0 v.1 (both_sides a b from to means) in
+        let r = after_value (RightOf a b) (HasGives l.0) o v.0 v.1 l.2 in
+        let r_comes =
+        side_comes question ranges are ends is_moment world seen one (BesideOf a)
+        (λ s t p q. types (slots_of filter.schema) (type_name_at filter.schema filter.filtered) scope a s t p q) b second stop right either (gives r.0) r.1 in (
+          l.0,
+          r.0,
+          of_source left (place + 1) left_source world (gives l.0) (a, record { stop = middle; stands = stands.children.left }, means_in question world seen a (gives l.0) l.1),
+          side_operand filter ranges scope (BesideOf a) b second stop right either world (gives r.0) r_comes,
+          r.2,
+        ))
+        entire.1.stop entire.0 entire.1.stands (means_of question world seen entire.0 o entire.2)
+
+  -- so what is put for the two sides is put for the node
+  pub flags_node_put : ((world : World) (o : Outcome) → IsAskedOf question world → OfPlace question.filter place world o → FlagsHave question.filter left right world o) → (old new : Draft)
+      → Puts question old new (FlagsHave question.filter left right) Itself → Puts question old new (OfPlace question.filter place) Itself
+  flags_node_put comes old new inner =
+      puts_as question old new (FlagsHave question.filter left right) (OfPlace question.filter place) Itself Itself inner (λ world o is has. (o, comes world o is.seen has, λ x form. form))
+
+-- ---- whether a collection has members
+
+above_none : (k : ℕ) → pos 0 <ℤ pos (suc k)
+above_none k = omega (arith, ints)
+
+none_above : pos 0 <ℤ pos 0 → ⊥
+none_above above = absurd (omega (arith, ints, above))
+
+false_true : false ≡ true → ⊥
+false_true is = cc
+
+counted : (c : Val) (o : Outcome) → AnyItemGives c o → (n : Val) × CountedGives c (gives n) × StrictlyGives ComparisonOperator.Gt n (whole (pos 0)) o
+counted null o is = (null, refl, is)
+counted (items no_items) o is =
+    (whole (pos 0), ([], refl, refl), (tt, subst (GivesTruth (pos 0 <ℤ pos 0)) (sym is) (λ yes. absurd (false_true yes), λ above. absurd (none_above above))))
+counted (items (item v more)) o is =
+    let k : ℕ = length (members_of more) in
+    (whole (pos (suc k)), (members_of (item v more), refl, refl), (tt, subst (GivesTruth (pos 0 <ℤ pos (suc k))) (sym is) (λ yes. above_none k, λ above. refl)))
+counted _ o is = absurd is
+
+-- a count is a whole number or null
+counted_typed : (c n : Val) → CountedGives c (gives n) → IsOfType SqlType.Whole n
+counted_typed null n is =
+    let given : gives n ≡ gives null = is in
+    let same : n ≡ null = cc in
+    subst (IsOfType SqlType.Whole) (sym same) tt
+counted_typed c n is =
+    let given : gives n ≡ gives (whole (pos (length is.0))) = is.2 in
+    let same : n ≡ whole (pos (length is.0)) = cc in
+    subst (IsOfType SqlType.Whole) (sym same) tt
+
+module _ (question : Question) (ranges : List Range) (are : AreRanges question ranges) (place : ℕ) (here : HasKind question.filter.list place NodeKind.AnyItem) where
+  -- what the collection evaluates to
+  record AnyComes (world : World) (o : Outcome) : Type 0 where
+    c : Val
+    has : OfPlace question.filter (place + 1) world (gives c)
+    given : AnyItemGives c o
+
+  any_comes : (world : World) (o : Outcome) → IsAskedOf question world → OfPlace question.filter place world o → AnyComes world o
+  any_comes world o seen entire =
+      by_kind question.filter.schema question.filter.filtered (scope_of world.environment) question.filter.list place NodeKind.AnyItem here
+      (λ stop tree. MeansOf question world seen tree o → AnyComes world o)
+      (λ base stop from to stands means.
+      let v = plain_value question ranges are place NodeKind.AnyItem tt here world o seen entire in
+      let c = after_value (MeansOf question world seen base) AnyItemGives o v.0 v.1 means in
+      record {
+        c = c.0;
+        has = (
+          base,
+          record { stop = stop; stands = one_there question.filter.schema question.filter.filtered (scope_of world.environment) question.filter.list (place + 1) stop base stands.children },
+          means_in question world seen base (gives c.0) c.1,
+        );
+        given = c.2;
+      })
+      entire.1.stop entire.0 entire.1.stands (means_of question world seen entire.0 o entire.2)
+
+  -- how many members it has, and 0
+  abbrev CountHas : Has
+  CountHas world x = (o : Outcome) × (come : AnyComes world o) × (n : Val) × CountedGives come.c (gives n) × (x ≡ gives n)
+
+  abbrev ZeroHas : Has
+  ZeroHas world x = x ≡ gives (whole (pos 0))
+
+  pub any_item_put : (path : ℕ) (old middle next new : Draft) → IsPathTo question old (place + 1) path → Grows old middle (SqlNode.Compare ComparisonOperator.Gt SqlType.Whole ∷ [])
+      → Grows middle next (SqlNode.Count path ∷ []) → Grows next new (SqlNode.Number Digit.Zero ∷ []) → Puts question old new (OfPlace question.filter place) Itself
+  any_item_put path old middle next new leads compare_grows count_grows zero_grows =
+      puts_two question (SqlNode.Compare ComparisonOperator.Gt SqlType.Whole) refl
+      (λ x y z. (l : Val) × (r : Val) × (x ≡ gives l) × (y ≡ gives r) × IsOfType SqlType.Whole l × IsOfType SqlType.Whole r × StrictlyGives ComparisonOperator.Gt l r z) old middle next new CountHas ZeroHas (OfPlace question.filter place) Itself Itself Itself
+      (λ asked bound a b x y z first second op.
+      compare_means asked bound ComparisonOperator.Gt SqlType.Whole a b op.0 op.1 z op.4 op.5 (subst (SqlMeans asked bound a) op.2 first) (subst (SqlMeans asked bound b) op.3 second) op.6)
+      compare_grows
+      (puts_leaf question (SqlNode.Count path) refl middle next CountHas Itself count_grows
+      (λ world x is has.
+      let before = world_before question old next (SqlNode.Compare ComparisonOperator.Gt SqlType.Whole ∷ SqlNode.Count path ∷ []) world
+      (grows_then old middle next (SqlNode.Compare ComparisonOperator.Gt SqlType.Whole ∷ []) (SqlNode.Count path ∷ []) compare_grows count_grows) is in
+      let come = has.1 in
+      (gives has.2, (come.c, path_says question old (place + 1) path leads world come.c before come.has, has.3), sym has.4)))
+      (puts_leaf question (SqlNode.Number Digit.Zero) refl next new ZeroHas Itself zero_grows (λ world x is has. (gives (whole (pos 0)), refl, sym has)))
+      (λ world o is has.
+      let come = any_comes world o is.seen has in
+      let n = counted come.c o come.given in
+      (gives n.0, gives (whole (pos 0)), (o, come, n.0, n.1, refl), refl, λ x y one two. (o, (n.0, whole (pos 0), one, two, counted_typed come.c n.0 n.1, tt, n.2), refl)))

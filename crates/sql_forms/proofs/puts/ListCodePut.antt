@@ -1,0 +1,187 @@
+-- The code of `in` before a list: the fault of its left side, and else the code of whether an item is equal.
+use Rattle.sql_forms.proofs.Common.{◌≡◌, ◌≢◌, inl, inr, ◌∷◌, [], ℕ, List, Bool, true, false, Option, Some, None, length, map, refl, sym, ap, subst, ◌∙◌, IsSomeAnd, pos, slice_get, AllByRecursion, Val, null, whole, ComparisonOperator, Filter, CompareGives, Then, Outcome, gives, IsCoded, code_of, without_fault, BoundValue, bound_value, SqlType, IsFault, Draft, Lifted, Operand, Source, Kind, CodeHas, FaultyHave, HasOrCode, NoTruth, Grows, IsOfKind, AllHave, ArePlain, IsLifted, IsOpened, carrier_in, chosen_of, faults_front, faults_of, within_let, AsCode, EachCompared, EqualCodesOrNull, IsPlainValue, ListHas, NullBeside, any_of, Fits, HasLoosely, OperandHas, SourceHas, carrier_of, IsAskedOf, OfPlace, Puts, PutsAll, Question, World, extended}
+use Rattle.sql_forms.proofs.outcomes.Apart.{stays_fault as fault_stays, is_faulted, null_kind}
+use Rattle.sql_forms.proofs.nodes.Binding.{found, stays}
+use Rattle.sql_forms.proofs.puts.EqualCodesPut.{any_coded, each_coded, outcome_of_code}
+use Rattle.sql_forms.proofs.puts.EqualPut.{no_more}
+use Rattle.sql_forms.proofs.puts.FaultyComparisonsPut.{plain_has}
+use Rattle.sql_forms.proofs.puts.InPathPut.{first_inner}
+use Rattle.sql_forms.proofs.outcomes.LiftedFaults.{IsInner, lifted_values}
+use Rattle.sql_forms.proofs.puts.LiftedPut.{Coded, closed, coded_put}
+use Rattle.sql_forms.proofs.outcomes.LiftedValues.{body_have, source_stays}
+use Rattle.sql_forms.proofs.puts.LiftedWhole.{FaultsGiven, faults_put, in_body}
+
+-- ---- operands in a body
+
+code_stays : (filter : Filter) (source : Source) (world : World) (more : List BoundValue) (o : Outcome) → CodeHas filter source world o → CodeHas filter source (extended world more) o
+code_stays filter (Source.Bound level) world more o has =
+    let b = found (slice_get world.bound level) (λ (b : BoundValue). b.value ≡ gives (whole (pos (code_of o)))) has in
+    subst (λ (held : Option BoundValue). IsSomeAnd held (λ b. b.value ≡ gives (whole (pos (code_of o))))) (sym (stays world.bound more level b.0 b.1)) b.2
+code_stays filter source world more o has = source_stays filter source world more o has
+
+pub has_stays : (filter : Filter) (kind : Kind) (source : Source) (world : World) (more : List BoundValue) (o : Outcome) → HasOrCode filter kind source world o → HasOrCode filter kind source (extended world more) o
+has_stays filter (Kind.Value SqlType.Truth) source world more o has = code_stays filter source world more o has
+has_stays filter kind source world more o has = source_stays filter source world more o has
+
+has_plain : (filter : Filter) (kind : Kind) (source : Source) (world : World) (o : Outcome) → kind ≢ Kind.Value SqlType.Truth → SourceHas filter source world o → HasOrCode filter kind source world o
+has_plain filter (Kind.Value SqlType.Truth) source world o other has = absurd (other refl)
+has_plain filter kind source world o other has = has
+
+-- what carries a fault is a value
+no_carrier : (b : Bool) → carrier_of b Kind.Null ≡ None
+no_carrier true = refl
+no_carrier false = refl
+
+no_carrier_within : (b : Bool) → carrier_of b Kind.Structured ≡ None
+no_carrier_within true = refl
+no_carrier_within false = refl
+
+carries_value : (b : Bool) (kind : Kind) → kind ≢ Kind.Value SqlType.Truth → (carrier_of b kind ≡ None → ⊥) → IsPlainValue kind
+carries_value b Kind.Null other carries = absurd (carries (no_carrier b))
+carries_value b (Kind.Value SqlType.Truth) other carries = absurd (other refl)
+carries_value b (Kind.Value type) other carries = tt
+carries_value b Kind.Structured other carries = absurd (carries (no_carrier_within b))
+
+module _ (question : Question) (place : ℕ) (left first : Operand) (items : List Operand) (lifted : Lifted) (old : Draft) (is_lifted : IsLifted (left ∷ []) old.depth lifted) (no_truth : NoTruth left)
+    (at_first : slice_get lifted.inner.items 0 ≡ Some first)
+    (comes : (world : World) (o : Outcome) → IsAskedOf question world → OfPlace question.filter place world o → ListHas question.filter left items world o) where
+  at_inner : slice_get (within_let old.depth is_lifted.choices (left ∷ [])) 0 ≡ Some first
+  at_inner = subst (λ (xs : List Operand). slice_get xs 0 ≡ Some first) is_lifted.inner at_first
+
+  inner_is : IsInner left first
+  inner_is = no_more is_lifted.choices left first old.depth is_lifted.are at_inner
+
+  module _ (world : World) (o : Outcome) (at : old.depth ≡ length world.bound) (come : ListHas question.filter left items world o) where
+    abbrev os : List Outcome
+    os = come.left_outcome ∷ []
+
+    abbrev more : List BoundValue
+    more = map bound_value (chosen_of is_lifted.choices os)
+
+    abbrev within : World
+    within = in_body question (left ∷ []) lifted old is_lifted world os
+
+    have : AllHave question.filter (left ∷ []) world os
+    have = (plain_has question.filter left.kind left.source world come.left_outcome no_truth come.left_has, refl)
+
+    plain : ArePlain (left ∷ []) os
+    plain = (come.left_plain no_truth, tt)
+
+    inner_has : OperandHas question.filter first within (without_fault come.left_outcome)
+    inner_has =
+        first_inner question.filter (within_let old.depth is_lifted.choices (left ∷ [])) first within (without_fault come.left_outcome) at_inner
+        (subst (AllHave question.filter (within_let old.depth is_lifted.choices (left ∷ [])) within) (lifted_values is_lifted.choices (left ∷ []) os is_lifted.are refl plain)
+        (body_have question.filter world old.depth is_lifted.choices (left ∷ []) os at is_lifted.are have))
+
+    first_no_truth : NoTruth first
+    first_no_truth is = no_truth (sym inner_is.kind ∙ is)
+
+    record Given : Type 0 where
+      inner : Outcome
+      has : EqualCodesOrNull question.filter first items within inner
+      goes : (x : Outcome) → AsCode inner x → (rest : Outcome) × Coded rest x × (o ≡ faults_of os rest)
+
+    -- of a value: each item beside it
+    module _ (l : Val) (is : come.left_outcome ≡ gives l) where
+      first_has : HasOrCode question.filter first.kind first.source within (gives l)
+      first_has = has_plain question.filter first.kind first.source within (gives l) first_no_truth (subst (OperandHas question.filter first within) (ap without_fault is) inner_has)
+
+      first_fits : (v : Val) → gives l ≡ gives v → Fits first v
+      first_fits v same =
+          let fits = come.left_fits v (is ∙ same) in
+          record { kind = subst (λ (k : Kind). IsOfKind k v) (sym inner_is.kind) fits.kind; nullable = λ none. inner_is.nullable ∙ fits.nullable none }
+
+      compared : (item : Operand) (e : Outcome) (f : FaultyHave question.filter ComparisonOperator.Eq left item world e) → f.left_outcome ≡ come.left_outcome
+          → (g : FaultyHave question.filter ComparisonOperator.Eq first item within e) × (g.left_outcome ≡ gives l)
+      compared item e f same =
+          let left_same : f.left_outcome ≡ gives l = same ∙ is in (
+            record {
+              left_outcome = gives l;
+              right_outcome = f.right_outcome;
+              left_has = first_has;
+              right_has = has_stays question.filter item.kind item.source world more f.right_outcome f.right_has;
+              left_fits = first_fits;
+              right_fits = f.right_fits;
+              left_plain = λ no_first none. (l, refl);
+              right_plain = f.right_plain;
+              given = subst (λ (p : Outcome). Then p (λ x. Then f.right_outcome (CompareGives ComparisonOperator.Eq x)) e) left_same f.given;
+            },
+            refl,
+          )
+
+      all_compared : (xs : List Operand) (es : List Outcome) → EachCompared question.filter left come.left_outcome xs world es → EachCompared question.filter first (gives l) xs within es
+      all_compared [] es each = each
+      all_compared (item ∷ xs) [] each = absurd each
+      all_compared (item ∷ xs) (e ∷ es) each = let g = compared item e each.0 each.1 in (g.0, g.1, all_compared xs es each.2)
+
+      of_value : Given
+      of_value = record {
+        inner = any_of come.outcomes;
+        has = inl (record { left_outcome = gives l; outcomes = come.outcomes; each = all_compared items come.outcomes come.each; is = refl });
+        goes = λ x form. (
+          any_of come.outcomes,
+          form.0 (any_coded come.outcomes (each_coded question.filter left come.left_outcome items world come.outcomes come.each)),
+          come.is,
+        );
+      }
+
+    -- of a fault, instead of which null stands
+    module _ (fault : IsFault come.left_outcome) where
+      null_first : HasLoosely question.filter first within null
+      null_first = record { has = subst (OperandHas question.filter first within) (is_faulted come.left_outcome fault) inner_has; kind = null_kind first.kind }
+
+      carries : carrier_in left ≡ None → ⊥
+      carries none = let v = come.left_plain no_truth none in let value : IsFault (gives v.0) = subst IsFault v.1 fault in value
+
+      first_value : IsPlainValue first.kind
+      first_value = subst IsPlainValue (sym inner_is.kind) (carries_value left.range.may_fault left.kind no_truth carries)
+
+      unsaid : IsCoded (gives (whole (pos 0))) → ⊥
+      unsaid is = is
+
+      beside : (item : Operand) (e : Outcome) → FaultyHave question.filter ComparisonOperator.Eq left item world e → NullBeside question.filter first item within (gives (whole (pos 0)))
+      beside item e f = record {
+        unsaid = unsaid;
+        value = first_value;
+        left_null = null_first;
+        right_outcome = f.right_outcome;
+        right_has = has_stays question.filter item.kind item.source world more f.right_outcome f.right_has;
+        right_fits = f.right_fits;
+        right_plain = f.right_plain;
+      }
+
+      all_beside : (xs : List Operand) (es : List Outcome) → EachCompared question.filter left come.left_outcome xs world es
+          → AllByRecursion (λ (item : Operand). NullBeside question.filter first item within (gives (whole (pos 0)))) xs
+      all_beside [] es each = tt
+      all_beside (item ∷ xs) [] each = absurd each
+      all_beside (item ∷ xs) (e ∷ es) each = (beside item e each.0, all_beside xs es each.2)
+
+      of_fault : Given
+      of_fault = record {
+        inner = gives (whole (pos 0));
+        has = inr (unsaid, all_beside items come.outcomes come.each);
+        goes = λ x form.
+            let p = outcome_of_code form.1 form.2 in (
+              p.0,
+              form.3 ∙ ap (λ (n : ℕ). gives (whole (pos n))) (sym p.2),
+              come.is ∙ fault_stays come.left_outcome (any_of come.outcomes) fault ∙ sym (fault_stays come.left_outcome p.0 fault),
+            );
+      }
+
+    given : Given
+    given = by come.left_outcome refl
+      where
+        by : (lo : Outcome) → come.left_outcome ≡ lo → Given
+        by (gives l) is = of_value l is
+        by _ is = of_fault (subst IsFault (sym is) tt)
+
+    list_given : FaultsGiven question (left ∷ []) lifted old is_lifted (EqualCodesOrNull question.filter first items) AsCode Coded world o
+    list_given = let g = given in record { os = os; have = have; plain = plain; inner = g.inner; has = g.has; goes = g.goes }
+
+  pub list_code_put : (opened fronted body new : Draft) → IsOpened lifted old opened → PutsAll question (closed body (length lifted.bound.items)) new (AllHave question.filter lifted.bound.items) (length lifted.bound.items)
+      → (lifted.bound.items ≡ [] → Grows (closed body (length lifted.bound.items)) new []) → Grows opened fronted (faults_front None lifted.level lifted.bound.items)
+      → Puts question fronted body (EqualCodesOrNull question.filter first items) AsCode → Puts question old new (OfPlace question.filter place) Coded
+  list_code_put opened fronted body new is_opened values idle front put =
+      faults_put question (left ∷ []) lifted old is_lifted opened body new is_opened values idle (EqualCodesOrNull question.filter first items) (OfPlace question.filter place) AsCode Coded
+      (coded_put question lifted.bound.items lifted.level opened fronted body (EqualCodesOrNull question.filter first items) AsCode front put)
+      (λ world o at is has. list_given world o at (comes world o is.seen has))
