@@ -88,6 +88,11 @@ extern "C" {
 #define ODFILTER_LINE_TOO_LONG 24u /* a line of over 1,048,576 bytes; `fault` is 0 */
 #define ODFILTER_TOO_COSTLY 25u    /* the filter costs more on it than odfilter_set_bound allows; `fault` is 0 */
 
+/* Why a filter has no conditions of SQL; `fault` is 0. */
+#define ODFILTER_UNSAYABLE 26u      /* a literal or the name of a column holds U+0000, which no engine takes */
+#define ODFILTER_TOO_DEEP 27u       /* the conditions nest more deeply than the engine's parser goes */
+#define ODFILTER_UNKNOWN_COLUMN 28u /* a line about columns names no property of the filter's type */
+
 /* ---- Faults, by their status. The names are those that odfilter_fault_name writes. */
 
 /* ODFILTER_SCHEMA_FAULT. After each: the names that it carries. */
@@ -146,6 +151,13 @@ extern "C" {
 /* ODFILTER_EVAL_FAULT */
 #define ODFILTER_EVAL_OVERFLOW 1u
 #define ODFILTER_EVAL_DIVIDE_BY_ZERO 2u
+
+/* ---- Forms of odfilter_sql: the engine, and whether each property has a column or one column has the row as JSON. */
+
+#define ODFILTER_POSTGRESQL_COLUMNS 0u
+#define ODFILTER_POSTGRESQL_JSON 1u
+#define ODFILTER_SQLITE_COLUMNS 2u
+#define ODFILTER_SQLITE_JSON 3u
 
 /* ---- Verdicts. A row is kept where its verdict is ODFILTER_TRUE. */
 
@@ -263,6 +275,23 @@ uint32_t odfilter_lambda_depth(const odfilter_handle *filter, odfilter_answer *a
  * ODFILTER_OK: `number` paths have been written, `length` bytes. ODFILTER_TOO_SMALL: `length` are needed.
  * ODFILTER_NULL: any of the three is. ODFILTER_OTHER_KIND: `filter` is not a filter. ODFILTER_MEMORY. */
 uint32_t odfilter_property_paths(const odfilter_handle *filter, odfilter_buffer paths, odfilter_answer *answer);
+
+/* Writes what the filter says of the rows of a table, as JSON: {"outcome":..,"keep":..,"fault":..}, each
+ * {"text":..,"parameters":[..]}, where `fault` is absent if no row can have one. The texts are expressions over a table
+ * that goes by `t`, for WHERE and SELECT; they hold no byte of the filter's literals, and their parameters are numbered
+ * from 1 ($1 in PostgreSQL, ?1 in SQLite). docs/SQL.md says how rows are stored and what the three are for.
+ *
+ * `form` is one of the four above. `how` is lines with line feeds between them. The first is the moment that now()
+ * stands for; it may be empty where the filter does not call now(). With columns, each further line is
+ * Property=column for a property whose column has another name than the property; an empty line says nothing. With
+ * JSON, all after the first line feed is the name of the column, "doc" where nothing is there.
+ *
+ * ODFILTER_OK: `length` bytes have been written. ODFILTER_TOO_SMALL: `length` are needed. ODFILTER_UNSAYABLE,
+ * ODFILTER_TOO_DEEP, ODFILTER_UNKNOWN_COLUMN. ODFILTER_UNKNOWN_NUMBER: there is no such form. ODFILTER_NOT_A_MOMENT,
+ * ODFILTER_MOMENT_NEEDED. ODFILTER_NULL: any of the four is. ODFILTER_OTHER_KIND: `filter` is not a filter.
+ * ODFILTER_NOT_UTF8: `how` is not. ODFILTER_MEMORY. */
+uint32_t odfilter_sql(const odfilter_handle *filter, uint32_t form, odfilter_bytes how, odfilter_buffer text,
+                      odfilter_answer *answer);
 
 /* ---- Rows */
 

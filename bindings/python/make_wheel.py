@@ -33,7 +33,7 @@ def library():
 
 def sources():
     """The files of the package, each with its name in it."""
-    names = sorted(name for name in os.listdir(PACKAGE) if name.endswith(".py") or name == "py.typed")
+    names = sorted(name for name in os.listdir(PACKAGE) if name.endswith((".py", ".sql", ".typed")))
     return [(f"odfilter/{name}", f"{PACKAGE}/{name}") for name in names]
 
 

@@ -92,6 +92,10 @@ static void nulls_of_texts(void)
         is_null("text: no buffer of a length", calls[number](handle, no_room_of_length, fresh()), 1, NULL);
         is_null("text: no answer", calls[number](handle, room, NULL), 0, NULL);
     }
+    is_null("sql: no filter", odfilter_sql(NULL, 0, no_bytes, room, fresh()), 1, NULL);
+    is_null("sql: no lines of a length", odfilter_sql(handles[FILTER_KIND], 0, no_bytes_of_length, room, fresh()), 1, NULL);
+    is_null("sql: no buffer", odfilter_sql(handles[FILTER_KIND], 0, no_bytes, no_room, fresh()), 1, NULL);
+    is_null("sql: no answer", odfilter_sql(handles[FILTER_KIND], 0, no_bytes, room, NULL), 0, NULL);
     is_null("version: no buffer", odfilter_version(no_room, fresh()), 1, NULL);
     is_null("version: no answer", odfilter_version(room, NULL), 0, NULL);
     is_null("status_name: no buffer", odfilter_status_name(1, no_room, fresh()), 1, NULL);
@@ -186,6 +190,7 @@ static void other_kinds(void)
         check("lambda_depth: no filter", kind == FILTER_KIND || odfilter_lambda_depth(other, fresh()) == status);
         check("property_paths: no filter",
               kind == FILTER_KIND || odfilter_property_paths(other, room, fresh()) == status);
+        check("sql: no filter", kind == FILTER_KIND || odfilter_sql(other, 0, text, room, fresh()) == status);
         check("canonical: no filter", kind == FILTER_KIND || odfilter_canonical(other, room, fresh()) == status);
         check("explain: no filter", kind == FILTER_KIND || odfilter_explain(other, room, fresh()) == status);
         check("needs_moment: no filter", kind == FILTER_KIND || odfilter_needs_moment(other, fresh()) == status);

@@ -82,6 +82,12 @@ static uint32_t call_property_paths(void)
     return odfilter_property_paths(filter, room, &answer);
 }
 
+static uint32_t call_sql(void)
+{
+    static const odfilter_bytes none = {NULL, 0};
+    return odfilter_sql(filter, ODFILTER_SQLITE_COLUMNS, none, room, &answer);
+}
+
 static uint32_t call_fault_text(void)
 {
     odfilter_answer fault = {0};
@@ -287,6 +293,7 @@ int main(void)
     refuse_each("check_query", call_check_query, is_filter);
     refuse_each("check_url", call_check_url, is_filter);
     refuse_each("property_paths", call_property_paths, NULL);
+    refuse_each("sql", call_sql, NULL);
     refuse_each("fault_text", call_fault_text, NULL);
     refuse_each("canonical", call_canonical, NULL);
     refuse_each("explain", call_explain, NULL);

@@ -23,6 +23,9 @@ static const char *const status_names[] = {
     [ODFILTER_EVAL_FAULT] = "EVAL_FAULT",
     [ODFILTER_LINE_TOO_LONG] = "LINE_TOO_LONG",
     [ODFILTER_TOO_COSTLY] = "TOO_COSTLY",
+    [ODFILTER_UNSAYABLE] = "UNSAYABLE",
+    [ODFILTER_TOO_DEEP] = "TOO_DEEP",
+    [ODFILTER_UNKNOWN_COLUMN] = "UNKNOWN_COLUMN",
 };
 
 /* the faults of each status, by their numbers; 0 is none */

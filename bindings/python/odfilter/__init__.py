@@ -34,20 +34,21 @@ from __future__ import annotations
 
 import ctypes
 import functools
+import json
 import mmap
 import os
 import threading
-from typing import Any, Callable, NamedTuple, Optional, TypeVar, Union
+from typing import Any, Callable, Mapping, NamedTuple, Optional, TypeVar, Union
 from urllib.parse import unquote_to_bytes
 
 from ._errors import Closed, Error, LibraryNotFound, MomentNeeded, NoFilter, NotAMoment, NotUtf8, QueryRefused
-from ._errors import Refused, RowFault, SchemaFault, TooCostly, UnknownType
+from ._errors import Refused, RowFault, SchemaFault, TooCostly, UnknownColumn, UnknownType, Unsayable
 from ._files import FileOrPath, Tally, filter_file
 
 __all__ = [
-    "Closed", "Error", "Filter", "Judge", "Kept", "Library", "LibraryNotFound", "MomentNeeded", "NoFilter",
-    "NotAMoment", "NotUtf8", "QueryRefused", "Refused", "RowFault", "Schema", "SchemaFault", "Tally",
-    "TooCostly", "Type", "UnknownType",
+    "Closed", "Conditions", "Error", "Filter", "Judge", "Kept", "Library", "LibraryNotFound", "MomentNeeded",
+    "NoFilter", "NotAMoment", "NotUtf8", "QueryRefused", "Refused", "RowFault", "Schema", "SchemaFault",
+    "Statement", "Tally", "TooCostly", "Type", "UnknownColumn", "UnknownType", "Unsayable", "postgresql_functions",
 ]
 
 BytesOrText = Union[bytes, bytearray, memoryview, mmap.mmap, str]
@@ -55,7 +56,9 @@ BytesOrText = Union[bytes, bytearray, memoryview, mmap.mmap, str]
 # the statuses of odfilter.h
 OK, NULL, OTHER_KIND, NOT_UTF8, TOO_SMALL, MEMORY, UNKNOWN_TYPE, NO_FILTER, MOMENT_NEEDED, NOT_A_MOMENT = range(10)
 SCHEMA_FAULT, TEXT_FAULT, SYNTAX_FAULT, TYPE_FAULT, QUERY_FAULT = range(16, 21)
-JSON_FAULT, ROW_FAULT, EVAL_FAULT, LINE_TOO_LONG, TOO_COSTLY = range(21, 26)
+JSON_FAULT, ROW_FAULT, EVAL_FAULT, LINE_TOO_LONG, TOO_COSTLY, UNSAYABLE, TOO_DEEP, UNKNOWN_COLUMN = range(21, 29)
+# its forms of SQL, by the dialect and whether one column has the row as JSON
+_FORMS = {("postgresql", False): 0, ("postgresql", True): 1, ("sqlite", False): 2, ("sqlite", True): 3}
 # its verdicts
 FALSE, TRUE, NO_TRUTH_VALUE = range(3)
 
@@ -71,6 +74,25 @@ class Kept(NamedTuple):
     text: bytes
     rows: int
     kept: int
+
+
+class Statement(NamedTuple):
+    """An expression of SQL over a table `t`, and the values of its parameters, which are numbered from 1."""
+
+    text: str
+    parameters: list[Union[int, str]]
+
+
+class Conditions(NamedTuple):
+    """What a filter says of the rows of a table.
+
+    `outcome` is a number: 0 for false, 1 for true, 2 for null, 3 for Overflow and 4 for DivideByZero. `keep` is true
+    where the filter is, and `fault` where it has a fault; `fault` is None where no row can have one.
+    """
+
+    outcome: Statement
+    keep: Statement
+    fault: Optional[Statement]
 
 
 class _Bytes(ctypes.Structure):
@@ -132,6 +154,7 @@ _CALLS: dict[str, list[Any]] = {
     "lambda_depth": [_HANDLE, _ANSWER],
     "node_count": [_HANDLE, _ANSWER],
     "property_paths": [_HANDLE, _Buffer, _ANSWER],
+    "sql": [_HANDLE, _NUMBER, _Bytes, _Buffer, _ANSWER],
     "new_judge": [_PLACE],
     "new_judge_of": [_HANDLE, _PLACE],
     "set_moment": [_HANDLE, _Bytes],
@@ -225,6 +248,15 @@ def _beside() -> str:
 @functools.lru_cache(maxsize=None)
 def _found() -> Library:
     return Library()
+
+
+def postgresql_functions() -> str:
+    """The statements that make what conditions for PostgreSQL call, the functions of a schema `odf`.
+
+    Run them once in each database, as a user who may create a schema there.
+    """
+    with open(os.path.join(os.path.dirname(os.path.realpath(__file__)), "postgresql.sql"), encoding="utf-8") as file:
+        return file.read()
 
 
 class _Owned:
@@ -391,6 +423,35 @@ class Filter(_Held):
         owned = self._open()
         return owned.library._text("property_paths", owned.handle).splitlines()
 
+    def sql(
+        self,
+        dialect: str,
+        now: Optional[str] = None,
+        columns: Optional[Mapping[str, str]] = None,
+        document: Optional[str] = None,
+    ) -> Conditions:
+        """What the filter says of the rows of a table, as SQL of the dialect "postgresql" or "sqlite".
+
+        `now` is the moment that now() stands for. Each property has a column of its name, or the one that `columns` has
+        for it; or the column `document` has the row as JSON. Raises Unsayable, UnknownColumn, NotAMoment, MomentNeeded.
+        """
+        form = _FORMS.get((dialect, document is not None))
+        if form is None:
+            raise ValueError(f"a dialect is postgresql or sqlite, not {dialect!r}")
+        owned = self._open()
+        how = _borrowed_text("\n".join([now or "", *_columns_in(columns or {}, document)]), "a name")
+        size = 4096
+        while True:
+            (room, text), answer = _buffer_of(size), _Answer()
+            status = owned.library._call("sql", owned.handle, form, how, text, ctypes.byref(answer))
+            if status != TOO_SMALL:
+                break
+            size = answer.length
+        if status != OK:
+            raise _unsaid(owned.library, status, answer, now or "")
+        found = json.loads(room[: answer.length])
+        return Conditions(*(Statement(**found[it]) if it in found else None for it in Conditions._fields))
+
     def judge(self, now: Optional[str] = None, bound: Optional[int] = None) -> Judge:
         """A judge by this filter; `now` is the moment that now() stands for. Raises NotAMoment.
 
@@ -466,6 +527,25 @@ class Judge(_Held):
         path = library._text("path", owned.handle) if status == ROW_FAULT else ""
         fault = RowFault(library._fault(status, answer.fault), path, line, kept)
         return library._worded(fault, status, answer, path)
+
+
+def _columns_in(columns: Mapping[str, str], document: Optional[str]) -> list[str]:
+    """The lines about columns, or the name of the one."""
+    if document is not None:
+        return [document]
+    lines = [f"{name}={column}" for name, column in columns.items()]
+    if any("\n" in line for line in lines):
+        raise ValueError("the name of a column has a line feed")
+    return lines
+
+
+def _unsaid(library: Library, status: int, answer: _Answer, now: str) -> Error:
+    """Why a filter has no conditions."""
+    if status == MOMENT_NEEDED:
+        return library._worded(MomentNeeded(), status, answer, "")
+    if status == NOT_A_MOMENT:
+        return library._worded(NotAMoment(), status, answer, now)
+    return UnknownColumn() if status == UNKNOWN_COLUMN else Unsayable("Nul" if status == UNSAYABLE else "TooDeep")
 
 
 def _bound_of(bound: int) -> int:

@@ -26,6 +26,9 @@ no_filter held text (Fault.Row line why) wrong = wrong
 no_filter held text (Fault.Evaluation line why) wrong = wrong
 no_filter held text (Fault.LineTooLong line) wrong = wrong
 no_filter held text Fault.TooCostly wrong = wrong
+no_filter held text Fault.Unsayable wrong = wrong
+no_filter held text Fault.TooDeep wrong = wrong
+no_filter held text Fault.UnknownColumn wrong = wrong
 
 pub of_text : (given : Handle) (held : EntityType) (text : List ℕ) (result : Result Handle Fault) → given ≡ Handle.Type held
     → MatchResult result (IsFilterMade held text) (IsNotMade held text) → MatchResult result (IsFilterIn given text) (IsNoFilter given text)
@@ -53,6 +56,9 @@ no_query held query text (Fault.Row line why) filter wrong = absurd wrong
 no_query held query text (Fault.Evaluation line why) filter wrong = absurd wrong
 no_query held query text (Fault.LineTooLong line) filter wrong = absurd wrong
 no_query held query text Fault.TooCostly filter wrong = absurd wrong
+no_query held query text Fault.Unsayable filter wrong = absurd wrong
+no_query held query text Fault.TooDeep filter wrong = absurd wrong
+no_query held query text Fault.UnknownColumn filter wrong = absurd wrong
 
 pub of_query : (given : Handle) (held : EntityType) (query text : List ℕ) (result : Result Handle Fault) → given ≡ Handle.Type held
     → IsFilterOf query (Some text) → MatchResult result (IsFilterMade held text) (IsNotMade held text)

@@ -3,3 +3,4 @@ pub mod Types
 pub mod FilterSteps
 pub mod OwnedSteps
 pub mod RowSteps
+pub mod SqlSteps

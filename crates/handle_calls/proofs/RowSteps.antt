@@ -40,6 +40,9 @@ run_there filter given rows (Err (Fault.Row line why)) text run = run
 run_there filter given rows (Err (Fault.Evaluation line why)) text run = run
 run_there filter given rows (Err (Fault.LineTooLong line)) text run = run
 run_there filter given rows (Err Fault.TooCostly) text run = run
+run_there filter given rows (Err Fault.Unsayable) text run = run
+run_there filter given rows (Err Fault.TooDeep) text run = run
+run_there filter given rows (Err Fault.UnknownColumn) text run = run
 
 -- an outcome at that moment is one on the row
 pub outcome_there : (filter : Filter) (given : Option MomentParts) (bound : Option ℕ) (row : List ℕ) (outcome : Result Verdict Fault)
@@ -64,6 +67,9 @@ outcome_there filter given bound row (Err (Fault.Row line why)) there = there
 outcome_there filter given bound row (Err (Fault.Evaluation line why)) there = there
 outcome_there filter given bound row (Err (Fault.LineTooLong line)) there = there
 outcome_there filter given bound row (Err Fault.TooCostly) there = there
+outcome_there filter given bound row (Err Fault.Unsayable) there = there
+outcome_there filter given bound row (Err Fault.TooDeep) there = there
+outcome_there filter given bound row (Err Fault.UnknownColumn) there = there
 
 -- what is reported about a row without a bound, and within one
 pub plain_row : (filter : Filter) (now : MomentParts) (row : List ℕ) (why : NoVerdict) → ReportsRow filter now row (Err why)

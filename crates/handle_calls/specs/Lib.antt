@@ -14,9 +14,16 @@ pub use Rattle.row_judges.specs.RowAnswer
 pub use Rattle.row_judges.specs.RowCosts
 pub use Rattle.odata_signatures.specs.HasTyping
 pub use Rattle.odata_signatures.specs.PreOrder
+pub use Rattle.odata_sql.specs.Conditions
+pub use Rattle.odata_sql.specs.JsonText
+pub use Rattle.odata_sql.specs.Translation
 pub use Rattle.odata_syntax.specs.CanonicalText
 pub use Rattle.odata_text.specs.Find
 pub use Rattle.odata_text.specs.Query
+pub use Rattle.sql_tables.specs.Columns
+pub use Rattle.sql_tables.specs.Forms
+pub use Rattle.sql_tables.specs.Lines
+pub use Rattle.sql_tree.specs.TableModel
 pub mod Answers
 pub mod Block
 pub mod Costs
@@ -32,6 +39,7 @@ pub mod RowCalls
 pub mod RowReports
 pub mod SchemaCalls
 pub mod Sentences
+pub mod SqlCalls
 pub mod Texts
 pub mod UrlCalls
 pub mod private

@@ -32,7 +32,10 @@ statuses =
     ∷ (22, codes "ROW_FAULT")
     ∷ (23, codes "EVAL_FAULT")
     ∷ (24, codes "LINE_TOO_LONG")
-    ∷ (25, codes "TOO_COSTLY") ∷ []
+    ∷ (25, codes "TOO_COSTLY")
+    ∷ (26, codes "UNSAYABLE")
+    ∷ (27, codes "TOO_DEEP")
+    ∷ (28, codes "UNKNOWN_COLUMN") ∷ []
 
 -- what has numbered faults under a status
 abbrev pub kinds : List (ℕ × FaultKind)

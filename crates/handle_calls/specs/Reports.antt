@@ -6,6 +6,7 @@ use Rattle.handle_calls.specs.FilterCalls.{IsCanonicalOf, IsExplanationOf, IsFil
 use Rattle.handle_calls.specs.Names.{fault_named, status_named}
 use Rattle.handle_calls.specs.Outcomes.{Gives, Makes}
 use Rattle.handle_calls.specs.SchemaCalls.{IsNoSchema, IsNoType, IsSchemaOf, IsTypeOf, first_name, second_name}
+use Rattle.handle_calls.specs.SqlCalls.{IsNoSql, IsSqlOf}
 use Rattle.handle_calls.specs.Texts.{IsTooSmall, IsWritten, Reports, Writes}
 use Rattle.handle_calls.specs.declared.answer.Answer.{Answer}
 use Rattle.handle_calls.specs.declared.call_fault.Fault.{Fault}
@@ -49,6 +50,10 @@ ReportsCanonical filter = Reports (IsCanonicalOf filter) (IsNoText filter)
 
 abbrev pub ReportsNodes : Handle → List ℕ → List ℕ → Answer → ℕ → Type 0
 ReportsNodes filter = Reports (IsExplanationOf filter) (IsNoText filter)
+
+-- the conditions of SQL, by a form and lines about the table
+abbrev pub ReportsSql : Handle → ℕ → List ℕ → List ℕ → List ℕ → Answer → ℕ → Type 0
+ReportsSql filter form how = Reports (IsSqlOf filter form how) (IsNoSql filter form how)
 
 -- freeing: what was held is gone, and no handle is there any more
 abbrev pub free_status : Option Handle → ℕ

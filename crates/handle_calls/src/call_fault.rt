@@ -34,6 +34,12 @@ pub(crate) enum Fault {
     Evaluation { line: u64, fault: EvalFault },
     LineTooLong { line: u64 },
     TooCostly,
+    /// A text that no parameter of SQL holds.
+    Unsayable,
+    /// More than the engine's parser stores.
+    TooDeep,
+    /// A line about a column names no property.
+    UnknownColumn,
 }
 
 /// The status of a refusal, by what is wrong with the text.
@@ -177,6 +183,9 @@ impl Fault {
             Fault::Evaluation { .. } => 23,
             Fault::LineTooLong { .. } => 24,
             Fault::TooCostly => 25,
+            Fault::Unsayable => 26,
+            Fault::TooDeep => 27,
+            Fault::UnknownColumn => 28,
         }
     }
 

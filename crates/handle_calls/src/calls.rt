@@ -1,7 +1,8 @@
 //! The calls, over what is borrowed: each returns its status, and reports the rest in its answer.
 ghost use Rattle.std.specs.Prelude.{Err};
 ghost use Rattle.handle_calls.specs.Reports.{ChecksQuery, ChecksText, FindsType, Frees, GivesSchema, ReadsSchema};
-ghost use Rattle.handle_calls.specs.Reports.{ReportsCanonical, ReportsFault, ReportsNodes, ReportsStatus, ReportsVersion};
+ghost use Rattle.handle_calls.specs.Reports.{ReportsCanonical, ReportsFault, ReportsNodes, ReportsSql, ReportsStatus};
+ghost use Rattle.handle_calls.specs.Reports.{ReportsVersion};
 ghost use Rattle.handle_calls.specs.Sentences.{ReportsSentence, ReportsSentenceFor};
 ghost use Rattle.handle_calls.specs.UrlCalls.{ChecksUrl};
 ghost use Rattle.handle_calls.specs.Costs.{ReportsLambdaDepth, ReportsNodeCount, ReportsPaths};
@@ -21,6 +22,7 @@ use crate::name_calls::{VERSION, name_of_fault, name_of_status};
 use crate::owned::Owned;
 use crate::schema_calls::{report_names, schema_of, type_of};
 use crate::sentence_calls::{sentence_for, sentence_of};
+use crate::sql_calls::sql_of;
 use crate::url_calls::{found_for, report_found};
 use std::alloc::Global;
 
@@ -171,6 +173,23 @@ pub fn explain<'a>(
 {
     match explanation_of(alloc, filter) {
         Ok(nodes) => report_bytes(nodes.as_bytes(), text, answer),
+        Err(fault) => report_fault(&fault, answer),
+    }
+}
+
+/// Writes the conditions of a filter in SQL, as JSON.
+pub fn sql<'a>(
+    alloc: Global,
+    filter: &'a Handle,
+    form: u32,
+    how: &'a [u8],
+    text: &'a mut [u8],
+    answer: &'a mut Answer,
+) -> u32
+    ensures { ReportsSql filter.now form how.now text.old text.new answer.new result }
+{
+    match sql_of(alloc, filter, form, how) {
+        Ok(conditions) => report_bytes(conditions.as_bytes(), text, answer),
         Err(fault) => report_fault(&fault, answer),
     }
 }

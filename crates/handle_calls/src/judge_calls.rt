@@ -75,7 +75,7 @@ pub(crate) fn judge_of(alloc: Global, handle: &Handle) -> Result<Handle, Fault>
 }
 
 /// The moment that the bytes spell.
-fn moment_of(text: &[u8]) -> Result<Moment, Fault>
+pub(crate) fn moment_of(text: &[u8]) -> Result<Moment, Fault>
     ensures { IsMomentOf text.now result }
 {
     match str::from_utf8(text) {

@@ -22,6 +22,7 @@ mod owned;
 mod raw;
 mod schema_calls;
 mod sentence_calls;
+mod sql_calls;
 mod url_calls;
 
 pub use answer::Answer;

@@ -34,6 +34,9 @@ pub(crate) fn name_of_status(status: u32) -> Result<&'static str, Fault>
         23 => Ok("EVAL_FAULT"),
         24 => Ok("LINE_TOO_LONG"),
         25 => Ok("TOO_COSTLY"),
+        26 => Ok("UNSAYABLE"),
+        27 => Ok("TOO_DEEP"),
+        28 => Ok("UNKNOWN_COLUMN"),
         _ => Err(Fault::UnknownNumber),
     }
 }

@@ -9,7 +9,7 @@ use Rattle.odfilter_c.specs.declared.c_types.Buffer.{Buffer}
 use Rattle.handle_calls.specs.declared.handle.Handle.{Handle}
 use Rattle.handle_calls.specs.declared.owned.Owned.{Owned}
 use Rattle.handle_calls.specs.UrlCalls.{ChecksUrl}
-use Rattle.handle_calls.specs.Reports.{ReportsCanonical, ReportsNodes}
+use Rattle.handle_calls.specs.Reports.{ReportsCanonical, ReportsNodes, ReportsSql}
 use Rattle.handle_calls.specs.Costs.{ReportsNodeCount, ReportsLambdaDepth, ReportsPaths}
 use Rattle.handle_calls.specs.Sentences.{ReportsSentenceFor, ReportsSentence}
 
@@ -28,6 +28,21 @@ left_by_check_url l given query text made answer result = unless_null (given ∷
     (holds (of_bytes query.at query.length l.bytes
     ((text' ≡ l.buffer) × ((made' ≡ l.made) × ((answer' ≡ l.answer) × (result ≡ 1))))
     (λ bytes. ChecksUrl l.handle bytes l.buffer text' made' answer' result)))))))))
+
+-- what `odfilter_sql` borrows: a handle, bytes, a buffer and the answer
+abbrev pub borrowed_by_sql : Loan → Ptr → Bytes → Buffer → Ptr → Fml
+borrowed_by_sql l filter how text answer =
+    fsep (borrowed_handle l filter) (fsep (borrowed_bytes l how) (fsep (borrowed_buffer l text) (borrowed_answer l answer)))
+
+-- what it leaves: all unchanged and the status 1 where an address may not be null and is, else what `ReportsSql` says
+abbrev pub left_by_sql : Loan → Ptr → ℕ → Bytes → Buffer → Ptr → ℕ → Fml
+left_by_sql l filter form how text answer result = unless_null (filter ∷ text.at ∷ answer ∷ [])
+    (fsep (feq ℕ result 1) (borrowed_by_sql l filter how text answer))
+    (fex (List ℕ) (λ text'. fex Answer (λ answer'.
+    fsep (left_buffer l text text') (fsep (left_answer l answer answer')
+    (holds (of_bytes how.at how.length l.bytes
+    ((text' ≡ l.buffer) × ((answer' ≡ l.answer) × (result ≡ 1)))
+    (λ bytes. ReportsSql l.handle form bytes l.buffer text' answer' result)))))))
 
 -- what `odfilter_canonical` borrows: a handle, a buffer and the answer
 abbrev pub borrowed_by_canonical : Loan → Ptr → Buffer → Ptr → Fml

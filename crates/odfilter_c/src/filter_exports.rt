@@ -10,6 +10,7 @@ ghost use Rattle.odfilter_c.specs.FilterExports.{borrowed_by_node_count, left_by
 ghost use Rattle.odfilter_c.specs.FilterExports.{borrowed_by_lambda_depth, left_by_lambda_depth};
 ghost use Rattle.odfilter_c.specs.FilterExports.{borrowed_by_property_paths, left_by_property_paths};
 ghost use Rattle.odfilter_c.specs.FilterExports.{borrowed_by_fault_text, left_by_fault_text};
+ghost use Rattle.odfilter_c.specs.FilterExports.{borrowed_by_sql, left_by_sql};
 
 use crate::c_types::{Buffer, Bytes};
 use crate::null_calls;
@@ -66,6 +67,56 @@ pub unsafe extern "C" fn odfilter_check_url(
                 from_raw_parts(query.at, query.length),
                 from_raw_parts_mut(text.at, text.length),
                 &mut *made,
+                &mut *answer,
+            )
+        }
+    }
+}
+
+/// Writes a filter as conditions of SQL.
+#[unsafe(no_mangle)]
+pub unsafe extern "C" fn odfilter_sql(
+    alloc: Global,
+    filter: *const u8,
+    form: u32,
+    how: Bytes,
+    text: Buffer,
+    answer: *mut Answer,
+) -> u32
+    ghost loan: { Loan }
+    requires testable { (Testable filter) × (Testable how.at) × (Testable text.at) × (Testable answer) }
+    requires* borrowed { sem 𝓛 (flft loan.lifetime loan.share) ∗ sem 𝓛 (borrowed_by_sql loan filter how text answer) }
+    ensures* { sem 𝓛 (flft loan.lifetime loan.share)
+        ∗ sem 𝓛 (left_by_sql loan filter form how text answer result) }
+{
+    if filter.is_null() {
+        return 1;
+    }
+    if text.at.is_null() {
+        return 1;
+    }
+    if answer.is_null() {
+        return 1;
+    }
+    if how.at.is_null() {
+        unsafe {
+            null_calls::sql_at_null(
+                alloc,
+                &*(filter as *const Handle),
+                form,
+                how.length,
+                from_raw_parts_mut(text.at, text.length),
+                &mut *answer,
+            )
+        }
+    } else {
+        unsafe {
+            calls::sql(
+                alloc,
+                &*(filter as *const Handle),
+                form,
+                from_raw_parts(how.at, how.length),
+                from_raw_parts_mut(text.at, text.length),
                 &mut *answer,
             )
         }

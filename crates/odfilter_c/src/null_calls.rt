@@ -2,7 +2,7 @@
 //! status is that of a null address, and nothing is written.
 ghost use Rattle.std.specs.Prelude.{◌≡◌, []};
 ghost use Rattle.odfilter_c.specs.Loans.{UnlessLong};
-ghost use Rattle.handle_calls.specs.Reports.{ReadsSchema, FindsType, ChecksText, ChecksQuery};
+ghost use Rattle.handle_calls.specs.Reports.{ReadsSchema, FindsType, ChecksText, ChecksQuery, ReportsSql};
 ghost use Rattle.handle_calls.specs.UrlCalls.{ChecksUrl};
 ghost use Rattle.handle_calls.specs.RowReports.{SetsMoment, JudgesOne, JudgesNext, FiltersLines};
 ghost use Rattle.handle_calls.specs.Sentences.{ReportsSentence, ReportsSentenceFor};
@@ -89,6 +89,23 @@ pub(crate) fn check_url_at_null<'a>(
         return 1;
     }
     calls::check_url(alloc, given, b"".as_slice(), text, made, answer)
+}
+
+pub(crate) fn sql_at_null<'a>(
+    alloc: Global,
+    filter: &'a Handle,
+    form: u32,
+    length: usize,
+    text: &'a mut [u8],
+    answer: &'a mut Answer,
+) -> u32
+    ensures { UnlessLong length ((text.new ≡ text.old) × ((answer.new ≡ answer.old) × (result ≡ 1)))
+        (ReportsSql filter.now form [] text.old text.new answer.new result) }
+{
+    if length > 0 {
+        return 1;
+    }
+    calls::sql(alloc, filter, form, b"".as_slice(), text, answer)
 }
 
 pub(crate) fn set_moment_at_null<'a>(judge: &'a mut Handle, length: usize) -> u32

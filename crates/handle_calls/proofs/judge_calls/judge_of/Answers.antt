@@ -26,6 +26,9 @@ no_judge filter (Fault.Row line why) none = absurd none
 no_judge filter (Fault.Evaluation line why) none = absurd none
 no_judge filter (Fault.LineTooLong line) none = absurd none
 no_judge filter Fault.TooCostly none = absurd none
+no_judge filter Fault.Unsayable none = absurd none
+no_judge filter Fault.TooDeep none = absurd none
+no_judge filter Fault.UnknownColumn none = absurd none
 
 -- a new judge of a filter's box is one of the filter's handle
 judge_with : (filter : Filter) (own : Box Filter Global) (result : Result Handle Fault) → own.value ≡ filter

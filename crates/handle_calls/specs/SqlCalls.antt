@@ -1,0 +1,94 @@
+-- A filter as conditions of SQL: by a form, which is a dialect and how the table stores entities, and by lines about the
+-- table.
+use Rattle.std.specs.Prelude.{◌≡◌, ℕ, IsSomeAnd, IsUtf8, List, [], Bool, true, false, None, IfNone, IfSome, codes}
+use Rattle.csdl_schema.specs.SchemaModel.{properties_at}
+use Rattle.edm_values.specs.MomentLiteral.{MomentValue}
+use Rattle.edm_values.specs.MomentParts.{MomentParts}
+use Rattle.odata_checked_filter.specs.Calls.{UsesNow}
+use Rattle.odata_checked_filter.specs.Filter.{Filter, tree_of_filter}
+use Rattle.odata_sql.specs.Conditions.{FaultsIt, IsItsCode, KeepsIt}
+use Rattle.odata_sql.specs.JsonText.{IsTextOf}
+use Rattle.odata_sql.specs.Translation.{NeverFaults, Says, table_of}
+use Rattle.odata_sql.specs.declared.translation.Conditions.{Conditions}
+use Rattle.sql_tables.specs.Columns.{AreColumns, AreKnown}
+use Rattle.sql_tables.specs.Forms.{form_numbered}
+use Rattle.sql_tables.specs.Lines.{after_line, first_line, lines_of}
+use Rattle.sql_tree.specs.TableModel.{StorageModel, in_columns, in_document}
+use Rattle.sql_tree.specs.declared.dialect.Dialect.{Dialect}
+use Rattle.handle_calls.specs.Kinds.{IsFilterKind}
+use Rattle.handle_calls.specs.declared.call_fault.Fault.{Fault}
+use Rattle.handle_calls.specs.declared.handle.Handle.{Handle}
+
+-- how a table stores entities, by what follows the first line: by the lines there, or in a column of that name, which
+-- is `doc` where none is given
+abbrev pub IsStoredBy : Bool → Filter → List ℕ → StorageModel → Type 0
+IsStoredBy true filter names (in_columns columns) =
+    AreKnown (properties_at filter.schema filter.filtered) (lines_of names)
+    × AreColumns (properties_at filter.schema filter.filtered) (lines_of names) columns
+IsStoredBy false filter [] storage = storage ≡ in_document (codes "doc")
+IsStoredBy false filter names storage = storage ≡ in_document names
+IsStoredBy by_columns filter names storage = ⊥
+
+-- ---- conditions
+
+-- the moment that the first line spells; any where it is empty and the filter asks for none
+abbrev pub IsNowBy : Filter → List ℕ → MomentParts → Type 0
+IsNowBy filter [] now = ¬ UsesNow (tree_of_filter filter)
+IsNowBy filter line now = MomentValue line now
+
+-- the text is that of conditions which say of each row what the filter does
+pub record HasConditions
+    (filter : Filter) (storage : StorageModel) (dialect : Dialect) (now : MomentParts) (text : List ℕ) : Type 0 where
+  pub conditions : Conditions
+  pub text_is : IsTextOf dialect conditions text
+  pub outcome : Says filter now dialect (table_of filter storage) conditions.outcome IsItsCode
+  pub keep : Says filter now dialect (table_of filter storage) conditions.keep KeepsIt
+  pub fault : IfSome conditions.fault (λ s. Says filter now dialect (table_of filter storage) s FaultsIt)
+  pub no_fault : IfNone conditions.fault (NeverFaults filter now)
+
+-- the conditions of a filter over a table, by what follows the first line
+abbrev pub IsTableSql : Filter → Dialect → Bool → List ℕ → MomentParts → List ℕ → Type 0
+IsTableSql filter dialect by_columns names now text =
+    (storage : StorageModel) × IsStoredBy by_columns filter names storage
+    × HasConditions filter storage dialect now text
+
+abbrev pub IsSqlBy : Filter → Dialect → Bool → List ℕ → List ℕ → Type 0
+IsSqlBy filter dialect by_columns how text =
+    (now : MomentParts) × IsNowBy filter (first_line how) now
+    × IsTableSql filter dialect by_columns (after_line how) now text
+
+abbrev pub IsSqlOf : Handle → ℕ → List ℕ → List ℕ → Type 0
+IsSqlOf (Handle.Filter filter) form how text =
+    IsSomeAnd (form_numbered form) (λ f. IsSqlBy filter f.0 f.1 how text)
+IsSqlOf given form how text = ⊥
+
+-- ---- why there are none
+
+-- the first line spells no moment, or is empty where the filter asks for one
+abbrev pub IsNoNow : Filter → List ℕ → Fault → Type 0
+IsNoNow filter line Fault.NotAMoment = (now : MomentParts) → ¬ MomentValue line now
+IsNoNow filter line Fault.MomentNeeded = (line ≡ []) × UsesNow (tree_of_filter filter)
+IsNoNow filter line fault = ⊥
+
+-- no SQL says them, or memory ends
+abbrev pub IsNoConditions : Fault → Type 0
+IsNoConditions Fault.Unsayable = Unit {0}
+IsNoConditions Fault.TooDeep = Unit {0}
+IsNoConditions Fault.Memory = Unit {0}
+IsNoConditions fault = ⊥
+
+-- the same, or a line after the first is about no property
+abbrev pub IsNoTableSql : Filter → Bool → List ℕ → Fault → Type 0
+IsNoTableSql filter true names Fault.UnknownColumn =
+    ¬ AreKnown (properties_at filter.schema filter.filtered) (lines_of names)
+IsNoTableSql filter by_columns names fault = IsNoConditions fault
+
+abbrev pub IsNoSql : Handle → ℕ → List ℕ → Fault → Type 0
+IsNoSql given form how Fault.OtherKind = ¬ IsFilterKind given
+IsNoSql (Handle.Filter filter) form how Fault.NotUtf8 = ¬ IsUtf8 how
+IsNoSql (Handle.Filter filter) form how Fault.UnknownNumber = form_numbered form ≡ None
+IsNoSql (Handle.Filter filter) form how Fault.NotAMoment = IsNoNow filter (first_line how) Fault.NotAMoment
+IsNoSql (Handle.Filter filter) form how Fault.MomentNeeded = IsNoNow filter (first_line how) Fault.MomentNeeded
+IsNoSql (Handle.Filter filter) form how fault =
+    IsSomeAnd (form_numbered form) (λ f. IsNoTableSql filter f.1 (after_line how) fault)
+IsNoSql given form how fault = ⊥
