@@ -278,3 +278,27 @@ def refused_rows():
 
 def document():
     return json.dumps(KINDS, ensure_ascii=False).encode()
+
+
+# names of columns that would be something else without their quotes
+NAMES = ['a"b', "a'b", '"', '""', "x\"; DROP TABLE named; --", "--", "/*", "$1", "?1", "SELECT", " ", "\\", "%s", "Ä", "\ta"]
+NAMED = json.dumps({"$Version": "4.01", "N": {"Row": {"$Kind": "EntityType", "ID": {"$Type": "Edm.Int32"}}}})
+
+# a filter, and whether an index on that column is to be used for it
+INDEXED = [
+    ("Rating gt 29990", "c9"), ("Rating eq 7", "c9"), ("7 le Rating and Rating lt 9", "c9"), ("Rating in (1,2,3)", "c9"),
+    ("Rating eq null", "c9"), ("Name eq 'n00007'", "c6"), ("Name gt 'n29990'", "c6"), ("Name in ('n00007','n00008')", "c6"),
+    ("Stock eq 7", "c11"), ("not (Stock ne 7)", "c11"), ("Rating eq 7 and Stock div Rating gt 3", "c9"),
+    ("1 div ID eq 1 and Rating eq 7 and Rating div ID gt 3", "c9"), ("Code eq 00000007-0000-0000-0000-000000000007", "c2"),
+    ("Released eq 2020-02-29", "c10"), ("Released lt 2020-12-31", "c10"),
+]
+POSTGRES_INDEXED = [
+    ("Changed gt 2099-12-27T00:00:00Z", "c1"), ("Changed ge 2020-01-01T01:00:07+01:00 and Changed lt 2020-01-01T00:00:08Z", "c1"),
+]
+
+
+def indexed_row(number):
+    row = {"ID": number, "Name": f"n{number:05}", "Rating": None if number % 1000 == 0 else number, "Stock": number}
+    row |= {"Changed": f"2020-01-01T00:{number // 60 % 60:02}:{number % 60:02}Z", "Color": "Red", "Tags": [], "Parts": []}
+    row |= {"Code": f"{number:08}-0000-0000-0000-{number:012}", "Released": "2020-02-29" if number == 5 else "2021-01-01"}
+    return json.dumps(row).encode()
