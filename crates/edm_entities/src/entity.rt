@@ -1,4 +1,4 @@
-ghost use Rattle.std.specs.Prelude.{◌≡◌, false, IfOk, IfErr};
+ghost use Rattle.std.specs.Prelude.{◌≡◌, false, Some, IfOk, IfErr, IfSome};
 ghost use Rattle.serde_json.specs.View.{view};
 
 use super::flaw::row_fault;
@@ -38,12 +38,14 @@ impl<'s> Model for Entity<'s> {
 impl<'s> Entity<'s> {
     ghost use Rattle.csdl_schema.specs.ExpansionView.{paths_in};
     ghost use Rattle.csdl_schema.specs.PathSet.{PropertyPath};
-    ghost use Rattle.csdl_schema.specs.SchemaModel.{HoldsType, slots_of, type_name_at};
+    ghost use Rattle.csdl_schema.specs.SchemaModel.{HoldsType, properties_at, slots_of, type_name_at};
     ghost use Rattle.edm_values.specs.Val.{Val};
     ghost use Rattle.edm_entities.specs.Fits.{Fits};
     ghost use Rattle.edm_entities.specs.Row.{expanded_by, row_with, value_of, IsEntity};
     ghost use Rattle.edm_entities.specs.RowFaults.{IsRowFault, IsMemory};
+    ghost use Rattle.edm_entities.specs.ValuesRead.{IsRowValue};
     ghost use Rattle.edm_entities.specs.private.KeptRows.{row_kept};
+    ghost use Rattle.edm_row_plans.specs.Expanded.{slots_at};
 
     /// Reads a JSON object as an entity of that type. Members that the type does not declare are ignored, and so are
     /// opaque and navigation properties. The first fault in the order of the slots is returned, depth first.
@@ -101,6 +103,29 @@ impl<'s> Entity<'s> {
             },
             Err(fault) => Err(row_fault(fault)),
         }
+    }
+
+    /// Reads a JSON object as an entity's value, as `expanded_from_json` does. It is a record, with the properties'
+    /// values by slot. `None` where it is none, or out of memory.
+    pub fn value_from_json(
+        alloc: Global,
+        schema: &Schema,
+        type_id: TypeId,
+        expansion: &Expansion,
+        row: &serde_json::Value,
+    ) -> Option<Value>
+        ensures { IfSome result
+            (IsRowValue (slots_at schema.now expansion.now (Some 0)) (properties_at schema.now type_id)) }
+    {
+        let context = WalkContext {
+            alloc,
+            schema,
+            expansion,
+        };
+        let Ok(values) = read_slots(&context, type_id, Some(0), row) else {
+            return None;
+        };
+        Some(Value::Record(values))
     }
 
     /// The entity of that type with this value, which is not its own, where that is expanded.

@@ -6,8 +6,6 @@ ghost use Rattle.csdl_schema.specs.SchemaModel.{HasDistinctNames, properties_at}
 ghost use Rattle.edm_row_plans.specs.Plans.{ArePlans, IsPlanOf};
 ghost use Rattle.edm_entities.specs.RowReading.{IsLineBut};
 ghost use Rattle.edm_row_plans.specs.PassedNames.{names_passed, passed_names};
-ghost use Rattle.edm_row_plans.specs.Expanded.{slots_at};
-ghost use Rattle.edm_entities.specs.ValuesRead.{IsRowValue};
 ghost use Rattle.edm_entities.specs.private.Passed.{FitsRow};
 ghost use Rattle.edm_entities.specs.private.SlotsSoFar.{slots_below};
 
@@ -22,7 +20,6 @@ use edm_values::Value;
 use json_tokens::{TokenReader, text_of_line};
 use std::alloc::Global;
 use std::marker::Model;
-use std::mem;
 
 /// How deep objects and arrays may nest in a row.
 const DEPTH: usize = 127;
@@ -50,28 +47,6 @@ impl RowReader {
             cache: RowCache::new(alloc),
             row: Value::Null,
         }
-    }
-
-    /// Reads a line as a row's value, which is given away.
-    pub fn read_value(&mut self, schema: &Schema, plan: &RowPlan, line: &[u8]) -> Option<Value>
-        requires { IsPlanOf schema.now plan.now }
-        ensures { IfSome result (IsRowValue (slots_at schema.now plan.now.expansion (Some 0))
-            (properties_at schema.now plan.now.type_id)) }
-    {
-        let Some(text) = text_of_line(line) else {
-            return None;
-        };
-        let context = ReadContext {
-            schema,
-            expansion: &plan.expansion,
-            plans: plan.plans.as_slice(),
-            passed: plan.passed.as_slice(),
-            depth: DEPTH - 1,
-        };
-        if !take_row(&mut self.cache, &context, plan.type_id, text, &mut self.row) {
-            return None;
-        }
-        Some(mem::replace(&mut self.row, Value::Null))
     }
 
     /// Returns the allocator from which it takes memory.

@@ -5,6 +5,8 @@ ghost use Rattle.edm_entities.specs.RowReading.{IsLineBut};
 ghost use Rattle.edm_row_plans.specs.Plans.{IsPlanOf};
 ghost use Rattle.edm_entities.specs.private.Passed.{IsRowValue};
 ghost use Rattle.json_tokens.specs.LexemesAt.{PassesSpaces};
+ghost use Rattle.csdl_schema.specs.SchemaModel.{properties_at};
+ghost use Rattle.edm_row_plans.specs.Expanded.{slots_at};
 ghost use Rattle.edm_rows.specs.private.HeldRows.{AreTypesOf, HasFirstType, IsTakenWhole, IsTakenWithin};
 ghost use Rattle.edm_rows.specs.private.HeldRows.{ReadsRowAt, TakesMembers, TakesObject};
 ghost use Rattle.edm_rows.specs.RowItems.{ReadsItem};
@@ -23,7 +25,7 @@ use super::passed_value::ReadContext;
 use super::row_types::{DEPTH, RowType, row_types};
 use super::slot_marks::{keep_name, keep_slots, sift_slot};
 use csdl_schema::Schema;
-use edm_entities::{Entity, RowReader};
+use edm_entities::Entity;
 use edm_row_plans::{RowPlan, plan_at};
 use edm_values::{Sieve, Value};
 use json_room::{RoomyLine, front_text, has_room, past_blanks};
@@ -146,19 +148,17 @@ impl<'s> TypeRows<'s> {
         self.is_ready
     }
 
-    /// Fills the row of that line from here on, if the reader finds it to be one. Where rows are not read so, it stays
-    /// without one.
+    /// Fills the row of that line from here on, if it is one. Where rows are not read so, it stays without one.
     #[inline(never)]
-    pub fn begin(&mut self, reader: &mut RowReader, line: &[u8])
+    pub fn begin(&mut self, line: &[u8])
         ensures { IsSameReader self.old self.new }
     {
         if self.types.len() == 0 {
             return;
         }
-        match reader.read_value(self.schema.schema(), &self.plan, line) {
+        let alloc = self.cache.alloc;
+        match row_of_line(alloc, self.schema.schema(), &self.plan, line) {
             Some(row) => {
-                let held = self.schema.schema();
-                refill(reader, &self.row, held, &self.plan, line);
                 self.row = row;
                 self.is_ready = true;
             }
@@ -285,12 +285,14 @@ impl<'s> TypeRows<'s> {
     }
 }
 
-/// Has a reader hold the memory of a row again, after it gave that of the first one away.
-fn refill(reader: &mut RowReader, before: &Value, schema: &Schema, plan: &RowPlan, line: &[u8])
-    requires { IsPlanOf schema.now plan.now }
+/// The value of a line's row, which is read through a tree; none where it is not a row.
+fn row_of_line(alloc: Global, schema: &Schema, plan: &RowPlan, line: &[u8]) -> Option<Value>
+    ensures { IfSome result
+        (IsRowValue (slots_at schema.now plan.now.expansion (Some 0)) (properties_at schema.now plan.now.type_id)) }
 {
-    if let Value::Null = before {
-        let _ = reader.read(schema, plan, line);
+    match serde_json::Value::from_slice(alloc, line) {
+        Ok(json) => Entity::value_from_json(alloc, schema, plan.type_id, &plan.expansion, &json),
+        Err(_) => None,
     }
 }
 

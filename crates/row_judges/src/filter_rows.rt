@@ -1,7 +1,6 @@
 //! Rows judged by one filter, each by itself.
 ghost use Rattle.std.specs.Prelude.{◌≡◌};
 ghost use Rattle.edm_rows.specs.HeldSchema.{schema_in};
-ghost use Rattle.odata_checked_filter.specs.Filter.{Filter};
 ghost use Rattle.row_judges.specs.FilterRows.{AreRowsOfFilter};
 ghost use Rattle.row_judges.specs.RowAnswer.{ReportsRow};
 ghost use Rattle.row_judges.specs.RowCosts.{ReportsRowWithin};
@@ -9,8 +8,8 @@ ghost use Rattle.row_judges.specs.RowCosts.{ReportsRowWithin};
 use crate::bounded_judge::BoundedJudge;
 use crate::no_verdict::NoVerdict;
 use crate::row_judge::RowJudge;
-use crate::row_verdict::row_plan_of;
-use crate::rows_in_place::{kept_rows_of, reads_copy};
+use crate::row_verdict::{plan_of, row_plan_of};
+use crate::rows_in_place::{keep_filtered, reads_copy};
 use csdl_schema::Schema;
 use edm_entities::{RowPlan, RowReader};
 use edm_rows::{HeldSchema, TypeRows};
@@ -52,10 +51,12 @@ impl<'s> FilterRows<'s> {
         requires { schema_in schema ≡ checked.now.schema }
         ensures { AreRowsOfFilter checked.now result }
     {
+        let mut type_rows = TypeRows::new(alloc, schema, plan_of(alloc, checked));
+        keep_filtered(&mut type_rows, checked);
         FilterRows {
             plan: row_plan_of(alloc, checked),
             reader: RowReader::new(alloc),
-            type_rows: kept_rows_of(alloc, checked, schema),
+            type_rows,
             room: Vec::new(alloc),
         }
     }
@@ -80,9 +81,7 @@ impl<'s> FilterRows<'s> {
         if reads_copy(&mut self.type_rows, &mut self.room, row) {
             return by.judge_held(&self.type_rows);
         }
-        let answer = by.judge_bytes(&self.plan, &mut self.reader, row);
-        self.begin(row);
-        answer
+        by.judge_bytes(&self.plan, &mut self.reader, row)
     }
 
     /// Judges a row within a bound on what it costs, as [`BoundedJudge::judge`] does. `None` if that is not enough. The
@@ -107,17 +106,6 @@ impl<'s> FilterRows<'s> {
         if reads_copy(&mut self.type_rows, &mut self.room, row) {
             return by.judge_held(self.reader.allocator(), &self.type_rows);
         }
-        let answer = by.judge(&mut self.reader, row);
-        self.begin(row);
-        answer
-    }
-
-    /// Has the next rows read where they stand, from this one on, unless they are already.
-    fn begin(&mut self, row: &[u8])
-        ensures { (filter : Filter) → AreRowsOfFilter filter self.old → AreRowsOfFilter filter self.new }
-    {
-        if !self.type_rows.has_row() {
-            self.type_rows.begin(&mut self.reader, row);
-        }
+        by.judge(&mut self.reader, row)
     }
 }

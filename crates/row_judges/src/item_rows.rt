@@ -10,7 +10,6 @@ ghost use Rattle.row_judges.specs.private.ValueAnswer.{answer_reported};
 use crate::row_judge::RowJudge;
 use crate::rows_in_place::{copy_with_room, type_rows_of, whole_tests};
 use collection_items::{JudgesItems, judged_items};
-use edm_entities::RowReader;
 use edm_rows::{ItemReading, TypeRows, any_value_end};
 use edm_values::Moment;
 use json_room::{DecodeBuffer, RoomyLine, front_text, has_room};
@@ -26,7 +25,6 @@ const ITEM_DEPTH: usize = 125;
 #[derive(Drop)]
 pub(crate) struct ItemRows<'c, 's> {
     rows: RowJudge<'c, 's>,
-    reader: RowReader,
     type_rows: TypeRows<'s>,
     /// Tests that are the whole filter; none where it has other terms.
     tests: Vec<SlotSieve>,
@@ -55,13 +53,7 @@ impl JudgesItems for ItemRows<'_, '_> {
     ghost says = { λ judge json kept. JudgesValue judge.filter judge.moment json (judgment_where kept) };
 
     fn item(&mut self, document: &RoomyLine<'_>, place: usize) -> Option<(bool, usize)> {
-        begin_at(
-            &mut self.type_rows,
-            &mut self.reader,
-            &mut self.buffer,
-            document,
-            place,
-        );
+        begin_at(&mut self.type_rows, &mut self.buffer, document, place);
         match self
             .type_rows
             .read_item(document.text(), document.bytes(), place)
@@ -100,7 +92,6 @@ fn kept_by(answer: Result<Verdict, EvalFault>) -> Option<bool>
 /// Has the rows' reader fill the row of the item that begins at an offset from here on, if it has none yet.
 fn begin_at(
     rows: &mut TypeRows<'_>,
-    reader: &mut RowReader,
     buffer: &mut DecodeBuffer,
     document: &RoomyLine<'_>,
     place: usize,
@@ -112,7 +103,7 @@ fn begin_at(
         return;
     }
     match any_value_end(document, place, ITEM_DEPTH, buffer) {
-        Some(end) => rows.begin(reader, &document.bytes()[place..end]),
+        Some(end) => rows.begin(&document.bytes()[place..end]),
         None => {}
     }
 }
@@ -164,7 +155,6 @@ fn text_verdicts<'t>(
             checked,
             moment: now,
         },
-        reader: RowReader::new(alloc),
         type_rows: type_rows_of(alloc, checked),
         tests: whole_tests(alloc, checked),
         buffer: DecodeBuffer::new(alloc),

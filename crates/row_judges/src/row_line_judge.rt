@@ -4,7 +4,7 @@ ghost use Rattle.row_judges.specs.RowJudgment.{JudgesRow};
 use crate::bad_row::BadRow;
 use crate::row_judge::{RowJudge, judged_by, judgment_of, reported_fault};
 use crate::row_verdict::row_plan_of;
-use crate::rows_in_place::{begin_after, read_at_front, type_rows_of, whole_tests};
+use crate::rows_in_place::{read_at_front, type_rows_of, whole_tests};
 use edm_entities::{RowPlan, RowReader};
 use edm_rows::TypeRows;
 use edm_values::Moment;
@@ -19,12 +19,11 @@ use std::marker::Model;
 pub struct RowLineJudge<'c, 's> {
     rows: RowJudge<'c, 's>,
     plan: RowPlan,
-    reader: RowReader,
+    /// None until a line was not read where it stands.
+    reader: Option<Box<RowReader>>,
     type_rows: TypeRows<'s>,
     /// Tests that are the whole filter; none where it has other terms.
     tests: Vec<SlotSieve>,
-    /// How many lines were not read where they stand.
-    unread: u64,
     /// The last line that had no room after it, in a copy that has.
     room: Vec<u8>,
 }
@@ -50,8 +49,7 @@ impl<'c, 's> Model for RowLineJudge<'c, 's> {
 }
 
 impl<'c, 's> RowLineJudge<'c, 's> {
-    /// A judge of lines by that filter, at that moment. It holds a row reader, and is made in place: a copy would take
-    /// as much stack again.
+    /// A judge of lines by that filter, at that moment. It is made in place: a copy would take as much stack again.
     #[inline(always)]
     pub fn new(alloc: Global, checked: &'c Checked<'s>, moment: &'c Moment) -> RowLineJudge<'c, 's>
         ensures filter { result.filter ≡ checked.now }
@@ -66,8 +64,7 @@ impl<'c, 's> RowLineJudge<'c, 's> {
             type_rows: type_rows_of(alloc, checked),
             tests: whole_tests(alloc, checked),
             plan: row_plan_of(alloc, checked),
-            reader: RowReader::new(alloc),
-            unread: 0,
+            reader: None,
             room: Vec::new(alloc),
         }
     }
@@ -92,17 +89,27 @@ impl Judge for RowLineJudge<'_, '_> {
 
     #[inline(never)]
     fn judge(&mut self, line: &[u8]) -> Result<Judgment<BadRow>, AllocError> {
-        // The first unread line begins the row that later lines fill. A second one is most likely at fault.
-        self.unread = self.unread.saturating_add(1);
-        if self.unread == 2 {
-            return judgment_of(self.rows.judge_by_tree(line));
-        }
-        let judged = match self.rows.judge_read(&self.plan, &mut self.reader, line) {
+        let Some(reader) = &mut self.reader else {
+            // The first line that is not read is most likely at fault, and then no reader is needed.
+            let judged = judgment_of(self.rows.judge_by_tree(line));
+            if !matches!(judged, Ok(Judgment::Fault(_))) {
+                self.reader = boxed_reader(self.rows.alloc);
+            }
+            return judged;
+        };
+        match self.rows.judge_read(&self.plan, reader, line) {
             Some(Ok(verdict)) => Ok(judged_by(verdict)),
             Some(Err(fault)) => judgment_of(Err(reported_fault(fault))),
             None => judgment_of(self.rows.judge_by_tree(line)),
-        };
-        begin_after(&judged, &mut self.type_rows, &mut self.reader, line);
-        judged
+        }
+    }
+}
+
+/// A reader of rows, unless out of memory.
+#[inline(never)]
+fn boxed_reader(alloc: Global) -> Option<Box<RowReader>> {
+    match Box::new(alloc, RowReader::new(alloc)) {
+        Ok(reader) => Some(reader),
+        Err(_) => None,
     }
 }

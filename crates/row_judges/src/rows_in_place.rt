@@ -12,14 +12,14 @@ ghost use Rattle.row_judges.specs.FilterRows.{KeepsNames};
 ghost use Rattle.row_judges.specs.RowAnswer.{ReportsRow};
 ghost use Rattle.row_judges.specs.RowJudgment.{JudgesRow, JudgesValue};
 ghost use Rattle.serde_json.specs.Data.{Data};
-ghost use Rattle.row_judges.specs.private.RowsInPlace.{AreRowsOf, IsRead, IsSameButSieves, IsTestAt};
+ghost use Rattle.row_judges.specs.private.RowsInPlace.{AreRowsOf, IsRead, IsReaderFor, IsSameButSieves, IsTestAt};
 ghost use Rattle.row_judges.specs.private.ValueAnswer.{ReportsValue, answer_reported};
 
 use crate::bad_row::BadRow;
 use crate::no_verdict::NoVerdict;
 use crate::row_judge::{RowJudge, judgment_at_once, reported};
 use crate::row_verdict::{names_whole_row, plan_of};
-use edm_entities::{RowReader, what_fits_has_its_type};
+use edm_entities::what_fits_has_its_type;
 use edm_rows::{HeldSchema, Reading, TypeRows};
 use json_room::{ROOM, has_room};
 use line_filter::Judgment;
@@ -36,30 +36,25 @@ pub(crate) fn type_rows_of<'s>(alloc: Global, checked: &Checked<'s>) -> TypeRows
 {
     // No two slots of a type have one name.
     let _ = checked.schema().slots(checked.filtered_type());
-    let mut rows = kept_rows_of(alloc, checked, HeldSchema::Borrowed(checked.schema()));
+    let schema = HeldSchema::Borrowed(checked.schema());
+    let mut rows = TypeRows::new(alloc, schema, plan_of(alloc, checked));
+    keep_filtered(&mut rows, checked);
     sift_by_tests(&mut rows, alloc, checked);
     rows
 }
 
-/// The same, which leaves no row out.
-#[inline(always)]
-pub(crate) fn kept_rows_of<'s>(
-    alloc: Global,
-    checked: &Checked<'_>,
-    schema: HeldSchema<'s>,
-) -> TypeRows<'s>
-    requires { schema_in schema ≡ checked.now.schema }
-    ensures names { KeepsNames checked.now result }
-    ensures all_pass { All (λ sieve. sieve ≡ Sieve.All) result.sieves }
+/// Has a reader of the filter's rows keep the properties that the filter names, in place.
+pub(crate) fn keep_filtered(rows: &mut TypeRows<'_>, checked: &Checked<'_>)
+    requires { IsReaderFor checked.now rows.old }
+    ensures names { KeepsNames checked.now rows.new }
+    ensures sieves { rows.new.sieves ≡ rows.old.sieves }
 {
-    let mut rows = TypeRows::new(alloc, schema, plan_of(alloc, checked));
     if names_whole_row(checked) {
         rows.keep_all();
-        return rows;
+        return;
     }
     rows.keep_named("");
-    keep_names(&mut rows, checked);
-    rows
+    keep_names(rows, checked);
 }
 
 /// Keeps the properties that the filter names.
@@ -99,25 +94,6 @@ pub(crate) fn whole_tests(alloc: Global, checked: &Checked<'_>) -> Vec<SlotSieve
     }
 }
 
-/// Has the rows' reader fill the row of a line from here on, if that was not at fault and it has none yet.
-pub(crate) fn begin_after(
-    judged: &Result<Judgment<BadRow>, AllocError>,
-    rows: &mut TypeRows<'_>,
-    reader: &mut RowReader,
-    line: &[u8],
-)
-    ensures { IsSameReader rows.old rows.new }
-{
-    match judged {
-        Ok(Judgment::Kept) | Ok(Judgment::LeftOut) => {
-            if !rows.has_row() {
-                rows.begin(reader, line);
-            }
-        }
-        _ => {}
-    }
-}
-
 /// Copies a line to where it has a line feed and room after it, unless out of memory. What else was there stays.
 #[inline(always)]
 pub(crate) fn copy_with_room(line: &[u8], room: &mut Vec<u8>) -> bool
@@ -154,19 +130,31 @@ fn take_room(line: &[u8], room: &mut Vec<u8>) -> bool
     room.extend_from_slice(line).is_ok() && room.extend_from_slice(&[b'\n'; ROOM]).is_ok()
 }
 
-/// What is read of a row in a copy that has room after it.
+/// What is read of a row in a copy that has room after it. The rows' reader fills the row of the first one from here
+/// on.
 #[inline(never)]
 fn read_copy(rows: &mut TypeRows<'_>, room: &mut Vec<u8>, row: &[u8]) -> Reading
     ensures same { IsSameReader rows.old rows.new }
     ensures read { IsRead result row.now rows.new }
 {
+    begin_first(rows, row);
     if !rows.has_row() || !copy_with_room(row, room) {
         return Reading::Unread;
     }
     rows.read(room.as_slice(), row.len(), false)
 }
 
-/// What is read of the line of that length at the front of the bytes, in a copy where it has no room after it.
+/// Has the rows' reader fill the row of that line from here on, if it has none yet.
+fn begin_first(rows: &mut TypeRows<'_>, row: &[u8])
+    ensures { IsSameReader rows.old rows.new }
+{
+    if !rows.has_row() {
+        rows.begin(row);
+    }
+}
+
+/// What is read of the line of that length at the front of the bytes, in a copy where it has no room after it or is the
+/// first.
 #[inline(always)]
 pub(crate) fn read_at_front(
     rows: &mut TypeRows<'_>,
@@ -180,11 +168,12 @@ pub(crate) fn read_at_front(
     ensures same { IsSameReader rows.old rows.new }
     ensures read { IsRead result (take count bytes.now) rows.new }
 {
+    let is_first = !rows.has_row();
     match rows.read(bytes, count, is_ascii) {
         Reading::Row => Reading::Row,
         Reading::LeftOut => Reading::LeftOut,
         Reading::Unread => {
-            if has_room(bytes, count) {
+            if !is_first && has_room(bytes, count) {
                 return Reading::Unread;
             }
             read_copy(rows, room, &bytes[..count])

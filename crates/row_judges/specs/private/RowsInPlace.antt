@@ -13,6 +13,12 @@ use Rattle.row_judges.specs.FilterRows.{KeepsNames}
 abbrev pub IsTestAt : Filter → ℕ → Sieve → Type 0
 IsTestAt filter slot sieve = IsSieveOf filter (record { slot = slot; sieve = sieve })
 
+-- the reader is of the filter's schema and type, and a whole one has that expanded which the filter needs
+pub record IsReaderFor (filter : Filter) (rows : RowsOfType) : Type 0 where
+  pub schema : rows.schema ≡ filter.schema
+  pub type_id : rows.type_id ≡ filter.filtered
+  pub whole : rows.is_whole ≡ true → rows.expansion ≡ filter.expansion
+
 -- the reader keeps what the filter names, and leaves rows out only where the filter is false
 pub record AreRowsOf (filter : Filter) (rows : RowsOfType) : Type 0 where
   pub names : KeepsNames filter rows

@@ -11,4 +11,4 @@ returns-clause-utf8 c = always_some c.judged_items.result c.utf8.text
 pub returns-clause-judged : goal.returns-clause-judged
 returns-clause-judged c =
     subst (λ (t : List ℕ). IfSome c.judged_items.result (λ kept. (items : List Data) × IsArrayIn t items
-    × AreJudged (λ json is_kept. JudgesValue c.args.checked.now c.args.now.now json (judgment_where is_kept)) items kept.items)) c.new-3.ensures c.judged_items.ensures
+    × AreJudged (λ json is_kept. JudgesValue c.args.checked.now c.args.now.now json (judgment_where is_kept)) items kept.items)) c.new-2.ensures c.judged_items.ensures

@@ -15,5 +15,5 @@ returns-in-LeftOut-clause-read c =
     let line = take c.args.count c.args.bytes.now in
     subst (λ (r : Reading). IsRead r line c.read.new.self) c.in-LeftOut.is (is_read c.read.result line c.read.new.self c.read.ensures.whole c.read.ensures.ready c.read.ensures.row c.read.ensures.left_out)
 
-pub returns-else-has_room-clause-same : goal.returns-else-has_room-clause-same
-returns-else-has_room-clause-same c = reader_further c.args.rows.now c.read.new.self c.read_copy.new.rows c.read.ensures.same c.read_copy.ensures.same
+pub returns-else-not-is_first-clause-same : goal.returns-else-not-is_first-clause-same
+returns-else-not-is_first-clause-same c = reader_further c.args.rows.now c.read.new.self c.read_copy.new.rows c.read.ensures.same c.read_copy.ensures.same

@@ -2,17 +2,10 @@ use Rattle.std.proofs.Common.{◌<◌, length, Some, true, sym, subst, arith}
 use Rattle.csdl_schema.specs.SchemaModel.{properties_at}
 use Rattle.edm_entities.specs.private.Passed.{IsRowValue}
 use Rattle.edm_row_plans.specs.Expanded.{slots_at}
-use Rattle.edm_row_plans.specs.Plans.{IsPlanOf}
 use Rattle.edm_rows.specs.HeldSchema.{schema_in}
 use Rattle.edm_rows.proofs.RowsStay.{reader_stays, same_but_row}
 use Rattle.edm_rows.proofs.TypesChanged.{types_there}
 use Rattle.edm_rows.proofs.type_rows.TypeRows.begin.Goals as goal
-
-pub read_value-requires : goal.read_value-requires
-read_value-requires c = subst (λ s. IsPlanOf s c.self.inside.plan) (sym c.schema.ensures) c.self.invariant.is_plan
-
-pub refill-requires : goal.refill-requires
-refill-requires c = subst (λ s. IsPlanOf s c.self.inside.plan) (sym c.schema-held.ensures) c.self.invariant.is_plan
 
 pub invariant_of-self : goal.invariant_of-self
 invariant_of-self c =

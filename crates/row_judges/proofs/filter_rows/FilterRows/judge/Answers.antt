@@ -11,10 +11,7 @@ returns-then-reads_copy-clause-rows c = record {
 }
 
 pub returns-clause-rows : goal.returns-clause-rows
-returns-clause-rows c =
-    let filter = c.args.checked.now in
-    c.begin.ensures filter
-    (record {
-      planned = c.requires.planned;
-      kept = kept_again filter c.args.self.now.type_rows c.reads_copy.new.rows c.reads_copy.ensures.same c.requires.kept;
-    })
+returns-clause-rows c = record {
+  planned = c.requires.planned;
+  kept = kept_again c.args.checked.now c.args.self.now.type_rows c.reads_copy.new.rows c.reads_copy.ensures.same c.requires.kept;
+}

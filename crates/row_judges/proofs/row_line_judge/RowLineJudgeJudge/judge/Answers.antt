@@ -10,12 +10,8 @@ use Rattle.row_judges.specs.declared.no_verdict.NoVerdict.{NoVerdict}
 use Rattle.row_judges.specs.RowLineJudge.{FilterNow}
 use Rattle.row_judges.specs.private.ValueAnswer.{answer_reported}
 use Rattle.row_judges.proofs.RowLemmas.RowJudges.{line_judged}
-use Rattle.row_judges.proofs.RowLemmas.RowsInPlace.{rows_again}
 use Rattle.row_judges.proofs.row_line_judge.RowLineJudgeJudge.judge.Goals.{in-Some-Ok, in-Some-Err, in-None}
 use Rattle.row_judges.proofs.row_line_judge.RowLineJudgeJudge.judge.Goals as goal
-
-pub invariant_of-self-2 : goal.invariant_of-self-2
-invariant_of-self-2 c = (c.self.invariant.0, rows_again c.self.inside.rows.checked.now c.self.inside.type_rows c.begin_after.new.rows c.begin_after.ensures c.self.invariant.1, c.self.invariant.2)
 
 pub returns-clause-said : goal.returns-clause-said
 returns-clause-said c =
@@ -25,23 +21,31 @@ returns-clause-said c =
     let Right : (Result (Judgment BadRow) AllocError → Type 0) = λ r. IfOk r (JudgesRow filter now line) in
     let Reported : (Result Verdict EvalFault → Type 0) = λ answer. ReportsRow filter now line (answer_reported answer) in
     let Read : (Option (Result Verdict EvalFault) → Type 0) = λ o. IfSome o Reported in
-    let right : Right c.match-judge_read.judged =
+    let right : Right c.match-judge_read.result =
     elim c.match-judge_read.branch [
       | in-Some-Ok w ↦
           let said : Result (Judgment BadRow) AllocError = Ok w.judged_by.result in
-          subst Right (sym w.judged-is) (line_judged filter now line (Ok w.in-Some-Ok.verdict) said (subst Reported w.in-Some-Ok.field-0-is (subst Read w.in-Some-Ok.is c.judge_read.ensures)) w.judged_by.ensures)
+          subst Right (sym w.result-is) (line_judged filter now line (Ok w.in-Some-Ok.verdict) said (subst Reported w.in-Some-Ok.field-0-is (subst Read w.in-Some-Ok.is c.judge_read.ensures)) w.judged_by.ensures)
       | in-Some-Err w ↦
-          subst Right (sym w.judged-is)
-          (line_judged filter now line (Err w.reported_fault.result) w.judgment_of-judged.result
-          (subst (λ (n : NoVerdict). ReportsRow filter now line (Err n)) (sym w.reported_fault.ensures) (subst Reported w.in-Some-Err.field-0-is (subst Read w.in-Some-Err.is c.judge_read.ensures))) w.judgment_of-judged.ensures)
-      | in-None w ↦ subst Right (sym w.judged-is) (line_judged filter now line w.judge_by_tree-in-None.result w.judgment_of-judged-in-None.result w.judge_by_tree-in-None.ensures w.judgment_of-judged-in-None.ensures)
+          subst Right (sym w.result-is)
+          (line_judged filter now line (Err w.reported_fault.result) w.judgment_of.result
+          (subst (λ (n : NoVerdict). ReportsRow filter now line (Err n)) (sym w.reported_fault.ensures) (subst Reported w.in-Some-Err.field-0-is (subst Read w.in-Some-Err.is c.judge_read.ensures))) w.judgment_of.ensures)
+      | in-None w ↦ subst Right (sym w.result-is) (line_judged filter now line w.judge_by_tree-in-None.result w.judgment_of-in-None.result w.judge_by_tree-in-None.ensures w.judgment_of-in-None.ensures)
     ] in
-    subst (λ (f : FilterNow). IfOk c.match-judge_read.judged (JudgesRow f.filter f.moment line)) c.self.view_is right
+    subst (λ (f : FilterNow). IfOk c.match-judge_read.result (JudgesRow f.filter f.moment line)) c.self.view_is right
 
-pub returns-then-self-eq2-clause-said : goal.returns-then-self-eq2-clause-said
-returns-then-self-eq2-clause-said c =
+pub returns-then-not-matches-clause-said : goal.returns-then-not-matches-clause-said
+returns-then-not-matches-clause-said c =
     let filter = c.self.inside.rows.checked.now in
     let now = c.self.inside.rows.moment.now in
     let line = c.args.line.now in
-    subst (λ (f : FilterNow). IfOk c.judgment_of.result (JudgesRow f.filter f.moment line)) c.self.view_is
-    (line_judged filter now line c.judge_by_tree.result c.judgment_of.result c.judge_by_tree.ensures c.judgment_of.ensures)
+    subst (λ (f : FilterNow). IfOk c.judgment_of-judged.result (JudgesRow f.filter f.moment line)) c.self.view_is
+    (line_judged filter now line c.judge_by_tree.result c.judgment_of-judged.result c.judge_by_tree.ensures c.judgment_of-judged.ensures)
+
+pub returns-else-not-matches-clause-said : goal.returns-else-not-matches-clause-said
+returns-else-not-matches-clause-said c =
+    let filter = c.self.inside.rows.checked.now in
+    let now = c.self.inside.rows.moment.now in
+    let line = c.args.line.now in
+    subst (λ (f : FilterNow). IfOk c.judgment_of-judged.result (JudgesRow f.filter f.moment line)) c.self.view_is
+    (line_judged filter now line c.judge_by_tree.result c.judgment_of-judged.result c.judge_by_tree.ensures c.judgment_of-judged.ensures)
