@@ -10,28 +10,11 @@ ghost use Rattle.line_filter.specs.private.Walk.{outcome_of, text_where, text_wh
 use super::device::{NotWritten, Writes};
 use super::judge::Judgment;
 use super::line_class::{LineClass, is_kept};
-use super::output::hold;
+use super::output::keep;
 use super::run_stop::RunStop;
 use super::tally::Tally;
 use std::alloc::AllocError;
 use std::io::Write;
-
-/// Writes the text and then LF.
-pub fn keep<W: Write, T: Writes<W>>(
-    out: &mut W,
-    held: &mut Vec<u8>,
-    text: &[u8],
-) -> Result<(), NotWritten>
-    ensures ok { OnOk result
-        (WritesBut (W.contents out.old) (W.contents out.new) held.new.items (held.old.items ++ text_of_line text.now)) }
-    ensures err { OnErr result
-        (WritesFront (W.contents out.old) (W.contents out.new) (held.old.items ++ text_of_line text.now)) }
-    ensures well { OnOk result (StaysWell (T.calls out.old) (T.calls out.new)) }
-    ensures failed { OnErr result (FailsLast (T.calls out.old) (T.calls out.new)) }
-{
-    hold::<W, T>(out, held, text)?;
-    hold::<W, T>(out, held, b"\n")
-}
 
 /// Writes the text and then LF, where its item is kept.
 fn keep_where<W: Write, T: Writes<W>>(

@@ -8,26 +8,11 @@ ghost use Rattle.line_filter.specs.private.Walk.{text_where_kept};
 use super::item_outcome::outcome_of;
 use super::judge::Judge;
 use super::line_class::{LineClass, find_at_front, is_kept};
+use super::output::put_line;
 use super::run_stop::RunStop;
 use super::split::first_line;
 use super::tally::Tally;
 use std::alloc::AllocError;
-
-/// Puts a line and LF after what a vector holds, or nothing where an allocation fails.
-fn put_line(line: &[u8], out: &mut Vec<u8>) -> Result<(), AllocError>
-    ensures ok { OnOk result (out.new.items ≡ out.old.items ++ text_of_line line.now) }
-    ensures err { OnErr result (out.new.items ≡ out.old.items) }
-{
-    let length = out.len();
-    out.extend_from_slice(line)?;
-    match out.push(b'\n') {
-        Ok(()) => Ok(()),
-        Err(refused) => {
-            out.truncate(length);
-            Err(refused.into())
-        }
-    }
-}
 
 /// What was found of a line, which is put after what a vector holds where it is kept. Out of memory where the
 /// vector cannot grow.

@@ -2,9 +2,11 @@ ghost use Rattle.std.specs.Prelude.{◌≡◌, ◌<◌, [], ◌++◌, length, On
 ghost use Rattle.std.specs.Io.KnownBytes.{Appends};
 ghost use Rattle.line_filter.specs.CallLogs.{StaysWell, FailsLast};
 ghost use Rattle.line_filter.specs.Growth.{WritesFront};
+ghost use Rattle.line_filter.specs.Lines.{text_of_line};
 ghost use Rattle.line_filter.specs.private.HeldBack.{WritesBut};
 
 use super::device::{NotWritten, Writes};
+use std::alloc::AllocError;
 use std::io::Write;
 
 /// How many bytes are held back before they are written together.
@@ -41,41 +43,66 @@ pub fn release<W: Write, T: Writes<W>>(out: &mut W, held: &mut Vec<u8>) -> Resul
     Ok(())
 }
 
-/// Writes what is held back, unless so many bytes more may be held with it.
-fn make_room<W: Write, T: Writes<W>>(
-    out: &mut W,
-    held: &mut Vec<u8>,
-    count: usize,
-) -> Result<(), NotWritten>
+/// Writes the line and then LF.
+fn write_line<W: Write, T: Writes<W>>(out: &mut W, line: &[u8]) -> Result<(), NotWritten>
+    ensures ok { OnOk result (Appends (W.contents out.old) (W.contents out.new) (text_of_line line.now)) }
+    ensures err { OnErr result (WritesFront (W.contents out.old) (W.contents out.new) (text_of_line line.now)) }
+    ensures well { OnOk result (StaysWell (T.calls out.old) (T.calls out.new)) }
+    ensures failed { OnErr result (FailsLast (T.calls out.old) (T.calls out.new)) }
+{
+    write_out::<W, T>(out, line)?;
+    write_out::<W, T>(out, b"\n")
+}
+
+/// Writes what is held back, where it is more than is held back.
+fn release_full<W: Write, T: Writes<W>>(out: &mut W, held: &mut Vec<u8>) -> Result<(), NotWritten>
     ensures ok { OnOk result (WritesBut (W.contents out.old) (W.contents out.new) held.new.items held.old.items) }
     ensures err { OnErr result (WritesFront (W.contents out.old) (W.contents out.new) held.old.items) }
     ensures well { OnOk result (StaysWell (T.calls out.old) (T.calls out.new)) }
     ensures failed { OnErr result (FailsLast (T.calls out.old) (T.calls out.new)) }
 {
-    if held.len().saturating_add(count) > HELD_BACK {
+    if held.len() > HELD_BACK {
         release::<W, T>(out, held)?;
     }
     Ok(())
 }
 
-/// Holds the bytes back after those that are held, or writes them where an allocation fails.
-pub fn hold<W: Write, T: Writes<W>>(
+/// Puts a line and LF after what a vector holds, or nothing where an allocation fails.
+#[inline(always)]
+pub(crate) fn put_line(line: &[u8], out: &mut Vec<u8>) -> Result<(), AllocError>
+    ensures ok { OnOk result (out.new.items ≡ out.old.items ++ text_of_line line.now) }
+    ensures err { OnErr result (out.new.items ≡ out.old.items) }
+{
+    let length = out.len();
+    out.extend_from_slice(line)?;
+    match out.push(b'\n') {
+        Ok(()) => Ok(()),
+        Err(refused) => {
+            out.truncate(length);
+            Err(refused.into())
+        }
+    }
+}
+
+/// Holds the line and LF back after what is held, or writes all where an allocation fails.
+#[inline(always)]
+pub fn keep<W: Write, T: Writes<W>>(
     out: &mut W,
     held: &mut Vec<u8>,
-    bytes: &[u8],
+    line: &[u8],
 ) -> Result<(), NotWritten>
     ensures ok { OnOk result
-        (WritesBut (W.contents out.old) (W.contents out.new) held.new.items (held.old.items ++ bytes.now)) }
-    ensures err { OnErr result (WritesFront (W.contents out.old) (W.contents out.new) (held.old.items ++ bytes.now)) }
+        (WritesBut (W.contents out.old) (W.contents out.new) held.new.items (held.old.items ++ text_of_line line.now)) }
+    ensures err { OnErr result
+        (WritesFront (W.contents out.old) (W.contents out.new) (held.old.items ++ text_of_line line.now)) }
     ensures well { OnOk result (StaysWell (T.calls out.old) (T.calls out.new)) }
     ensures failed { OnErr result (FailsLast (T.calls out.old) (T.calls out.new)) }
 {
-    make_room::<W, T>(out, held, bytes.len())?;
-    match held.extend_from_slice(bytes) {
-        Ok(()) => Ok(()),
+    match put_line(line, held) {
+        Ok(()) => release_full::<W, T>(out, held),
         Err(_) => {
             release::<W, T>(out, held)?;
-            write_out::<W, T>(out, bytes)
+            write_line::<W, T>(out, line)
         }
     }
 }

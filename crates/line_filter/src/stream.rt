@@ -11,11 +11,11 @@ ghost use Rattle.line_filter.specs.private.Reading.{IsUnread, ReadsOn};
 ghost use Rattle.line_filter.specs.private.Walk.{GoesOn, IsUnwritten, fault_stop};
 
 use super::device::{NotWritten, Reads, Writes};
-use super::item_outcome::{keep, settle};
+use super::item_outcome::settle;
 use super::judge::{Judge, Judgment};
 use super::line_class::find;
 use super::line_reader::{LineFault, LineReader, Next};
-use super::output::release;
+use super::output::{keep, release};
 use super::run_stop::RunStop;
 use super::tally::Tally;
 use std::alloc::Global;
