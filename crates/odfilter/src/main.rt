@@ -32,6 +32,7 @@ impl Read for Rows {
 }
 
 /// Writes a line to standard error. The status was decided before, so it stands where standard error fails.
+#[inline(never)]
 fn report<D: Display + Drop>(rt: &HostRuntime, line: D, status: u8) -> u8 {
     let _ = eprintln!(rt; "{line}");
     status
@@ -43,6 +44,7 @@ fn report_memory(rt: &HostRuntime) -> u8 {
 }
 
 /// Reports why there is no plan, or what `clap` was asked for.
+#[inline(never)]
 fn report_fault(rt: &HostRuntime, fault: PlanFault) -> u8 {
     match fault {
         PlanFault::Clap(error) => {

@@ -130,6 +130,7 @@ fn whole_rows<'p, R: Read + Drop>(
 }
 
 /// The indexes of the entities that the filter keeps of a collection.
+#[inline(never)]
 fn filter_by_place<'p, R: Read + Drop, W: Write>(
     alloc: Global,
     ready: &Ready<'_, '_, 'p>,
@@ -169,11 +170,10 @@ fn filter_ready<'p, R: Read + Drop, W: Write>(
         → BeginsAs Verb.Filter ready.entry.now.plan.now document
         (streams (option_map (λ r. R.remaining r) rows) (W.contents out.old) (W.contents out.new)) }
 {
-    if ready.plan.collection {
-        filter_by_place(alloc, ready, rows, out)
-    } else {
-        filter_by_line(alloc, ready, rows, out)
+    if !ready.plan.collection {
+        return filter_by_line(alloc, ready, rows, out);
     }
+    filter_by_place(alloc, ready, rows, out)
 }
 
 /// The rows that the filter keeps.

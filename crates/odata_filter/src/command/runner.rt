@@ -148,6 +148,7 @@ fn write_reported<'p, W: Write>(text: &str, out: &mut W) -> Result<(), Failure<'
 }
 
 /// Writes the filter.
+#[inline(never)]
 fn report_filter<'p, W: Write>(
     alloc: Global,
     checked: &Checked<'_>,
@@ -164,6 +165,7 @@ fn report_filter<'p, W: Write>(
 }
 
 /// Writes each node of the filter.
+#[inline(never)]
 fn report_nodes<'p, W: Write>(
     alloc: Global,
     checked: &Checked<'_>,
@@ -180,7 +182,7 @@ fn report_nodes<'p, W: Write>(
 }
 
 /// What the plan's verb makes of its filter. `check` and `explain` look at no rows. A frame of its own has what reads
-/// rows: the schema was read before.
+/// rows: the schema was read before. Filtering comes first, so that in memory nothing of the others is beside it.
 #[inline(never)]
 fn by_verb<'p, R: Read + Drop, W: Write>(
     alloc: Global,
@@ -197,9 +199,9 @@ fn by_verb<'p, R: Read + Drop, W: Write>(
         (streams (option_map (λ r. R.remaining r) rows) (W.contents out.old) (W.contents out.new)) }
 {
     match asked.plan.verb {
+        Verb::Filter => filter_rows(alloc, asked, rows, out),
         Verb::Check => report_filter(alloc, asked.checked, out),
         Verb::Explain => report_nodes(alloc, asked.checked, out),
-        Verb::Filter => filter_rows(alloc, asked, rows, out),
     }
 }
 
@@ -300,6 +302,7 @@ fn report_refusal<W: Write, E: Write>(
 
 /// Reports a failure and returns the status: to a verb that reads no rows a refusal is an answer, every other failure
 /// goes to standard error.
+#[inline(never)]
 fn report<W: Write, E: Write>(
     alloc: Global,
     verb: Verb,
