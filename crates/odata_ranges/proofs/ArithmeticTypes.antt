@@ -1,17 +1,5 @@
 -- Arithmetic by the type of its node.
-use Rattle.std.proofs.Common.{◌≡◌, true, sym, subst}
-use Rattle.edm_values.specs.Val.{Val, null, whole}
-use Rattle.edm_values.specs.declared.primitive.PrimitiveType.{PrimitiveType}
-use Rattle.csdl_schema.specs.ExprType.{null_type}
-use Rattle.odata_syntax.specs.declared.binary_operator.ArithmeticOperator.{ArithmeticOperator}
-use Rattle.odata_filter_operations.specs.CalculationGives.{CalculationGives}
-use Rattle.odata_filter_operations.specs.Outcome.{Outcome}
-use Rattle.odata_signatures.specs.TypeView.{expr_type}
-use Rattle.odata_signatures.specs.declared.edm_type.EdmType.{EdmType}
-use Rattle.odata_signatures.specs.declared.edm_type.ValueType.{ValueType}
-use Rattle.odata_ranges.specs.Within.{CalculatesWithin, IsWithin}
-use Rattle.odata_ranges.specs.declared.range.Range.{Range}
-use Rattle.odata_ranges.specs.private.Operators.{CoversFaults, HoldsArithmetic}
+use Rattle.odata_ranges.proofs.Common.{◌≡◌, true, sym, subst, Val, null, whole, PrimitiveType, null_type, ArithmeticOperator, CalculationGives, Outcome, expr_type, EdmType, ValueType, CalculatesWithin, IsWithin, Range, CoversFaults, HoldsArithmetic}
 
 pub in_number_type : (operator : ArithmeticOperator) (type : EdmType) (p : PrimitiveType) (left right base result : Range) → type ≡ EdmType.Single (ValueType.Prim p)
     → CalculatesWithin operator p left right base → CoversFaults result left right → ((o : Outcome) → IsWithin base o → IsWithin result o)

@@ -1,19 +1,5 @@
 -- What arithmetic evaluates to, of operands within two ranges.
-use Rattle.std.proofs.Common.{◌≡◌, ◌≢◌, ◌⊎◌, inl, inr, ℤ, pos, ◌*ℤ◌, ◌<ℤ◌, ◌≤ℤ◌, Bool, true, false, ◌||◌, Option, Some, None, Result, Ok, Err, refl, sym, subst, ◌∙◌, int_div, int_rem}
-use Rattle.std.proofs.lemmas.Int.{by_lt_z}
-use Rattle.edm_values.specs.NumberTypes.{IsNumberOf}
-use Rattle.edm_values.specs.Val.{null, whole}
-use Rattle.edm_values.specs.declared.primitive.PrimitiveType.{PrimitiveType}
-use Rattle.odata_filter_operations.specs.CalculationGives.{number_outcome}
-use Rattle.odata_filter_operations.specs.Outcome.{Outcome}
-use Rattle.odata_functions.proofs.Divisions.{division, one_quotient}
-use Rattle.odata_functions.specs.Arithmetic.{ArithmeticGives, IsDividing, MakesNumber}
-use Rattle.odata_functions.specs.declared.arithmetic.ArithFault.{ArithFault}
-use Rattle.odata_functions.specs.declared.arithmetic.ArithFault.TheVariants.{Overflow, DivideByZero}
-use Rattle.odata_syntax.specs.declared.binary_operator.ArithmeticOperator.{ArithmeticOperator}
-use Rattle.odata_ranges.specs.Reach.{HoldsNumber, IsBounded, LiesBetween, Reaches}
-use Rattle.odata_ranges.specs.Within.{CalculatesWithin, IsWithin}
-use Rattle.odata_ranges.specs.declared.range.Range.{Range}
+use Rattle.odata_ranges.proofs.Common.{◌≡◌, ◌≢◌, ◌⊎◌, inl, inr, ℤ, pos, ◌*ℤ◌, ◌<ℤ◌, ◌≤ℤ◌, Bool, true, false, ◌||◌, Option, Some, None, Result, Ok, Err, refl, sym, subst, ◌∙◌, int_div, int_rem, by_lt_z, IsNumberOf, null, whole, PrimitiveType, number_outcome, Outcome, division, one_quotient, ArithmeticGives, IsDividing, MakesNumber, ArithFault, Overflow, DivideByZero, ArithmeticOperator, HoldsNumber, IsBounded, LiesBetween, Reaches, CalculatesWithin, IsWithin, Range}
 use Rattle.odata_ranges.proofs.Corners.{product_between, quotient_between}
 
 -- ---- spans by their corners

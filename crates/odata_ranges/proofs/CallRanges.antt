@@ -1,29 +1,15 @@
 -- What a function evaluates to, of arguments within two ranges.
-use Rattle.std.proofs.Common.{◌≡◌, ℕ, zero, suc, ◌+◌, ◌-◌, ◌≤◌, ◌++◌, List, [], ◌∷◌, length, map, take, drop, ℤ, pos, negsuc, neg_ℤ, ◌<ℤ◌, ◌≤ℤ◌, Bool, true, false, sym, ap, subst, ◌∙◌, arith, cond, length-append, length-drop}
-use Rattle.std.specs.Prelude.{FitsSigned, slice_index}
-use Rattle.std.specs.Int.{w32}
-use Rattle.std.specs.List.{AllByRecursion}
+use Rattle.odata_ranges.proofs.Common.{◌≡◌, ℕ, zero, suc, ◌+◌, ◌-◌, ◌≤◌, ◌++◌, List, [], ◌∷◌, length, map, take, drop, ℤ, pos, negsuc, neg_ℤ, ◌<ℤ◌, ◌≤ℤ◌, Bool, true, false, sym, ap, subst, ◌∙◌, arith, cond, length-append, length-drop, FitsSigned, slice_index, w32, AllByRecursion, ints, Date, epoch_day, IsFourDigitYear, boolean, whole, text, date, moment, Function, GivesTruth, GivesCount, GivesText, Outcome, gives, CalledWithin, HoldsCount, IsUpTo, IsWithin, unbounded, Range}
 use Rattle.std.specs.Str.{chars}
 use Rattle.std.specs.Char.{to_ascii_lowercase, to_ascii_uppercase}
 use Rattle.std.proofs.Math.Utf8.{scalars}
-use Rattle.std.proofs.lemmas.Int.{ints}
 use Rattle.std.proofs.lemmas.List.{length-map}
 use Rattle.std.proofs.lemmas.Str.{chars-encodes, scalars-chars}
-use Rattle.edm_values.specs.Civil.{Date, epoch_day}
 use Rattle.edm_values.specs.Instant.{offset_of}
-use Rattle.edm_values.specs.MomentParts.{IsFourDigitYear}
-use Rattle.edm_values.specs.Val.{boolean, whole, text, date, moment}
 use Rattle.odata_functions.specs.DateParts.{IsDayOf, IsMonthOf, IsYearOf, hour_of, minute_of, second_of}
 use Rattle.odata_functions.specs.Gregorian.{IsDateOf, days_of_month, has_leap_day, month_lengths}
 use Rattle.odata_functions.specs.Texts.{HasEnd, HasPart, HasStart, IsPlaceOf, IsTrimmed, StandsBehind, from_zero, part_from, rest_from}
-use Rattle.odata_signatures.specs.declared.function.Function.{Function}
 use Rattle.odata_meaning.proofs.meaning.MadeTexts.{dropped_characters, inner_characters, joined_characters, lower_characters, taken_characters, upper_characters}
-use Rattle.odata_filter_operations.specs.CompareGives.{GivesTruth}
-use Rattle.odata_filter_operations.specs.FunctionGives.{GivesCount, GivesText}
-use Rattle.odata_filter_operations.specs.Outcome.{Outcome, gives}
-use Rattle.odata_ranges.specs.Calls.{CalledWithin}
-use Rattle.odata_ranges.specs.Within.{HoldsCount, IsUpTo, IsWithin, unbounded}
-use Rattle.odata_ranges.specs.declared.range.Range.{Range}
 use Rattle.odata_ranges.proofs.Counts.{count_within}
 
 -- ---- texts

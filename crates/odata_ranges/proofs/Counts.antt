@@ -1,17 +1,5 @@
 -- Counts as numbers of type Int32.
-use Rattle.std.proofs.Common.{◌≡◌, ℤ, Bool, true, false, Option, Some, None, Result, Ok, Err, refl, sym, subst}
-use Rattle.std.specs.Prelude.{FitsSigned}
-use Rattle.std.specs.Int.{w32}
-use Rattle.edm_values.specs.declared.primitive.PrimitiveType.{PrimitiveType}
-use Rattle.odata_filter_operations.specs.CalculationGives.{number_outcome}
-use Rattle.odata_filter_operations.specs.FunctionGives.{GivesCount}
-use Rattle.odata_filter_operations.specs.Outcome.{Outcome}
-use Rattle.odata_functions.specs.Arithmetic.{ComesWithin}
-use Rattle.odata_functions.specs.declared.arithmetic.ArithFault.{ArithFault}
-use Rattle.odata_functions.specs.declared.arithmetic.ArithFault.TheVariants.{Overflow, DivideByZero}
-use Rattle.odata_ranges.specs.Reach.{HoldsNumber}
-use Rattle.odata_ranges.specs.Within.{IsWithin}
-use Rattle.odata_ranges.specs.declared.range.Range.{Range}
+use Rattle.odata_ranges.proofs.Common.{◌≡◌, ℤ, Bool, true, false, Option, Some, None, Result, Ok, Err, refl, sym, subst, FitsSigned, w32, PrimitiveType, number_outcome, GivesCount, Outcome, ComesWithin, ArithFault, Overflow, DivideByZero, HoldsNumber, IsWithin, Range}
 
 fault_unless : (b : Bool) → (b ≡ false → ⊥) → b ≡ true
 fault_unless true other = refl

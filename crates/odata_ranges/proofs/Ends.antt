@@ -1,19 +1,5 @@
 -- Where trees end: within the list of nodes, and after their children.
-use Rattle.std.proofs.Common.{◌≡◌, ℕ, ◌<◌, ◌≤◌, ◌+◌, Some, length, slice_get, sym, subst, arith}
-use Rattle.std.proofs.lemmas.Option.{slice_get_within}
-use Rattle.odata_syntax.specs.Tree.{Shape, Tree, Trees, any_item, binary, call, count, has, in_list, in_path, it, lambda, literal, logical_not, member, more_trees, name, negation, no_trees, node}
-use Rattle.csdl_schema.specs.ExprType.{single}
-use Rattle.odata_checked_filter.specs.Filter.{Filter, IsFilter}
-use Rattle.odata_checked_filter.specs.private.Layout.{AllLie, ChildrenLie}
-use Rattle.odata_checked_filter.specs.Stands.{SideBySide}
-use Rattle.odata_checked_filter.specs.declared.checked_node.CheckedNode.{CheckedNode}
-use Rattle.odata_checked_filter.specs.declared.checked_node.NodeKind.{NodeKind}
-use Rattle.odata_checked_filter.proofs.flat.Children.{body_there, one_there, two_there}
-use Rattle.odata_checked_filter.proofs.flat.Numbered.{numbered}
-use Rattle.odata_checked_filter.proofs.flat.Standing.{lies_nonempty}
-use Rattle.odata_signatures.specs.Typed.{Scope, with_variable}
-use Rattle.odata_ranges.specs.declared.node_form.NodeForm.{NodeForm}
-use Rattle.odata_ranges.specs.private.NodeForm.{form_of}
+use Rattle.odata_ranges.proofs.Common.{◌≡◌, ℕ, ◌<◌, ◌≤◌, ◌+◌, Some, length, slice_get, sym, subst, arith, slice_get_within, Shape, Tree, Trees, any_item, binary, call, count, has, in_list, in_path, it, lambda, literal, logical_not, member, more_trees, name, negation, no_trees, node, single, Filter, IsFilter, AllLie, ChildrenLie, SideBySide, CheckedNode, NodeKind, body_there, one_there, two_there, numbered, lies_nonempty, Scope, with_variable, NodeForm, form_of}
 use Rattle.odata_ranges.proofs.Layouts.{LiesIn, by_kind, stop_there}
 
 mutual
@@ -24,9 +10,6 @@ mutual
 
   children_inside : (filter : Filter) (scope : Scope) (i j : ℕ) (shape : Shape) → i ≤ length filter.list.nodes
       → ChildrenLie filter.schema filter.filtered scope filter.list i j shape → j ≤ length filter.list.nodes
-  children_inside filter scope i j (literal kind spelling) most stand = let e : i ≡ j = stand in omega (arith, e, most)
-  children_inside filter scope i j it most stand = let e : i ≡ j = stand in omega (arith, e, most)
-  children_inside filter scope i j (name asked) most stand = let e : i ≡ j = stand in omega (arith, e, most)
   children_inside filter scope i j (member base asked) most stand = ends_inside filter scope i j base (one_there filter.schema filter.filtered scope filter.list i j base stand)
   children_inside filter scope i j (count base) most stand = ends_inside filter scope i j base (one_there filter.schema filter.filtered scope filter.list i j base stand)
   children_inside filter scope i j (negation operand) most stand = ends_inside filter scope i j operand (one_there filter.schema filter.filtered scope filter.list i j operand stand)
@@ -47,6 +30,7 @@ mutual
   children_inside filter scope i j (lambda quantifier base variable body) most stand =
       let two = body_there filter.schema filter.filtered scope filter.list i j base variable body stand in
       ends_inside filter (with_variable scope variable (single two.right.member_type)) two.middle j body two.right.body
+  children_inside filter scope i j _ most stand = let e : i ≡ j = stand in omega (arith, e, most)
 
   trees_inside : (filter : Filter) (scope : Scope) (i j : ℕ) (trees : Trees) → i ≤ length filter.list.nodes
       → AllLie filter.schema filter.filtered scope filter.list i j trees → j ≤ length filter.list.nodes

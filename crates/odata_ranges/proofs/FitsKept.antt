@@ -1,40 +1,28 @@
 -- A value that fits, and that the engines can keep, is kept as its type says.
-use Rattle.std.proofs.Common.{◌≡◌, List, [], ◌∷◌, Bool, true, false, Option, Some, None, refl, sym, subst}
-use Rattle.std.specs.List.{AllByRecursion}
+use Rattle.odata_ranges.proofs.Common.{◌≡◌, List, [], ◌∷◌, Bool, true, false, Option, Some, None, refl, sym, subst, AllByRecursion, Val, null, text, fields, items, FieldVal, absent, present, Vals, no_items, item, PrimitiveType, Byte, SByte, Int16, Int32, Int64, ExprType, null_type, single, collection, SingleType, primitive, enumeration, structured, Slots, PropertyModel, PropertyType, declared, opaque, navigation, expanded, slots_of, type_name_at, AreKept, IsKept, IsKeptProperty, IsNullOnlyIf, property_takes_null}
 use Rattle.serde_json.specs.Data.{Data, null as json_null, boolean as json_boolean, number, string, array, object, Items, no_items as no_json, item as json_item}
 use Rattle.serde_json.specs.Find.{get}
-use Rattle.edm_values.specs.Val.{Val, null, text, fields, items, FieldVal, absent, present, Vals, no_items, item}
-use Rattle.edm_values.specs.declared.primitive.PrimitiveType.{PrimitiveType}
-use Rattle.edm_values.specs.declared.primitive.PrimitiveType.TheVariants.{Bool as EdmBoolean, Byte, SByte, Int16, Int32, Int64, String as EdmString, Date as EdmDate, DateTimeOffset as EdmDateTimeOffset, Guid as EdmGuid}
+use Rattle.edm_values.specs.declared.primitive.PrimitiveType.TheVariants.{Bool as EdmBoolean, String as EdmString, Date as EdmDate, DateTimeOffset as EdmDateTimeOffset, Guid as EdmGuid}
 use Rattle.odata_expansion.specs.ExpansionView.{paths_in}
-use Rattle.csdl_schema.specs.ExprType.{ExprType, null_type, single, collection, SingleType, primitive, enumeration, structured}
 use Rattle.odata_expansion.specs.PathSet.{PathSet, below}
-use Rattle.csdl_schema.specs.SchemaModel.{Slots, PropertyModel, PropertyType, declared, opaque, navigation, expanded, slots_of, type_name_at}
 use Rattle.edm_entities.specs.Fits.{takes_null, FitsFound, FitsNavigation, FitsType, FitsProperty, FitItems}
 use Rattle.edm_entities.specs.FitsPrimitive.{FitsPrimitive}
 use Rattle.edm_entities.specs.Row.{Row, IsEntity, value_of}
-use Rattle.odata_ranges.specs.Kept.{AreKept, IsKept, IsKeptProperty, IsNullOnlyIf, property_takes_null}
 use Rattle.odata_ranges.specs.Storable.{AreStorable, IsStorable, IsStorableField}
 
 null_primitive : (type : PrimitiveType) (json : Data) → FitsPrimitive type json null → ⊥
 null_primitive EdmBoolean json fits = let e : null ≡ _ = fits.2 in absurd (cc)
-null_primitive Byte json fits = let e : null ≡ _ = fits.3 in absurd (cc)
-null_primitive SByte json fits = let e : null ≡ _ = fits.3 in absurd (cc)
-null_primitive Int16 json fits = let e : null ≡ _ = fits.3 in absurd (cc)
-null_primitive Int32 json fits = let e : null ≡ _ = fits.3 in absurd (cc)
-null_primitive Int64 json fits = let e : null ≡ _ = fits.3 in absurd (cc)
 null_primitive EdmString json fits = let e : null ≡ _ = fits.2.1 in absurd (cc)
 null_primitive EdmDate json fits = let e : null ≡ _ = fits.2.2 in absurd (cc)
 null_primitive EdmDateTimeOffset json fits = let e : null ≡ _ = fits.2.2 in absurd (cc)
 null_primitive EdmGuid json fits = let e : null ≡ _ = fits.2.2 in absurd (cc)
+null_primitive _ json fits = let e : null ≡ _ = fits.3 in absurd (cc)
 
 -- no JSON but null stands for null
 null_fits : (slots : Slots) (nullable : Bool) (type : ExprType) (json : Data) → FitsType slots nullable type json null → ⊥
 null_fits slots nullable (single (primitive type)) json fits = null_primitive type json fits
 null_fits slots nullable (single (enumeration name)) json fits = let e : null ≡ _ = fits.2.3 in absurd (cc)
-null_fits slots nullable (single (structured name)) json fits = fits
-null_fits slots nullable (collection type) json fits = fits
-null_fits slots nullable null_type json fits = fits
+null_fits slots nullable _ json fits = fits
 
 -- what is said of a value that is null only where it may be
 abbrev KeptIf : Slots → ExprType → Bool → Val → Type 0
@@ -46,13 +34,12 @@ some_kept slots held nullable type takes json _ fits kept = (tt, kept)
 
 found_kept : (slots held : Slots) (nullable : Bool) (type : ExprType) (found : Option Data) (takes : Bool) (v : Val)
     → ((json : Data) → FitsType held nullable type json v → IsKept slots type v) → FitsFound found takes v (λ json. FitsType held nullable type json v) → KeptIf slots type takes v
-found_kept slots held nullable type None takes v further fits = subst (KeptIf slots type takes) (sym fits.1) (fits.0, tt)
-found_kept slots held nullable type (Some json_null) takes v further fits = subst (KeptIf slots type takes) (sym fits.1) (fits.0, tt)
 found_kept slots held nullable type (Some (json_boolean b)) takes v further fits = some_kept slots held nullable type takes (json_boolean b) v fits (further (json_boolean b) fits)
 found_kept slots held nullable type (Some (number n)) takes v further fits = some_kept slots held nullable type takes (number n) v fits (further (number n) fits)
 found_kept slots held nullable type (Some (string s)) takes v further fits = some_kept slots held nullable type takes (string s) v fits (further (string s) fits)
 found_kept slots held nullable type (Some (array ds)) takes v further fits = some_kept slots held nullable type takes (array ds) v fits (further (array ds) fits)
 found_kept slots held nullable type (Some (object ms)) takes v further fits = some_kept slots held nullable type takes (object ms) v fits (further (object ms) fits)
+found_kept slots held nullable type _ takes v further fits = subst (KeptIf slots type takes) (sym fits.1) (fits.0, tt)
 
 any_null : (v : Val) → IsNullOnlyIf true v
 any_null null = refl
@@ -86,12 +73,11 @@ mutual
       → IsStorableField held → IsKeptProperty slots type (property_takes_null type nullable) held
   held_kept slots expansion nullable (declared type) found (present v) fits storable =
       found_kept slots (expanded slots expansion) nullable type found (takes_null type nullable) v (λ json here. value_kept slots expansion nullable type json v here storable) fits
-  held_kept slots expansion nullable (declared type) found absent fits storable = tt
   held_kept slots expansion nullable opaque found held fits storable = tt
   held_kept slots expansion nullable (navigation None) found held fits storable = tt
   held_kept slots expansion nullable (navigation (Some type)) found (present v) fits storable =
       navigation_kept slots (expanded slots expansion) type (expansion []) found (takes_null type nullable) v (λ json here. value_kept slots expansion false type json v here storable) fits
-  held_kept slots expansion nullable (navigation (Some type)) found absent fits storable = tt
+  held_kept slots expansion nullable _ found absent fits storable = tt
 
   items_kept : (slots : Slots) (expansion : PathSet) (nullable : Bool) (type : SingleType) (jsons : Items) (values : Vals) → FitItems (expanded slots expansion) nullable type jsons values
       → AreStorable values → AreKept slots type values

@@ -1,5 +1,5 @@
 -- Flags of two ranges in one.
-use Rattle.std.proofs.Common.{◌≡◌, ◌∙◌, Bool, true, false, ◌||◌, refl}
+use Rattle.odata_ranges.proofs.Common.{◌≡◌, ◌∙◌, Bool, true, false, ◌||◌, refl}
 
 either_left : (a b : Bool) → a ≡ true → (a || b) ≡ true
 either_left true b is = refl

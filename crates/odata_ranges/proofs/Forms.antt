@@ -1,25 +1,5 @@
 -- The tree that stands at an index, by the kind of the node there.
-use Rattle.std.proofs.Common.{◌≡◌, ◌∙◌, ℕ, ◌<◌, List, [], ◌∷◌, Some, length, slice_get, sym, ap, subst}
-use Rattle.std.proofs.lemmas.Option.{slice_get_within}
-use Rattle.edm_values.specs.Val.{Val}
-use Rattle.odata_syntax.specs.Tree.{Shape, Tree, any_item, binary, call, count, has, in_list, in_path, it, lambda, literal, logical_not, member, name, negation, node}
-use Rattle.csdl_schema.specs.SchemaModel.{Slots, slots_of, type_name_at}
-use Rattle.edm_entities.specs.HasType.{HasType}
-use Rattle.odata_signatures.specs.TypeView.{expr_type}
-use Rattle.csdl_schema.specs.ExprType.{ExprType}
-use Rattle.odata_checked_filter.specs.Filter.{Filter}
-use Rattle.odata_checked_filter.specs.Stands.{HasOwnValue, InLine, IsKindOf, SideBySide, Stands}
-use Rattle.odata_checked_filter.specs.declared.checked_node.CheckedNode.{CheckedNode}
-use Rattle.odata_checked_filter.specs.declared.checked_node.NodeKind.{NodeKind}
-use Rattle.odata_checked_filter.specs.private.Layout.{Lies}
-use Rattle.odata_checked_filter.proofs.flat.Lying.{stands_lie}
-use Rattle.odata_checked_filter.proofs.flat.Places.{same_found}
-use Rattle.odata_signatures.specs.Typed.{Scope, Typed}
-use Rattle.odata_meaning.specs.EndsOnce.{IsOutcomeOf, TypedEndsOnce}
-use Rattle.odata_meaning.specs.Environment.{scope_of}
-use Rattle.odata_eval.proofs.walking.Parts.{CasesOf}
-use Rattle.odata_filter_operations.specs.Outcome.{Outcome, gives}
-use Rattle.odata_ranges.specs.Ranges.{IsContextOf, MeansIn, CheckContext}
+use Rattle.odata_ranges.proofs.Common.{◌≡◌, ◌∙◌, ℕ, ◌<◌, List, [], ◌∷◌, Some, length, slice_get, sym, ap, subst, slice_get_within, Val, Shape, Tree, any_item, binary, call, count, has, in_list, in_path, it, lambda, literal, logical_not, member, name, negation, node, Slots, slots_of, type_name_at, HasType, expr_type, ExprType, Filter, HasOwnValue, InLine, IsKindOf, SideBySide, Stands, CheckedNode, NodeKind, Lies, stands_lie, same_found, Scope, Typed, IsOutcomeOf, TypedEndsOnce, scope_of, CasesOf, Outcome, gives, IsContextOf, MeansIn, CheckContext}
 
 pub by_case : (slots : Slots) (root : List ℕ) (scope : Scope) (P : Shape → Type 0) (shape : Shape) (kind : NodeKind)
     → IsKindOf slots root scope shape kind → CasesOf kind P → P shape

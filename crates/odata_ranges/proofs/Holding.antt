@@ -1,43 +1,10 @@
 -- What leaves and steps evaluate to lies within the ranges that are made for them.
-use Rattle.std.proofs.Common.{◌≡◌, ◌∙◌, ℕ, ◌<◌, ◌≤◌, ◌+◌, List, [], ◌∷◌, Bool, true, Option, Some, length, position, slice_get, refl, sym, ap, subst, nat_eq, arith}
-use Rattle.std.specs.Prelude.{MatchOption}
-use Rattle.std.specs.List.{position_or_len}
-use Rattle.std.specs.Cmp.Lexicographic.{pointwise}
+use Rattle.odata_ranges.proofs.Common.{◌≡◌, ◌∙◌, ℕ, ◌<◌, ◌≤◌, ◌+◌, List, [], ◌∷◌, Bool, true, Option, Some, length, position, slice_get, refl, sym, ap, subst, nat_eq, arith, MatchOption, position_or_len, pointwise, Val, null, text, fields, Value, Tree, Trees, call, literal, member, more_trees, name, no_trees, node, LiteralKind, ExprType, single, structured, PropertyModel, properties_at, slot_named, slots_of, type_name_at, IsNamed, row_of, expr_type, Function, OneLiteralValue, OneType, LiteralValue, AreTyped, PropertyTyped, StepTyped, named_type, property_named, Filter, IsValueOf, CheckedNode, NodeKind, TypedEndsOnce, scope_of, ArgumentsMean, FieldGives, FoundGives, StepGives, found_there, some_there, CallGives, After, Then, Outcome, GivesSome, gives, overflow, divides_by_zero, IsKept, IsNullOnlyIf, property_takes_null, IsOwnerAt, HoldsRange, IsContextOf, MeansIn, CheckContext, IsValueWithin, IsWithin, Range, HoldsValues}
 use Rattle.std.proofs.lemmas.Bool.Decides.{nat_tests}
 use Rattle.std.proofs.lemmas.List.Folds.{find_at}
 use Rattle.edm_values.specs.PlainVal.{plain_val}
-use Rattle.edm_values.specs.Val.{Val, null, text, fields}
-use Rattle.edm_values.specs.declared.value.Value.{Value}
-use Rattle.odata_syntax.specs.Tree.{Tree, Trees, call, literal, member, more_trees, name, no_trees, node}
-use Rattle.odata_syntax.specs.declared.node.LiteralKind.{LiteralKind}
-use Rattle.csdl_schema.specs.ExprType.{ExprType, single, structured}
-use Rattle.csdl_schema.specs.SchemaModel.{PropertyModel, properties_at, slot_named, slots_of, type_name_at}
-use Rattle.odata_signatures.specs.Functions.{IsNamed, row_of}
-use Rattle.odata_signatures.specs.TypeView.{expr_type}
-use Rattle.odata_signatures.specs.declared.function.Function.{Function}
-use Rattle.odata_signatures.specs.Laws.{OneLiteralValue, OneType}
-use Rattle.odata_signatures.specs.LiteralValue.{LiteralValue}
-use Rattle.odata_signatures.specs.Typed.{AreTyped, PropertyTyped, StepTyped, named_type, property_named}
-use Rattle.odata_checked_filter.specs.Filter.{Filter}
-use Rattle.odata_checked_filter.specs.Stands.{IsValueOf}
-use Rattle.odata_checked_filter.specs.declared.checked_node.CheckedNode.{CheckedNode}
-use Rattle.odata_checked_filter.specs.declared.checked_node.NodeKind.{NodeKind}
 use Rattle.odata_eval.proofs.walking.Children.{one_there}
-use Rattle.odata_meaning.specs.EndsOnce.{TypedEndsOnce}
-use Rattle.odata_meaning.specs.Environment.{scope_of}
-use Rattle.odata_meaning.specs.Means.{ArgumentsMean}
-use Rattle.odata_meaning.specs.NameGives.{FieldGives, FoundGives, StepGives}
-use Rattle.odata_eval.proofs.walking.Parts.{found_there, some_there}
 use Rattle.odata_eval.proofs.walking.Variables.{unbound}
-use Rattle.odata_filter_operations.specs.CallGives.{CallGives}
-use Rattle.odata_filter_operations.specs.LeftFirst.{After, Then}
-use Rattle.odata_filter_operations.specs.Outcome.{Outcome, GivesSome, gives, overflow, divides_by_zero}
-use Rattle.odata_ranges.specs.Kept.{IsKept, IsNullOnlyIf, property_takes_null}
-use Rattle.odata_ranges.specs.Owners.{IsOwnerAt}
-use Rattle.odata_ranges.specs.Ranges.{HoldsRange, IsContextOf, MeansIn, CheckContext}
-use Rattle.odata_ranges.specs.Within.{IsValueWithin, IsWithin}
-use Rattle.odata_ranges.specs.declared.range.Range.{Range}
-use Rattle.odata_ranges.specs.private.Values.{HoldsValues}
 use Rattle.odata_ranges.proofs.Forms.{StandsIn, TypedIn, by_kind, kind_there, type_there, value_has, valued_there}
 use Rattle.odata_ranges.proofs.KeptPaths.{field_kept, name_kept, tree_kept}
 
@@ -46,13 +13,11 @@ use Rattle.odata_ranges.proofs.KeptPaths.{field_kept, name_kept, tree_kept}
 -- a fault, if it is one, is one that the range has
 abbrev pub FaultsWithin : Range → Outcome → Type 0
 FaultsWithin range (gives v) = Unit {0}
-FaultsWithin range overflow = range.may_fault ≡ true
-FaultsWithin range divides_by_zero = range.may_fault ≡ true
+FaultsWithin range _ = range.may_fault ≡ true
 
 pub faults_pass : (range result : Range) (x : Outcome) → (range.may_fault ≡ true → result.may_fault ≡ true) → IsWithin range x → FaultsWithin result x
 faults_pass range result (gives v) passes within = tt
-faults_pass range result overflow passes within = passes within
-faults_pass range result divides_by_zero passes within = passes within
+faults_pass range result _ passes within = passes within
 
 pub after_within : (result : Range) (Operand : Outcome → Type 0) (Goes : Val → Outcome → Type 0) (o : Outcome)
     → ((x : Outcome) → Operand x → FaultsWithin result x) → ((v : Val) → Operand (gives v) → Goes v o → IsWithin result o) → After Operand Goes o → IsWithin result o
@@ -129,8 +94,7 @@ module _ (ends : TypedEndsOnce) (filter : Filter) (place : ℕ) (found : Checked
           → GivesSome (LiteralValue (slots_of filter.schema) k spelling) o → IsWithin result o
       literal_value k spelling (gives w) v value holds given =
           let same : w ≡ v = one (slots_of filter.schema) k spelling w v given value in subst (IsValueWithin result) (sym same) holds
-      literal_value k spelling overflow v value holds given = absurd given
-      literal_value k spelling divides_by_zero v value holds given = absurd given
+      literal_value k spelling _ v value holds given = absurd given
 
   -- a value that is kept and has its type
   kept_within : (context : CheckContext) → IsContextOf filter context → (tree : Tree) (takes : Bool) (o : Outcome) (v : Val)

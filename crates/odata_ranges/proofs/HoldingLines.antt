@@ -1,45 +1,7 @@
 -- What `in` before a list and calls evaluate to lies within the ranges that are made for them.
-use Rattle.std.proofs.Common.{◌≡◌, inl, inr, ℕ, zero, suc, ◌<◌, ◌≤◌, ◌+◌, List, [], ◌∷◌, Bool, true, false, Some, length, slice_get, IsUtf8, refl, sym, subst, arith}
-use Rattle.std.specs.Prelude.{IsSomeAnd}
-use Rattle.edm_values.specs.MomentParts.{IsFourDigitYear, IsMoment, MomentParts}
-use Rattle.edm_values.specs.Civil.{Date}
-use Rattle.edm_values.specs.Val.{Val, null, whole, text, date, moment}
-use Rattle.edm_values.specs.declared.primitive.PrimitiveType.{PrimitiveType}
+use Rattle.odata_ranges.proofs.Common.{◌≡◌, inl, inr, ℕ, zero, suc, ◌<◌, ◌≤◌, ◌+◌, List, [], ◌∷◌, Bool, true, false, Some, length, slice_get, IsUtf8, refl, sym, subst, arith, IsSomeAnd, IsFourDigitYear, IsMoment, MomentParts, Date, Val, null, whole, text, date, moment, PrimitiveType, Tree, Trees, call, in_list, more_trees, no_trees, node, Any, ExprType, single, primitive, Slots, slots_of, type_name_at, HasType, IsPrimitiveValue, ComparesTrue, Eq, IsNamed, Function, expr_type, Filter, AllStand, ChildrenStand, ItemsStand, AllLie, Lies, CheckedNode, NodeKind, stands_lie, lies_nonempty, Scope, TypedEndsOnce, scope_of, ArgumentsMean, ItemMeans, some_there, CallGives, UnlessNull, has_null, CompareGives, FunctionGives, ItemsGive, After, Then, Outcome, gives, overflow, divides_by_zero, AreWithin, CalledWithin, IsSpellable, AreRangesFrom, HoldsRange, IsContextOf, MeansIn, CheckContext, IsValueWithin, IsWithin, Range, AllPlaced, Covers, CoversLine}
 use Rattle.odata_syntax.specs.Spans.{list_of_trees}
-use Rattle.odata_syntax.specs.Tree.{Tree, Trees, call, in_list, more_trees, no_trees, node}
-use Rattle.odata_syntax.specs.declared.node.Quantifier.TheVariants.{Any}
-use Rattle.csdl_schema.specs.ExprType.{ExprType, single, primitive}
-use Rattle.csdl_schema.specs.SchemaModel.{Slots, slots_of, type_name_at}
-use Rattle.edm_entities.specs.HasType.{HasType, IsPrimitiveValue}
-use Rattle.odata_functions.specs.Comparison.{ComparesTrue}
-use Rattle.odata_syntax.specs.declared.binary_operator.ComparisonOperator.TheVariants.{Eq}
-use Rattle.odata_signatures.specs.Functions.{IsNamed}
-use Rattle.odata_signatures.specs.declared.function.Function.{Function}
-use Rattle.odata_signatures.specs.TypeView.{expr_type}
-use Rattle.odata_checked_filter.specs.Filter.{Filter}
-use Rattle.odata_checked_filter.specs.Stands.{AllStand, ChildrenStand, ItemsStand}
-use Rattle.odata_checked_filter.specs.private.Layout.{AllLie, Lies}
-use Rattle.odata_checked_filter.specs.declared.checked_node.CheckedNode.{CheckedNode}
-use Rattle.odata_checked_filter.specs.declared.checked_node.NodeKind.{NodeKind}
-use Rattle.odata_checked_filter.proofs.flat.Lying.{stands_lie}
-use Rattle.odata_checked_filter.proofs.flat.Standing.{lies_nonempty}
-use Rattle.odata_signatures.specs.Typed.{Scope}
-use Rattle.odata_meaning.specs.EndsOnce.{TypedEndsOnce}
-use Rattle.odata_meaning.specs.Environment.{scope_of}
-use Rattle.odata_meaning.specs.Means.{ArgumentsMean, ItemMeans}
 use Rattle.odata_eval.proofs.walking.Extents.{all_further_in, further_in}
-use Rattle.odata_eval.proofs.walking.Parts.{some_there}
-use Rattle.odata_filter_operations.specs.CallGives.{CallGives, UnlessNull, has_null}
-use Rattle.odata_filter_operations.specs.CompareGives.{CompareGives}
-use Rattle.odata_filter_operations.specs.FunctionGives.{FunctionGives}
-use Rattle.odata_filter_operations.specs.LambdaGives.{ItemsGive}
-use Rattle.odata_filter_operations.specs.LeftFirst.{After, Then}
-use Rattle.odata_filter_operations.specs.Outcome.{Outcome, gives, overflow, divides_by_zero}
-use Rattle.odata_ranges.specs.Calls.{AreWithin, CalledWithin, IsSpellable}
-use Rattle.odata_ranges.specs.Ranges.{AreRangesFrom, HoldsRange, IsContextOf, MeansIn, CheckContext}
-use Rattle.odata_ranges.specs.Within.{IsValueWithin, IsWithin}
-use Rattle.odata_ranges.specs.declared.range.Range.{Range}
-use Rattle.odata_ranges.specs.private.Values.{AllPlaced, Covers, CoversLine}
 use Rattle.odata_ranges.proofs.Forms.{StandsIn, TypedIn, by_kind, lies, stop_there, top_node, type_there, value_has}
 use Rattle.odata_ranges.proofs.Layouts.{stop_there as stop_lies}
 use Rattle.odata_ranges.proofs.Holding.{FaultsWithin, after_within, faults_pass}
@@ -202,8 +164,7 @@ value_wider base result _ nulls low high within = tt
 pub wider_within : (base result : Range) (o : Outcome) → (base.may_fault ≡ true → result.may_fault ≡ true) → (base.may_be_null ≡ true → result.may_be_null ≡ true)
     → result.low ≡ base.low → result.high ≡ base.high → IsWithin base o → IsWithin result o
 wider_within base result (gives v) faults nulls low high within = value_wider base result v nulls low high within
-wider_within base result overflow faults nulls low high within = faults within
-wider_within base result divides_by_zero faults nulls low high within = faults within
+wider_within base result _ faults nulls low high within = faults within
 
 module _ (ends : TypedEndsOnce) (filter : Filter) (place : ℕ) (found : CheckedNode) (at : slice_get filter.list.nodes place ≡ Some found) (ranges : List Range)
     (known : AreRangesFrom filter (place + 1) ranges) (flags result : Range) (covers : CoversLine filter ranges flags (place + 1) found.stop)

@@ -1,40 +1,8 @@
 -- The nodes with two operands, by their kinds.
-use Rattle.std.proofs.Common.{◌≡◌, inl, inr, ℕ, ℤ, ◌+◌, List, true, Some, length, slice_get, refl, sym, subst}
+use Rattle.odata_ranges.proofs.Common.{◌≡◌, inl, inr, ℕ, ℤ, ◌+◌, List, true, Some, length, slice_get, refl, sym, subst, Val, null, items, Tree, binary, literal, node, LiteralKind, ComparisonOperator, BinaryOperator, Quantifier, ExprType, SingleType, single, collection, Slots, slots_of, type_name_at, IsEquality, expr_type, EdmType, OneType, with_variable, Filter, ResolvedStands, InBody, NumberStands, SideBySide, Stands, CheckedNode, NodeKind, Lies, TypedEndsOnce, bound_over, scope_of, Means, GivesMember, members_of, HasGives, InGives, LambdaGives, MemberGives, After, Then, Outcome, gives, overflow, divides_by_zero, IsKept, HoldsRange, IsContextOf, MeansIn, CheckContext, IsValueWithin, IsWithin, Range, CoversFaults, HoldsOperator}
 use Rattle.edm_values.specs.Val as val
-use Rattle.edm_values.specs.Val.{Val, null, items}
-use Rattle.odata_syntax.specs.Tree.{Tree, binary, literal, node}
-use Rattle.odata_syntax.specs.declared.node.LiteralKind.{LiteralKind}
-use Rattle.odata_syntax.specs.declared.binary_operator.ComparisonOperator.{ComparisonOperator}
-use Rattle.odata_syntax.specs.declared.binary_operator.BinaryOperator.{BinaryOperator}
-use Rattle.odata_syntax.specs.declared.node.Quantifier.{Quantifier}
-use Rattle.csdl_schema.specs.ExprType.{ExprType, SingleType, single, collection}
-use Rattle.csdl_schema.specs.SchemaModel.{Slots, slots_of, type_name_at}
-use Rattle.odata_signatures.specs.OperatorTyped.{IsEquality}
-use Rattle.odata_signatures.specs.TypeView.{expr_type}
-use Rattle.odata_signatures.specs.declared.edm_type.EdmType.{EdmType}
-use Rattle.odata_signatures.specs.Laws.{OneType}
 use Rattle.odata_signatures.specs.Reads.{OfEquality, ReadsNone}
-use Rattle.odata_signatures.specs.Typed.{with_variable}
-use Rattle.odata_checked_filter.specs.Filter.{Filter}
-use Rattle.odata_checked_filter.specs.Stands.{ResolvedStands, InBody, NumberStands, SideBySide, Stands}
-use Rattle.odata_checked_filter.specs.declared.checked_node.CheckedNode.{CheckedNode}
-use Rattle.odata_checked_filter.specs.declared.checked_node.NodeKind.{NodeKind}
-use Rattle.odata_checked_filter.specs.private.Layout.{Lies}
-use Rattle.odata_meaning.specs.EndsOnce.{TypedEndsOnce}
-use Rattle.odata_meaning.specs.Environment.{bound_over, scope_of}
-use Rattle.odata_meaning.specs.Means.{Means}
-use Rattle.odata_meaning.specs.ReadGives.{GivesMember}
 use Rattle.odata_meaning.specs.LiteralGives.{LiteralGives}
-use Rattle.odata_filter_operations.specs.CollectionGives.{members_of}
-use Rattle.odata_filter_operations.specs.HasGives.{HasGives}
-use Rattle.odata_filter_operations.specs.LambdaGives.{InGives, LambdaGives, MemberGives}
-use Rattle.odata_filter_operations.specs.LeftFirst.{After, Then}
-use Rattle.odata_filter_operations.specs.Outcome.{Outcome, gives, overflow, divides_by_zero}
-use Rattle.odata_ranges.specs.Kept.{IsKept}
-use Rattle.odata_ranges.specs.Ranges.{HoldsRange, IsContextOf, MeansIn, CheckContext}
-use Rattle.odata_ranges.specs.Within.{IsValueWithin, IsWithin}
-use Rattle.odata_ranges.specs.declared.range.Range.{Range}
-use Rattle.odata_ranges.specs.private.Operators.{CoversFaults, HoldsOperator}
 use Rattle.odata_ranges.proofs.Forms.{StandsIn, TypedIn, by_kind, lies, stop_there, two_parts, type_there, value_has}
 use Rattle.odata_ranges.proofs.Layouts.{stop_there as stop_lies}
 use Rattle.odata_ranges.proofs.Holding.{FaultsWithin, after_within, faults_pass}
@@ -51,8 +19,7 @@ equality_covers _ type left right result is holds = absurd is
 -- a literal evaluates to no fault
 literal_faults : (slots : Slots) (kind : LiteralKind) (spelling : List ℕ) (range : Range) (x : Outcome) → LiteralGives slots kind spelling x → FaultsWithin range x
 literal_faults slots kind spelling range (gives v) given = tt
-literal_faults slots kind spelling range overflow given = absurd given
-literal_faults slots kind spelling range divides_by_zero given = absurd given
+literal_faults slots kind spelling range _ given = absurd given
 
 module _ (types : OneType) (filter : Filter) (place : ℕ) (found first : CheckedNode) (at : slice_get filter.list.nodes place ≡ Some found)
     (first_at : slice_get filter.list.nodes (place + 1) ≡ Some first) (left right result : Range)

@@ -1,40 +1,6 @@
 -- What nodes with one operand evaluate to lies within the ranges that are made for them.
-use Rattle.std.proofs.Common.{◌≡◌, ℕ, ◌≤◌, ◌+◌, ℤ, pos, neg_ℤ, ◌-ℤ◌, ◌≤ℤ◌, true, false, Option, Some, None, Result, Ok, Err, length, slice_get, refl, sym, subst, arith}
-use Rattle.std.specs.Prelude.{FitsSigned}
-use Rattle.std.specs.Int.{w64}
-use Rattle.std.proofs.lemmas.Int.{ints}
-use Rattle.edm_values.specs.NumberTypes.{IsNumberOf}
-use Rattle.edm_values.specs.Val.{Val, null, boolean, whole, items, Vals, no_items, item}
-use Rattle.edm_values.specs.declared.primitive.PrimitiveType.{PrimitiveType}
-use Rattle.odata_syntax.specs.Tree.{any_item, count, negation, node}
-use Rattle.csdl_schema.specs.ExprType.{ExprType, single, collection, primitive}
-use Rattle.csdl_schema.specs.SchemaModel.{slots_of, type_name_at}
-use Rattle.odata_functions.specs.Arithmetic.{ComesWithin, NumbersGive}
-use Rattle.odata_functions.specs.declared.arithmetic.ArithFault.{ArithFault}
-use Rattle.odata_functions.specs.declared.arithmetic.ArithFault.TheVariants.{Overflow, DivideByZero}
-use Rattle.odata_syntax.specs.declared.binary_operator.ArithmeticOperator.{ArithmeticOperator}
-use Rattle.odata_signatures.specs.CollectionTyped.{IsCollection}
-use Rattle.odata_signatures.specs.OperatorTyped.{NegationTyped}
-use Rattle.odata_signatures.specs.TypeView.{expr_type}
-use Rattle.odata_signatures.specs.Laws.{OneType}
-use Rattle.odata_signatures.specs.Typed.{OperandTyped}
-use Rattle.odata_checked_filter.specs.Filter.{Filter}
-use Rattle.odata_checked_filter.specs.declared.checked_node.CheckedNode.{CheckedNode}
-use Rattle.odata_checked_filter.specs.declared.checked_node.NodeKind.{NodeKind}
+use Rattle.odata_ranges.proofs.Common.{◌≡◌, ℕ, ◌≤◌, ◌+◌, ℤ, pos, neg_ℤ, ◌-ℤ◌, ◌≤ℤ◌, true, false, Option, Some, None, Result, Ok, Err, length, slice_get, refl, sym, subst, arith, FitsSigned, w64, ints, IsNumberOf, Val, null, boolean, whole, items, Vals, no_items, item, PrimitiveType, any_item, count, negation, node, ExprType, single, collection, primitive, slots_of, type_name_at, ComesWithin, NumbersGive, ArithFault, Overflow, DivideByZero, ArithmeticOperator, IsCollection, NegationTyped, expr_type, OneType, OperandTyped, Filter, CheckedNode, NodeKind, scope_of, InType, CalculationGives, GivesNumber, NegatedGives, number_outcome, AnyItemGives, CountGives, members_of, Then, Outcome, gives, NotGives, IsKept, HoldsRange, MeansIn, HoldsNumber, IsValueWithin, IsWithin, Range, HoldsArithmetic}
 use Rattle.odata_eval.proofs.walking.Children.{one_there}
-use Rattle.odata_meaning.specs.Environment.{scope_of}
-use Rattle.odata_meaning.specs.OperatorGives.{InType}
-use Rattle.odata_filter_operations.specs.CalculationGives.{CalculationGives, GivesNumber, NegatedGives, number_outcome}
-use Rattle.odata_filter_operations.specs.CollectionGives.{AnyItemGives, CountGives, members_of}
-use Rattle.odata_filter_operations.specs.LeftFirst.{Then}
-use Rattle.odata_filter_operations.specs.Outcome.{Outcome, gives}
-use Rattle.odata_filter_operations.specs.TruthGives.{NotGives}
-use Rattle.odata_ranges.specs.Kept.{IsKept}
-use Rattle.odata_ranges.specs.Ranges.{HoldsRange, MeansIn}
-use Rattle.odata_ranges.specs.Reach.{HoldsNumber}
-use Rattle.odata_ranges.specs.Within.{IsValueWithin, IsWithin}
-use Rattle.odata_ranges.specs.declared.range.Range.{Range}
-use Rattle.odata_ranges.specs.private.Operators.{HoldsArithmetic}
 use Rattle.odata_ranges.proofs.Forms.{StandsIn, TypedIn, by_kind, type_there}
 use Rattle.odata_ranges.proofs.Holding.{after_within, faults_pass}
 use Rattle.odata_ranges.proofs.KeptPaths.{IsPathType, tree_kept}
@@ -94,9 +60,8 @@ minus_given (single (primitive p)) (whole a) o given = (given.0, numbers given.0
     difference = omega (arith, ints)
 
     numbers : (answer : Result (Option ℤ) ArithFault) → ComesWithin p (neg_ℤ a) answer → NumbersGive ArithmeticOperator.Sub p (pos 0) a answer
-    numbers (Ok answer) comes = (neg_ℤ a, difference, comes)
-    numbers (Err Overflow) comes = (neg_ℤ a, difference, comes)
     numbers (Err DivideByZero) comes = let other : DivideByZero ≡ Overflow = comes.0 in absurd (cc)
+    numbers _ comes = (neg_ℤ a, difference, comes)
 minus_given _ _ o given = absurd given
 
 module _ (types : OneType) (filter : Filter) (place : ℕ) (found : CheckedNode) (at : slice_get filter.list.nodes place ≡ Some found) (operand result : Range)

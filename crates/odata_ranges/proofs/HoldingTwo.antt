@@ -1,40 +1,11 @@
 -- What nodes with two operands evaluate to lies within the ranges that are made for them.
-use Rattle.std.proofs.Common.{◌≡◌, inl, inr, ℕ, zero, suc, ℤ, Bool, true, false, Option, Some, None, length, slice_get, refl, sym, subst}
-use Rattle.std.specs.Prelude.{IsSomeAnd}
+use Rattle.odata_ranges.proofs.Common.{◌≡◌, inl, inr, ℕ, zero, suc, ℤ, Bool, true, false, Option, Some, None, length, slice_get, refl, sym, subst, IsSomeAnd, Val, null, boolean, items, Vals, no_items, item, BinaryOperator, Quantifier, Any, All, ExprType, SingleType, single, collection, Slots, AllHaveType, HasType, ComparesTrue, ComparisonOperator, Eq, IsEquality, expr_type, Filter, CheckedNode, OperatorGives, InType, SidesGive, GivesMember, CalculationGives, members_of, CompareGives, GivesTruth, HasGives, InGives, MemberGives, After, Outcome, gives, overflow, divides_by_zero, LogicalGives, JoinGives, joined, truth_val, AreKept, IsKept, IsValueWithin, IsWithin, Range, CoversFaults, CoversNulls, HoldsOperator}
 use Rattle.edm_values.specs.Val as val
-use Rattle.edm_values.specs.Val.{Val, null, boolean, items, Vals, no_items, item}
-use Rattle.odata_syntax.specs.declared.binary_operator.BinaryOperator.{BinaryOperator}
-use Rattle.odata_syntax.specs.declared.node.Quantifier.{Quantifier}
-use Rattle.odata_syntax.specs.declared.node.Quantifier.TheVariants.{Any, All}
-use Rattle.csdl_schema.specs.ExprType.{ExprType, SingleType, single, collection}
-use Rattle.csdl_schema.specs.SchemaModel.{Slots}
-use Rattle.edm_entities.specs.HasType.{AllHaveType, HasType}
 use Rattle.odata_functions.specs.Bits.{HasBits}
-use Rattle.odata_functions.specs.Comparison.{ComparesTrue}
-use Rattle.odata_syntax.specs.declared.binary_operator.ComparisonOperator.{ComparisonOperator}
-use Rattle.odata_syntax.specs.declared.binary_operator.ComparisonOperator.TheVariants.{Eq}
-use Rattle.odata_signatures.specs.OperatorTyped.{IsEquality}
-use Rattle.odata_signatures.specs.TypeView.{expr_type}
 use Rattle.odata_syntax.specs.declared.binary_operator.LogicalOperator.{LogicalOperator}
 use Rattle.odata_syntax.specs.declared.binary_operator.LogicalOperator.TheVariants.{And, Or}
 use Rattle.odata_syntax.specs.declared.binary_operator.BinaryOperator.TheVariants as classes
-use Rattle.odata_checked_filter.specs.Filter.{Filter}
-use Rattle.odata_checked_filter.specs.declared.checked_node.CheckedNode.{CheckedNode}
-use Rattle.odata_meaning.specs.OperatorGives.{OperatorGives, InType, SidesGive}
-use Rattle.odata_meaning.specs.ReadGives.{GivesMember}
-use Rattle.odata_filter_operations.specs.CalculationGives.{CalculationGives}
-use Rattle.odata_filter_operations.specs.CollectionGives.{members_of}
-use Rattle.odata_filter_operations.specs.CompareGives.{CompareGives, GivesTruth}
-use Rattle.odata_filter_operations.specs.HasGives.{HasGives}
-use Rattle.odata_filter_operations.specs.LambdaGives.{InGives, MemberGives}
-use Rattle.odata_filter_operations.specs.LeftFirst.{After}
-use Rattle.odata_filter_operations.specs.Outcome.{Outcome, gives, overflow, divides_by_zero}
 use Rattle.odata_filter_operations.specs.QuantifierGives.{DecisionGives, QuantifierGives, undecided_val}
-use Rattle.odata_filter_operations.specs.TruthGives.{LogicalGives, JoinGives, joined, truth_val}
-use Rattle.odata_ranges.specs.Kept.{AreKept, IsKept}
-use Rattle.odata_ranges.specs.Within.{IsValueWithin, IsWithin}
-use Rattle.odata_ranges.specs.declared.range.Range.{Range}
-use Rattle.odata_ranges.specs.private.Operators.{CoversFaults, CoversNulls, HoldsOperator, HoldsOperator}
 use Rattle.odata_ranges.proofs.CallRanges.{truth_within}
 use Rattle.odata_ranges.proofs.Holding.{FaultsWithin, after_within, faults_pass}
 
@@ -162,8 +133,7 @@ quantified_within result quantifier count At o faults (inr passes) = subst (IsWi
 
 pub compare_faults : (result : Range) (Fact : Type 0) (x : Outcome) → GivesTruth Fact x → FaultsWithin result x
 compare_faults result Fact (gives v) given = tt
-compare_faults result Fact overflow given = absurd given
-compare_faults result Fact divides_by_zero given = absurd given
+compare_faults result Fact _ given = absurd given
 
 pub some_faults : (result : Range) (Body : Val → Outcome → Type 0) (held : Option Val) (x : Outcome) → ((v : Val) → held ≡ Some v → Body v x → FaultsWithin result x)
     → IsSomeAnd held (λ v. Body v x) → FaultsWithin result x

@@ -1,30 +1,6 @@
 -- Where the children of a node stand, and that they do.
-use Rattle.std.proofs.Common.{◌≡◌, ◌⊎◌, inl, inr, ℕ, ℤ, ◌<◌, ◌≤◌, ◌+◌, List, [], ◌∷◌, Some, length, slice_get, refl, sym, subst, arith}
-use Rattle.std.proofs.lemmas.Option.{slice_get_within}
-use Rattle.edm_values.specs.declared.value.Value.{Value}
-use Rattle.odata_syntax.specs.Tree.{Tree, Trees, call, count, in_list, literal, more_trees, no_trees, node}
-use Rattle.odata_syntax.specs.declared.binary_operator.BinaryOperator.{BinaryOperator}
-use Rattle.odata_syntax.specs.declared.node.LiteralKind.{LiteralKind}
-use Rattle.odata_syntax.specs.declared.node.Quantifier.{Quantifier}
-use Rattle.csdl_schema.specs.ExprType.{ExprType}
-use Rattle.csdl_schema.specs.SchemaModel.{slots_of, type_name_at}
-use Rattle.odata_signatures.specs.Functions.{IsNamed, row_of}
-use Rattle.odata_signatures.specs.declared.function.Function.{Function}
-use Rattle.odata_signatures.specs.Typed.{AreTyped, Scope}
-use Rattle.odata_checked_filter.specs.Filter.{Filter, IsFilter}
-use Rattle.odata_checked_filter.specs.private.Layout.{AllLie}
-use Rattle.odata_checked_filter.specs.Stands.{NumberStands, SideBySide}
-use Rattle.odata_checked_filter.specs.declared.checked_node.CheckedNode.{CheckedNode}
-use Rattle.odata_checked_filter.specs.declared.checked_node.NodeKind.{NodeKind}
-use Rattle.odata_checked_filter.proofs.flat.Children.{body_there, one_there, two_there}
-use Rattle.odata_checked_filter.proofs.flat.Numbered.{numbered}
-use Rattle.odata_checked_filter.proofs.flat.Standing.{lies_nonempty}
-use Rattle.odata_eval.proofs.walking.Operands.{one_kind}
-use Rattle.odata_eval.proofs.walking.Parts.{inside, there_found}
+use Rattle.odata_ranges.proofs.Common.{◌≡◌, ◌⊎◌, inl, inr, ℕ, ℤ, ◌<◌, ◌≤◌, ◌+◌, List, [], ◌∷◌, Some, length, slice_get, refl, sym, subst, arith, slice_get_within, Value, Tree, Trees, call, count, in_list, literal, more_trees, no_trees, node, BinaryOperator, LiteralKind, Quantifier, ExprType, slots_of, type_name_at, IsNamed, row_of, Function, AreTyped, Scope, Filter, IsFilter, AllLie, NumberStands, SideBySide, CheckedNode, NodeKind, body_there, one_there, two_there, numbered, lies_nonempty, one_kind, inside, there_found, NodeForm, form_of, LieBetween}
 use Rattle.odata_eval.proofs.walking.Spines.{some_taken}
-use Rattle.odata_ranges.specs.declared.node_form.NodeForm.{NodeForm}
-use Rattle.odata_ranges.specs.private.NodeForm.{form_of}
-use Rattle.odata_ranges.specs.private.Values.{LieBetween}
 use Rattle.odata_ranges.proofs.Forms.{StandsIn, by_kind as there_by_kind, valued_there}
 use Rattle.odata_ranges.proofs.TreesAt.{number_there, something_there}
 use Rattle.odata_ranges.proofs.Layouts.{LiesIn, by_kind, inside_there, stop_there, type_there}

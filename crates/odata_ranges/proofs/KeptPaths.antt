@@ -1,30 +1,7 @@
 -- What names and paths evaluate to: values as a row keeps them.
-use Rattle.std.proofs.Common.{◌≡◌, ◌⊎◌, ℕ, List, [], ◌∷◌, Bool, true, false, cond, find, Option, Some, None, inl, inr, refl, sym, subst, nat_eq}
-use Rattle.std.specs.Prelude.{MatchOption}
-use Rattle.std.specs.List.{AllByRecursion}
+use Rattle.odata_ranges.proofs.Common.{◌≡◌, ◌⊎◌, ℕ, List, [], ◌∷◌, Bool, true, false, cond, find, Option, Some, None, inl, inr, refl, sym, subst, nat_eq, MatchOption, AllByRecursion, pointwise, Val, null, fields, FieldVal, absent, present, PrimitiveType, Tree, any_item, binary, call, count, has, in_list, in_path, it, lambda, literal, logical_not, member, name, negation, node, LiteralKind, ExprType, single, collection, primitive, structured, PropertyModel, PropertyType, Slots, declared, navigation, opaque, slots_of, type_name_at, number_or_null, OperatorByTypes, BinaryOperator, Logical, Comparison, Arithmetic, LiteralTyped, PropertyTyped, StepTyped, Typed, named_type, property_named, variable_type, Filter, Environment, scope_of, variable_value, FieldGives, FoundGives, NameGives, StepGives, some_there, Then, Outcome, gives, AreKeptVariables, IsKept, IsKeptProperty, IsNullOnlyIf, property_takes_null, IsContextOf, MeansIn, CheckContext}
 use Rattle.std.specs.Option.{option_map}
-use Rattle.std.specs.Cmp.Lexicographic.{pointwise}
 use Rattle.std.proofs.lemmas.Slice.Eq.{bytes_eq-Decides}
-use Rattle.edm_values.specs.Val.{Val, null, fields, FieldVal, absent, present}
-use Rattle.edm_values.specs.declared.primitive.PrimitiveType.{PrimitiveType}
-use Rattle.odata_syntax.specs.Tree.{Tree, any_item, binary, call, count, has, in_list, in_path, it, lambda, literal, logical_not, member, name, negation, node}
-use Rattle.odata_syntax.specs.declared.node.LiteralKind.{LiteralKind}
-use Rattle.csdl_schema.specs.ExprType.{ExprType, single, collection, primitive, structured}
-use Rattle.csdl_schema.specs.SchemaModel.{PropertyModel, PropertyType, Slots, declared, navigation, opaque, slots_of, type_name_at}
-use Rattle.odata_signatures.specs.ExprTypes.{number_or_null}
-use Rattle.odata_signatures.specs.OperatorTyped.{OperatorByTypes}
-use Rattle.odata_syntax.specs.declared.binary_operator.BinaryOperator.{BinaryOperator}
-use Rattle.odata_syntax.specs.declared.binary_operator.BinaryOperator.TheVariants.{Logical, Comparison, Arithmetic}
-use Rattle.odata_signatures.specs.LiteralValue.{LiteralTyped}
-use Rattle.odata_signatures.specs.Typed.{PropertyTyped, StepTyped, Typed, named_type, property_named, variable_type}
-use Rattle.odata_checked_filter.specs.Filter.{Filter}
-use Rattle.odata_meaning.specs.Environment.{Environment, scope_of, variable_value}
-use Rattle.odata_meaning.specs.NameGives.{FieldGives, FoundGives, NameGives, StepGives}
-use Rattle.odata_eval.proofs.walking.Parts.{some_there}
-use Rattle.odata_filter_operations.specs.LeftFirst.{Then}
-use Rattle.odata_filter_operations.specs.Outcome.{Outcome, gives}
-use Rattle.odata_ranges.specs.Kept.{AreKeptVariables, IsKept, IsKeptProperty, IsNullOnlyIf, property_takes_null}
-use Rattle.odata_ranges.specs.Ranges.{IsContextOf, MeansIn, CheckContext}
 
 -- a value that a row may keep at the type
 abbrev pub ComesKept : Slots → ExprType → Outcome → Type 0
@@ -54,9 +31,8 @@ named_kept slots f asked p (q ∷ more) kept found =
 pub kept_as : (slots : Slots) (type_of : PropertyType) (takes : Bool) (type : ExprType) (v : Val) → named_type type_of ≡ Some type
     → IsKeptProperty slots type_of takes (present v) → IsNullOnlyIf takes v × IsKept slots type v
 kept_as slots (declared t) takes type v named kept = let same : t ≡ type = cc in (kept.0, subst (λ (s : ExprType). IsKept slots s v) same kept.1)
-kept_as slots opaque takes type v named kept = absurd (cc)
-kept_as slots (navigation None) takes type v named kept = absurd (cc)
 kept_as slots (navigation (Some t)) takes type v named kept = let same : t ≡ type = cc in (kept.0, subst (λ (s : ExprType). IsKept slots s v) same kept.1)
+kept_as slots _ takes type v named kept = absurd (cc)
 
 -- what a step from a record evaluates to, and when that is null
 pub field_kept : (slots : Slots) (f : List ℕ → FieldVal) (asked : List ℕ) (type : ExprType) (p : PropertyModel) (properties : List PropertyModel) (o : Outcome)
@@ -137,13 +113,9 @@ class_no_path (Arithmetic arithmetic) left right type typed path = number_no_pat
 
 pub literal_no_path : (slots : Slots) (kind : LiteralKind) (spelling : List ℕ) (type : ExprType) → LiteralTyped slots kind spelling type → IsPathType type → ⊥
 literal_no_path slots LiteralKind.Null spelling type typed path = subst IsPathType typed path
-literal_no_path slots LiteralKind.Bool spelling type typed path = subst IsPathType typed.2 path
 literal_no_path slots LiteralKind.Int spelling type typed path = subst IsPathType typed.2.2 path
-literal_no_path slots LiteralKind.Date spelling type typed path = subst IsPathType typed.2 path
-literal_no_path slots LiteralKind.Moment spelling type typed path = subst IsPathType typed.2 path
-literal_no_path slots LiteralKind.Guid spelling type typed path = subst IsPathType typed.2 path
-literal_no_path slots LiteralKind.Str spelling type typed path = subst IsPathType typed.2 path
 literal_no_path slots LiteralKind.EnumLit spelling type typed path = subst IsPathType typed.3 path
+literal_no_path slots _ spelling type typed path = subst IsPathType typed.2 path
 
 -- what a step from such a base evaluates to
 member_kept : (slots : Slots) (Base : ExprType → Type 0) (asked : List ℕ) (type operand : ExprType) (first o : Outcome)
@@ -167,16 +139,12 @@ module _ (filter : Filter) (context : CheckContext) (is : IsContextOf filter con
       (λ s. Typed (slots_of filter.schema) (type_name_at filter.schema filter.filtered) (scope_of context.environment) base s) asked type
       typed.operand means.0 o (λ s path_type base_typed. tree_kept base s means.0 path_type base_typed means.1.0) typed.operand_typed typed.makes means.1.1
   tree_kept (node from to (literal kind spelling)) type o path typed means = absurd (literal_no_path (slots_of filter.schema) kind spelling type typed path)
-  tree_kept (node from to (count base)) type o path typed means = absurd (no_path _ type typed.makes.1 path)
   tree_kept (node from to (negation operand)) type o path typed means = absurd (number_no_path _ type typed.makes.type_is path)
-  tree_kept (node from to (logical_not operand)) type o path typed means = absurd (no_path _ type typed.makes.1 path)
   tree_kept (node from to (binary operator left right)) type o path typed means = elim typed.makes [
     | inl by_class ↦ absurd (class_no_path operator _ _ type by_class path)
     | inr one ↦ absurd (no_path _ type one.1 path)
   ]
-  tree_kept (node from to (has left right)) type o path typed means = absurd (no_path _ type typed.makes.1 path)
   tree_kept (node from to (in_list left listed)) type o path typed means = absurd (no_path _ type typed.makes.2 path)
-  tree_kept (node from to (in_path left right)) type o path typed means = absurd (no_path _ type typed.makes.1 path)
   tree_kept (node from to (call asked arguments)) type o path typed means = absurd (no_path _ type typed.call_typed.typed.gives path)
-  tree_kept (node from to (any_item base)) type o path typed means = absurd (no_path _ type typed.makes.1 path)
   tree_kept (node from to (lambda quantifier base variable body)) type o path typed means = absurd (no_path _ type typed.makes path)
+  tree_kept (node from to _) type o path typed means = absurd (no_path _ type typed.makes.1 path)

@@ -1,17 +1,5 @@
 -- The tree that lies at an index, whatever values its literals have there, by the kind of the node.
-use Rattle.std.proofs.Common.{◌≡◌, ◌∙◌, ℕ, ◌<◌, Some, length, slice_get, sym, ap, subst}
-use Rattle.std.proofs.lemmas.Option.{slice_get_within}
-use Rattle.odata_syntax.specs.Tree.{Shape, Tree, node}
-use Rattle.csdl_schema.specs.SchemaModel.{slots_of, type_name_at}
-use Rattle.odata_signatures.specs.TypeView.{expr_type}
-use Rattle.odata_checked_filter.specs.Filter.{Filter}
-use Rattle.odata_checked_filter.specs.Stands.{IsKindOf}
-use Rattle.odata_checked_filter.specs.declared.checked_node.CheckedNode.{CheckedNode}
-use Rattle.odata_checked_filter.specs.declared.checked_node.NodeKind.{NodeKind}
-use Rattle.odata_checked_filter.specs.private.Layout.{Lies}
-use Rattle.odata_checked_filter.proofs.flat.Places.{same_found}
-use Rattle.odata_signatures.specs.Typed.{Scope}
-use Rattle.odata_eval.proofs.walking.Parts.{CasesOf}
+use Rattle.odata_ranges.proofs.Common.{◌≡◌, ◌∙◌, ℕ, ◌<◌, Some, length, slice_get, sym, ap, subst, slice_get_within, Shape, Tree, node, slots_of, type_name_at, expr_type, Filter, IsKindOf, CheckedNode, NodeKind, Lies, same_found, Scope, CasesOf}
 use Rattle.odata_ranges.proofs.Forms.{TypedIn, by_case}
 
 abbrev pub LiesIn : Filter → Scope → ℕ → ℕ → Tree → Type 0

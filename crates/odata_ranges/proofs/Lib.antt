@@ -1,6 +1,7 @@
 pub mod ArithmeticTypes
 pub mod CallRanges
 pub mod Calculations
+pub mod Common
 pub mod Corners
 pub mod Counts
 pub mod Ends

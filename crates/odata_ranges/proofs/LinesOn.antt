@@ -1,14 +1,5 @@
 -- The flags of trees in line, one after another.
-use Rattle.std.proofs.Common.{◌≡◌, ◌<◌, ◌≤◌, ℕ, List, Some, length, slice_get, sym, subst, arith}
-use Rattle.odata_syntax.specs.Tree.{Trees, more_trees, no_trees}
-use Rattle.odata_checked_filter.specs.Filter.{Filter}
-use Rattle.odata_checked_filter.specs.private.Layout.{AllLie}
-use Rattle.odata_checked_filter.specs.declared.checked_node.CheckedNode.{CheckedNode}
-use Rattle.odata_checked_filter.proofs.flat.Standing.{lie_onward, lies_nonempty}
-use Rattle.odata_eval.proofs.walking.Parts.{there_found}
-use Rattle.odata_signatures.specs.Typed.{Scope}
-use Rattle.odata_ranges.specs.declared.range.Range.{Range}
-use Rattle.odata_ranges.specs.private.Values.{AllPlaced, Covers, CoversLine}
+use Rattle.odata_ranges.proofs.Common.{◌≡◌, ◌<◌, ◌≤◌, ℕ, List, Some, length, slice_get, sym, subst, arith, Trees, more_trees, no_trees, Filter, AllLie, CheckedNode, lie_onward, lies_nonempty, there_found, Scope, Range, AllPlaced, Covers, CoversLine}
 use Rattle.odata_ranges.proofs.Layouts.{inside_there, stop_there}
 
 -- what is left of the trees, and what covers it and the flags covers all

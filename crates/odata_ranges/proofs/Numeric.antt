@@ -1,27 +1,5 @@
 -- Arithmetic is in a number type, or in that of null.
-use Rattle.std.proofs.Common.{◌≡◌, inl, inr, ℕ, Bool, true, false, cond, ◌||◌, Option, Some, None, slice_get, sym, subst}
-use Rattle.std.specs.Prelude.{IfSome}
-use Rattle.edm_values.specs.NumberTypes.{IsNumberType}
-use Rattle.edm_values.specs.declared.primitive.PrimitiveType.{PrimitiveType}
-use Rattle.edm_values.specs.declared.primitive.PrimitiveType.TheVariants.{Int16, Int32, Int64}
-use Rattle.csdl_schema.specs.ExprType.{ExprType, single, primitive}
-use Rattle.csdl_schema.specs.SchemaModel.{SchemaModel}
-use Rattle.odata_functions.specs.Promotion.{is_int32, is_int64, negation_type, promotion, wider_type}
-use Rattle.odata_signatures.specs.ExprTypes.{number_or_null}
-use Rattle.odata_signatures.specs.OperatorTyped.{OperatorByTypes, IsEquality}
-use Rattle.odata_signatures.specs.TypeView.{expr_type}
-use Rattle.odata_signatures.specs.declared.edm_type.EdmType.{EdmType}
-use Rattle.odata_signatures.specs.declared.edm_type.ValueType.{ValueType}
-use Rattle.odata_syntax.specs.declared.binary_operator.BinaryOperator.{BinaryOperator}
-use Rattle.odata_syntax.specs.declared.binary_operator.BinaryOperator.TheVariants.{Logical, Comparison, Arithmetic}
-use Rattle.odata_syntax.specs.declared.binary_operator.ComparisonOperator.{ComparisonOperator}
-use Rattle.odata_syntax.specs.Tree.{binary, negation, node}
-use Rattle.odata_checked_filter.specs.Filter.{Filter, IsFilter}
-use Rattle.odata_checked_filter.specs.declared.checked_node.CheckedNode.{CheckedNode}
-use Rattle.odata_checked_filter.specs.declared.checked_node.NodeKind.{NodeKind}
-use Rattle.odata_checked_filter.proofs.flat.Numbered.{numbered}
-use Rattle.odata_ranges.specs.private.Operators.{IsNumericIn}
-use Rattle.odata_ranges.specs.private.Values.{IsNumeric}
+use Rattle.odata_ranges.proofs.Common.{◌≡◌, inl, inr, ℕ, Bool, true, false, cond, ◌||◌, Option, Some, None, slice_get, sym, subst, IfSome, IsNumberType, PrimitiveType, Int16, Int32, Int64, ExprType, single, primitive, SchemaModel, is_int32, is_int64, negation_type, promotion, wider_type, number_or_null, OperatorByTypes, IsEquality, expr_type, EdmType, ValueType, BinaryOperator, Logical, Comparison, Arithmetic, ComparisonOperator, binary, negation, node, Filter, IsFilter, CheckedNode, NodeKind, numbered, IsNumericIn, IsNumeric}
 use Rattle.odata_ranges.proofs.Layouts.{LiesIn, by_kind, type_there}
 
 chosen : (a b : Bool) → IsNumberType (cond a Int64 (cond b Int32 Int16))
@@ -48,17 +26,13 @@ numeric : (schema : SchemaModel) (type : EdmType) (number : Option PrimitiveType
 numeric schema EdmType.Null number is same = tt
 numeric schema (EdmType.Single (ValueType.Prim p)) None is same = absurd (cc)
 numeric schema (EdmType.Single (ValueType.Prim p)) (Some q) is same = subst IsNumberType (sym (same_prim p q same)) is
-numeric schema (EdmType.Single (ValueType.Enum e)) None is same = absurd (cc)
-numeric schema (EdmType.Single (ValueType.Enum e)) (Some q) is same = absurd (cc)
-numeric schema (EdmType.Single (ValueType.Structured t)) None is same = absurd (cc)
-numeric schema (EdmType.Single (ValueType.Structured t)) (Some q) is same = absurd (cc)
 numeric schema (EdmType.Collection s) None is same = absurd (cc)
-numeric schema (EdmType.Collection s) (Some q) is same = absurd (cc)
+numeric schema _ (Some q) is same = absurd (cc)
+numeric schema (EdmType.Single _) None is same = absurd (cc)
 
 class_numeric : (schema : SchemaModel) (type : EdmType) (class : BinaryOperator) (left right : ExprType) → OperatorByTypes class left right (expr_type schema type) → IsNumericIn class type
-class_numeric schema type (Logical connective) left right typed = tt
-class_numeric schema type (Comparison comparison) left right typed = tt
 class_numeric schema type (Arithmetic arithmetic) left right typed = numeric schema type _ (promoted typed.left_number typed.right_number) typed.type_is
+class_numeric schema type _ left right typed = tt
 
 equality_numeric : (type : EdmType) (operator : BinaryOperator) → IsEquality operator → IsNumericIn operator type
 equality_numeric type (BinaryOperator.Comparison ComparisonOperator.Eq) is = tt

@@ -1,25 +1,11 @@
 -- Properties of the code, and the types that own them.
-use Rattle.std.proofs.Common.{◌≡◌, ◌∙◌, inl, inr, ℕ, ◌<◌, ◌+◌, List, Option, Some, length, slice_get, refl, sym, ap, subst}
-use Rattle.std.specs.Prelude.{IfSome}
-use Rattle.csdl_schema.specs.ExprType.{single, structured}
+use Rattle.odata_ranges.proofs.Common.{◌≡◌, ◌∙◌, inl, inr, ℕ, ◌<◌, ◌+◌, List, Option, Some, length, slice_get, refl, sym, ap, subst, IfSome, single, structured, PropertyModel, SchemaModel, properties_at, slots_of, type_name_at, Tree, name, EdmType, ValueType, OneType, Scope, Typed, Filter, IsFilter, CheckedNode, NodeKind, numbered, same_found, BelongsTo, IsOwnerAt, NamesSlotOf}
 use Rattle.csdl_schema.specs.PropertyView.{IsReadAs}
-use Rattle.csdl_schema.specs.SchemaModel.{PropertyModel, SchemaModel, properties_at, slots_of, type_name_at}
 use Rattle.csdl_schema.specs.declared.property.Property.{Property}
 use Rattle.csdl_schema.specs.declared.property.PropertyKind.TheVariants as kind
-use Rattle.odata_syntax.specs.Tree.{Tree, name}
-use Rattle.odata_signatures.specs.declared.edm_type.EdmType.{EdmType}
-use Rattle.odata_signatures.specs.declared.edm_type.ValueType.{ValueType}
-use Rattle.odata_signatures.specs.Laws.{OneType}
-use Rattle.odata_signatures.specs.Typed.{Scope, Typed}
-use Rattle.odata_checked_filter.specs.Filter.{Filter, IsFilter}
-use Rattle.odata_checked_filter.specs.declared.checked_node.CheckedNode.{CheckedNode}
-use Rattle.odata_checked_filter.specs.declared.checked_node.NodeKind.{NodeKind}
-use Rattle.odata_checked_filter.proofs.flat.Numbered.{numbered}
-use Rattle.odata_checked_filter.proofs.flat.Places.{same_found}
 use Rattle.odata_checked_filter.proofs.needed.Kinds.{IsStepThere, property_there, step_there}
 use Rattle.odata_checked_filter.proofs.needed.Paths.{IsOwner, owner_there}
 use Rattle.odata_checked_filter.proofs.needed.Steps.{slot_below}
-use Rattle.odata_ranges.specs.Owners.{BelongsTo, IsOwnerAt, NamesSlotOf}
 use Rattle.odata_ranges.proofs.Forms.{lies}
 use Rattle.odata_ranges.proofs.Layouts.{inside_there}
 

@@ -1,11 +1,5 @@
 -- Ranges put one before another.
-use Rattle.std.proofs.Common.{◌≡◌, ◌⊎◌, ◌<◌, ◌≤◌, ◌+◌, ◌++◌, inl, inr, ℕ, zero, suc, List, [], ◌∷◌, Some, length, slice_get, slice_set, refl, sym, subst, arith}
-use Rattle.std.proofs.lemmas.Option.{slice_get_within}
-use Rattle.odata_checked_filter.specs.Filter.{Filter}
-use Rattle.odata_checked_filter.specs.declared.checked_node.CheckedNode.{CheckedNode}
-use Rattle.odata_ranges.specs.Faults.{AreQuiet, AreReportedFrom, ReportsFaults}
-use Rattle.odata_ranges.specs.Ranges.{AreRangesFrom, IsRangeAt}
-use Rattle.odata_ranges.specs.declared.range.Range.{Range}
+use Rattle.odata_ranges.proofs.Common.{◌≡◌, ◌⊎◌, ◌<◌, ◌≤◌, ◌+◌, ◌++◌, inl, inr, ℕ, zero, suc, List, [], ◌∷◌, Some, length, slice_get, slice_set, refl, sym, subst, arith, slice_get_within, Filter, CheckedNode, AreQuiet, AreReportedFrom, ReportsFaults, AreRangesFrom, IsRangeAt, Range}
 
 put_there : (xs : List Range) (k : ℕ) (x y : Range) → slice_get (slice_set xs k x) k ≡ Some y → x ≡ y
 put_there [] k x y is = absurd (cc)

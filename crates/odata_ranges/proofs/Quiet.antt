@@ -1,13 +1,5 @@
 -- Places between which no node evaluates to a fault.
-use Rattle.std.proofs.Common.{◌≡◌, ◌∙◌, inl, inr, ℕ, ◌≤◌, ◌+◌, List, Some, false, slice_get, refl, sym, ap, subst, arith}
-use Rattle.odata_checked_filter.specs.Filter.{Filter, IsFilter}
-use Rattle.odata_checked_filter.specs.declared.checked_node.CheckedNode.{CheckedNode}
-use Rattle.odata_checked_filter.specs.declared.checked_node.NodeKind.{NodeKind}
-use Rattle.odata_checked_filter.proofs.flat.Places.{same_found}
-use Rattle.odata_ranges.specs.Faults.{AreQuiet, MakesNone}
-use Rattle.odata_ranges.specs.declared.node_form.NodeForm.{NodeForm}
-use Rattle.odata_ranges.specs.declared.range.Range.{Range}
-use Rattle.odata_ranges.specs.private.NodeForm.{IsOwnRange, form_of}
+use Rattle.odata_ranges.proofs.Common.{◌≡◌, ◌∙◌, inl, inr, ℕ, ◌≤◌, ◌+◌, List, Some, false, slice_get, refl, sym, ap, subst, arith, Filter, IsFilter, CheckedNode, NodeKind, same_found, AreQuiet, MakesNone, NodeForm, Range, IsOwnRange, form_of}
 use Rattle.odata_ranges.proofs.Ends.{one_below, two_below}
 use Rattle.odata_ranges.proofs.Put.{at_or_after}
 use Rattle.odata_ranges.proofs.Values.{before_or_past}

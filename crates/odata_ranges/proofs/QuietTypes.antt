@@ -1,38 +1,10 @@
 -- Types and kinds whose nodes evaluate to no fault.
-use Rattle.std.proofs.Common.{◌≡◌, ◌⊎◌, ◌∙◌, inl, inr, ℕ, ◌+◌, List, [], ◌∷◌, Option, Some, None, slice_get, refl, sym, ap, subst, arith}
-use Rattle.std.specs.Prelude.{IfSome}
-use Rattle.edm_values.specs.NumberTypes.{IsNumberType}
-use Rattle.edm_values.specs.declared.primitive.PrimitiveType.{PrimitiveType}
-use Rattle.odata_syntax.specs.Tree.{Tree, Trees, any_item, binary, call, count, has, in_list, in_path, it, lambda, literal, logical_not, member, more_trees, name, negation, no_trees, node}
-use Rattle.odata_syntax.specs.declared.binary_operator.BinaryOperator.{BinaryOperator}
-use Rattle.odata_syntax.specs.declared.node.LiteralKind.{LiteralKind}
-use Rattle.csdl_schema.specs.ExprType.{ExprType, null_type, single, collection, primitive, enumeration, structured}
-use Rattle.csdl_schema.specs.SchemaModel.{PropertyModel, SchemaModel, Slots, slots_of, type_name_at}
-use Rattle.odata_functions.specs.Promotion.{negation_type, promotion}
+use Rattle.odata_ranges.proofs.Common.{◌≡◌, ◌⊎◌, ◌∙◌, inl, inr, ℕ, ◌+◌, List, [], ◌∷◌, Option, Some, None, slice_get, refl, sym, ap, subst, arith, IfSome, IsNumberType, PrimitiveType, Tree, Trees, any_item, binary, call, count, has, in_list, in_path, it, lambda, literal, logical_not, member, more_trees, name, negation, no_trees, node, BinaryOperator, LiteralKind, ExprType, null_type, single, collection, primitive, enumeration, structured, PropertyModel, SchemaModel, Slots, slots_of, type_name_at, negation_type, promotion, IsCollection, IsNumberOrNull, number_or_null, IsNamed, row_of, expr_type, EdmType, ValueType, Function, OneType, AreTyped, Scope, StepTyped, Typed, Filter, IsFilter, AllLie, IsCallNode, IsLiteralNode, IsMemberNode, IsNameNode, variable_names, CheckedNode, NodeKind, one_there, two_there, numbered, lies_nonempty, AreQuiet, AreQuietThere, AreReportedFrom, IsQuietKind, IsQuietType, MakesNone, Range}
 use Rattle.odata_signatures.specs.ArgumentTypes.{AreArgumentTypes, IsArgumentType}
-use Rattle.odata_signatures.specs.CollectionTyped.{IsCollection}
-use Rattle.odata_signatures.specs.ExprTypes.{IsNumberOrNull, number_or_null}
-use Rattle.odata_signatures.specs.Functions.{IsNamed, row_of}
 use Rattle.odata_signatures.specs.HasTyped.{AreFlags}
 use Rattle.odata_signatures.specs.QuotedNumber.{HasNumber}
-use Rattle.odata_signatures.specs.TypeView.{expr_type}
 use Rattle.odata_signatures.specs.declared.argument_kind.ArgumentKind.{ArgumentKind}
-use Rattle.odata_signatures.specs.declared.edm_type.EdmType.{EdmType}
-use Rattle.odata_signatures.specs.declared.edm_type.ValueType.{ValueType}
-use Rattle.odata_signatures.specs.declared.function.Function.{Function}
-use Rattle.odata_signatures.specs.Laws.{OneType}
 use Rattle.odata_signatures.specs.Sides.{quoted_text}
-use Rattle.odata_signatures.specs.Typed.{AreTyped, Scope, StepTyped, Typed}
-use Rattle.odata_checked_filter.specs.Filter.{Filter, IsFilter}
-use Rattle.odata_checked_filter.specs.private.Layout.{AllLie}
-use Rattle.odata_checked_filter.specs.Stands.{IsCallNode, IsLiteralNode, IsMemberNode, IsNameNode, variable_names}
-use Rattle.odata_checked_filter.specs.declared.checked_node.CheckedNode.{CheckedNode}
-use Rattle.odata_checked_filter.specs.declared.checked_node.NodeKind.{NodeKind}
-use Rattle.odata_checked_filter.proofs.flat.Children.{one_there, two_there}
-use Rattle.odata_checked_filter.proofs.flat.Numbered.{numbered}
-use Rattle.odata_checked_filter.proofs.flat.Standing.{lies_nonempty}
-use Rattle.odata_ranges.specs.Faults.{AreQuiet, AreQuietThere, AreReportedFrom, IsQuietKind, IsQuietType, MakesNone}
-use Rattle.odata_ranges.specs.declared.range.Range.{Range}
 use Rattle.odata_ranges.proofs.Forms.{TypedIn}
 use Rattle.odata_ranges.proofs.Layouts.{LiesIn, by_kind, stop_there, type_there}
 use Rattle.odata_ranges.proofs.Numeric.{negated, promoted}
@@ -80,14 +52,11 @@ promotion_none (Some p) right is = absurd (cc)
 operand_null : (type : ExprType) (number : Option PrimitiveType) → IsNumberOrNull type number → number ≡ None → type ≡ null_type
 operand_null null_type number is none = refl
 operand_null (single (primitive p)) number is none = let some : number ≡ Some p = is.1 in absurd (cc)
-operand_null (single (enumeration n)) number is none = absurd is
-operand_null (single (structured n)) number is none = absurd is
-operand_null (collection s) number is none = absurd is
+operand_null _ number is none = absurd is
 
 edm_null : (schema : SchemaModel) (type : EdmType) → expr_type schema type ≡ null_type → type ≡ EdmType.Null
 edm_null schema EdmType.Null is = refl
-edm_null schema (EdmType.Single s) is = absurd (cc)
-edm_null schema (EdmType.Collection s) is = absurd (cc)
+edm_null schema _ is = absurd (cc)
 
 step_quiet : (slots : Slots) (asked : List ℕ) (base type : ExprType) → StepTyped slots asked base type → IsQuietExpr base
 step_quiet slots asked (single (structured owner)) type is = tt
@@ -100,9 +69,7 @@ collection_quiet _ is = absurd is
 moment_quiet : (type : ExprType) → IsArgumentType ArgumentKind.Moment type → IsQuietExpr type
 moment_quiet null_type is = tt
 moment_quiet (single (primitive p)) is = subst (λ (q : PrimitiveType). IsQuietExpr (single (primitive q))) (sym is) tt
-moment_quiet (single (enumeration n)) is = absurd is
-moment_quiet (single (structured n)) is = absurd is
-moment_quiet (collection s) is = absurd is
+moment_quiet _ is = absurd is
 
 flags_quiet : (left right : ExprType) → AreFlags left right → IsQuietExpr left × IsQuietExpr right
 flags_quiet null_type null_type are = (tt, tt)
@@ -138,9 +105,8 @@ member_makes slots Base asked (NodeKind.Member slot) type is = tt
 member_makes slots Base asked _ type is = absurd is
 
 binary_makes : (operator : BinaryOperator) (type : EdmType) → type ≡ EdmType.Null → MakesNone (NodeKind.Binary operator) type
-binary_makes (BinaryOperator.Logical logical) type is = tt
-binary_makes (BinaryOperator.Comparison comparison) type is = tt
 binary_makes (BinaryOperator.Arithmetic arithmetic) type is = is
+binary_makes _ type is = tt
 
 abbrev OneName : Type 0
 OneName = (f g : Function) (asked : List ℕ) → IsNamed f asked → IsNamed g asked → f ≡ g
@@ -228,7 +194,6 @@ module _ (filter : Filter) (types : OneType) (named : OneName) (ranges : List Ra
       (member_makes (slots_of filter.schema) (TypedIn filter scope base) asked stands.top.found.kind stands.top.found.edm_type stands.top.kind)
       (quiet_there scope (i + 1) j base typed.operand (one_there filter.schema filter.filtered scope filter.list (i + 1) j base stands.children) typed.operand_typed
       (step_quiet (slots_of filter.schema) asked typed.operand type typed.makes))
-  quiet_there scope i j (node s e (count base)) type stands typed quiet = absurd (subst IsQuietExpr typed.makes.1 quiet)
   quiet_there scope i j (node s e (negation operand)) type stands typed quiet =
       let number = typed.makes.number in
       let computed : negation_type number ≡ None = quiet_number (negation_type number) (negated number) (subst IsQuietExpr typed.makes.type_is quiet) in
@@ -241,7 +206,6 @@ module _ (filter : Filter) (types : OneType) (named : OneName) (ranges : List Ra
       (subst (λ (k : NodeKind). MakesNone k stands.top.found.edm_type) (sym stands.top.kind) edm)
       (quiet_there scope (i + 1) j operand typed.operand (one_there filter.schema filter.filtered scope filter.list (i + 1) j operand stands.children) typed.operand_typed
       (subst IsQuietExpr (sym null) tt))
-  quiet_there scope i j (node s e (logical_not operand)) type stands typed quiet = absurd (subst IsQuietExpr typed.makes.1 quiet)
   quiet_there scope i j (node s e (binary (BinaryOperator.Logical logical) left right)) type stands typed quiet =
       elim typed.makes [ inl by ↦ absurd (subst IsQuietExpr by.2 quiet) | inr one ↦ absurd (subst IsQuietExpr one.1 quiet) ]
   quiet_there scope i j (node s e (binary (BinaryOperator.Comparison comparison) left right)) type stands typed quiet =
@@ -267,10 +231,7 @@ module _ (filter : Filter) (types : OneType) (named : OneName) (ranges : List Ra
             )
         | inr one ↦ absurd (subst IsQuietExpr one.1 quiet)
       ]
-  quiet_there scope i j (node s e (has left right)) type stands typed quiet = absurd (subst IsQuietExpr typed.makes.1 quiet)
   quiet_there scope i j (node s e (in_list left items)) type stands typed quiet = absurd (subst IsQuietExpr typed.makes.2 quiet)
-  quiet_there scope i j (node s e (in_path left path)) type stands typed quiet = absurd (subst IsQuietExpr typed.makes.1 quiet)
-  quiet_there scope i j (node s e (any_item base)) type stands typed quiet = absurd (subst IsQuietExpr typed.makes.1 quiet)
   quiet_there scope i j (node s e (lambda quantifier base variable body)) type stands typed quiet = absurd (subst IsQuietExpr typed.makes quiet)
   quiet_there scope i j (node s e (call asked no_trees)) type stands typed quiet =
       let called = typed.call_typed in
@@ -288,6 +249,7 @@ module _ (filter : Filter) (types : OneType) (named : OneName) (ranges : List Ra
       top_quiet scope i j (node s e (call asked (more_trees tree more))) stands.top.found stands.top.stands_at stands
       (call_makes named asked called.function called.named function stands.top.found.kind stands.top.found.edm_type stands.top.kind)
       (subst (λ (n : ℕ). AreQuiet ranges (i + 1) n) ends (quiet_there scope (i + 1) stands.children.middle tree first.type_of stands.children.left first.typed alone.0))
+  quiet_there scope i j (node s e _) type stands typed quiet = absurd (subst IsQuietExpr typed.makes.1 quiet)
 
   module _ (scope : Scope) (place : ℕ) (found : CheckedNode) (at : slice_get filter.list.nodes place ≡ Some found) where
     -- what stands at the index has no children, or such a one

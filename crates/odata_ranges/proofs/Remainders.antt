@@ -1,14 +1,6 @@
 -- Products fit, and remainders lie near 0.
-use Rattle.std.proofs.Common.{◌≡◌, ◌≢◌, ◌⊎◌, inl, inr, suc, ◌≤◌, ℤ, pos, negsuc, ◌*ℤ◌, ◌<ℤ◌, ◌≤ℤ◌, arith, lit<, sym, subst, int_rem, int_div, unsigned_abs}
-use Rattle.std.specs.Int.{w128}
-use Rattle.std.specs.Prelude.{FitsSigned}
-use Rattle.std.proofs.Math.Nat.{mod-le}
-use Rattle.std.proofs.lemmas.Int.{fits_signed_mul, ints}
-use Rattle.odata_functions.proofs.Divisions.{division, one_remainder}
-use Rattle.odata_functions.specs.Arithmetic.{MakesNumber}
+use Rattle.odata_ranges.proofs.Common.{◌≡◌, ◌≢◌, ◌⊎◌, inl, inr, suc, ◌≤◌, ℤ, pos, negsuc, ◌*ℤ◌, ◌<ℤ◌, ◌≤ℤ◌, arith, lit<, sym, subst, int_rem, int_div, unsigned_abs, w128, FitsSigned, mod-le, fits_signed_mul, ints, division, one_remainder, MakesNumber, ArithmeticOperator, IsSmall}
 use Rattle.odata_functions.specs.Division.{IsDivision}
-use Rattle.odata_syntax.specs.declared.binary_operator.ArithmeticOperator.{ArithmeticOperator}
-use Rattle.odata_ranges.specs.Reach.{IsSmall}
 
 small_abs : (n : ℤ) → IsSmall n → unsigned_abs n ≤ 9_223_372_036_854_775_808
 small_abs n small = omega (arith, ints)

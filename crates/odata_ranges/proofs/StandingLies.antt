@@ -1,14 +1,5 @@
 -- What stands beside an operand, as trees or as items of a list lies as the trees do.
-use Rattle.std.proofs.Common.{ℕ, ℤ, inl, inr}
-use Rattle.odata_syntax.specs.Tree.{Tree, Trees, node, literal, more_trees, no_trees}
-use Rattle.odata_syntax.specs.declared.node.LiteralKind.{LiteralKind}
-use Rattle.csdl_schema.specs.ExprType.{ExprType}
-use Rattle.csdl_schema.specs.SchemaModel.{SchemaModel}
-use Rattle.odata_checked_filter.specs.FlatTree.{FlatTree}
-use Rattle.odata_checked_filter.specs.Stands.{AllStand, ItemsStand, NumberStands, ResolvedStands, Stands}
-use Rattle.odata_checked_filter.specs.private.Layout.{AllLie, Lies}
-use Rattle.odata_checked_filter.proofs.flat.Lying.{stands_lie}
-use Rattle.odata_signatures.specs.Typed.{Scope}
+use Rattle.odata_ranges.proofs.Common.{ℕ, ℤ, inl, inr, Tree, Trees, node, literal, more_trees, no_trees, LiteralKind, ExprType, SchemaModel, FlatTree, AllStand, ItemsStand, NumberStands, ResolvedStands, Stands, AllLie, Lies, stands_lie, Scope}
 
 number_lies :
     (schema : SchemaModel) (n : ℕ) (scope : Scope) (list : FlatTree) (number : ℤ) (i j : ℕ) (tree : Tree)

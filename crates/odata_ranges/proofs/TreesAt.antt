@@ -1,21 +1,7 @@
 -- What stands at an index of a filter's list: a tree, or a text that is read as the number of an enumeration.
-use Rattle.std.proofs.Common.{◌≡◌, ◌∙◌, ◌⊎◌, inl, inr, ap, subst, ℕ, zero, suc, ℤ, ◌<◌, ◌≤◌, ◌+◌, List, [], Some, length, slice_get, arith}
-use Rattle.std.proofs.lemmas.Option.{slice_get_within}
-use Rattle.edm_values.specs.declared.value.Value.{Value}
-use Rattle.csdl_schema.specs.ExprType.{ExprType, single}
-use Rattle.csdl_schema.specs.SchemaModel.{SchemaModel, slots_of, type_name_at}
-use Rattle.odata_syntax.specs.Tree.{Shape, Tree, Trees, any_item, binary, call, count, has, in_list, in_path, it, lambda, literal, logical_not, member, more_trees, name, negation, no_trees, node}
-use Rattle.odata_syntax.specs.declared.node.LiteralKind.{LiteralKind}
-use Rattle.odata_signatures.specs.Typed.{Scope, Typed, with_variable}
-use Rattle.odata_checked_filter.specs.Filter.{Filter, IsFilter, tree_of_filter}
-use Rattle.odata_checked_filter.specs.FlatTree.{FlatTree}
-use Rattle.odata_checked_filter.specs.Stands.{AllStand, ResolvedStands, ChildrenStand, HasValue, IsLiteralNode, ItemsStand, NumberStands, Stands}
-use Rattle.odata_checked_filter.specs.declared.checked_node.CheckedNode.{CheckedNode}
-use Rattle.odata_checked_filter.specs.declared.checked_node.NodeKind.{NodeKind}
+use Rattle.odata_ranges.proofs.Common.{◌≡◌, ◌∙◌, ◌⊎◌, inl, inr, ap, subst, ℕ, zero, suc, ℤ, ◌<◌, ◌≤◌, ◌+◌, List, [], Some, length, slice_get, arith, slice_get_within, Value, ExprType, single, SchemaModel, slots_of, type_name_at, Shape, Tree, Trees, any_item, binary, call, count, has, in_list, in_path, it, lambda, literal, logical_not, member, more_trees, name, negation, no_trees, node, LiteralKind, Scope, Typed, with_variable, Filter, IsFilter, tree_of_filter, FlatTree, AllStand, ResolvedStands, ChildrenStand, HasValue, IsLiteralNode, ItemsStand, NumberStands, Stands, CheckedNode, NodeKind, body_stands, IsOther, one_kind, some_there, there_found}
 use Rattle.odata_eval.specs.private.Place.{HasKind}
-use Rattle.odata_eval.proofs.walking.Children.{body_stands, one_there}
-use Rattle.odata_eval.proofs.walking.Operands.{IsOther, one_kind}
-use Rattle.odata_eval.proofs.walking.Parts.{some_there, there_found}
+use Rattle.odata_eval.proofs.walking.Children.{one_there}
 
 -- ---- a text that is read
 
@@ -110,9 +96,6 @@ module _ (schema : SchemaModel) (n : ℕ) (list : FlatTree) (p : ℕ) where
         ]
 
     in_children : (scope : Scope) (i j : ℕ) (shape : Shape) → ChildrenStand schema n scope list i j shape → i ≤ p → p < j → SomethingAt schema n list p
-    in_children scope i j (literal kind spelling) stand low high = nothing i j stand low high
-    in_children scope i j it stand low high = nothing i j stand low high
-    in_children scope i j (name asked) stand low high = nothing i j stand low high
     in_children scope i j (member base asked) stand low high = something_at scope i j base (one_there schema n scope list i j base stand) low high
     in_children scope i j (count base) stand low high = something_at scope i j base (one_there schema n scope list i j base stand) low high
     in_children scope i j (negation operand) stand low high = something_at scope i j operand (one_there schema n scope list i j operand stand) low high
@@ -146,6 +129,7 @@ module _ (schema : SchemaModel) (n : ℕ) (list : FlatTree) (p : ℕ) where
         let inner = body_stands schema n scope list m j base variable body stand.right in
         in_two m (λ before. something_at scope i m base stand.left low before)
         (λ after. something_at (with_variable scope variable (single inner.member_type)) m j body inner.body after high)
+    in_children scope i j _ stand low high = nothing i j stand low high
 
     in_trees : (scope : Scope) (i j : ℕ) (trees : Trees) → AllStand schema n scope list i j trees → i ≤ p → p < j → SomethingAt schema n list p
     in_trees scope i j no_trees stand low high = nothing i j stand low high

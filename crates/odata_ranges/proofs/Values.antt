@@ -1,18 +1,5 @@
 -- The values that a type has lie within its range.
-use Rattle.std.proofs.Common.{◌≡◌, ◌↔◌, ◌∙◌, ℕ, zero, suc, ◌<◌, ◌≤◌, ℤ, arith, Bool, List, refl}
-use Rattle.edm_values.specs.NumberTypes.{IsNumberOf, IsNumberType}
-use Rattle.edm_values.specs.Val.{Val, null, whole, text}
-use Rattle.edm_values.specs.declared.primitive.PrimitiveType.{PrimitiveType}
-use Rattle.csdl_schema.specs.SchemaModel.{SchemaModel, slots_of}
-use Rattle.edm_entities.specs.HasType.{HasType, IsPrimitiveValue}
-use Rattle.odata_signatures.specs.TypeView.{expr_type}
-use Rattle.odata_signatures.specs.declared.edm_type.EdmType.{EdmType}
-use Rattle.odata_signatures.specs.declared.edm_type.ValueType.{ValueType}
-use Rattle.odata_ranges.specs.Kept.{IsKept, IsNullOnlyIf}
-use Rattle.odata_ranges.specs.Reach.{HoldsNumber, IsBounded}
-use Rattle.odata_ranges.specs.Within.{HoldsCount, IsValueWithin}
-use Rattle.odata_ranges.specs.declared.range.Range.{Range}
-use Rattle.odata_ranges.specs.private.Values.{HoldsValues, IsNumeric}
+use Rattle.odata_ranges.proofs.Common.{◌≡◌, ◌↔◌, ◌∙◌, ℕ, zero, suc, ◌<◌, ◌≤◌, ℤ, arith, Bool, List, refl, IsNumberOf, IsNumberType, Val, null, whole, text, PrimitiveType, SchemaModel, slots_of, HasType, IsPrimitiveValue, expr_type, EdmType, ValueType, IsKept, IsNullOnlyIf, HoldsNumber, IsBounded, HoldsCount, IsValueWithin, Range, HoldsValues, IsNumeric}
 
 number_type_of : (p : PrimitiveType) (n : ℤ) → IsNumberOf p n → IsNumberType p
 number_type_of PrimitiveType.Byte n is = tt
@@ -44,18 +31,12 @@ IsOther (EdmType.Single (ValueType.Prim p)) = ⊥
 IsOther _ = Unit {0}
 
 no_number : (schema : SchemaModel) (type : EdmType) (n : ℤ) → IsOther type → HasType (slots_of schema) (expr_type schema type) (whole n) → ⊥
-no_number schema EdmType.Null n other has = has
 no_number schema (EdmType.Single (ValueType.Prim p)) n other has = other
-no_number schema (EdmType.Single (ValueType.Enum e)) n other has = has
-no_number schema (EdmType.Single (ValueType.Structured t)) n other has = has
-no_number schema (EdmType.Collection s) n other has = has
+no_number schema _ n other has = has
 
 no_text : (schema : SchemaModel) (type : EdmType) (s : List ℕ) → IsOther type → HasType (slots_of schema) (expr_type schema type) (text s) → ⊥
-no_text schema EdmType.Null s other has = has
 no_text schema (EdmType.Single (ValueType.Prim p)) s other has = other
-no_text schema (EdmType.Single (ValueType.Enum e)) s other has = has
-no_text schema (EdmType.Single (ValueType.Structured t)) s other has = has
-no_text schema (EdmType.Collection c) s other has = has
+no_text schema _ s other has = has
 
 pub other_values : (type : EdmType) (takes : Bool) (range : Range) → IsOther type → range.may_be_null ≡ takes → HoldsValues type takes range
 other_values type takes range other nulls = λ schema v has kept only. by schema v has only
@@ -65,13 +46,6 @@ other_values type takes range other nulls = λ schema v has kept only. by schema
     by schema (whole n) has only = absurd (no_number schema type n other has)
     by schema (text s) has only = absurd (no_text schema type s other has)
     by schema _ has only = tt
-
--- ---- number types
-
-pub numeric_prim : (type : ValueType) → IsNumeric (EdmType.Single type) → ((p : PrimitiveType) → type ≡ ValueType.Prim p → ⊥) → ⊥
-numeric_prim (ValueType.Prim p) numeric other = other p refl
-numeric_prim (ValueType.Enum e) numeric other = numeric
-numeric_prim (ValueType.Structured t) numeric other = numeric
 
 -- ---- bounds
 

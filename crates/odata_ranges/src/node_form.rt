@@ -5,7 +5,7 @@ ghost use Rattle.odata_ranges.specs.private.NodeForm.{form_of};
 use odata_checked_filter::NodeKind;
 
 /// A node without children, a step of a path, a node with one operand or with two, `in` before a list, and a call.
-#[derive(Clone, Copy, Debug, PartialEq, Eq)]
+#[derive(Clone, Copy)]
 pub(crate) enum NodeForm {
     Leaf,
     Step,

@@ -2,7 +2,7 @@ ghost use Rattle.std.specs.Prelude.{◌≡◌, ◌↔◌, ◌||◌, pos, false, 
 ghost use Rattle.odata_ranges.specs.Reach.{HoldsNumber};
 
 /// What the outcomes of a node lie within.
-#[derive(Clone, Copy, Debug, PartialEq, Eq)]
+#[derive(Clone, Copy)]
 pub struct Range {
     pub may_fault: bool,
     pub may_be_null: bool,

@@ -33,14 +33,14 @@ fn most_symbols(dialect: Dialect) -> usize {
 
 /// An expression of SQL over the rows of a table that goes by `t`.
 /// Its parameters are numbered from 1.
-#[derive(Debug, Drop)]
+#[derive(Drop)]
 pub struct Statement {
     pub text: String,
     pub parameters: Vec<Parameter>,
 }
 
 /// What a filter says of the rows of a table.
-#[derive(Debug, Drop)]
+#[derive(Drop)]
 pub struct Conditions {
     /// A number: 0 for false, 1 for true, 2 for null, 3 for Overflow and 4 for DivideByZero.
     pub outcome: Statement,

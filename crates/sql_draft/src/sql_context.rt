@@ -25,7 +25,7 @@ pub struct SqlContext<'f, 's> {
 }
 
 /// What kind of values a node has.
-#[derive(Clone, Copy, Debug, PartialEq, Eq)]
+#[derive(Clone, Copy, PartialEq, Eq)]
 pub enum Kind {
     /// Null alone.
     Null,

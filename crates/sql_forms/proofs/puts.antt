@@ -27,6 +27,7 @@ pub mod ListCodePut
 pub mod LiteralsPut
 pub mod MemberOutcomes
 pub mod MissingPut
+pub mod OneLeft
 pub mod OperandsPut
 pub mod OrNullsLet
 pub mod OrNullsPut

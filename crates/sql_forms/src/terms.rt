@@ -21,7 +21,7 @@ use sql_tree::SqlNode;
 use std::alloc::{AllocError, Global};
 
 /// What is put of a node of truth values.
-#[derive(Clone, Copy, Debug, PartialEq, Eq)]
+#[derive(Clone, Copy)]
 pub enum Form {
     /// Its value, of a node that evaluates to no fault.
     Truth,

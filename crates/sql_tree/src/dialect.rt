@@ -1,5 +1,5 @@
 /// The engine that a text is written for.
-#[derive(Clone, Copy, Debug, PartialEq, Eq)]
+#[derive(Clone, Copy)]
 pub enum Dialect {
     /// PostgreSQL 15, with the functions of `postgresql.sql`.
     PostgreSql,

@@ -1,6 +1,6 @@
 /// A table that has a code for each code, or for each two of them.
 /// The codes are 0 for false, 1 for true, 2 for null, 3 for Overflow and 4 for DivideByZero.
-#[derive(Clone, Copy, Debug, PartialEq, Eq)]
+#[derive(Clone, Copy)]
 pub enum LookUp {
     Not,
     And,

@@ -5,7 +5,7 @@ use odata_functions::ArithFault;
 use odata_syntax::{ArithmeticOperator, ComparisonOperator, Quantifier};
 
 /// What kind of values an SQL expression has.
-#[derive(Clone, Copy, Debug, PartialEq, Eq)]
+#[derive(Clone, Copy, PartialEq, Eq)]
 pub enum SqlType {
     Truth,
     /// A whole number of 64 bits, or of any size where it may be a fault.
@@ -36,21 +36,21 @@ impl SqlType {
 }
 
 /// What carries a value that may be a fault.
-#[derive(Clone, Copy, Debug, PartialEq, Eq)]
+#[derive(Clone, Copy)]
 pub enum Carrier {
     Number,
     Text,
 }
 
 /// The type of a value that stands in JSON.
-#[derive(Clone, Copy, Debug, PartialEq, Eq)]
+#[derive(Clone, Copy)]
 pub enum FieldType {
     Prim(Prim),
     Enum(EnumId),
 }
 
 /// A function of values that are not null. Where one is null, so is what it gives.
-#[derive(Clone, Copy, Debug, PartialEq, Eq)]
+#[derive(Clone, Copy)]
 pub enum SqlFunction {
     Contains,
     StartsWith,
@@ -78,7 +78,7 @@ pub enum SqlFunction {
 }
 
 /// A number that a tree itself has. There are no others, so that no number of a client's can stand in a text.
-#[derive(Clone, Copy, Debug, PartialEq, Eq)]
+#[derive(Clone, Copy)]
 pub enum Digit {
     Zero,
     One,
@@ -88,7 +88,7 @@ pub enum Digit {
 }
 
 /// A node of a tree of SQL. Its children stand after it, in the order in which its text has them.
-#[derive(Clone, Copy, Debug, PartialEq, Eq)]
+#[derive(Clone, Copy)]
 pub enum SqlNode {
     /// The parameter at an index, counted from 0.
     Parameter {

@@ -8,7 +8,7 @@ use edm_values::{Moment, write_int};
 use std::alloc::{AllocError, Global};
 
 /// A value that is handed to the engine beside the text.
-#[derive(Debug, Drop)]
+#[derive(Drop)]
 pub enum Parameter {
     Whole(i64),
     Text(String),

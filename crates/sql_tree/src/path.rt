@@ -1,7 +1,7 @@
 use csdl_schema::TypeId;
 
 /// Where a path begins.
-#[derive(Clone, Copy, Debug, PartialEq, Eq)]
+#[derive(Clone, Copy)]
 pub enum Base {
     /// The column that has the whole row as JSON.
     Document,
@@ -12,14 +12,14 @@ pub enum Base {
 }
 
 /// A step to a property of a type, by its slot.
-#[derive(Clone, Copy, Debug, PartialEq, Eq)]
+#[derive(Clone, Copy)]
 pub struct Step {
     pub owner: TypeId,
     pub slot: usize,
 }
 
 /// A position in JSON.
-#[derive(Debug, Drop)]
+#[derive(Drop)]
 pub struct Path {
     pub base: Base,
     pub steps: Vec<Step>,

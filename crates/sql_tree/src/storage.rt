@@ -6,7 +6,7 @@ use csdl_schema::{Schema, TypeId};
 use std::alloc::AllocError;
 
 /// How a table keeps the entities of a type.
-#[derive(Clone, Copy, Debug)]
+#[derive(Clone, Copy)]
 pub enum Storage<'n> {
     /// A column for each slot of the type, by its name.
     Columns(&'n [&'n str]),

@@ -6,7 +6,7 @@ use super::path::Path;
 use std::alloc::{AllocError, Global};
 
 /// A tree of SQL as one list of its nodes in pre-order, with its paths and its parameters.
-#[derive(Debug, Drop)]
+#[derive(Drop)]
 pub struct SqlTree {
     pub nodes: Vec<SqlNode>,
     pub paths: Vec<Path>,

@@ -46,7 +46,7 @@ use Rattle.sql_forms.proofs.outcomes.LiftedOperands.{alike_in, all_put, each, ho
 use Rattle.sql_forms.proofs.outcomes.LiteralAnswers.{literal_at}
 use Rattle.sql_forms.proofs.outcomes.OperandAnswers.{ok_always, ok_bound, ok_compared, ok_field, ok_missing, ok_never as of_operand_answers_ok_never, ok_node, ok_null, ok_number, ok_path, ok_unfaulted, ok_zero}
 use Rattle.sql_forms.proofs.outcomes.TestedBoth.{bound_may_be_put, compared_inside_let, tested_inside_let, untrue_tested}
-use Rattle.sql_forms.proofs.outcomes.TestedFirst.{beside_first, faulty_first, kind_first, tested_first, uncarried}
+use Rattle.sql_forms.proofs.outcomes.TestedFirst.{beside_first, faulty_first, kind_first, tested_first}
 use Rattle.sql_forms.proofs.outcomes.TruthAnswers.{ok_code_by_truth, ok_comparison, ok_comparison_code, ok_denies_by_truth, ok_has_code, ok_keeps_by_truth, ok_literal, ok_not_code, ok_not_denies, ok_not_keeps, ok_not_truth, ok_null_asked, ok_null_truth}
 use Rattle.sql_forms.proofs.outcomes.ValueAnswers.{ok_calculated_value, ok_counted_value, ok_now_value, ok_null_value}
 use Rattle.sql_forms.proofs.outcomes.ValueWalk.{no_value_put, one_value_put}
@@ -939,7 +939,7 @@ in_path::put_over_members-first-requires t c =
 
 pub in_path::put_over_members-returns : goal.in_path::put_over_members-returns
 in_path::put_over_members-returns t c =
-    ok_over_members (question_of c.args.context.now) c.args.collection c.args.left.now c.close.result c.args.draft.now c.close.new.draft c.first.result c.in_ok-lifted.lifted c.in_ok-lifted.ensures (uncarried c.args.left.now c.requires.faultless) c.first.ensures c.open.new.draft c.put_has_member-2.new.draft c.in_ok-open.ensures
+    ok_over_members (question_of c.args.context.now) c.args.collection c.args.left.now c.close.result c.args.draft.now c.close.new.draft c.first.result c.in_ok-lifted.lifted c.in_ok-lifted.ensures c.first.ensures c.open.new.draft c.put_has_member-2.new.draft c.in_ok-open.ensures
     c.in_ok-put_has_member.ensures c.close.ensures.values c.close.ensures.idle
 
 pub in_path::put_over_members-put_has_member-requires : goal.in_path::put_over_members-put_has_member-requires
@@ -1824,7 +1824,7 @@ list::put_over_left-first-requires t c =
 
 pub list::put_over_left-returns : goal.list::put_over_left-returns
 list::put_over_left-returns t c =
-    ok_over_left (question_of c.args.context.now) c.args.left.now c.first.result c.args.items.now c.in_ok-lifted.lifted c.args.draft.now c.in_ok-lifted.ensures (uncarried c.args.left.now c.requires.faultless) c.first.ensures (IsInForm (kept_form c.args.kept)) c.open.new.draft c.put_equal_to_one-2.new.draft c.close.new.draft c.in_ok-open.ensures c.close.result
+    ok_over_left (question_of c.args.context.now) c.args.left.now c.first.result c.args.items.now c.in_ok-lifted.lifted c.args.draft.now c.in_ok-lifted.ensures c.first.ensures (IsInForm (kept_form c.args.kept)) c.open.new.draft c.put_equal_to_one-2.new.draft c.close.new.draft c.in_ok-open.ensures c.close.result
     c.in_ok-put_equal_to_one.ensures c.close.ensures.values c.close.ensures.idle
 
 pub list::put_over_left-put_equal_to_one-requires : goal.list::put_over_left-put_equal_to_one-requires

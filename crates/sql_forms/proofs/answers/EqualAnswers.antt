@@ -1,5 +1,5 @@
 -- What `put_equal_to_one`, `put_equal_codes` and `put_over_left` return of one item, and of a left side that is bound.
-use Rattle.sql_forms.proofs.Common.{◌≡◌, ◌∷◌, [], List, Bool, Some, None, Result, OnOk, length, sym, ap, subst, arith, slice_get, ComparisonOperator, Outcome, Draft, Operand, Lifted, ComparisonHas, Grows, AllHave, IsLifted, IsOpened, carrier_in, AsCode, EqualCodesOrNull, EqualsHas, FaultyOrNull, kept_form, Puts, PutsAll, Question, on_both, on_ok}
+use Rattle.sql_forms.proofs.Common.{◌≡◌, ◌∷◌, [], List, Bool, Some, Result, OnOk, length, sym, ap, subst, arith, slice_get, ComparisonOperator, Outcome, Draft, Operand, Lifted, ComparisonHas, Grows, AllHave, IsLifted, IsOpened, AsCode, EqualCodesOrNull, EqualsHas, FaultyOrNull, kept_form, Puts, PutsAll, Question, on_both, on_ok}
 use Rattle.sql_forms.specs.Forms.{IsInForm}
 use Rattle.sql_forms.specs.private.AskedForms.{OrTruth}
 use Rattle.sql_forms.proofs.puts.EqualCodesPut.{one_code_put}
@@ -30,11 +30,11 @@ module _ (question : Question) (left : Operand) (items : List Operand) (item : O
       (λ p. one_code_put question left item old new p) put)
 
 -- over a left side that evaluates to no fault
-module _ (question : Question) (left first : Operand) (items : List Operand) (lifted : Lifted) (old : Draft) (is_lifted : IsLifted (left ∷ []) old.depth lifted) (plain : carrier_in left ≡ None)
+module _ (question : Question) (left first : Operand) (items : List Operand) (lifted : Lifted) (old : Draft) (is_lifted : IsLifted (left ∷ []) old.depth lifted)
     (at_first : slice_get lifted.inner.items 0 ≡ Some first) (Shown : Outcome → Outcome → Type 0) (opened body new : Draft) (is_opened : IsOpened lifted old opened) {T E : Type 0} (r : Result T E) where
   pub ok_over_left : Puts question opened body (EqualsHas question.filter first items) Shown → OnOk r (PutsAll question (closed body (length lifted.bound.items)) new (AllHave question.filter lifted.bound.items) (length lifted.bound.items))
       → OnOk r (lifted.bound.items ≡ [] → Grows (closed body (length lifted.bound.items)) new []) → OnOk r (Puts question old new (EqualsHas question.filter left items) Shown)
   ok_over_left put values idle =
       on_both r (PutsAll question (closed body (length lifted.bound.items)) new (AllHave question.filter lifted.bound.items) (length lifted.bound.items)) (lifted.bound.items ≡ [] → Grows (closed body (length lifted.bound.items)) new [])
       (Puts question old new (EqualsHas question.filter left items) Shown)
-      (λ v i. over_left_put question left first items lifted old is_lifted plain at_first Shown opened body new is_opened v i put) values idle
+      (λ v i. over_left_put question left first items lifted old is_lifted at_first Shown opened body new is_opened v i put) values idle

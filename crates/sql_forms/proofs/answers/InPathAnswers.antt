@@ -1,5 +1,5 @@
 -- What the functions return that put `in` before a path.
-use Rattle.sql_forms.proofs.Common.{◌≡◌, ◌≢◌, ◌+◌, ◌∷◌, ◌∙◌, inl, [], ℕ, List, true, false, Some, None, Result, OnOk, length, refl, sym, ap, subst, arith, append-nil, IsSomeAnd, slice_get, IsMoment, Val, boolean, IsFilter, CheckedNode, NodeKind, some_there, there_found, EndsOnceOnEntities, HasKind, OneType, Outcome, gives, IsWithin, Range, Digit, SqlNode, SqlType, Draft, Operand, Source, Kind, Lifted, Form, IsSide, IsSideBy, NoTruth, Grows, GrowsBy, IsDeeper, AllHave, IsLifted, IsOpened, carrier_in, faults_front, AreMembersBeside, HasMemberHas, IsCollectionAt, MemberHas, some_of, IsAtPath, IsMemberOperand, MembersAt, missing_front, kind_of_type, AreCompared, IsOfType, IsNodeOperand, IsTested, OperandHas, IsPathTo, PutsPath, PutsMemberPath, AreRanges, IsBooleanAt, IsFaultless, IsPathAt, IsAskedOf, OfPlace, Puts, PutsAll, Question, World, by_node, on_both, on_ok, puts_as, path_on, path_later, AllByRecursion, ComparisonOperator, SqlTree}
+use Rattle.sql_forms.proofs.Common.{◌≡◌, ◌≢◌, ◌+◌, ◌∷◌, ◌∙◌, inl, [], ℕ, List, true, false, Some, None, Result, OnOk, length, refl, sym, ap, subst, arith, append-nil, IsSomeAnd, slice_get, IsMoment, Val, boolean, IsFilter, CheckedNode, NodeKind, some_there, there_found, EndsOnceOnEntities, HasKind, OneType, Outcome, gives, IsWithin, Range, Digit, SqlNode, SqlType, Draft, Operand, Source, Kind, Lifted, Form, IsSide, IsSideBy, NoTruth, Grows, GrowsBy, IsDeeper, AllHave, IsLifted, IsOpened, faults_front, AreMembersBeside, HasMemberHas, IsCollectionAt, MemberHas, some_of, IsAtPath, IsMemberOperand, MembersAt, missing_front, kind_of_type, AreCompared, IsOfType, IsNodeOperand, IsTested, OperandHas, IsPathTo, PutsPath, PutsMemberPath, AreRanges, IsBooleanAt, IsFaultless, IsPathAt, IsAskedOf, OfPlace, Puts, PutsAll, Question, World, by_node, on_both, on_ok, puts_as, path_on, path_later, AllByRecursion, ComparisonOperator, SqlTree}
 use Rattle.sql_forms.specs.Forms.{IsInForm}
 use Rattle.sql_forms.specs.private.AskedForms.{Itself, OrTruth}
 use Rattle.sql_forms.proofs.answers.ListAnswers.{uncarried_kind}
@@ -38,14 +38,14 @@ module _ (question : Question) (base : ℕ) (left : Operand) {T E : Type 0} (r :
       (λ world o is has. (o, inl has, λ x form. of_given o x (boolean (some_of has.3)) has.5 form))) put
 
   -- bound
-  pub ok_over_members : (first : Operand) (lifted : Lifted) → IsLifted (left ∷ []) old.depth lifted → carrier_in left ≡ None → slice_get lifted.inner.items 0 ≡ Some first → (opened body : Draft)
+  pub ok_over_members : (first : Operand) (lifted : Lifted) → IsLifted (left ∷ []) old.depth lifted → slice_get lifted.inner.items 0 ≡ Some first → (opened body : Draft)
       → IsOpened lifted old opened → Puts question opened body (HasMemberHas question.filter first base) (OrTruth Itself)
       → OnOk r (PutsAll question (closed body (length lifted.bound.items)) new (AllHave question.filter lifted.bound.items) (length lifted.bound.items))
       → OnOk r (lifted.bound.items ≡ [] → Grows (closed body (length lifted.bound.items)) new []) → OnOk r (Puts question old new (MemberHas question.filter left base) Itself)
-  ok_over_members first lifted is_lifted plain at_first opened body is_opened put values idle =
+  ok_over_members first lifted is_lifted at_first opened body is_opened put values idle =
       on_both r (PutsAll question (closed body (length lifted.bound.items)) new (AllHave question.filter lifted.bound.items) (length lifted.bound.items)) (lifted.bound.items ≡ [] → Grows (closed body (length lifted.bound.items)) new [])
       (Puts question old new (MemberHas question.filter left base) Itself)
-      (λ v i. over_members_put question base left first lifted old is_lifted plain at_first opened body new is_opened v i put) values idle
+      (λ v i. over_members_put question base left first lifted old is_lifted at_first opened body new is_opened v i put) values idle
 
 -- ---- `in` at an index
 

@@ -2,7 +2,7 @@
 use Rattle.sql_forms.proofs.Common.{◌≡◌, ◌∷◌, [], ℕ, ℤ, List, Option, Some, None, Ok, length, refl, sym, subst, ◌∙◌, IsSomeAnd, slice_get, null, whole, PrimitiveType, CheckedNode, ComputesTo, number_val, Outcome, gives, overflow, divides_by_zero, ArithmeticOperator, LiesBetween, IsWithin, Range, EdmType, ValueType, without_fault, Carrier, Draft, Lifted, Operand, CalculatedHas, IsComputedIn, IsFitted, IsNumberIn, IsOfNumbers, MadeOf, Grows, AllHave, ArePlain, IsLifted, IsOpened, fault_else, faults_front, within_let, OperandHas, Has, Puts, PutsAll, Question, World}
 use Rattle.sql_forms.specs.private.AskedForms.{Itself}
 use Rattle.sql_forms.proofs.outcomes.LiftedFaults.{IsInner, TwoInner, lifted_values, two_inner}
-use Rattle.sql_forms.proofs.puts.LiftedPut.{carried_put, closed}
+use Rattle.sql_forms.proofs.puts.LiftedPut.{Same, carried_put, closed}
 use Rattle.sql_forms.proofs.puts.LiftedWhole.{FaultsGiven, faults_put, in_body}
 use Rattle.sql_forms.proofs.outcomes.LiftedValues.{body_have}
 
@@ -115,10 +115,10 @@ module _ (question : Question) (operator : ArithmeticOperator) (place : ℕ) (ty
           (number_within left.range has.first has.left_number has.left_within) (number_within right.range has.second has.right_number has.right_within)
           (inner_within right second (number_in has.second) inner.second_is (number_within right.range has.second has.right_number has.right_within)) what.comes
 
-      given : FaultsGiven question (left ∷ right ∷ []) lifted old is_lifted Inner Itself Itself world o
+      given : FaultsGiven question (left ∷ right ∷ []) lifted old is_lifted Inner Itself Itself Same world o
       given = record { os = sides; have = have; plain = plain; inner = what.inner; has = inner_has; goes = λ x form. (what.inner, form, what.is) }
 
     pub calculated_put : Puts question old new (CalculatedHas question.filter operator place left right) Itself
     calculated_put =
-        faults_put question (left ∷ right ∷ []) lifted old is_lifted opened body new is_opened values idle Inner (CalculatedHas question.filter operator place left right) Itself Itself
+        faults_put question (left ∷ right ∷ []) lifted old is_lifted opened body new is_opened values idle Inner (CalculatedHas question.filter operator place left right) Itself Itself Same Itself
         (carried_put question lifted.bound.items lifted.level opened fronted body Inner Itself Carrier.Number front put) (λ world o at is has. given world o at has)

@@ -1,5 +1,5 @@
 -- The one operand of a `Let`, as its body has it, may be put as it may outside.
-use Rattle.sql_forms.proofs.Common.{◌≡◌, ◌≢◌, ◌∷◌, [], ℕ, List, Bool, true, false, Option, Some, None, refl, sym, ap, subst, ◌∙◌, slice_get, AllByRecursion, Filter, Range, Carrier, SqlType, Lifted, Operand, Kind, IsFaulty, IsFaultyKind, AreChosen, IsLifted, bound_operand, carrier_in, within_let, AreBeside, AreCompared, IsPut, IsSourceOf, IsTestable, IsTested, bound_source, carrier_of}
+use Rattle.sql_forms.proofs.Common.{◌≡◌, ◌≢◌, ◌∷◌, [], ℕ, List, Bool, true, false, Option, Some, None, refl, sym, ap, subst, ◌∙◌, slice_get, AllByRecursion, Filter, Range, Carrier, SqlType, Lifted, Operand, Kind, IsFaulty, IsFaultyKind, AreChosen, IsLifted, bound_operand, carrier_in, within_let, AreBeside, AreCompared, IsPut, IsSourceOf, IsTestable, IsTested, bound_source}
 
 module _ (filter : Filter) (ranges : List Range) (operand : Operand) (level : ℕ) (type : SqlType) (is_value : operand.kind ≡ Kind.Value type) where
   bound_valued : operand.kind ≢ Kind.Structured
@@ -71,7 +71,3 @@ module _ (filter : Filter) (ranges : List Range) (left first : Operand) (type : 
       → first.kind ≡ left.kind → IsFaulty filter ranges left → IsFaulty filter ranges first
   faulty_first lifted depth is_lifted at other same faulty =
       plain_faulty first first.kind refl (λ truth. other (sym same ∙ truth)) (tested_first lifted depth is_lifted at (faulty_plain left left.kind other faulty))
-
--- what evaluates to no fault carries none
-pub uncarried : (operand : Operand) → operand.range.may_fault ≡ false → carrier_in operand ≡ None
-uncarried operand faultless = subst (λ (b : Bool). carrier_of b operand.kind ≡ None) (sym faultless) refl

@@ -3,7 +3,7 @@ use Rattle.sql_forms.proofs.Common.{◌≡◌, ◌∷◌, [], ◌+◌, ℕ, List
 use Rattle.sql_forms.specs.private.AskedForms.{Itself}
 use Rattle.sql_forms.proofs.nodes.CallNodes.{CallComes, call_comes, first_of, kinds_of, unfaulted, value_or_null}
 use Rattle.sql_forms.proofs.outcomes.LiftedFaults.{lifted_values}
-use Rattle.sql_forms.proofs.puts.LiftedPut.{Coded, carried_put, closed, coded_put}
+use Rattle.sql_forms.proofs.puts.LiftedPut.{Coded, Same, carried_put, closed, coded_put, same_coded}
 use Rattle.sql_forms.proofs.outcomes.LiftedValues.{as_many, body_have}
 use Rattle.sql_forms.proofs.puts.LiftedWhole.{FaultsGiven, faults_put, in_body, lifted_put}
 
@@ -55,7 +55,7 @@ module _ (question : Question) (types : OneType) (ends : EndsOnceOnEntities) (is
 
     -- with their faults first
     pub of_call : (InnerForm Shown : Outcome → Outcome → Type 0) → ((x : Outcome) → InnerForm come.inner x → Shown come.inner x)
-        → FaultsGiven question operands lifted old is_lifted (CalledHas question.filter function lifted.inner.items) InnerForm Shown world o
+        → FaultsGiven question operands lifted old is_lifted (CalledHas question.filter function lifted.inner.items) InnerForm Shown Same world o
     of_call InnerForm Shown shows = record {
       os = come.os;
       have = come.have;
@@ -72,7 +72,7 @@ module _ (question : Question) (types : OneType) (ends : EndsOnceOnEntities) (is
     pub call_put : (carrier : Carrier) → Grows opened fronted (faults_front (Some carrier) lifted.level lifted.bound.items) → Puts question fronted body (CalledHas question.filter function lifted.inner.items) Itself
         → Puts question old new (OfPlace question.filter place) Itself
     call_put carrier front put =
-        faults_put question operands lifted old is_lifted opened body new is_opened values idle (CalledHas question.filter function lifted.inner.items) (OfPlace question.filter place) Itself Itself
+        faults_put question operands lifted old is_lifted opened body new is_opened values idle (CalledHas question.filter function lifted.inner.items) (OfPlace question.filter place) Itself Itself Same Itself
         (carried_put question lifted.bound.items lifted.level opened fronted body (CalledHas question.filter function lifted.inner.items) Itself carrier front put)
         (λ world o at is has.
         of_call world is.seen o at (call_comes question types ends is_moment world is.seen ranges are one_name place function operands here arguments o has) Itself Itself (λ x form. form))
@@ -81,8 +81,8 @@ module _ (question : Question) (types : OneType) (ends : EndsOnceOnEntities) (is
     pub call_code_put : Grows opened fronted (faults_front None lifted.level lifted.bound.items) → Puts question fronted body (CalledHas question.filter function lifted.inner.items) Coded
         → Puts question old new (OfPlace question.filter place) Coded
     call_code_put front put =
-        faults_put question operands lifted old is_lifted opened body new is_opened values idle (CalledHas question.filter function lifted.inner.items) (OfPlace question.filter place) Coded Coded
-        (coded_put question lifted.bound.items lifted.level opened fronted body (CalledHas question.filter function lifted.inner.items) Coded front put)
+        faults_put question operands lifted old is_lifted opened body new is_opened values idle (CalledHas question.filter function lifted.inner.items) (OfPlace question.filter place) Coded Coded Same Coded
+        (coded_put question lifted.bound.items lifted.level opened fronted body (CalledHas question.filter function lifted.inner.items) Coded Same Coded same_coded front put)
         (λ world o at is has.
         of_call world is.seen o at (call_comes question types ends is_moment world is.seen ranges are one_name place function operands here arguments o has) Coded Coded (λ x form. form))
 

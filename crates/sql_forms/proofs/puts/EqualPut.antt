@@ -1,12 +1,12 @@
 -- Whether a value is equal to one of the items of a list, none of which is a fault.
-use Rattle.sql_forms.proofs.Common.{◌≡◌, ◌⊎◌, inl, inr, ◌+◌, ◌++◌, ◌∷◌, [], ℕ, List, Bool, true, false, Option, Some, None, length, map, refl, sym, ap, subst, ◌∙◌, slice_get, Val, boolean, ComparisonOperator, Outcome, gives, or3, truth, BoundValue, bound_value, Carrier, SqlNode, Filter, Draft, Lifted, Operand, Kind, Form, ComparisonHas, Grows, IsOfKind, AllHave, AreChosen, IsLifted, IsOpened, bound_operand, carrier_in, chosen_of, in_let, unfaulted_by, within_let, EachEquals, EqualsHas, kept_form, some_of, HasValue, OperandHas, Puts, PutsAll, Question, World, extended, puts_as, puts_leaf, puts_two}
+use Rattle.sql_forms.proofs.Common.{◌≡◌, ◌⊎◌, inl, inr, ◌+◌, ◌++◌, ◌∷◌, [], List, Bool, true, false, Option, Some, length, map, refl, sym, ap, subst, ◌∙◌, slice_get, Val, boolean, ComparisonOperator, Outcome, gives, or3, truth, BoundValue, bound_value, SqlNode, Filter, Draft, Lifted, Operand, Form, ComparisonHas, Grows, AllHave, IsLifted, IsOpened, chosen_of, EachEquals, EqualsHas, kept_form, some_of, HasValue, Puts, PutsAll, Question, World, extended, puts_as, puts_leaf, puts_two}
 use Rattle.sql_forms.specs.Forms.{IsTrueWhere}
 use Rattle.sql_forms.specs.Forms.{IsInForm}
 use Rattle.sql_forms.specs.private.AskedForms.{OrTruth}
-use Rattle.sql_forms.proofs.outcomes.LiftedFaults.{IsInner}
 use Rattle.sql_forms.proofs.puts.LiftedPut.{closed}
-use Rattle.sql_forms.proofs.outcomes.LiftedValues.{body_have, source_stays}
+use Rattle.sql_forms.proofs.outcomes.LiftedValues.{source_stays}
 use Rattle.sql_forms.proofs.puts.LiftedWhole.{lifted_put}
+use Rattle.sql_forms.proofs.puts.OneLeft.{one_value}
 use Rattle.sql_forms.proofs.puts.OrNullsPut.{or_node}
 use Rattle.sql_forms.proofs.outcomes.Truths.{kept_or, true_where}
 
@@ -155,59 +155,22 @@ each_stays filter l (item ∷ items) world more [] bs each = absurd each
 each_stays filter l (item ∷ items) world more (v ∷ values) [] each = absurd each
 each_stays filter l (item ∷ items) world more (v ∷ values) (b ∷ bs) each = (value_stays filter item world more v each.0, each.1, each_stays filter l items world more values bs each.2)
 
-pub no_more : (choices : List Bool) (left first : Operand) (level : ℕ) → AreChosen choices (left ∷ []) → slice_get (within_let level choices (left ∷ [])) 0 ≡ Some first → IsInner left first
-no_more [] left first level are at = absurd are
-no_more (true ∷ choices) left first level are at =
-    let there : Some (bound_operand level left) ≡ Some first = at in
-    let same : bound_operand level left ≡ first = cc in
-    subst (IsInner left) same (record { kind = refl; nullable = refl; low = refl; high = refl })
-no_more (false ∷ choices) left first level are at =
-    let there : Some left ≡ Some first = at in
-    let same : left ≡ first = cc in
-    subst (IsInner left) same (record { kind = refl; nullable = refl; low = refl; high = refl })
-
-pub first_has : (filter : Filter) (choices : List Bool) (left first : Operand) (level : ℕ) (world : World) (o : Outcome) → AreChosen choices (left ∷ []) → carrier_in left ≡ None
-    → slice_get (within_let level choices (left ∷ [])) 0 ≡ Some first → AllHave filter (within_let level choices (left ∷ [])) world (in_let choices (left ∷ []) (o ∷ [])) → OperandHas filter first world o
-first_has filter [] left first level world o are none at have = absurd are
-first_has filter (true ∷ choices) left first level world o are none at have =
-    let there : Some (bound_operand level left) ≡ Some first = at in
-    let same : bound_operand level left ≡ first = cc in
-    subst (λ (x : Operand). OperandHas filter x world o) same
-    (subst (λ (c : Option Carrier). OperandHas filter (bound_operand level left) world (unfaulted_by c o)) none have.0)
-first_has filter (false ∷ choices) left first level world o are none at have =
-    let there : Some left ≡ Some first = at in
-    let same : left ≡ first = cc in
-    subst (λ (x : Operand). OperandHas filter x world o) same have.0
-
-module _ (question : Question) (left first : Operand) (items : List Operand) (lifted : Lifted) (old : Draft) (is_lifted : IsLifted (left ∷ []) old.depth lifted) (plain : carrier_in left ≡ None)
+module _ (question : Question) (left first : Operand) (items : List Operand) (lifted : Lifted) (old : Draft) (is_lifted : IsLifted (left ∷ []) old.depth lifted)
     (at_first : slice_get lifted.inner.items 0 ≡ Some first) (Form : Outcome → Outcome → Type 0) (opened body new : Draft) (is_opened : IsOpened lifted old opened)
     (values : PutsAll question (closed body (length lifted.bound.items)) new (AllHave question.filter lifted.bound.items) (length lifted.bound.items))
     (idle : lifted.bound.items ≡ [] → Grows (closed body (length lifted.bound.items)) new []) where
-  at_inner : slice_get (within_let old.depth is_lifted.choices (left ∷ [])) 0 ≡ Some first
-  at_inner = subst (λ (xs : List Operand). slice_get xs 0 ≡ Some first) is_lifted.inner at_first
-
   pub over_left_put : Puts question opened body (EqualsHas question.filter first items) Form → Puts question old new (EqualsHas question.filter left items) Form
   over_left_put put =
       lifted_put question (left ∷ []) lifted old is_lifted opened body new is_opened values idle (EqualsHas question.filter first items) (EqualsHas question.filter left items) Form Form put
       (λ world o at is has.
-      let inner = no_more is_lifted.choices left first old.depth is_lifted.are at_inner in
       let more = map bound_value (chosen_of is_lifted.choices (gives has.l ∷ [])) in
-      let there : OperandHas question.filter first (extended world more) (gives has.l) =
-      first_has question.filter is_lifted.choices left first old.depth (extended world more) (gives has.l) is_lifted.are plain at_inner
-      (body_have question.filter world old.depth is_lifted.choices (left ∷ []) (gives has.l ∷ []) at is_lifted.are (has.has.has, refl)) in
       record {
         os = gives has.l ∷ [];
         have = (has.has.has, refl);
         inner = o;
         has = record {
           l = has.l;
-          has = record {
-            has = there;
-            fits = record {
-              kind = subst (λ (k : Kind). IsOfKind k has.l) (sym inner.kind) has.has.fits.kind;
-              nullable = λ none. inner.nullable ∙ has.has.fits.nullable none;
-            };
-          };
+          has = one_value question left first lifted old is_lifted at_first world (gives has.l) at has.has.has (λ none. (has.l, refl)) has.l refl has.has.fits;
           values = has.values;
           bs = has.bs;
           each = each_stays question.filter has.l items world more has.values has.bs has.each;

@@ -1,12 +1,12 @@
 -- The code of a comparison a side of which may be a fault.
-use Rattle.sql_forms.proofs.Common.{◌≡◌, ◌≢◌, inl, inr, ◌++◌, ◌∷◌, [], ℕ, List, Bool, true, Option, Some, map, length, refl, sym, ap, subst, ◌∙◌, append-nil, slice_get, Val, boolean, null, Filter, CompareGives, Then, Outcome, gives, overflow, divides_by_zero, ComparisonOperator, without_fault, code_of_truth, truth, NodeMeans, SqlMeans, Asked, Bound, BoundValue, bound_value, Term, no_terms, more_terms, SqlNode, SqlType, IsFault, Draft, Operand, Source, Kind, ComparisonHas, FaultyHave, HasOrCode, NoTruth, Grows, IsOfKind, AllHave, AreChosen, chosen, chosen_of, fault_else, faults_of, first_fault, within_let, ArePlain, Fits, HasLoosely, OperandHas, SomeNull, SourceHas, Puts, Question, World, extended, puts_one}
+use Rattle.sql_forms.proofs.Common.{◌≡◌, ◌≢◌, inl, inr, ◌∷◌, [], ℕ, List, Bool, true, Option, Some, map, length, refl, sym, ap, subst, ◌∙◌, slice_get, Val, boolean, null, Filter, CompareGives, Then, Outcome, gives, overflow, divides_by_zero, ComparisonOperator, without_fault, code_of_truth, truth, NodeMeans, SqlMeans, Asked, Bound, bound_value, Term, no_terms, more_terms, SqlNode, SqlType, IsFault, Draft, Operand, Source, Kind, ComparisonHas, FaultyHave, HasOrCode, NoTruth, Grows, IsOfKind, AllHave, AreChosen, chosen_of, fault_else, faults_of, within_let, ArePlain, Fits, HasLoosely, OperandHas, SomeNull, SourceHas, Puts, Question, World, extended, puts_one}
 use Rattle.sql_forms.specs.private.AskedForms.{Itself, OrTruth}
 use Rattle.sql_forms.proofs.outcomes.Apart.{is_faulted, null_kind, stays_fault}
 use Rattle.sql_forms.proofs.outcomes.CodeTables.{coded}
 use Rattle.sql_forms.proofs.puts.ComparisonsPut.{compared_truth}
-use Rattle.sql_forms.proofs.outcomes.LiftedFaults.{IsInner, TwoInner, lifted_faults, lifted_values, two_inner}
-use Rattle.sql_forms.proofs.puts.LiftedPut.{Bindings, Coded}
-use Rattle.sql_forms.proofs.outcomes.LiftedValues.{as_many, body_have, chosen_have}
+use Rattle.sql_forms.proofs.outcomes.LiftedFaults.{IsInner, TwoInner, lifted_values, two_inner}
+use Rattle.sql_forms.proofs.puts.LiftedPut.{Coded}
+use Rattle.sql_forms.proofs.outcomes.LiftedValues.{body_have}
 use Rattle.sql_forms.proofs.puts.OperandsPut.{fault_itself, given_itself}
 use Rattle.sql_forms.proofs.outcomes.Operators.{truth_code_means}
 
@@ -80,13 +80,13 @@ module _ (question : Question) (operator : ComparisonOperator) (left right first
     abbrev pub within : World
     within = extended world (map bound_value (chosen_of choices os))
 
-    have : AllHave question.filter (left ∷ right ∷ []) world os
+    pub have : AllHave question.filter (left ∷ right ∷ []) world os
     have = (
       plain_has question.filter left.kind left.source world has.left_outcome no_left has.left_has,
       (plain_has question.filter right.kind right.source world has.right_outcome no_right has.right_has, refl),
     )
 
-    plain : ArePlain (left ∷ right ∷ []) os
+    pub plain : ArePlain (left ∷ right ∷ []) os
     plain = (has.left_plain no_left, (has.right_plain no_right, tt))
 
     inner : TwoInner question.filter left right first second within (without_fault has.left_outcome) (without_fault has.right_outcome)
@@ -94,9 +94,6 @@ module _ (question : Question) (operator : ComparisonOperator) (left right first
         two_inner question.filter left right first second level choices within (without_fault has.left_outcome) (without_fault has.right_outcome) are is_first is_second
         (subst (AllHave question.filter (within_let level choices (left ∷ right ∷ [])) within) (lifted_values choices (left ∷ right ∷ []) os are refl plain)
         (body_have question.filter world level choices (left ∷ right ∷ []) os at are have))
-
-    faults : (rest : Outcome) → first_fault (chosen choices (left ∷ right ∷ [])) (chosen_of choices os) rest ≡ faults_of os rest
-    faults rest = lifted_faults choices (left ∷ right ∷ []) os rest are refl plain
 
     fits_in : (outer within_it : Operand) (v : Val) → IsInner outer within_it → Fits outer v → Fits within_it v
     fits_in outer within_it v is fits = record {
@@ -111,12 +108,12 @@ module _ (question : Question) (operator : ComparisonOperator) (left right first
     }
 
     -- what comes of the comparison in the body
-    record Body : Type 0 where
-      marked : Outcome
-      marked_has : ComparisonHas question.filter operator first second within marked
-      goes : (x : Outcome) → OrCode marked x → (rest : Outcome) × Coded rest x × (o ≡ faults_of os rest)
+    pub record Body : Type 0 where
+      pub marked : Outcome
+      pub marked_has : ComparisonHas question.filter operator first second within marked
+      pub goes : (x : Outcome) → OrCode marked x → (rest : Outcome) × Coded rest x × (o ≡ faults_of os rest)
 
-    body : Body
+    pub body : Body
     body = by_sides has.left_outcome has.right_outcome refl refl
       where
         -- one of them is a fault
@@ -184,17 +181,3 @@ module _ (question : Question) (operator : ComparisonOperator) (left right first
         by_sides (gives l) divides_by_zero is there = right_fault l divides_by_zero tt is there
         by_sides overflow j is there = left_fault overflow tt is
         by_sides divides_by_zero j is there = left_fault divides_by_zero tt is
-
-    pub faulty_bindings : Bindings question (chosen choices (left ∷ right ∷ [])) level (ComparisonHas question.filter operator first second) OrCode Coded within o
-    faulty_bindings =
-        let b = body in
-        record {
-          before = world.bound;
-          os = chosen_of choices os;
-          bound_are = ap (λ (bs : List BoundValue). world.bound ++ bs) (sym (append-nil (map bound_value (chosen_of choices os))));
-          level_is = at;
-          as_many = as_many question.filter world (chosen choices (left ∷ right ∷ [])) (chosen_of choices os) (chosen_have question.filter world choices (left ∷ right ∷ []) os are have);
-          inner = b.marked;
-          has = b.marked_has;
-          goes = λ x form. let g = b.goes x form in (g.0, g.1, g.2 ∙ sym (faults g.0));
-        }

@@ -1,14 +1,12 @@
 -- What is put for `in` before a path.
-use Rattle.sql_forms.proofs.Common.{◌≡◌, ◌⊎◌, inl, inr, ◌+◌, ◌∷◌, [], ℕ, List, Bool, true, false, Option, Some, None, length, map, refl, sym, ap, subst, ◌∙◌, slice_get, Val, boolean, null, Filter, Outcome, gives, overflow, divides_by_zero, Range, without_fault, code_of_truth, truth, AreMembers, BoundValue, bound_value, SqlNode, IsFault, Draft, Lifted, Operand, Source, Kind, NoTruth, Grows, IsOfKind, AllHave, ArePlain, IsLifted, IsOpened, chosen_of, fault_else, faults_front, faults_of, within_let, EachMemberEquals, HasMemberHas, MemberHas, MembersAt, some_of, IsOrNull, missing_front, HasLoosely, HasValue, OperandHas, SourceHas, IsPathTo, AreRanges, Has, IsAskedOf, OfPlace, Puts, PutsAll, Question, World, extended, puts_as, puts_one}
+use Rattle.sql_forms.proofs.Common.{◌≡◌, ◌⊎◌, inl, inr, ◌+◌, ◌∷◌, [], ℕ, List, Bool, true, false, Option, Some, None, length, map, refl, sym, ap, subst, ◌∙◌, slice_get, Val, boolean, null, Filter, Outcome, gives, overflow, divides_by_zero, Range, code_of_truth, truth, AreMembers, BoundValue, bound_value, SqlNode, IsFault, Draft, Lifted, Operand, Source, NoTruth, Grows, AllHave, IsLifted, IsOpened, chosen_of, fault_else, faults_front, faults_of, EachMemberEquals, HasMemberHas, MemberHas, MembersAt, some_of, IsOrNull, missing_front, HasLoosely, HasValue, SourceHas, IsPathTo, AreRanges, Has, IsAskedOf, OfPlace, Puts, PutsAll, Question, World, extended, puts_as, puts_one}
 use Rattle.sql_forms.specs.Forms.{IsTrueWhere}
 use Rattle.sql_forms.specs.private.AskedForms.{Itself, OrTruth}
-use Rattle.sql_forms.proofs.outcomes.Apart.{is_faulted, null_kind, stays_fault as fault_stays}
-use Rattle.sql_forms.proofs.puts.EqualPut.{no_more}
+use Rattle.sql_forms.proofs.outcomes.Apart.{stays_fault as fault_stays}
+use Rattle.sql_forms.proofs.puts.OneLeft.{one_null, one_value}
 use Rattle.sql_forms.proofs.puts.FaultyComparisonsPut.{OrCode, code_is, truth_code_node}
 use Rattle.sql_forms.proofs.nodes.InPathNodes.{InPathComes}
-use Rattle.sql_forms.proofs.outcomes.LiftedFaults.{IsInner, lifted_values}
-use Rattle.sql_forms.proofs.puts.LiftedPut.{Coded, closed, coded_put}
-use Rattle.sql_forms.proofs.outcomes.LiftedValues.{body_have}
+use Rattle.sql_forms.proofs.puts.LiftedPut.{Coded, Same, closed, coded_put, same_coded}
 use Rattle.sql_forms.proofs.puts.LiftedWhole.{FaultsGiven, faults_put, in_body}
 use Rattle.sql_forms.proofs.outcomes.Truths.{true_where}
 use Rattle.sql_forms.proofs.outcomes.UnlessMissing.{CollectionThere, WholeHas, truth_unless_missing}
@@ -146,13 +144,6 @@ held_stays filter base world more held =
     let has = held.has in
     record { c = held.c; has = (has.0, record { stop = has.1.stop; stands = has.1.stands }, has.2); members = held.members; are = held.are; kinds = held.kinds }
 
-pub first_inner : (filter : Filter) (operands : List Operand) (first : Operand) (world : World) (w : Outcome) → slice_get operands 0 ≡ Some first → AllHave filter operands world (w ∷ []) → OperandHas filter first world w
-first_inner filter [] first world w at have = let none : None ≡ Some first = at in absurd (cc)
-first_inner filter (operand ∷ operands) first world w at have =
-    let there : Some operand ≡ Some first = at in
-    let same : operand ≡ first = cc in
-    subst (λ (x : Operand). OperandHas filter x world w) same have.0
-
 some_code : (o x : Outcome) → IsFault o → OrCode o x → (t : Option Bool) × Coded (truth t) x
 some_code (gives v) x fault form = absurd fault
 some_code _ x fault form = form
@@ -163,9 +154,6 @@ module _ (question : Question) (place base path : ℕ) (left first : Operand) (l
   abbrev Whole : Has
   Whole = WholeHas question base path (HasMemberHas question.filter first base) (marked_parts question base first)
 
-  at_inner : slice_get (within_let old.depth is_lifted.choices (left ∷ [])) 0 ≡ Some first
-  at_inner = subst (λ (xs : List Operand). slice_get xs 0 ≡ Some first) is_lifted.inner at_first
-
   module _ (world : World) (o : Outcome) (at : old.depth ≡ length world.bound) (come : InPathComes question place base left world o) where
     abbrev os : List Outcome
     os = come.left_outcome ∷ []
@@ -175,18 +163,6 @@ module _ (question : Question) (place base path : ℕ) (left first : Operand) (l
 
     have : AllHave question.filter (left ∷ []) world os
     have = (subst (λ (s : Source). SourceHas question.filter s world come.left_outcome) (sym left_source) come.left_there, refl)
-
-    plain : ArePlain (left ∷ []) os
-    plain = (come.left_plain no_truth, tt)
-
-    inner_has : OperandHas question.filter first within (without_fault come.left_outcome)
-    inner_has =
-        first_inner question.filter (within_let old.depth is_lifted.choices (left ∷ [])) first within (without_fault come.left_outcome) at_inner
-        (subst (AllHave question.filter (within_let old.depth is_lifted.choices (left ∷ [])) within) (lifted_values is_lifted.choices (left ∷ []) os is_lifted.are refl plain)
-        (body_have question.filter world old.depth is_lifted.choices (left ∷ []) os at is_lifted.are have))
-
-    inner_is : IsInner left first
-    inner_is = no_more is_lifted.choices left first old.depth is_lifted.are at_inner
 
     abbrev held : MembersAt question.filter base within
     held = held_stays question.filter base world (map bound_value (chosen_of is_lifted.choices os)) come.held
@@ -200,11 +176,7 @@ module _ (question : Question) (place base path : ℕ) (left first : Operand) (l
     of_value : (l : Val) → come.left_outcome ≡ gives l → Given
     of_value l is =
         let flags = come.of_value l is in
-        let fits = come.left_fits l is in
-        let has_first : HasValue question.filter first within l = record {
-          has = subst (OperandHas question.filter first within) (ap without_fault is) inner_has;
-          fits = record { kind = subst (λ (k : Kind). IsOfKind k l) (sym inner_is.kind) fits.kind; nullable = λ none. inner_is.nullable ∙ fits.nullable none };
-        } in
+        let has_first = one_value question left first lifted old is_lifted at_first world come.left_outcome at have.0 (come.left_plain no_truth) l is (come.left_fits l is) in
         record {
           inner = o;
           has = (gives (boolean (some_of flags.0)), inl (held, l, has_first, flags.0, flags.1, refl), flags.2);
@@ -224,7 +196,7 @@ module _ (question : Question) (place base path : ℕ) (left first : Operand) (l
     of_fault fault = by come.held.c refl
       where
         null_first : HasLoosely question.filter first within null
-        null_first = record { has = subst (OperandHas question.filter first within) (is_faulted come.left_outcome fault) inner_has; kind = null_kind first.kind }
+        null_first = one_null question left first lifted old is_lifted at_first world come.left_outcome at have.0 (come.left_plain no_truth) fault
 
         stays : (rest : Outcome) → o ≡ faults_of os rest
         stays rest = come.of_fault fault ∙ sym (fault_stays come.left_outcome rest fault)
@@ -248,14 +220,14 @@ module _ (question : Question) (place base path : ℕ) (left first : Operand) (l
         by (gives l) is = of_value l is
         by _ is = of_fault (subst IsFault (sym is) tt)
 
-    pub in_path_given : FaultsGiven question (left ∷ []) lifted old is_lifted Whole OrCode Coded world o
-    in_path_given = let g = given in record { os = os; have = have; plain = plain; inner = g.inner; has = g.has; goes = g.goes }
+    pub in_path_given : FaultsGiven question (left ∷ []) lifted old is_lifted Whole OrCode Coded Same world o
+    in_path_given = let g = given in record { os = os; have = have; plain = (come.left_plain no_truth, tt); inner = g.inner; has = g.has; goes = g.goes }
 
   -- its faults first, and else the code of whether a member is equal
   pub in_path_code_put : (opened fronted body new : Draft) → IsOpened lifted old opened → PutsAll question (closed body (length lifted.bound.items)) new (AllHave question.filter lifted.bound.items) (length lifted.bound.items)
       → (lifted.bound.items ≡ [] → Grows (closed body (length lifted.bound.items)) new []) → Grows opened fronted (faults_front None lifted.level lifted.bound.items) → Puts question fronted body Whole OrCode
       → Puts question old new (OfPlace question.filter place) Coded
   in_path_code_put opened fronted body new is_opened values idle front put =
-      faults_put question (left ∷ []) lifted old is_lifted opened body new is_opened values idle Whole (OfPlace question.filter place) OrCode Coded
-      (coded_put question lifted.bound.items lifted.level opened fronted body Whole OrCode front put)
+      faults_put question (left ∷ []) lifted old is_lifted opened body new is_opened values idle Whole (OfPlace question.filter place) OrCode Coded Same Coded
+      (coded_put question lifted.bound.items lifted.level opened fronted body Whole OrCode Same Coded same_coded front put)
       (λ world o at is has. in_path_given world o at (comes world o is.seen has))

@@ -9,6 +9,13 @@ use Rattle.sql_forms.proofs.outcomes.FaultFronts.{after_faults, carried_faults, 
 abbrev pub Coded : Outcome → Outcome → Type 0
 Coded o x = x ≡ coded o
 
+-- the outcome itself
+abbrev pub Same : Outcome → Outcome → Type 0
+Same o f = o ≡ f
+
+pub same_coded : (o f : Outcome) → Same o f → Coded o (coded f)
+same_coded o f same = ap coded (sym same)
+
 -- the draft with so many fewer bound
 abbrev pub closed : Draft → ℕ → Draft
 closed draft count = record draft { depth = draft.depth - count }
@@ -17,7 +24,7 @@ module _ (question : Question) where
   -- ---- faults of those that are bound, before what comes of the others
 
   -- the operands are bound from the level on, and this comes of their faults and of what is put for the others
-  pub record Bindings (operands : List Operand) (level : ℕ) (Inner : Has) (InnerForm Shown : Outcome → Outcome → Type 0) (world : World) (o : Outcome) : Type 0 where
+  pub record Bindings (operands : List Operand) (level : ℕ) (Inner : Has) (InnerForm Shown Into : Outcome → Outcome → Type 0) (world : World) (o : Outcome) : Type 0 where
     pub before : List BoundValue
     pub os : List Outcome
     pub bound_are : world.bound ≡ before ++ (map bound_value os ++ [])
@@ -25,7 +32,7 @@ module _ (question : Question) where
     pub as_many : length os ≡ length operands
     pub inner : Outcome
     pub has : Inner world inner
-    pub goes : (x : Outcome) → InnerForm inner x → (rest : Outcome) × Shown rest x × (o ≡ first_fault operands os rest)
+    pub goes : (x : Outcome) → InnerForm inner x → (rest : Outcome) × Shown rest x × Into o (first_fault operands os rest)
 
   module _ (operands : List Operand) (level : ℕ) (opened fronted body : Draft) (Inner : Has) (InnerForm : Outcome → Outcome → Type 0) where
     pub front_grows : (carrier : Option Carrier) (t : Term) → Grows opened fronted (faults_front carrier level operands) → Grows fronted body (nodes_of t)
@@ -34,7 +41,7 @@ module _ (question : Question) where
         subst (Grows opened body) (fronts_written carrier level operands t) (grows_then opened fronted body (faults_front carrier level operands) (nodes_of t) front grows)
 
     pub carried_put : (carrier : Carrier) → Grows opened fronted (faults_front (Some carrier) level operands) → Puts question fronted body Inner InnerForm
-        → Puts question opened body (Bindings operands level Inner InnerForm Itself) Itself
+        → Puts question opened body (Bindings operands level Inner InnerForm Itself Same) Itself
     carried_put carrier front inner = record {
       t = after_faults (Some carrier) level operands inner.t;
       shaped = faults_shaped (Some carrier) level operands inner.t inner.shaped;
@@ -51,9 +58,9 @@ module _ (question : Question) where
           );
     }
 
-    pub coded_put : Grows opened fronted (faults_front None level operands) → Puts question fronted body Inner InnerForm
-        → Puts question opened body (Bindings operands level Inner InnerForm Coded) Coded
-    coded_put front inner = record {
+    pub coded_put : (Into Form : Outcome → Outcome → Type 0) → ((o f : Outcome) → Into o f → Form o (coded f)) → Grows opened fronted (faults_front None level operands)
+        → Puts question fronted body Inner InnerForm → Puts question opened body (Bindings operands level Inner InnerForm Coded Into) Form
+    coded_put Into Form shows front inner = record {
       t = after_faults None level operands inner.t;
       shaped = faults_shaped None level operands inner.t inner.shaped;
       grows = front_grows None inner.t front inner.grows;
@@ -65,7 +72,7 @@ module _ (question : Question) where
           let whole = coded_faults world.asked has.before [] level operands has.os inner.t g.0 has.level_is has.as_many there in (
             coded (first_fault operands has.os g.0),
             subst (λ (bs : Bound). SqlMeans world.asked bs (after_faults None level operands inner.t) (coded (first_fault operands has.os g.0))) (sym has.bound_are) whole,
-            ap coded (sym g.2),
+            shows o (first_fault operands has.os g.0) g.2,
           );
     }
 

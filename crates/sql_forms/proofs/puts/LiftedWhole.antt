@@ -22,13 +22,13 @@ module _ (question : Question) (operands : List Operand) (lifted : Lifted) (old 
     pub goes : (x : Outcome) → InnerForm inner x → Form o x
 
   -- likewise, where the first fault of an operand comes first
-  pub record FaultsGiven (Inner : Has) (InnerForm Shown : Outcome → Outcome → Type 0) (world : World) (o : Outcome) : Type 0 where
+  pub record FaultsGiven (Inner : Has) (InnerForm Shown Into : Outcome → Outcome → Type 0) (world : World) (o : Outcome) : Type 0 where
     pub os : List Outcome
     pub have : AllHave question.filter operands world os
     pub plain : ArePlain operands os
     pub inner : Outcome
     pub has : Inner (in_body world os) inner
-    pub goes : (x : Outcome) → InnerForm inner x → (rest : Outcome) × Shown rest x × (o ≡ faults_of os rest)
+    pub goes : (x : Outcome) → InnerForm inner x → (rest : Outcome) × Shown rest x × Into o (faults_of os rest)
 
   module _ (opened body new : Draft) (is_opened : IsOpened lifted old opened) (values : PutsAll question (closed body (length lifted.bound.items)) new (AllHave question.filter lifted.bound.items) (length lifted.bound.items))
       (idle : lifted.bound.items ≡ [] → Grows (closed body (length lifted.bound.items)) new []) where
@@ -74,12 +74,13 @@ module _ (question : Question) (operands : List Operand) (lifted : Lifted) (old 
 
     -- ---- faults first
 
-    module _ (Inner Outcomes : Has) (InnerForm Shown : Outcome → Outcome → Type 0) (put : Puts question opened body (Bindings question lifted.bound.items lifted.level Inner InnerForm Shown) Shown)
-        (given : (world : World) (o : Outcome) → old.depth ≡ length world.bound → IsWorldOf question new world → Outcomes world o → FaultsGiven Inner InnerForm Shown world o) where
-      bindings : (world : World) (o : Outcome) → old.depth ≡ length world.bound → (g : FaultsGiven Inner InnerForm Shown world o)
-          → Bindings question lifted.bound.items lifted.level Inner InnerForm Shown (in_body world g.os) o
+    module _ (Inner Outcomes : Has) (InnerForm Shown Into Form : Outcome → Outcome → Type 0)
+        (put : Puts question opened body (Bindings question lifted.bound.items lifted.level Inner InnerForm Shown Into) Form)
+        (given : (world : World) (o : Outcome) → old.depth ≡ length world.bound → IsWorldOf question new world → Outcomes world o → FaultsGiven Inner InnerForm Shown Into world o) where
+      bindings : (world : World) (o : Outcome) → old.depth ≡ length world.bound → (g : FaultsGiven Inner InnerForm Shown Into world o)
+          → Bindings question lifted.bound.items lifted.level Inner InnerForm Shown Into (in_body world g.os) o
       bindings world o at g =
-          subst (λ (bs : List Operand). Bindings question bs lifted.level Inner InnerForm Shown (in_body world g.os) o) (sym is_lifted.bound)
+          subst (λ (bs : List Operand). Bindings question bs lifted.level Inner InnerForm Shown Into (in_body world g.os) o) (sym is_lifted.bound)
           (record {
             before = world.bound;
             os = chosen_of is_lifted.choices g.os;
@@ -91,12 +92,12 @@ module _ (question : Question) (operands : List Operand) (lifted : Lifted) (old 
             has = g.has;
             goes = λ x form.
                 let r = g.goes x form in
-                (r.0, r.1, r.2 ∙ sym (lifted_faults is_lifted.choices operands g.os r.0 is_lifted.are (as_many question.filter world operands g.os g.have) g.plain));
+                (r.0, r.1, subst (Into o) (sym (lifted_faults is_lifted.choices operands g.os r.0 is_lifted.are (as_many question.filter world operands g.os g.have) g.plain)) r.2);
           })
 
-      pub faults_put : Puts question old new Outcomes Shown
+      pub faults_put : Puts question old new Outcomes Form
       faults_put =
-          lifted_put (Bindings question lifted.bound.items lifted.level Inner InnerForm Shown) Outcomes Shown Shown put
+          lifted_put (Bindings question lifted.bound.items lifted.level Inner InnerForm Shown Into) Outcomes Form Form put
           (λ world o at is has.
           let g = given world o at is has in
           record { os = g.os; have = g.have; inner = o; has = bindings world o at g; goes = λ x form. form })

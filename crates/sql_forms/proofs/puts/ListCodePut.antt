@@ -1,14 +1,13 @@
 -- The code of `in` before a list: the fault of its left side, and else the code of whether an item is equal.
-use Rattle.sql_forms.proofs.Common.{◌≡◌, ◌≢◌, inl, inr, ◌∷◌, [], ℕ, List, Bool, true, false, Option, Some, None, length, map, refl, sym, ap, subst, ◌∙◌, IsSomeAnd, pos, slice_get, AllByRecursion, Val, null, whole, ComparisonOperator, Filter, CompareGives, Then, Outcome, gives, IsCoded, code_of, without_fault, BoundValue, bound_value, SqlType, IsFault, Draft, Lifted, Operand, Source, Kind, CodeHas, FaultyHave, HasOrCode, NoTruth, Grows, IsOfKind, AllHave, ArePlain, IsLifted, IsOpened, carrier_in, chosen_of, faults_front, faults_of, within_let, AsCode, EachCompared, EqualCodesOrNull, IsPlainValue, ListHas, NullBeside, any_of, Fits, HasLoosely, OperandHas, SourceHas, carrier_of, IsAskedOf, OfPlace, Puts, PutsAll, Question, World, extended}
-use Rattle.sql_forms.proofs.outcomes.Apart.{stays_fault as fault_stays, is_faulted, null_kind}
+use Rattle.sql_forms.proofs.Common.{HasValue, ◌≡◌, ◌≢◌, inl, inr, ◌∷◌, [], ℕ, List, Bool, true, false, Option, Some, None, length, map, refl, sym, ap, subst, ◌∙◌, IsSomeAnd, pos, slice_get, AllByRecursion, Val, null, whole, ComparisonOperator, Filter, CompareGives, Then, Outcome, gives, IsCoded, code_of, BoundValue, bound_value, SqlType, IsFault, Draft, Lifted, Operand, Source, Kind, CodeHas, FaultyHave, HasOrCode, NoTruth, Grows, AllHave, IsLifted, IsOpened, carrier_in, chosen_of, faults_front, faults_of, AsCode, EachCompared, EqualCodesOrNull, IsPlainValue, ListHas, NullBeside, any_of, HasLoosely, SourceHas, carrier_of, IsAskedOf, OfPlace, Puts, PutsAll, Question, World, extended}
+use Rattle.sql_forms.proofs.outcomes.Apart.{stays_fault as fault_stays}
 use Rattle.sql_forms.proofs.nodes.Binding.{found, stays}
 use Rattle.sql_forms.proofs.puts.EqualCodesPut.{any_coded, each_coded, outcome_of_code}
-use Rattle.sql_forms.proofs.puts.EqualPut.{no_more}
+use Rattle.sql_forms.proofs.puts.OneLeft.{one_is, one_null, one_value}
 use Rattle.sql_forms.proofs.puts.FaultyComparisonsPut.{plain_has}
-use Rattle.sql_forms.proofs.puts.InPathPut.{first_inner}
-use Rattle.sql_forms.proofs.outcomes.LiftedFaults.{IsInner, lifted_values}
-use Rattle.sql_forms.proofs.puts.LiftedPut.{Coded, closed, coded_put}
-use Rattle.sql_forms.proofs.outcomes.LiftedValues.{body_have, source_stays}
+use Rattle.sql_forms.proofs.outcomes.LiftedFaults.{IsInner}
+use Rattle.sql_forms.proofs.puts.LiftedPut.{Coded, Same, closed, coded_put, same_coded}
+use Rattle.sql_forms.proofs.outcomes.LiftedValues.{source_stays}
 use Rattle.sql_forms.proofs.puts.LiftedWhole.{FaultsGiven, faults_put, in_body}
 
 -- ---- operands in a body
@@ -45,11 +44,8 @@ carries_value b Kind.Structured other carries = absurd (carries (no_carrier_with
 module _ (question : Question) (place : ℕ) (left first : Operand) (items : List Operand) (lifted : Lifted) (old : Draft) (is_lifted : IsLifted (left ∷ []) old.depth lifted) (no_truth : NoTruth left)
     (at_first : slice_get lifted.inner.items 0 ≡ Some first)
     (comes : (world : World) (o : Outcome) → IsAskedOf question world → OfPlace question.filter place world o → ListHas question.filter left items world o) where
-  at_inner : slice_get (within_let old.depth is_lifted.choices (left ∷ [])) 0 ≡ Some first
-  at_inner = subst (λ (xs : List Operand). slice_get xs 0 ≡ Some first) is_lifted.inner at_first
-
   inner_is : IsInner left first
-  inner_is = no_more is_lifted.choices left first old.depth is_lifted.are at_inner
+  inner_is = one_is question left first lifted old is_lifted at_first
 
   module _ (world : World) (o : Outcome) (at : old.depth ≡ length world.bound) (come : ListHas question.filter left items world o) where
     abbrev os : List Outcome
@@ -64,15 +60,6 @@ module _ (question : Question) (place : ℕ) (left first : Operand) (items : Lis
     have : AllHave question.filter (left ∷ []) world os
     have = (plain_has question.filter left.kind left.source world come.left_outcome no_truth come.left_has, refl)
 
-    plain : ArePlain (left ∷ []) os
-    plain = (come.left_plain no_truth, tt)
-
-    inner_has : OperandHas question.filter first within (without_fault come.left_outcome)
-    inner_has =
-        first_inner question.filter (within_let old.depth is_lifted.choices (left ∷ [])) first within (without_fault come.left_outcome) at_inner
-        (subst (AllHave question.filter (within_let old.depth is_lifted.choices (left ∷ [])) within) (lifted_values is_lifted.choices (left ∷ []) os is_lifted.are refl plain)
-        (body_have question.filter world old.depth is_lifted.choices (left ∷ []) os at is_lifted.are have))
-
     first_no_truth : NoTruth first
     first_no_truth is = no_truth (sym inner_is.kind ∙ is)
 
@@ -83,13 +70,11 @@ module _ (question : Question) (place : ℕ) (left first : Operand) (items : Lis
 
     -- of a value: each item beside it
     module _ (l : Val) (is : come.left_outcome ≡ gives l) where
-      first_has : HasOrCode question.filter first.kind first.source within (gives l)
-      first_has = has_plain question.filter first.kind first.source within (gives l) first_no_truth (subst (OperandHas question.filter first within) (ap without_fault is) inner_has)
+      first_value_has : (v : Val) → gives l ≡ gives v → HasValue question.filter first within v
+      first_value_has v same = one_value question left first lifted old is_lifted at_first world come.left_outcome at have.0 (come.left_plain no_truth) v (is ∙ same) (come.left_fits v (is ∙ same))
 
-      first_fits : (v : Val) → gives l ≡ gives v → Fits first v
-      first_fits v same =
-          let fits = come.left_fits v (is ∙ same) in
-          record { kind = subst (λ (k : Kind). IsOfKind k v) (sym inner_is.kind) fits.kind; nullable = λ none. inner_is.nullable ∙ fits.nullable none }
+      first_has : HasOrCode question.filter first.kind first.source within (gives l)
+      first_has = has_plain question.filter first.kind first.source within (gives l) first_no_truth (first_value_has l refl).has
 
       compared : (item : Operand) (e : Outcome) (f : FaultyHave question.filter ComparisonOperator.Eq left item world e) → f.left_outcome ≡ come.left_outcome
           → (g : FaultyHave question.filter ComparisonOperator.Eq first item within e) × (g.left_outcome ≡ gives l)
@@ -100,7 +85,7 @@ module _ (question : Question) (place : ℕ) (left first : Operand) (items : Lis
               right_outcome = f.right_outcome;
               left_has = first_has;
               right_has = has_stays question.filter item.kind item.source world more f.right_outcome f.right_has;
-              left_fits = first_fits;
+              left_fits = λ v same_value. (first_value_has v same_value).fits;
               right_fits = f.right_fits;
               left_plain = λ no_first none. (l, refl);
               right_plain = f.right_plain;
@@ -128,7 +113,7 @@ module _ (question : Question) (place : ℕ) (left first : Operand) (items : Lis
     -- of a fault, instead of which null stands
     module _ (fault : IsFault come.left_outcome) where
       null_first : HasLoosely question.filter first within null
-      null_first = record { has = subst (OperandHas question.filter first within) (is_faulted come.left_outcome fault) inner_has; kind = null_kind first.kind }
+      null_first = one_null question left first lifted old is_lifted at_first world come.left_outcome at have.0 (come.left_plain no_truth) fault
 
       carries : carrier_in left ≡ None → ⊥
       carries none = let v = come.left_plain no_truth none in let value : IsFault (gives v.0) = subst IsFault v.1 fault in value
@@ -175,13 +160,13 @@ module _ (question : Question) (place : ℕ) (left first : Operand) (items : Lis
         by (gives l) is = of_value l is
         by _ is = of_fault (subst IsFault (sym is) tt)
 
-    list_given : FaultsGiven question (left ∷ []) lifted old is_lifted (EqualCodesOrNull question.filter first items) AsCode Coded world o
-    list_given = let g = given in record { os = os; have = have; plain = plain; inner = g.inner; has = g.has; goes = g.goes }
+    list_given : FaultsGiven question (left ∷ []) lifted old is_lifted (EqualCodesOrNull question.filter first items) AsCode Coded Same world o
+    list_given = let g = given in record { os = os; have = have; plain = (come.left_plain no_truth, tt); inner = g.inner; has = g.has; goes = g.goes }
 
   pub list_code_put : (opened fronted body new : Draft) → IsOpened lifted old opened → PutsAll question (closed body (length lifted.bound.items)) new (AllHave question.filter lifted.bound.items) (length lifted.bound.items)
       → (lifted.bound.items ≡ [] → Grows (closed body (length lifted.bound.items)) new []) → Grows opened fronted (faults_front None lifted.level lifted.bound.items)
       → Puts question fronted body (EqualCodesOrNull question.filter first items) AsCode → Puts question old new (OfPlace question.filter place) Coded
   list_code_put opened fronted body new is_opened values idle front put =
-      faults_put question (left ∷ []) lifted old is_lifted opened body new is_opened values idle (EqualCodesOrNull question.filter first items) (OfPlace question.filter place) AsCode Coded
-      (coded_put question lifted.bound.items lifted.level opened fronted body (EqualCodesOrNull question.filter first items) AsCode front put)
+      faults_put question (left ∷ []) lifted old is_lifted opened body new is_opened values idle (EqualCodesOrNull question.filter first items) (OfPlace question.filter place) AsCode Coded Same Coded
+      (coded_put question lifted.bound.items lifted.level opened fronted body (EqualCodesOrNull question.filter first items) AsCode Same Coded same_coded front put)
       (λ world o at is has. list_given world o at (comes world o is.seen has))

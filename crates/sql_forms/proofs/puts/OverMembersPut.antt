@@ -1,20 +1,16 @@
 -- Whether a left side that is computed once is equal to some member.
-use Rattle.sql_forms.proofs.Common.{◌≡◌, inl, ◌∷◌, [], ℕ, List, None, Some, length, map, refl, sym, subst, ◌∙◌, slice_get, Val, boolean, gives, BoundValue, bound_value, Draft, Lifted, Operand, Kind, Grows, IsOfKind, AllHave, IsLifted, IsOpened, carrier_in, chosen_of, within_let, HasMemberHas, MemberHas, some_of, OperandHas, Puts, PutsAll, Question, extended}
+use Rattle.sql_forms.proofs.Common.{◌≡◌, inl, ◌∷◌, [], ℕ, List, Some, length, map, refl, sym, ◌∙◌, slice_get, Val, boolean, gives, BoundValue, bound_value, Draft, Lifted, Operand, Grows, AllHave, IsLifted, IsOpened, chosen_of, HasMemberHas, MemberHas, some_of, Puts, PutsAll, Question}
 use Rattle.sql_forms.specs.private.AskedForms.{Itself, OrTruth}
-use Rattle.sql_forms.proofs.puts.EqualPut.{first_has, no_more}
 use Rattle.sql_forms.proofs.puts.InPathPut.{held_stays}
 use Rattle.sql_forms.proofs.puts.LiftedPut.{closed}
-use Rattle.sql_forms.proofs.outcomes.LiftedValues.{body_have}
 use Rattle.sql_forms.proofs.puts.LiftedWhole.{lifted_put}
+use Rattle.sql_forms.proofs.puts.OneLeft.{one_value}
 use Rattle.sql_forms.proofs.puts.OperandsPut.{given_itself}
 
-module _ (question : Question) (base : ℕ) (left first : Operand) (lifted : Lifted) (old : Draft) (is_lifted : IsLifted (left ∷ []) old.depth lifted) (plain : carrier_in left ≡ None)
+module _ (question : Question) (base : ℕ) (left first : Operand) (lifted : Lifted) (old : Draft) (is_lifted : IsLifted (left ∷ []) old.depth lifted)
     (at_first : slice_get lifted.inner.items 0 ≡ Some first) (opened body new : Draft) (is_opened : IsOpened lifted old opened)
     (values : PutsAll question (closed body (length lifted.bound.items)) new (AllHave question.filter lifted.bound.items) (length lifted.bound.items))
     (idle : lifted.bound.items ≡ [] → Grows (closed body (length lifted.bound.items)) new []) where
-  at_inner : slice_get (within_let old.depth is_lifted.choices (left ∷ [])) 0 ≡ Some first
-  at_inner = subst (λ (xs : List Operand). slice_get xs 0 ≡ Some first) is_lifted.inner at_first
-
   pub over_members_put : Puts question opened body (HasMemberHas question.filter first base) (OrTruth Itself) → Puts question old new (MemberHas question.filter left base) Itself
   over_members_put put =
       lifted_put question (left ∷ []) lifted old is_lifted opened body new is_opened values idle (HasMemberHas question.filter first base) (MemberHas question.filter left base) (OrTruth Itself) Itself put
@@ -22,11 +18,7 @@ module _ (question : Question) (base : ℕ) (left first : Operand) (lifted : Lif
       let held = has.0 in
       let l : Val = has.1 in
       let of_left = has.2 in
-      let inner = no_more is_lifted.choices left first old.depth is_lifted.are at_inner in
       let more : List BoundValue = map bound_value (chosen_of is_lifted.choices (gives l ∷ [])) in
-      let there : OperandHas question.filter first (extended world more) (gives l) =
-      first_has question.filter is_lifted.choices left first old.depth (extended world more) (gives l) is_lifted.are plain at_inner
-      (body_have question.filter world old.depth is_lifted.choices (left ∷ []) (gives l ∷ []) at is_lifted.are (of_left.has, refl)) in
       record {
         os = gives l ∷ [];
         have = (of_left.has, refl);
@@ -34,13 +26,7 @@ module _ (question : Question) (base : ℕ) (left first : Operand) (lifted : Lif
         has = inl (
           held_stays question.filter base world more held,
           l,
-          record {
-            has = there;
-            fits = record {
-              kind = subst (λ (k : Kind). IsOfKind k l) (sym inner.kind) of_left.fits.kind;
-              nullable = λ none. inner.nullable ∙ of_left.fits.nullable none;
-            };
-          },
+          one_value question left first lifted old is_lifted at_first world (gives l) at of_left.has (λ none. (l, refl)) l refl of_left.fits,
           has.3,
           has.4,
           has.5,
