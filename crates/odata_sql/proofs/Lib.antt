@@ -1,4 +1,5 @@
 pub mod JsonAnswers
+pub mod NulFree
 pub mod RangesFollow
 pub mod StatementAnswers
 pub mod Statements

@@ -6,5 +6,6 @@ pub use Rattle.sql_tree.specs.Term
 pub use Rattle.sql_forms.specs.Forms
 pub mod Conditions
 pub mod JsonText
+pub mod Refusals
 pub mod Translation
 pub mod private

@@ -7,9 +7,11 @@
 //! ```
 #![tactic(auto)]
 
+mod fault;
 mod json_text;
+mod nul_free;
 mod translation;
 
+pub use fault::SqlFault;
 pub use json_text::conditions_json;
-pub use sql_draft::SqlFault;
 pub use translation::{Conditions, Statement, translate};

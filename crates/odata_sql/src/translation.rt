@@ -1,11 +1,16 @@
 //! The three conditions of a filter.
-ghost use Rattle.std.specs.Prelude.{◌≡◌, IfOk, IfNone, IfSome};
+ghost use Rattle.std.specs.Prelude.{◌≡◌, ◌↔◌, Err, IfErr, IfOk, IfNone, IfSome};
 ghost use Rattle.sql_tree.specs.TableModel.{storage_in, table_in};
 ghost use Rattle.odata_sql.specs.Conditions.{FaultsIt, IsItsCode, KeepsIt};
 ghost use Rattle.odata_sql.specs.Translation.{NeverFaults, Says, table_of};
+ghost use Rattle.odata_sql.specs.Refusals.{IsNulFree, NamesWhatIsNot, NestsTooDeeply, SomeTreeWith, most_symbols};
+ghost use Rattle.odata_sql.specs.declared.fault.SqlFault.{SqlFault};
+ghost use Rattle.odata_sql.specs.private.Refused.{IsRefused, IsRefusedTree};
 ghost use Rattle.odata_sql.specs.private.ShapedTrees.{IsOfShape, IsTextOfShape};
 ghost use Rattle.sql_draft.specs.Translated.{IsTranslated};
 
+use super::fault::SqlFault;
+use super::nul_free::is_nul_free;
 use edm_entities::what_fits_has_its_type;
 use edm_values::Moment;
 use odata_checked_filter::Checked;
@@ -13,7 +18,7 @@ use odata_meaning::typed_trees_end_once_on_entities;
 use odata_ranges::{entities_are_kept, ranges_of};
 use odata_signatures::trees_have_one_type;
 use odata_syntax::ComparisonOperator;
-use sql_draft::{Draft, SqlContext, SqlFault};
+use sql_draft::{Draft, SqlContext};
 use sql_forms::{put_code, put_keeps};
 use sql_meaning::trees_have_one_meaning;
 use sql_tree::{
@@ -24,7 +29,9 @@ use std::alloc::Global;
 
 /// How many symbols of its parser an expression may take: SQLite keeps 100 of them and PostgreSQL 10,000, some of them
 /// for the statement around it. PostgreSQL's texts take up to an eighth more than the count says.
-fn most_symbols(dialect: Dialect) -> usize {
+fn most_symbols(dialect: Dialect) -> usize
+    ensures { result ≡ most_symbols dialect }
+{
     match dialect {
         Dialect::PostgreSql => 8_000,
         Dialect::Sqlite => 88,
@@ -60,6 +67,7 @@ fn statement_of(
     requires { IsOfShape tree }
     ensures text { IfOk result (λ s. IsTextOfShape dialect (table_in table.now) tree s.text) }
     ensures parameters { IfOk result (λ s. s.parameters ≡ tree.parameters) }
+    ensures refused { IfErr result (IsRefusedTree dialect (table_in table.now) tree) }
 {
     if !names_what_is(&tree, table) {
         return Err(SqlFault::NoColumn);
@@ -72,14 +80,6 @@ fn statement_of(
         text,
         parameters: tree.parameters,
     })
-}
-
-/// Whether a name of a column holds U+0000.
-fn has_nul(storage: Storage<'_>) -> bool {
-    match storage {
-        Storage::Columns(names) => names.iter().any(|name| name.contains('\0')),
-        Storage::Document(name) => name.contains('\0'),
-    }
 }
 
 /// What a filter says of the rows of a table that keeps entities of its type, in a dialect. `now` is the moment that
@@ -98,8 +98,12 @@ pub fn translate(
     ensures fault { IfOk result (λ c. IfSome c.fault (λ statement. Says checked.now now.now dialect
         (table_of checked.now (storage_in storage.entry)) statement FaultsIt)) }
     ensures no_fault { IfOk result (λ c. IfNone c.fault (NeverFaults checked.now now.now)) }
+    ensures nul { result ≡ Err SqlFault.Nul ↔ ¬ IsNulFree checked.now (storage_in storage.entry) }
+    ensures no_column { result ≡ Err SqlFault.NoColumn → SomeTreeWith checked.now now.now
+        (NamesWhatIsNot (table_of checked.now (storage_in storage.entry))) }
+    ensures too_deep { result ≡ Err SqlFault.TooDeep → SomeTreeWith checked.now now.now (NestsTooDeeply dialect) }
 {
-    if has_nul(storage) {
+    if !is_nul_free(checked, storage) {
         return Err(SqlFault::Nul);
     }
     entities_are_kept();
@@ -133,8 +137,10 @@ fn outcome_of(
 ) -> Result<Statement, SqlFault>
     requires translated { IsTranslated context.now }
     requires stored { table_in table.now ≡ table_of context.now.checked.now (storage_in context.now.storage) }
-    ensures { IfOk result (λ s. Says context.now.checked.now context.now.moment.now dialect
+    ensures ok { IfOk result (λ s. Says context.now.checked.now context.now.moment.now dialect
         (table_in table.now) s IsItsCode) }
+    ensures refused { IfErr result (IsRefused context.now.checked.now context.now.moment.now dialect
+        (table_in table.now) IsItsCode) }
 {
     trees_have_one_type();
     trees_have_one_meaning();
@@ -152,8 +158,10 @@ fn keep_of(
 ) -> Result<Statement, SqlFault>
     requires translated { IsTranslated context.now }
     requires stored { table_in table.now ≡ table_of context.now.checked.now (storage_in context.now.storage) }
-    ensures { IfOk result (λ s. Says context.now.checked.now context.now.moment.now dialect
+    ensures ok { IfOk result (λ s. Says context.now.checked.now context.now.moment.now dialect
         (table_in table.now) s KeepsIt) }
+    ensures refused { IfErr result (IsRefused context.now.checked.now context.now.moment.now dialect
+        (table_in table.now) KeepsIt) }
 {
     trees_have_one_type();
     trees_have_one_meaning();
@@ -174,6 +182,8 @@ fn fault_of(
     ensures some { IfOk result (λ found. IfSome found (λ s. Says context.now.checked.now context.now.moment.now dialect
         (table_in table.now) s FaultsIt)) }
     ensures none { IfOk result (λ found. IfNone found (NeverFaults context.now.checked.now context.now.moment.now)) }
+    ensures refused { IfErr result (IsRefused context.now.checked.now context.now.moment.now dialect
+        (table_in table.now) FaultsIt) }
 {
     typed_trees_end_once_on_entities();
     trees_have_one_type();

@@ -17,7 +17,7 @@ use Rattle.sql_tree.specs.declared.path.Base.{Base}
 use Rattle.sql_tree.specs.declared.path.Path.{Path}
 use Rattle.sql_tree.specs.declared.path.Step.{Step}
 use Rattle.sql_draft.specs.declared.draft.Draft.{Draft}
-use Rattle.sql_draft.specs.declared.fault.SqlFault.{SqlFault}
+use Rattle.std.specs.declared.alloc.AllocError.{AllocError}
 use Rattle.sql_draft.specs.Growth.{GrowsBy, IsFront}
 use Rattle.sql_draft.specs.Paths.{BelowHas, IsBottom, IsBottomOf, PutsMemberPath, PutsPath, StepsLead}
 use Rattle.sql_draft.specs.World.{IsWorldOf, OfPlace, Question, World}
@@ -203,12 +203,12 @@ ok_goes (Err e) P Q goes is = is
 abbrev pub IsAdded : Draft → Draft → Path → ℕ → Type 0
 IsAdded old new path number = (number ≡ length old.tree.paths.items) × GrowsBy old new [] (path ∷ []) []
 
-pub member_path_ok : (old new : Draft) (path : Path) (level : ℕ) (r : Result ℕ SqlFault) → path.base ≡ Base.Member level → path.steps.items ≡ [] → IfOk r (IsAdded old new path)
+pub member_path_ok : (old new : Draft) (path : Path) (level : ℕ) (r : Result ℕ AllocError) → path.base ≡ Base.Member level → path.steps.items ≡ [] → IfOk r (IsAdded old new path)
     → IfOk r (PutsMemberPath old new level)
 member_path_ok old new path level r base_is no_steps added =
     ok_goes r (IsAdded old new path) (PutsMemberPath old new level) (λ number is. subst (PutsMemberPath old new level) (sym is.0) (member_path_put old new path is.1 level base_is no_steps)) added
 
-pub path_ok : (question : Question) (old new : Draft) (path : Path) (lowest place : ℕ) (r : Result ℕ SqlFault) → place ≤ lowest → StepsLead question old.members.items path.base path.steps.items lowest place
+pub path_ok : (question : Question) (old new : Draft) (path : Path) (lowest place : ℕ) (r : Result ℕ AllocError) → place ≤ lowest → StepsLead question old.members.items path.base path.steps.items lowest place
     → IfOk r (IsAdded old new path) → IfOk r (PutsPath question old new place)
 path_ok question old new path lowest place r first lead added =
     ok_goes r (IsAdded old new path) (PutsPath question old new place) (λ number is. subst (PutsPath question old new place) (sym is.0) (path_put old new path is.1 question lowest place first lead)) added

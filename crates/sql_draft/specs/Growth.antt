@@ -26,8 +26,8 @@ pub record IsDeeper (old new : Draft) (count : ℕ) : Type 0 where
   pub tree : new.tree ≡ old.tree
   pub members : new.members.items ≡ old.members.items
   pub depth : new.depth ≡ old.depth + count
-  pub few : old.depth < 10_000
-  pub counted : count < 10_000
+  pub few : old.depth < 1_000_000_000_000
+  pub counted : count < 1_000_000_000_000
 
 -- a parameter of that type, the text of which meets this, and its node
 pub record GrowsByText (old new : Draft) (type : SqlType) (Meets : String Global → Type 0) : Type 0 where

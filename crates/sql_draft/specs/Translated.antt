@@ -1,5 +1,6 @@
 -- What a translation goes by.
-use Rattle.std.specs.Prelude.{◌≡◌, ◌≢◌, ◌<◌, ℕ, All, List, Some, IsSomeAnd, true, false, length, slice_get}
+use Rattle.std.specs.Prelude.{◌≡◌, ◌≢◌, ◌<◌, ℕ, All, List, Some, String, IsSomeAnd, true, false, length, slice_get, string_bytes}
+use Rattle.std.specs.declared.alloc.Global.{Global}
 use Rattle.edm_values.specs.Civil.{Date}
 use Rattle.edm_values.specs.MomentParts.{IsFourDigitYear, IsMoment}
 use Rattle.edm_values.specs.declared.value.Value.{Value}
@@ -11,6 +12,7 @@ use Rattle.odata_ranges.specs.Reach.{IsBounded}
 use Rattle.odata_filter_operations.specs.Outcome.{Outcome}
 use Rattle.odata_ranges.specs.Within.{IsWithin}
 use Rattle.odata_ranges.specs.declared.range.Range.{Range}
+use Rattle.sql_meaning.specs.ParameterGives.{HoldsNul}
 use Rattle.sql_tree.specs.declared.node.SqlType.{SqlType}
 use Rattle.sql_draft.specs.declared.sql_context.Kind.{Kind}
 use Rattle.sql_draft.specs.declared.sql_context.SqlContext.{SqlContext}
@@ -50,10 +52,16 @@ pub record AreRanges (question : Question) (ranges : List Range) : Type 0 where
       (place : ℕ) (node : CheckedNode) (range : Range) → slice_get question.filter.list.nodes place ≡ Some node
       → slice_get ranges place ≡ Some range → node.kind ≡ NodeKind.It → range.may_be_null ≡ false
 
+-- a text at an index of the filter's values has no character U+0000
+abbrev pub IsNulFreeAt : Filter → ℕ → Type 0
+IsNulFreeAt filter place =
+    (text : String Global) → slice_get filter.list.values place ≡ Some (Value.Text text) → ¬ HoldsNul (string_bytes text)
+
 pub record IsTranslated (context : SqlContext) : Type 0 where
   pub moment : IsMoment context.moment.now.civil context.moment.now.offset_minutes
   pub right : IsFilter context.checked.now
   pub ranges : AreRanges (question_of context) context.ranges.now
+  pub nul_free : (place : ℕ) → IsNulFreeAt context.checked.now place
 
 -- a truth value there evaluates to no fault
 abbrev pub IsPlainAt : Filter → List Range → ℕ → Type 0

@@ -1,17 +1,14 @@
-ghost use Rattle.std.specs.Prelude.{◌≡◌, ◌⊎◌, ◌∷◌, [], ◌↔◌, ◌<◌, ◌≤◌, ℕ, Err, IfErr, IfOk, OnOk, Some, length, slice_get, string_bytes};
-ghost use Rattle.sql_meaning.specs.ParameterGives.{HoldsNul};
+ghost use Rattle.std.specs.Prelude.{◌≡◌, ◌⊎◌, ◌∷◌, [], ◌<◌, ◌≤◌, ℕ, IfErr, IfOk, OnOk, Some, length, slice_get};
 ghost use Rattle.sql_tree.specs.declared.node.SqlNode.{SqlNode};
 ghost use Rattle.sql_tree.specs.declared.parameter.Parameter.{Parameter};
 ghost use Rattle.sql_tree.specs.declared.path.Path.{Path};
-ghost use Rattle.sql_draft.specs.declared.fault.SqlFault.{SqlFault};
 ghost use Rattle.sql_draft.specs.Growth.{GrowsBy, IsDeeper};
 
-use super::fault::SqlFault;
 use sql_tree::{Digit, Parameter, Path, SqlNode, SqlTree, SqlType};
-use std::alloc::Global;
+use std::alloc::{AllocError, Global};
 
-/// No engine's parser takes so many levels of values and members bound within one another.
-const DEPTH_LIMIT: usize = 10_000;
+/// No memory holds a tree that binds so many values and members: each takes a node of it.
+const DEPTH_LIMIT: usize = 1_000_000_000_000;
 
 /// A tree while it is made: its nodes so far, and what the next one may name.
 #[derive(Drop)]
@@ -42,26 +39,25 @@ impl Draft {
         }
     }
 
-    /// How many values and members are bound around the next node; `TooDeep` if no more may be.
-    pub fn depth_for_more(&self) -> Result<usize, SqlFault>
-        ensures ok { IfOk result (λ depth. (depth ≡ self.now.depth) × (depth < 10_000)) }
-        ensures err { IfErr result (λ fault. (fault ≡ SqlFault.TooDeep) × (10_000 ≤ self.now.depth)) }
+    /// How many values and members are bound around the next node; out of memory if no tree can bind more.
+    pub fn depth_for_more(&self) -> Result<usize, AllocError>
+        ensures ok { IfOk result (λ depth. (depth ≡ self.now.depth) × (depth < 1_000_000_000_000)) }
+        ensures err { IfErr result (λ _. 1_000_000_000_000 ≤ self.now.depth) }
     {
         if DEPTH_LIMIT <= self.depth {
-            return Err(SqlFault::TooDeep);
+            return Err(AllocError);
         }
         Ok(self.depth)
     }
 
-    /// Binds so many values or members more around the next node; `TooDeep` if they would be too many.
-    pub fn deepen(&mut self, count: usize) -> Result<(), SqlFault>
+    /// Binds so many values or members more around the next node; out of memory if no tree can bind them.
+    pub fn deepen(&mut self, count: usize) -> Result<(), AllocError>
         ensures ok { OnOk result (IsDeeper self.old self.new count) }
-        ensures err { IfErr result (λ fault. (fault ≡ SqlFault.TooDeep)
-            × ((10_000 ≤ self.old.depth) ⊎ (10_000 ≤ count))) }
+        ensures err { IfErr result (λ _. (1_000_000_000_000 ≤ self.old.depth) ⊎ (1_000_000_000_000 ≤ count)) }
     {
         let depth = self.depth_for_more()?;
         if DEPTH_LIMIT <= count {
-            return Err(SqlFault::TooDeep);
+            return Err(AllocError);
         }
         self.depth = depth + count;
         Ok(())
@@ -78,10 +74,9 @@ impl Draft {
     }
 
     /// Adds a path and returns its number.
-    pub fn add_path(&mut self, path: Path) -> Result<usize, SqlFault>
+    pub fn add_path(&mut self, path: Path) -> Result<usize, AllocError>
         ensures ok { IfOk result (λ number. (number ≡ length self.old.tree.paths.items)
             × GrowsBy self.old self.new [] (path ∷ []) []) }
-        ensures err { IfErr result (λ fault. fault ≡ SqlFault.Memory) }
     {
         let number = self.tree.paths.len();
         self.tree.paths.push(path)?;
@@ -89,18 +84,16 @@ impl Draft {
     }
 
     /// Adds a node after those that are there.
-    pub fn put(&mut self, node: SqlNode) -> Result<(), SqlFault>
+    pub fn put(&mut self, node: SqlNode) -> Result<(), AllocError>
         ensures ok { OnOk result (GrowsBy self.old self.new (node ∷ []) [] []) }
-        ensures err { IfErr result (λ fault. fault ≡ SqlFault.Memory) }
     {
         self.tree.put(node)?;
         Ok(())
     }
 
     /// Adds a number of the tree itself.
-    pub fn put_number(&mut self, value: Digit) -> Result<(), SqlFault>
+    pub fn put_number(&mut self, value: Digit) -> Result<(), AllocError>
         ensures ok { OnOk result (GrowsBy self.old self.new (SqlNode.Number value ∷ []) [] []) }
-        ensures err { IfErr result (λ fault. fault ≡ SqlFault.Memory) }
     {
         self.put(SqlNode::Number { value })
     }
@@ -110,25 +103,12 @@ impl Draft {
         &mut self,
         parameter: Parameter,
         value_type: SqlType,
-    ) -> Result<(), SqlFault>
+    ) -> Result<(), AllocError>
         ensures ok { OnOk result (GrowsBy self.old self.new
             (SqlNode.Parameter (length self.old.tree.parameters.items) value_type ∷ []) [] (parameter ∷ [])) }
-        ensures err { IfErr result (λ fault. fault ≡ SqlFault.Memory) }
     {
         let place = self.tree.parameters.len();
         self.tree.parameters.push(parameter)?;
         self.put(SqlNode::Parameter { place, value_type })
-    }
-
-    /// Adds a parameter that is a text; `Nul` if it holds U+0000.
-    pub fn put_text(&mut self, text: String, value_type: SqlType) -> Result<(), SqlFault>
-        ensures ok { OnOk result (GrowsBy self.old self.new
-            (SqlNode.Parameter (length self.old.tree.parameters.items) value_type ∷ []) [] (Parameter.Text text ∷ [])) }
-        ensures nul { result ≡ Err SqlFault.Nul ↔ HoldsNul (string_bytes text) }
-    {
-        if text.as_str().contains('\0') {
-            return Err(SqlFault::Nul);
-        }
-        self.put_parameter(Parameter::Text(text), value_type)
     }
 }

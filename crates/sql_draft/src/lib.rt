@@ -3,13 +3,11 @@
 #![tactic(auto)]
 
 mod draft;
-mod fault;
 mod operand;
 mod paths;
 mod sql_context;
 
 pub use draft::Draft;
-pub use fault::SqlFault;
 pub use operand::{Operand, Source};
 pub use paths::{put_member_path, put_path};
 pub use sql_context::{Kind, SqlContext, kind_of, kind_of_value};

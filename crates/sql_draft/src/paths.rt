@@ -5,12 +5,12 @@ ghost use Rattle.sql_draft.specs.Paths.{IsBottomOf, IsFirstStep, PutsMemberPath,
 ghost use Rattle.sql_draft.specs.Translated.{IsPathAt, IsTranslated, question_of};
 
 use super::draft::Draft;
-use super::fault::SqlFault;
 use super::sql_context::SqlContext;
 use odata_checked_filter::NodeKind;
 use odata_ranges::owner_of;
 use odata_signatures::trees_have_one_type;
 use sql_tree::{Base, Path, Step, Storage};
+use std::alloc::AllocError;
 
 /// The index of the node with which a path begins that stops with the node at an index.
 fn lowest_of(context: &SqlContext<'_, '_>, place: usize) -> usize
@@ -98,7 +98,7 @@ pub fn put_path(
     context: &SqlContext<'_, '_>,
     draft: &mut Draft,
     place: usize,
-) -> Result<usize, SqlFault>
+) -> Result<usize, AllocError>
     requires translated { IsTranslated context.now }
     requires path { IsPathAt context.now.checked.now place }
     ensures { IfOk result (λ number. PutsPath (question_of context.now) draft.old draft.new place number) }
@@ -119,7 +119,7 @@ pub fn put_path(
 }
 
 /// Adds the path of the member at a level, and returns its number.
-pub fn put_member_path(draft: &mut Draft, level: usize) -> Result<usize, SqlFault>
+pub fn put_member_path(draft: &mut Draft, level: usize) -> Result<usize, AllocError>
     ensures { IfOk result (λ number. PutsMemberPath draft.old draft.new level number) }
 {
     let steps = Vec::new(draft.alloc);

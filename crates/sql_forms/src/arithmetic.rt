@@ -20,8 +20,9 @@ use odata_functions::{ArithFault, divisions_are_unique};
 use odata_ranges::{Range, is_safe};
 use odata_signatures::{EdmType, ValueType};
 use odata_syntax::{ArithmeticOperator, ComparisonOperator};
-use sql_draft::{Draft, Operand, SqlContext, SqlFault};
+use sql_draft::{Draft, Operand, SqlContext};
 use sql_tree::{Carrier, Digit, SqlNode, SqlType};
+use std::alloc::AllocError;
 
 /// The type of the node at an index, in which its numbers are computed.
 fn number_type(context: &SqlContext<'_, '_>, place: usize) -> Prim
@@ -63,7 +64,7 @@ pub(crate) fn put_calculated(
     operator: ArithmeticOperator,
     left: &Operand,
     right: &Operand,
-) -> Result<(), SqlFault>
+) -> Result<(), AllocError>
     requires translated { IsTranslated context.now }
     requires left { IsPut context.now.checked.now context.now.ranges.now left.now }
     requires right { IsPut context.now.checked.now context.now.ranges.now right.now }
@@ -99,7 +100,7 @@ fn put_checked(
     prim: Prim,
     left: &Operand,
     right: &Operand,
-) -> Result<(), SqlFault>
+) -> Result<(), AllocError>
     requires translated { IsTranslated context.now }
     requires left { IsPut context.now.checked.now context.now.ranges.now left.now }
     requires right { IsPut context.now.checked.now context.now.ranges.now right.now }
@@ -126,7 +127,7 @@ fn put_checked(
     put_unbounded(context, draft, operator, left, right, by_zero)
 }
 
-fn put_fault(draft: &mut Draft, fault: ArithFault) -> Result<(), SqlFault>
+fn put_fault(draft: &mut Draft, fault: ArithFault) -> Result<(), AllocError>
     ensures { OnOk result (Grows draft.old draft.new (SqlNode.Fault Carrier.Number fault ∷ [])) }
 {
     draft.put(SqlNode::Fault {
@@ -140,7 +141,7 @@ fn put_is_zero(
     context: &SqlContext<'_, '_>,
     draft: &mut Draft,
     operand: &Operand,
-) -> Result<(), SqlFault>
+) -> Result<(), AllocError>
     requires translated { IsTranslated context.now }
     requires put { IsPut context.now.checked.now context.now.ranges.now operand.now }
     ensures { OnOk result (Puts (question_of context.now) draft.old draft.new
@@ -163,7 +164,7 @@ fn put_unbounded(
     left: &Operand,
     right: &Operand,
     by_zero: bool,
-) -> Result<(), SqlFault>
+) -> Result<(), AllocError>
     requires translated { IsTranslated context.now }
     requires left { IsPut context.now.checked.now context.now.ranges.now left.now }
     requires right { IsPut context.now.checked.now context.now.ranges.now right.now }

@@ -25,7 +25,7 @@ use odata_functions::ArithFault;
 use odata_meaning::typed_trees_end_once_on_entities;
 use odata_ranges::may_exceed_int32;
 use odata_signatures::{Function, calls_have_one_type, trees_have_one_type};
-use sql_draft::{Draft, Kind, Operand, Source, SqlContext, SqlFault};
+use sql_draft::{Draft, Kind, Operand, Source, SqlContext};
 use sql_tree::{Carrier, SqlFunction, SqlNode, SqlType};
 use std::alloc::{AllocError, Global};
 
@@ -180,7 +180,7 @@ fn put_function(
     draft: &mut Draft,
     function: Function,
     operands: &[Operand],
-) -> Result<(), SqlFault>
+) -> Result<(), AllocError>
     requires translated { IsTranslated context.now }
     requires put { All (IsPut context.now.checked.now context.now.ranges.now) operands.now }
     requires some { 0 < length operands.now }
@@ -203,7 +203,7 @@ fn put_function(
 }
 
 /// Puts that what follows is a value as the carrier has it, where there is one.
-fn put_carried(draft: &mut Draft, carrier: Option<Carrier>) -> Result<(), SqlFault>
+fn put_carried(draft: &mut Draft, carrier: Option<Carrier>) -> Result<(), AllocError>
     ensures { OnOk result (Grows draft.old draft.new (carried_nodes carrier)) }
 {
     match carrier {
@@ -221,7 +221,7 @@ fn put_called(
     function: Function,
     carrier: Option<Carrier>,
     operands: &[Operand],
-) -> Result<(), SqlFault>
+) -> Result<(), AllocError>
     requires translated { IsTranslated context.now }
     requires put { All (IsPut context.now.checked.now context.now.ranges.now) operands.now }
     requires some { 0 < length operands.now }
@@ -256,8 +256,8 @@ fn put_carried_faults(
     lifted: &Lifted,
     draft: &mut Draft,
     carrier: Option<Carrier>,
-) -> Result<(), SqlFault>
-    requires { lifted.now.level < 10_000 }
+) -> Result<(), AllocError>
+    requires { lifted.now.level < 1_000_000_000_000 }
     ensures { OnOk result (Grows draft.old draft.new (carried_front carrier lifted.now.level lifted.now.bound.items)) }
 {
     match carrier {
@@ -273,7 +273,7 @@ pub(crate) fn put_call(
     draft: &mut Draft,
     place: usize,
     function: Function,
-) -> Result<(), SqlFault>
+) -> Result<(), AllocError>
     requires translated { IsTranslated context.now }
     requires kind { IsKindAt context.now.checked.now place (NodeKind.Call function) }
     requires plain { IsPlainAt context.now.checked.now context.now.ranges.now place }
@@ -316,7 +316,7 @@ pub(crate) fn put_call_code(
     draft: &mut Draft,
     place: usize,
     function: Function,
-) -> Result<(), SqlFault>
+) -> Result<(), AllocError>
     requires translated { IsTranslated context.now }
     requires kind { IsKindAt context.now.checked.now place (NodeKind.Call function) }
     requires truth { IsTruthAt context.now.checked.now place }

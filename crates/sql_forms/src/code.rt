@@ -22,9 +22,10 @@ use odata_checked_filter::NodeKind;
 use odata_meaning::typed_trees_end_once_on_entities;
 use odata_signatures::trees_have_one_type;
 use odata_syntax::{ComparisonOperator, LogicalOperator};
-use sql_draft::{Draft, Operand, Source, SqlContext, SqlFault};
+use sql_draft::{Draft, Operand, Source, SqlContext};
 use sql_meaning::{tables_are_comparisons, tables_are_connectives, tables_beside_null};
 use sql_tree::{LookUp, SqlNode};
+use std::alloc::AllocError;
 
 /// The table of a comparison of truth values.
 pub(crate) fn comparison_table(operator: ComparisonOperator) -> LookUp
@@ -69,7 +70,7 @@ pub fn put_code(
     context: &SqlContext<'_, '_>,
     draft: &mut Draft,
     place: usize,
-) -> Result<(), SqlFault>
+) -> Result<(), AllocError>
     requires translated { IsTranslated context.now }
     requires truth { IsTruthAt context.now.checked.now place }
     ensures { OnOk result (Puts (question_of context.now) draft.old draft.new
@@ -109,7 +110,7 @@ fn put_operand_code(
     context: &SqlContext<'_, '_>,
     draft: &mut Draft,
     operand: &Operand,
-) -> Result<(), SqlFault>
+) -> Result<(), AllocError>
     requires translated { IsTranslated context.now }
     requires coded { IsCoded context.now.checked.now operand.now.source }
     ensures { OnOk result (Puts (question_of context.now) draft.old draft.new
@@ -130,7 +131,7 @@ pub(crate) fn put_compared_code(
     operator: ComparisonOperator,
     left: &Operand,
     right: &Operand,
-) -> Result<(), SqlFault>
+) -> Result<(), AllocError>
     requires translated { IsTranslated context.now }
     requires left { IsFaulty context.now.checked.now context.now.ranges.now left.now }
     requires right { IsFaulty context.now.checked.now context.now.ranges.now right.now }

@@ -19,8 +19,9 @@ use super::lift::bind_operands;
 use super::operand::{put_compared, put_is_null};
 use odata_functions::comparisons_are_decided;
 use odata_syntax::ComparisonOperator;
-use sql_draft::{Draft, Kind, Operand, SqlContext, SqlFault};
+use sql_draft::{Draft, Kind, Operand, SqlContext};
 use sql_tree::{SqlNode, SqlType};
+use std::alloc::AllocError;
 
 /// The type by which values of a type are compared: moments by their instants.
 fn compared_in(value_type: SqlType) -> SqlType
@@ -51,7 +52,7 @@ fn put_strict(
     operator: ComparisonOperator,
     left: &Operand,
     right: &Operand,
-) -> Result<(), SqlFault>
+) -> Result<(), AllocError>
     requires translated { IsTranslated context.now }
     requires left { IsPut context.now.checked.now context.now.ranges.now left.now }
     requires right { IsPut context.now.checked.now context.now.ranges.now right.now }
@@ -74,7 +75,7 @@ fn put_beside_null(
     draft: &mut Draft,
     operator: ComparisonOperator,
     operand: &Operand,
-) -> Result<(), SqlFault>
+) -> Result<(), AllocError>
     requires translated { IsTranslated context.now }
     requires tested { IsTested context.now.checked.now context.now.ranges.now operand.now }
     ensures { OnOk result (Puts (question_of context.now) draft.old draft.new
@@ -100,7 +101,7 @@ pub(crate) fn put_comparison(
     operator: ComparisonOperator,
     left: &Operand,
     right: &Operand,
-) -> Result<(), SqlFault>
+) -> Result<(), AllocError>
     requires translated { IsTranslated context.now }
     requires left { IsTested context.now.checked.now context.now.ranges.now left.now }
     requires right { IsTested context.now.checked.now context.now.ranges.now right.now }
@@ -134,7 +135,7 @@ fn put_of_one(
     operator: ComparisonOperator,
     left: &Operand,
     right: &Operand,
-) -> Result<(), SqlFault>
+) -> Result<(), AllocError>
     requires translated { IsTranslated context.now }
     requires left { IsPut context.now.checked.now context.now.ranges.now left.now }
     requires right { IsPut context.now.checked.now context.now.ranges.now right.now }
@@ -161,7 +162,7 @@ fn put_of_nullable(
     operator: ComparisonOperator,
     left: &Operand,
     right: &Operand,
-) -> Result<(), SqlFault>
+) -> Result<(), AllocError>
     requires translated { IsTranslated context.now }
     requires left { IsPut context.now.checked.now context.now.ranges.now left.now }
     requires right { IsPut context.now.checked.now context.now.ranges.now right.now }
@@ -192,7 +193,7 @@ fn put_same(
     draft: &mut Draft,
     left: &Operand,
     right: &Operand,
-) -> Result<(), SqlFault>
+) -> Result<(), AllocError>
     requires translated { IsTranslated context.now }
     requires left { IsPut context.now.checked.now context.now.ranges.now left.now }
     requires right { IsPut context.now.checked.now context.now.ranges.now right.now }
@@ -216,7 +217,7 @@ fn put_or_nulls(
     operator: ComparisonOperator,
     left: &Operand,
     right: &Operand,
-) -> Result<(), SqlFault>
+) -> Result<(), AllocError>
     requires translated { IsTranslated context.now }
     requires left { IsPut context.now.checked.now context.now.ranges.now left.now }
     requires right { IsPut context.now.checked.now context.now.ranges.now right.now }
@@ -262,7 +263,7 @@ pub(crate) fn put_kept_comparison(
     operator: ComparisonOperator,
     left: &Operand,
     right: &Operand,
-) -> Result<(), SqlFault>
+) -> Result<(), AllocError>
     requires translated { IsTranslated context.now }
     requires left { IsTested context.now.checked.now context.now.ranges.now left.now }
     requires right { IsTested context.now.checked.now context.now.ranges.now right.now }
@@ -300,7 +301,7 @@ pub(crate) fn put_denied_comparison(
     operator: ComparisonOperator,
     left: &Operand,
     right: &Operand,
-) -> Result<(), SqlFault>
+) -> Result<(), AllocError>
     requires translated { IsTranslated context.now }
     requires left { IsTested context.now.checked.now context.now.ranges.now left.now }
     requires right { IsTested context.now.checked.now context.now.ranges.now right.now }

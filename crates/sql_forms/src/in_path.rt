@@ -26,10 +26,9 @@ use odata_meaning::typed_trees_end_once_on_entities;
 use odata_ranges::Range;
 use odata_signatures::{EdmType, ValueType, trees_have_one_type};
 use odata_syntax::ComparisonOperator;
-use sql_draft::{
-    Draft, Operand, Source, SqlContext, SqlFault, kind_of_value, put_member_path, put_path,
-};
+use sql_draft::{Draft, Operand, Source, SqlContext, kind_of_value, put_member_path, put_path};
 use sql_tree::{Digit, FieldType, SqlNode, SqlType};
+use std::alloc::AllocError;
 
 /// A member of the collection at an index, at such a path.
 fn member_of(context: &SqlContext<'_, '_>, collection: usize, path: usize) -> Operand
@@ -77,7 +76,7 @@ fn put_has_member(
     left: &Operand,
     collection: usize,
     path: usize,
-) -> Result<(), SqlFault>
+) -> Result<(), AllocError>
     requires translated { IsTranslated context.now }
     requires tested { IsTested context.now.checked.now context.now.ranges.now left.now }
     requires members { AreMembersBeside context.now.checked.now left.now.kind collection }
@@ -103,7 +102,7 @@ fn put_over_members(
     left: &Operand,
     collection: usize,
     path: usize,
-) -> Result<(), SqlFault>
+) -> Result<(), AllocError>
     requires translated { IsTranslated context.now }
     requires tested { IsTested context.now.checked.now context.now.ranges.now left.now }
     requires members { AreMembersBeside context.now.checked.now left.now.kind collection }
@@ -128,7 +127,7 @@ pub(crate) fn put_in_path(
     context: &SqlContext<'_, '_>,
     draft: &mut Draft,
     place: usize,
-) -> Result<(), SqlFault>
+) -> Result<(), AllocError>
     requires translated { IsTranslated context.now }
     requires kind { IsKindAt context.now.checked.now place NodeKind.InPath }
     requires faultless { IsFaultless context.now.ranges.now place }
@@ -156,7 +155,7 @@ pub(crate) fn put_kept_in_path(
     context: &SqlContext<'_, '_>,
     draft: &mut Draft,
     place: usize,
-) -> Result<(), SqlFault>
+) -> Result<(), AllocError>
     requires translated { IsTranslated context.now }
     requires kind { IsKindAt context.now.checked.now place NodeKind.InPath }
     requires faultless { IsFaultless context.now.ranges.now place }
@@ -183,7 +182,7 @@ pub(crate) fn put_in_path_code(
     context: &SqlContext<'_, '_>,
     draft: &mut Draft,
     place: usize,
-) -> Result<(), SqlFault>
+) -> Result<(), AllocError>
     requires translated { IsTranslated context.now }
     requires kind { IsKindAt context.now.checked.now place NodeKind.InPath }
     ensures { OnOk result (Puts (question_of context.now) draft.old draft.new
@@ -220,7 +219,7 @@ fn put_truth_in_path_code(
     place: usize,
     collection: usize,
     path: usize,
-) -> Result<(), SqlFault>
+) -> Result<(), AllocError>
     requires translated { IsTranslated context.now }
     requires kind { IsKindAt context.now.checked.now place NodeKind.InPath }
     requires truth { IsBooleanAt context.now.checked.now (place + 1) }
@@ -257,7 +256,7 @@ fn put_truth_in_path_code(
     put_code(context, draft, place + 1)
 }
 
-fn put_code_comparison(draft: &mut Draft, operator: ComparisonOperator) -> Result<(), SqlFault>
+fn put_code_comparison(draft: &mut Draft, operator: ComparisonOperator) -> Result<(), AllocError>
     ensures { OnOk result (GrowsBy draft.old draft.new
         (SqlNode.Compare operator SqlType.Whole ∷ []) [] []) }
 {

@@ -24,9 +24,10 @@ use odata_checked_filter::NodeKind;
 use odata_meaning::typed_trees_end_once_on_entities;
 use odata_signatures::trees_have_one_type;
 use odata_syntax::{ComparisonOperator, LogicalOperator};
-use sql_draft::{Draft, Kind, SqlContext, SqlFault};
+use sql_draft::{Draft, Kind, SqlContext};
 use sql_meaning::tables_are_connectives;
 use sql_tree::{Digit, SqlNode, SqlType};
+use std::alloc::AllocError;
 
 /// Puts a condition that is true exactly where the node at an index is true.
 #[cycle(put)]
@@ -34,7 +35,7 @@ pub fn put_keeps(
     context: &SqlContext<'_, '_>,
     draft: &mut Draft,
     place: usize,
-) -> Result<(), SqlFault>
+) -> Result<(), AllocError>
     requires translated { IsTranslated context.now }
     requires truth { IsTruthAt context.now.checked.now place }
     ensures { OnOk result (Puts (question_of context.now) draft.old draft.new
@@ -83,7 +84,7 @@ pub(crate) fn put_denies(
     context: &SqlContext<'_, '_>,
     draft: &mut Draft,
     place: usize,
-) -> Result<(), SqlFault>
+) -> Result<(), AllocError>
     requires translated { IsTranslated context.now }
     requires truth { IsTruthAt context.now.checked.now place }
     ensures { OnOk result (Puts (question_of context.now) draft.old draft.new
@@ -141,7 +142,7 @@ fn put_has_code(
     draft: &mut Draft,
     form: Form,
     place: usize,
-) -> Result<(), SqlFault>
+) -> Result<(), AllocError>
     requires translated { IsTranslated context.now }
     requires truth { IsTruthAt context.now.checked.now place }
     requires asked { IsAskedCode form }
@@ -154,7 +155,7 @@ fn put_has_code(
     draft.put_number(asked_code(form))
 }
 
-fn put_is_code(draft: &mut Draft) -> Result<(), SqlFault>
+fn put_is_code(draft: &mut Draft) -> Result<(), AllocError>
     ensures { OnOk result (GrowsBy draft.old draft.new
         (SqlNode.Compare ComparisonOperator.Eq SqlType.Whole ∷ []) [] []) }
 {
@@ -187,7 +188,7 @@ fn put_decided(
     connective: LogicalOperator,
     form: Form,
     terms: &[usize],
-) -> Result<(), SqlFault>
+) -> Result<(), AllocError>
     requires translated { IsTranslated context.now }
     requires some { 0 < length terms.now }
     requires truths { AllByRecursion (IsTruthAt context.now.checked.now) terms.now }
@@ -217,7 +218,7 @@ fn put_undecided(
     connective: LogicalOperator,
     form: Form,
     terms: &[usize],
-) -> Result<(), SqlFault>
+) -> Result<(), AllocError>
     requires translated { IsTranslated context.now }
     requires some { 0 < length terms.now }
     requires truths { AllByRecursion (IsTruthAt context.now.checked.now) terms.now }

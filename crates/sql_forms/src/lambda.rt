@@ -20,8 +20,9 @@ use odata_meaning::typed_trees_end_once_on_entities;
 use odata_ranges::entities_are_kept;
 use odata_signatures::trees_have_one_type;
 use odata_syntax::Quantifier;
-use sql_draft::{Draft, SqlContext, SqlFault, put_path};
+use sql_draft::{Draft, SqlContext, put_path};
 use sql_tree::{Digit, SqlNode, SqlType};
+use std::alloc::AllocError;
 
 /// Puts a body at the member of the next level, for which the next range variable stands: as a condition that is true
 /// exactly where the body is, or by its code.
@@ -31,7 +32,7 @@ fn put_body(
     draft: &mut Draft,
     body: usize,
     by_code: bool,
-) -> Result<(), SqlFault>
+) -> Result<(), AllocError>
     requires translated { IsTranslated context.now }
     requires truth { IsTruthAt context.now.checked.now body }
     ensures { OnOk result (PutsBody (question_of context.now) draft.old draft.new
@@ -52,7 +53,7 @@ fn put_by(
     draft: &mut Draft,
     place: usize,
     by_code: bool,
-) -> Result<(), SqlFault>
+) -> Result<(), AllocError>
     requires translated { IsTranslated context.now }
     requires truth { IsTruthAt context.now.checked.now place }
     ensures { OnOk result (Puts (question_of context.now) draft.old draft.new
@@ -74,7 +75,7 @@ fn put_members(
     place: usize,
     quantifier: Quantifier,
     path: usize,
-) -> Result<(), SqlFault>
+) -> Result<(), AllocError>
     requires translated { IsTranslated context.now }
     requires kind { IsKindAt context.now.checked.now place (NodeKind.Lambda quantifier) }
     requires faultless { IsFaultless context.now.ranges.now place }
@@ -106,7 +107,7 @@ pub(crate) fn put_unless_missing(
     draft: &mut Draft,
     may_be_null: bool,
     path: usize,
-) -> Result<(), SqlFault>
+) -> Result<(), AllocError>
     ensures { OnOk result (Grows draft.old draft.new (missing_front may_be_null path)) }
 {
     if may_be_null {
@@ -126,7 +127,7 @@ pub(crate) fn put_lambda(
     draft: &mut Draft,
     place: usize,
     quantifier: Quantifier,
-) -> Result<(), SqlFault>
+) -> Result<(), AllocError>
     requires translated { IsTranslated context.now }
     requires kind { IsKindAt context.now.checked.now place (NodeKind.Lambda quantifier) }
     requires faultless { IsFaultless context.now.ranges.now place }
@@ -149,7 +150,7 @@ pub(crate) fn put_kept_lambda(
     draft: &mut Draft,
     place: usize,
     quantifier: Quantifier,
-) -> Result<(), SqlFault>
+) -> Result<(), AllocError>
     requires translated { IsTranslated context.now }
     requires kind { IsKindAt context.now.checked.now place (NodeKind.Lambda quantifier) }
     requires faultless { IsFaultless context.now.ranges.now place }
@@ -177,7 +178,7 @@ pub(crate) fn put_lambda_code(
     draft: &mut Draft,
     place: usize,
     quantifier: Quantifier,
-) -> Result<(), SqlFault>
+) -> Result<(), AllocError>
     requires translated { IsTranslated context.now }
     requires kind { IsKindAt context.now.checked.now place (NodeKind.Lambda quantifier) }
     ensures { OnOk result (Puts (question_of context.now) draft.old draft.new
@@ -215,7 +216,7 @@ fn put_decided_member(
     place: usize,
     quantifier: Quantifier,
     path: usize,
-) -> Result<(), SqlFault>
+) -> Result<(), AllocError>
     requires translated { IsTranslated context.now }
     requires kind { IsKindAt context.now.checked.now place (NodeKind.Lambda quantifier) }
     requires leads { IsPathTo (question_of context.now) draft.old (place + 1) path }

@@ -9,8 +9,9 @@ ghost use Rattle.sql_draft.specs.Translated.{IsTranslated, question_of};
 ghost use Rattle.sql_draft.specs.World.{PutsAll};
 
 use super::operand::put_operand;
-use sql_draft::{Draft, Operand, SqlContext, SqlFault};
+use sql_draft::{Draft, Operand, SqlContext};
 use sql_tree::{Carrier, SqlNode};
+use std::alloc::AllocError;
 
 /// Operands of an operator or a function, some of which a `Let` binds.
 #[derive(Drop)]
@@ -28,7 +29,7 @@ pub(crate) fn bind_operands(
     draft: &Draft,
     operands: &[Operand],
     all: bool,
-) -> Result<Lifted, SqlFault>
+) -> Result<Lifted, AllocError>
     requires inside { All (λ operand. IsInside context.now.checked.now operand.source) operands.now }
     requires valued { all ≡ true → AllByRecursion (λ operand. operand.kind ≢ Kind.Structured) operands.now }
     ensures { IfOk result (IsLifted operands.now draft.now.depth) }
@@ -58,7 +59,7 @@ fn put_fault_of(
     operand: &Operand,
     level: usize,
     carrier: Option<Carrier>,
-) -> Result<(), SqlFault>
+) -> Result<(), AllocError>
     ensures { OnOk result (Grows draft.old draft.new (fault_front carrier level (carrier_in operand.now))) }
 {
     if let Some(own) = operand.carrier() {
@@ -90,7 +91,7 @@ impl Lifted {
     }
 
     /// Begins the `Let`, if one is needed; its body is to be put next.
-    pub(crate) fn open(&self, draft: &mut Draft) -> Result<(), SqlFault>
+    pub(crate) fn open(&self, draft: &mut Draft) -> Result<(), AllocError>
         ensures { OnOk result (IsOpened self.now draft.old draft.new) }
     {
         let count = self.bound.len();
@@ -109,8 +110,8 @@ impl Lifted {
         &self,
         draft: &mut Draft,
         carrier: Option<Carrier>,
-    ) -> Result<(), SqlFault>
-        requires { self.now.level < 10_000 }
+    ) -> Result<(), AllocError>
+        requires { self.now.level < 1_000_000_000_000 }
         ensures { OnOk result (Grows draft.old draft.new (faults_front carrier self.now.level self.now.bound.items)) }
     {
         for place in 0..self.bound.len() {
@@ -125,7 +126,7 @@ impl Lifted {
         &self,
         context: &SqlContext<'_, '_>,
         draft: &mut Draft,
-    ) -> Result<(), SqlFault>
+    ) -> Result<(), AllocError>
         requires translated { IsTranslated context.now }
         requires put { All (IsPut context.now.checked.now context.now.ranges.now) self.now.bound.items }
         requires deep { length self.now.bound.items ≤ draft.old.depth }

@@ -27,7 +27,7 @@ use odata_meaning::typed_trees_end_once_on_entities;
 use odata_ranges::Range;
 use odata_signatures::{quoted_texts_have_one_number, trees_have_one_type};
 use odata_syntax::ComparisonOperator;
-use sql_draft::{Draft, Kind, Operand, Source, SqlContext, SqlFault};
+use sql_draft::{Draft, Kind, Operand, Source, SqlContext};
 use sql_meaning::tables_are_connectives;
 use sql_tree::{Digit, LookUp, SqlNode, SqlType};
 use std::alloc::AllocError;
@@ -37,7 +37,7 @@ fn items_of(
     context: &SqlContext<'_, '_>,
     draft: &Draft,
     place: usize,
-) -> Result<Vec<Operand>, SqlFault>
+) -> Result<Vec<Operand>, AllocError>
     requires translated { IsTranslated context.now }
     requires list { IsKindAt context.now.checked.now place NodeKind.InList }
     ensures items { IfOk result (λ items. AreItemsOf context.now.checked.now context.now.ranges.now place items.items) }
@@ -114,7 +114,7 @@ fn put_among(
     draft: &mut Draft,
     left: &Operand,
     items: &[Operand],
-) -> Result<(), SqlFault>
+) -> Result<(), AllocError>
     requires translated { IsTranslated context.now }
     requires constants { AreConstants context.now.checked.now left.now items.now }
     requires beside { AreBeside context.now.checked.now context.now.ranges.now left.now items.now }
@@ -140,7 +140,7 @@ fn put_equal_to_one(
     kept: bool,
     left: &Operand,
     items: &[Operand],
-) -> Result<(), SqlFault>
+) -> Result<(), AllocError>
     requires translated { IsTranslated context.now }
     requires beside { AreBeside context.now.checked.now context.now.ranges.now left.now items.now }
     ensures { OnOk result (Puts (question_of context.now) draft.old draft.new
@@ -168,7 +168,7 @@ pub(crate) fn put_list(
     context: &SqlContext<'_, '_>,
     draft: &mut Draft,
     place: usize,
-) -> Result<(), SqlFault>
+) -> Result<(), AllocError>
     requires translated { IsTranslated context.now }
     requires list { IsKindAt context.now.checked.now place NodeKind.InList }
     requires faultless { IsFaultless context.now.ranges.now place }
@@ -196,7 +196,7 @@ pub(crate) fn put_kept_list(
     context: &SqlContext<'_, '_>,
     draft: &mut Draft,
     place: usize,
-) -> Result<(), SqlFault>
+) -> Result<(), AllocError>
     requires translated { IsTranslated context.now }
     requires list { IsKindAt context.now.checked.now place NodeKind.InList }
     requires faultless { IsFaultless context.now.ranges.now place }
@@ -223,7 +223,7 @@ fn put_over_left(
     kept: bool,
     left: &Operand,
     items: &[Operand],
-) -> Result<(), SqlFault>
+) -> Result<(), AllocError>
     requires translated { IsTranslated context.now }
     requires beside { AreBeside context.now.checked.now context.now.ranges.now left.now items.now }
     requires inside { IsInside context.now.checked.now left.now.source }
@@ -255,7 +255,7 @@ pub(crate) fn lifted_left(
     context: &SqlContext<'_, '_>,
     draft: &Draft,
     left: &Operand,
-) -> Result<Lifted, SqlFault>
+) -> Result<Lifted, AllocError>
     requires inside { IsInside context.now.checked.now left.now.source }
     requires value { (type : SqlType) × (left.now.kind ≡ Kind.Value type) }
     ensures { IfOk result (IsLifted (left.now ∷ []) draft.now.depth) }
@@ -269,7 +269,7 @@ pub(crate) fn put_list_code(
     context: &SqlContext<'_, '_>,
     draft: &mut Draft,
     place: usize,
-) -> Result<(), SqlFault>
+) -> Result<(), AllocError>
     requires translated { IsTranslated context.now }
     requires list { IsKindAt context.now.checked.now place NodeKind.InList }
     ensures { OnOk result (Puts (question_of context.now) draft.old draft.new
@@ -301,7 +301,7 @@ fn put_codes(
     draft: &mut Draft,
     left: &Operand,
     items: &[Operand],
-) -> Result<(), SqlFault>
+) -> Result<(), AllocError>
     requires translated { IsTranslated context.now }
     requires left { IsFaulty context.now.checked.now context.now.ranges.now left.now }
     requires items { AllByRecursion (IsFaulty context.now.checked.now context.now.ranges.now) items.now }
@@ -322,7 +322,7 @@ fn put_truth_list_code(
     draft: &mut Draft,
     place: usize,
     items: &[Operand],
-) -> Result<(), SqlFault>
+) -> Result<(), AllocError>
     requires translated { IsTranslated context.now }
     requires list { IsKindAt context.now.checked.now place NodeKind.InList
         × AreItemsOf context.now.checked.now context.now.ranges.now place items.now }
@@ -360,7 +360,7 @@ fn put_equal_codes(
     draft: &mut Draft,
     left: &Operand,
     items: &[Operand],
-) -> Result<(), SqlFault>
+) -> Result<(), AllocError>
     requires translated { IsTranslated context.now }
     requires left { IsFaulty context.now.checked.now context.now.ranges.now left.now }
     requires items { AllByRecursion (IsFaulty context.now.checked.now context.now.ranges.now) items.now }

@@ -11,8 +11,9 @@ use super::value::{put_enumeration_number, put_value};
 use edm_values::Value;
 use odata_checked_filter::NodeKind;
 use odata_signatures::literals_have_one_value;
-use sql_draft::{Draft, Kind, Operand, Source, SqlContext, SqlFault, put_path};
+use sql_draft::{Draft, Kind, Operand, Source, SqlContext, put_path};
 use sql_tree::{Digit, Parameter, SqlFunction, SqlNode, SqlType};
+use std::alloc::AllocError;
 
 /// Puts an operand's value; of the type Null the null of that type.
 #[cycle(put)]
@@ -21,7 +22,7 @@ pub(crate) fn put_operand(
     draft: &mut Draft,
     operand: &Operand,
     wanted: SqlType,
-) -> Result<(), SqlFault>
+) -> Result<(), AllocError>
     requires translated { IsTranslated context.now }
     requires put { IsPut context.now.checked.now context.now.ranges.now operand.now }
     ensures { OnOk result (Puts (question_of context.now) draft.old draft.new
@@ -47,7 +48,7 @@ pub(crate) fn put_compared(
     context: &SqlContext<'_, '_>,
     draft: &mut Draft,
     operand: &Operand,
-) -> Result<(), SqlFault>
+) -> Result<(), AllocError>
     requires translated { IsTranslated context.now }
     requires put { IsPut context.now.checked.now context.now.ranges.now operand.now }
     requires value { (type : SqlType) × (operand.now.kind ≡ Kind.Value type) }
@@ -72,7 +73,7 @@ fn put_instant(
     context: &SqlContext<'_, '_>,
     draft: &mut Draft,
     operand: &Operand,
-) -> Result<(), SqlFault>
+) -> Result<(), AllocError>
     requires translated { IsTranslated context.now }
     requires put { IsPut context.now.checked.now context.now.ranges.now operand.now }
     requires moment { operand.now.kind ≡ Kind.Value SqlType.Moment }
@@ -105,7 +106,7 @@ pub(crate) fn put_is_null(
     context: &SqlContext<'_, '_>,
     draft: &mut Draft,
     operand: &Operand,
-) -> Result<(), SqlFault>
+) -> Result<(), AllocError>
     requires translated { IsTranslated context.now }
     requires tested { IsTested context.now.checked.now context.now.ranges.now operand.now }
     ensures { OnOk result (Puts (question_of context.now) draft.old draft.new

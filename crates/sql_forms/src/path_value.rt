@@ -10,8 +10,9 @@ ghost use Rattle.sql_draft.specs.World.{OfPlace, Puts};
 
 use odata_meaning::typed_trees_end_once_on_entities;
 use odata_signatures::{EdmType, ValueType};
-use sql_draft::{Draft, SqlContext, SqlFault, put_path};
+use sql_draft::{Draft, SqlContext, put_path};
 use sql_tree::{Base, FieldType, SqlNode};
+use std::alloc::AllocError;
 
 /// The type of a value in JSON.
 fn field_type(value_type: ValueType) -> FieldType
@@ -30,7 +31,7 @@ pub(crate) fn put_path_value(
     context: &SqlContext<'_, '_>,
     draft: &mut Draft,
     place: usize,
-) -> Result<(), SqlFault>
+) -> Result<(), AllocError>
     requires translated { IsTranslated context.now }
     requires path { IsPathAt context.now.checked.now place }
     requires value { HasValueKind context.now.checked.now place }

@@ -15,7 +15,7 @@ use odata_checked_filter::NodeKind;
 use odata_meaning::typed_trees_end_once_on_entities;
 use odata_signatures::trees_have_one_type;
 use odata_syntax::{BinaryOperator, LogicalOperator};
-use sql_draft::{Draft, SqlContext, SqlFault};
+use sql_draft::{Draft, SqlContext};
 use sql_meaning::tables_are_connectives;
 use sql_tree::SqlNode;
 use std::alloc::{AllocError, Global};
@@ -92,7 +92,7 @@ pub(crate) fn put_form(
     draft: &mut Draft,
     form: Form,
     place: usize,
-) -> Result<(), SqlFault>
+) -> Result<(), AllocError>
     requires translated { IsTranslated context.now }
     requires truth { IsTruthAt context.now.checked.now place }
     requires faultless { form ≡ Form.Truth → IsFaultless context.now.ranges.now place }
@@ -115,7 +115,7 @@ pub(crate) fn put_joined(
     form: Form,
     join: &SqlNode,
     terms: &[usize],
-) -> Result<(), SqlFault>
+) -> Result<(), AllocError>
     requires translated { IsTranslated context.now }
     requires some { 0 < length terms.now }
     requires truths { AllByRecursion (IsTruthAt context.now.checked.now) terms.now }

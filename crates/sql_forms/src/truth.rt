@@ -26,8 +26,9 @@ use odata_signatures::{
     literals_have_one_value, quoted_texts_have_one_number, trees_have_one_type,
 };
 use odata_syntax::{BinaryOperator, ComparisonOperator, LogicalOperator};
-use sql_draft::{Draft, Kind, Operand, SqlContext, SqlFault, put_path};
+use sql_draft::{Draft, Kind, Operand, SqlContext, put_path};
 use sql_tree::{Digit, SqlNode, SqlType};
+use std::alloc::AllocError;
 
 /// The node that joins two truth values.
 pub(crate) fn join_of(connective: LogicalOperator) -> SqlNode
@@ -72,7 +73,7 @@ pub(crate) fn put_truth(
     context: &SqlContext<'_, '_>,
     draft: &mut Draft,
     place: usize,
-) -> Result<(), SqlFault>
+) -> Result<(), AllocError>
     requires translated { IsTranslated context.now }
     requires truth { IsTruthAt context.now.checked.now place }
     requires faultless { IsFaultless context.now.ranges.now place }
@@ -118,7 +119,7 @@ fn put_other_truth(
     draft: &mut Draft,
     place: usize,
     kind: NodeKind,
-) -> Result<(), SqlFault>
+) -> Result<(), AllocError>
     requires translated { IsTranslated context.now }
     requires kind { IsKindAt context.now.checked.now place kind }
     requires other { IsOtherKind kind }
@@ -148,7 +149,7 @@ fn put_any_item(
     context: &SqlContext<'_, '_>,
     draft: &mut Draft,
     place: usize,
-) -> Result<(), SqlFault>
+) -> Result<(), AllocError>
     requires translated { IsTranslated context.now }
     requires kind { IsKindAt context.now.checked.now place NodeKind.AnyItem }
     ensures { OnOk result (Puts (question_of context.now) draft.old draft.new
@@ -170,7 +171,7 @@ fn put_has(
     draft: &mut Draft,
     left: &Operand,
     right: &Operand,
-) -> Result<(), SqlFault>
+) -> Result<(), AllocError>
     requires translated { IsTranslated context.now }
     requires left { IsPut context.now.checked.now context.now.ranges.now left.now }
     requires right { IsPut context.now.checked.now context.now.ranges.now right.now }

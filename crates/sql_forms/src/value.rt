@@ -8,7 +8,7 @@ ghost use Rattle.sql_forms.specs.private.Calculated.{IsComputedIn};
 ghost use Rattle.sql_forms.specs.private.AskedForms.{Itself};
 ghost use Rattle.sql_draft.specs.Growth.{GrowsByText};
 ghost use Rattle.sql_draft.specs.OperandHas.{HasNumber, IsLiteralAt, SourceHas};
-ghost use Rattle.sql_draft.specs.Translated.{IsKindAt, IsPlainAt, IsSpelled, IsTranslated, IsValuedAt, question_of};
+ghost use Rattle.sql_draft.specs.Translated.{IsKindAt, IsNulFreeAt, IsPlainAt, IsSpelled, IsTranslated, IsValuedAt, question_of};
 ghost use Rattle.sql_draft.specs.World.{OfPlace, Puts};
 ghost use Rattle.sql_draft.specs.declared.operand.Source.{Source};
 
@@ -24,8 +24,9 @@ use odata_checked_filter::NodeKind;
 use odata_meaning::typed_trees_end_once_on_entities;
 use odata_signatures::{literals_have_one_value, trees_have_one_type};
 use odata_syntax::{ArithmeticOperator, BinaryOperator};
-use sql_draft::{Draft, Kind, Operand, SqlContext, SqlFault, put_path};
+use sql_draft::{Draft, Kind, Operand, SqlContext, put_path};
 use sql_tree::{Parameter, SqlNode, SqlType};
+use std::alloc::AllocError;
 
 /// Puts the value of the node at an index: a number or a text that may be a fault as its carrier has it, a truth value
 /// as one of SQL. Of a node of type Null it is the null of the wanted type.
@@ -35,7 +36,7 @@ pub(crate) fn put_value(
     draft: &mut Draft,
     place: usize,
     wanted: SqlType,
-) -> Result<(), SqlFault>
+) -> Result<(), AllocError>
     requires translated { IsTranslated context.now }
     requires there { place < length context.now.checked.now.list.nodes }
     requires valued { IsValuedAt context.now.checked.now place }
@@ -85,7 +86,7 @@ fn put_arithmetic(
     draft: &mut Draft,
     place: usize,
     operator: BinaryOperator,
-) -> Result<(), SqlFault>
+) -> Result<(), AllocError>
     requires translated { IsTranslated context.now }
     requires kind { IsKindAt context.now.checked.now place (NodeKind.Binary operator) }
     requires number { (type : PrimitiveType) × IsComputedIn context.now.checked.now place type }
@@ -109,9 +110,10 @@ pub(crate) fn put_literal(
     context: &SqlContext<'_, '_>,
     draft: &mut Draft,
     value: usize,
-) -> Result<(), SqlFault>
+) -> Result<(), AllocError>
     requires there { value < length context.now.checked.now.list.values }
     requires spelled { IsSpelled context.now.checked.now value }
+    requires nul_free { IsNulFreeAt context.now.checked.now value }
     ensures { OnOk result (Puts (question_of context.now) draft.old draft.new
         (IsLiteralAt context.now.checked.now value) Itself) }
 {
@@ -122,18 +124,18 @@ pub(crate) fn put_literal(
         Value::Int(number) => draft.put_parameter(Parameter::Whole(*number), SqlType::Whole),
         Value::Text(text) => {
             let text = text.clone()?;
-            draft.put_text(text, SqlType::Text)
+            draft.put_parameter(Parameter::Text(text), SqlType::Text)
         }
         Value::Date(date) => {
             let mut text = String::new(draft.alloc);
             write_date(&mut text, *date)?;
-            draft.put_text(text, SqlType::Date)
+            draft.put_parameter(Parameter::Text(text), SqlType::Date)
         }
         Value::Moment(moment) => put_moment(draft, moment),
         Value::Guid(guid) => {
             let mut text = String::new(draft.alloc);
             write_guid(&mut text, *guid)?;
-            draft.put_text(text, SqlType::Guid)
+            draft.put_parameter(Parameter::Text(text), SqlType::Guid)
         }
         Value::Enum(number) => draft.put_parameter(Parameter::Whole(*number), SqlType::Member),
         _ => draft.put(SqlNode::Null {
@@ -142,7 +144,7 @@ pub(crate) fn put_literal(
     }
 }
 
-fn put_moment(draft: &mut Draft, moment: &Moment) -> Result<(), SqlFault>
+fn put_moment(draft: &mut Draft, moment: &Moment) -> Result<(), AllocError>
     ensures { OnOk result (GrowsByText draft.old draft.new SqlType.Moment
         (λ text. MomentValue (string_bytes text) moment.now)) }
 {
@@ -150,7 +152,7 @@ fn put_moment(draft: &mut Draft, moment: &Moment) -> Result<(), SqlFault>
     let (_civil, _offset) = (moment.civil(), moment.offset_minutes());
     let mut text = String::new(draft.alloc);
     write_moment(&mut text, moment)?;
-    draft.put_text(text, SqlType::Moment)
+    draft.put_parameter(Parameter::Text(text), SqlType::Moment)
 }
 
 /// Puts the number of an enumeration, by its index among the filter's values.
@@ -158,7 +160,7 @@ pub(crate) fn put_enumeration_number(
     context: &SqlContext<'_, '_>,
     draft: &mut Draft,
     value: usize,
-) -> Result<(), SqlFault>
+) -> Result<(), AllocError>
     requires { HasNumber context.now.checked.now value }
     ensures { OnOk result (Puts (question_of context.now) draft.old draft.new
         (SourceHas context.now.checked.now (Source.Number value)) Itself) }

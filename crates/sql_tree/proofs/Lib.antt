@@ -1,6 +1,7 @@
 pub mod Arities
 pub mod Bindings
 pub mod CodeTexts
+pub mod Deepest
 pub mod Elements
 pub mod FixedReading
 pub mod MemberTexts

@@ -9,6 +9,7 @@ pub mod LeafText
 pub mod NodePieces
 pub mod Numbered
 pub mod Parentheses
+pub mod ParserDepth
 pub mod PathText
 pub mod PiecesView
 pub mod Printed

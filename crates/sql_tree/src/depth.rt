@@ -1,72 +1,92 @@
 //! How deeply an engine's parser nests at a text: it keeps the symbols of all that is not ended yet. They are counted
 //! as SQLite has them.
-ghost use Rattle.std.specs.Prelude.{◌<◌};
+ghost use Rattle.std.specs.Prelude.{◌≡◌, ◌<◌, ◌≤◌, ◌∷◌, ℕ, List, IfOk, reverse};
+ghost use Rattle.sql_tree.specs.ParserDepth.{after_first, kept_of_function, kept_of_node, kept_of_range, kept_symbols, own_of_field, own_of_function, own_symbols, symbols_of};
+ghost use Rattle.sql_tree.specs.Printed.{IsListOf};
+ghost use Rattle.sql_tree.specs.TableModel.{TableModel};
+ghost use Rattle.sql_tree.specs.Term.{Term, Terms, term};
+ghost use Rattle.sql_tree.specs.TreeText.{IsWhole};
+ghost use Rattle.sql_tree.specs.declared.dialect.Dialect.{Dialect};
+ghost use Rattle.sql_tree.specs.declared.path.Path.{Path};
+ghost use Rattle.sql_tree.specs.private.Depths.{AreBounded, joined};
 
 use super::dialect::Dialect;
-use super::frames::{Frame, arity_of};
+use super::frames::arity_of;
 use super::node::{FieldType, SqlFunction, SqlNode};
 use super::tree::SqlTree;
 use edm_values::Prim;
 use std::alloc::{AllocError, Global};
 
-/// The most symbols that the parser keeps at a time for the text of a tree, at most.
-pub fn parser_depth(alloc: Global, tree: &SqlTree) -> Result<usize, AllocError> {
-    let mut deepest = 0;
-    let mut kept: usize = 0;
-    let mut frames: Vec<Frame> = Vec::new(alloc);
-    for node in tree.nodes.as_slice().iter() {
-        let here = kept.saturating_add(own_symbols(node));
-        if deepest < here {
-            deepest = here;
-        }
-        if arity_of(Dialect::Sqlite, node) == 0 {
-            kept = kept_after(&mut frames, kept)?;
-        } else {
-            kept = kept.saturating_add(kept_symbols(node, 0));
-            frames.push(Frame {
-                node: *node,
-                done: 0,
-            })?;
-        }
+/// How many symbols the parser keeps at a time for the text of a tree.
+pub fn parser_depth(alloc: Global, tree: &SqlTree) -> Result<usize, AllocError>
+    ensures { IfOk result (λ depth. (table : TableModel) (t : Term) → IsListOf Dialect.Sqlite table tree.now t
+        → depth ≤ symbols_of t) }
+{
+    // Those of each tree that begins after a node: the next one comes last.
+    let mut depths: Vec<usize> = Vec::new(alloc);
+    let nodes = tree.nodes.as_slice();
+    let mut at = nodes.len();
+    while 0 < at {
+        at -= 1;
+        let depth = depth_with_children(&mut depths, nodes[at]);
+        depths.push(depth)?;
     }
-    Ok(deepest)
+    Ok(take_depth(&mut depths))
 }
 
-/// What is kept once a child has ended, and each node of which it was the last.
-fn kept_after(frames: &mut Vec<Frame>, kept: usize) -> Result<usize, AllocError> {
-    let mut left = kept;
-    while let Some(frame) = frames.pop() {
-        left = left.saturating_sub(kept_symbols(&frame.node, frame.done));
-        let next = Frame {
-            node: frame.node,
-            done: frame.done.saturating_add(1),
-        };
-        if next.done < arity_of(Dialect::Sqlite, &next.node) {
-            left = left.saturating_add(kept_symbols(&next.node, next.done));
-            frames.push(next)?;
-            return Ok(left);
-        }
+/// The symbols of a tree by its first node and those of its children, which are taken away.
+fn depth_with_children(depths: &mut Vec<usize>, node: SqlNode) -> usize
+    ensures { (table : TableModel) (paths : List Path) (children rest : Terms)
+        → IsWhole Dialect.Sqlite table paths (term node children)
+        → AreBounded (reverse depths.old.items) (joined children rest)
+        → (result ≤ symbols_of (term node children)) × AreBounded (reverse depths.new.items) rest }
+{
+    let mut deepest = own_symbols(node);
+    for done in 0..arity_of(Dialect::Sqlite, &node) {
+        let depth = take_depth(depths);
+        deepest = deepest.max(kept_symbols(node, done).saturating_add(depth));
     }
-    Ok(left)
+    deepest
+}
+
+/// Takes the last number away; 0 if there is none.
+fn take_depth(depths: &mut Vec<usize>) -> usize
+    ensures { (depth : ℕ) (below : List ℕ) → reverse depths.old.items ≡ depth ∷ below
+        → (result ≡ depth) × (reverse depths.new.items ≡ below) }
+{
+    match depths.pop() {
+        Some(depth) => depth,
+        None => 0,
+    }
 }
 
 /// The symbols of a node itself at its deepest, its children apart.
-fn own_symbols(node: &SqlNode) -> usize {
-    match *node {
-        SqlNode::Field { value_type, .. } => match value_type {
-            FieldType::Prim(_) => 8,
-            FieldType::Enum(_) => 36,
-        },
+fn own_symbols(node: SqlNode) -> usize
+    ensures { result ≡ own_symbols node }
+{
+    match node {
+        SqlNode::Field { value_type, .. } => own_of_field(value_type),
         SqlNode::Exists { .. } => 16,
         SqlNode::Least { .. } => 16,
         SqlNode::Count { .. } => 8,
         SqlNode::IsMissing { .. } => 6,
-        SqlNode::Function { function } => own_symbols_of_function(function),
+        SqlNode::Function { function } => own_of_function(function),
         _ => 3,
     }
 }
 
-fn own_symbols_of_function(function: SqlFunction) -> usize {
+fn own_of_field(value_type: FieldType) -> usize
+    ensures { result ≡ own_of_field value_type }
+{
+    match value_type {
+        FieldType::Prim(_) => 8,
+        FieldType::Enum(_) => 36,
+    }
+}
+
+fn own_of_function(function: SqlFunction) -> usize
+    ensures { result ≡ own_of_function function }
+{
     match function {
         SqlFunction::Instant => 31,
         SqlFunction::OffsetMinutes => 20,
@@ -82,24 +102,28 @@ fn own_symbols_of_function(function: SqlFunction) -> usize {
 
 /// The symbols that are kept of a node while a child of it is read, after so many others. They are the same from the
 /// third child on.
-fn kept_symbols(node: &SqlNode, others: usize) -> usize {
-    let done = others.min(2);
-    match *node {
-        SqlNode::Case => match done {
-            0 => 4,
-            1 => 6,
-            _ => 5,
-        },
+fn kept_symbols(node: SqlNode, others: usize) -> usize
+    ensures { result ≡ kept_symbols node others }
+{
+    kept_of_node(node, others.min(2))
+}
+
+fn kept_of_node(node: SqlNode, done: usize) -> usize
+    requires { done < 3 }
+    ensures { result ≡ kept_of_node node done }
+{
+    match node {
+        SqlNode::Case => after_first(done, 4, 7 - done),
         SqlNode::Coalesce => 3 + 2 * done,
         SqlNode::LookUp { .. } => 9,
-        SqlNode::Let { .. } => { if done == 0 { 5 } else { 11 } }
+        SqlNode::Let { .. } => after_first(done, 5, 11),
         SqlNode::Exists { .. } => 8,
         SqlNode::Least { .. } => 8,
         SqlNode::Unfault { .. } => 6,
-        SqlNode::Within { prim } => { if prim == Prim::Int64 { 5 } else { 1 } }
-        SqlNode::Among { .. } => { if done == 0 { 1 } else { 6 } }
+        SqlNode::Within { prim } => kept_of_range(prim),
+        SqlNode::Among { .. } => after_first(done, 1, 6),
         SqlNode::HasBits => 3 + done,
-        SqlNode::Function { function } => function_symbols(function, done),
+        SqlNode::Function { function } => kept_of_function(function, done),
         SqlNode::Not => 2,
         SqlNode::TruthCode => 2,
         SqlNode::FaultCode { .. } => 2,
@@ -109,8 +133,18 @@ fn kept_symbols(node: &SqlNode, others: usize) -> usize {
     }
 }
 
-fn function_symbols(function: SqlFunction, done: usize) -> usize
+fn kept_of_range(prim: Prim) -> usize
+    ensures { result ≡ kept_of_range prim }
+{
+    match prim {
+        Prim::Int64 => 5,
+        _ => 1,
+    }
+}
+
+fn kept_of_function(function: SqlFunction, done: usize) -> usize
     requires { done < 3 }
+    ensures { result ≡ kept_of_function function done }
 {
     match function {
         SqlFunction::Concat => 1 + 2 * done,
@@ -122,12 +156,21 @@ fn function_symbols(function: SqlFunction, done: usize) -> usize
         SqlFunction::ToUpper => 3,
         SqlFunction::DateOfMoment => 3,
         SqlFunction::RestFrom => 3 + 8 * done,
-        SqlFunction::PartFrom => { if done == 0 { 3 } else { 11 } }
+        SqlFunction::PartFrom => after_first(done, 3, 11),
         SqlFunction::StartsWith => 11,
         SqlFunction::EndsWith => 11,
         SqlFunction::Second => 11,
         SqlFunction::OffsetMinutes => 11,
         SqlFunction::Instant => 11,
         _ => 5,
+    }
+}
+
+fn after_first(done: usize, first: usize, later: usize) -> usize
+    ensures { result ≡ after_first done first later }
+{
+    match done {
+        0 => first,
+        _ => later,
     }
 }

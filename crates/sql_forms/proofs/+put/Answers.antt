@@ -55,7 +55,7 @@ use Rattle.sql_forms.proofs.puts.OrNullsLet.{ok_or_nulls}
 use Rattle.sql_forms.specs.private.Compared.{IsCoded}
 use Rattle.odata_syntax.specs.contracts.binary_operator.ComparisonOperator.{the_type}
 use Rattle.odata_syntax.specs.contracts.node.Quantifier.{the_type as of_quantifier_the_type}
-use Rattle.sql_draft.specs.declared.fault.SqlFault.{SqlFault}
+use Rattle.std.specs.declared.alloc.AllocError.{AllocError}
 use Rattle.sql_tree.specs.contracts.node.SqlType.{the_type as of_sql_type_the_type}
 use Rattle.std.proofs.lemmas.List.Elements.{All-get_or}
 use denote.Enum.Bare.{same_true, true_same}
@@ -1150,11 +1150,11 @@ pub keeps::put_denies-returns-in-Some : goal.keeps::put_denies-returns-in-Some
 keeps::put_denies-returns-in-Some t c =
     elim c.match-connective.branch [
       | keeps::put_denies-in-Or w ↦
-          subst (λ (r : Result (Unit {0}) SqlFault). OnOk r (Puts (question_of c.args.context.now) c.args.draft.now c.match-connective.draft (OfPlace c.args.context.now.checked.now c.args.place) (IsInForm Form.Denies))) (sym w.result-is)
+          subst (λ (r : Result (Unit {0}) AllocError). OnOk r (Puts (question_of c.args.context.now) c.args.draft.now c.match-connective.draft (OfPlace c.args.context.now.checked.now c.args.place) (IsInForm Form.Denies))) (sym w.result-is)
           (subst (λ (d : Draft). OnOk w.put_joined.result (Puts (question_of c.args.context.now) c.args.draft.now d (OfPlace c.args.context.now.checked.now c.args.place) (IsInForm Form.Denies))) (sym w.draft-is)
           (ok_chain (question_of c.args.context.now) Form.Denies w.put_joined.result LogicalOperator.Or c.args.place w.as_slice.result.now c.args.draft.now w.put_joined.new.draft (chain_is (question_of c.args.context.now) c.args.place w.as_slice.result.now c.in-Some.connective LogicalOperator.Or w.in-Or.is (subst (IsChain (question_of c.args.context.now) c.in-Some.connective c.args.place) (sym w.as_slice.ensures.value) c.in_ok-terms.ensures)) (w.put_joined.ensures LogicalOperator.Or tt)))
       | keeps::put_denies-in-And w ↦
-          subst (λ (r : Result (Unit {0}) SqlFault). OnOk r (Puts (question_of c.args.context.now) c.args.draft.now c.match-connective.draft (OfPlace c.args.context.now.checked.now c.args.place) (IsInForm Form.Denies))) (sym w.result-is)
+          subst (λ (r : Result (Unit {0}) AllocError). OnOk r (Puts (question_of c.args.context.now) c.args.draft.now c.match-connective.draft (OfPlace c.args.context.now.checked.now c.args.place) (IsInForm Form.Denies))) (sym w.result-is)
           (subst (λ (d : Draft). OnOk w.put_decided.result (Puts (question_of c.args.context.now) c.args.draft.now d (OfPlace c.args.context.now.checked.now c.args.place) (IsInForm Form.Denies))) (sym w.draft-is)
           (ok_chain (question_of c.args.context.now) Form.Denies w.put_decided.result c.in-Some.connective c.args.place w.as_slice-in-And.result.now c.args.draft.now w.put_decided.new.draft (subst (IsChain (question_of c.args.context.now) c.in-Some.connective c.args.place) (sym w.as_slice-in-And.ensures.value) c.in_ok-terms.ensures) w.put_decided.ensures))
     ]
@@ -1246,11 +1246,11 @@ pub keeps::put_keeps-returns-in-Some : goal.keeps::put_keeps-returns-in-Some
 keeps::put_keeps-returns-in-Some t c =
     elim c.match-connective.branch [
       | keeps::put_keeps-in-And w ↦
-          subst (λ (r : Result (Unit {0}) SqlFault). OnOk r (Puts (question_of c.args.context.now) c.args.draft.now c.match-connective.draft (OfPlace c.args.context.now.checked.now c.args.place) (IsInForm Form.Keeps))) (sym w.result-is)
+          subst (λ (r : Result (Unit {0}) AllocError). OnOk r (Puts (question_of c.args.context.now) c.args.draft.now c.match-connective.draft (OfPlace c.args.context.now.checked.now c.args.place) (IsInForm Form.Keeps))) (sym w.result-is)
           (subst (λ (d : Draft). OnOk w.put_joined.result (Puts (question_of c.args.context.now) c.args.draft.now d (OfPlace c.args.context.now.checked.now c.args.place) (IsInForm Form.Keeps))) (sym w.draft-is)
           (ok_chain (question_of c.args.context.now) Form.Keeps w.put_joined.result LogicalOperator.And c.args.place w.as_slice.result.now c.args.draft.now w.put_joined.new.draft (chain_is (question_of c.args.context.now) c.args.place w.as_slice.result.now c.in-Some.connective LogicalOperator.And w.in-And.is (subst (IsChain (question_of c.args.context.now) c.in-Some.connective c.args.place) (sym w.as_slice.ensures.value) c.in_ok-terms.ensures)) (w.put_joined.ensures LogicalOperator.And tt)))
       | keeps::put_keeps-in-Or w ↦
-          subst (λ (r : Result (Unit {0}) SqlFault). OnOk r (Puts (question_of c.args.context.now) c.args.draft.now c.match-connective.draft (OfPlace c.args.context.now.checked.now c.args.place) (IsInForm Form.Keeps))) (sym w.result-is)
+          subst (λ (r : Result (Unit {0}) AllocError). OnOk r (Puts (question_of c.args.context.now) c.args.draft.now c.match-connective.draft (OfPlace c.args.context.now.checked.now c.args.place) (IsInForm Form.Keeps))) (sym w.result-is)
           (subst (λ (d : Draft). OnOk w.put_decided.result (Puts (question_of c.args.context.now) c.args.draft.now d (OfPlace c.args.context.now.checked.now c.args.place) (IsInForm Form.Keeps))) (sym w.draft-is)
           (ok_chain (question_of c.args.context.now) Form.Keeps w.put_decided.result c.in-Some.connective c.args.place w.as_slice-in-Or.result.now c.args.draft.now w.put_decided.new.draft (subst (IsChain (question_of c.args.context.now) c.in-Some.connective c.args.place) (sym w.as_slice-in-Or.ensures.value) c.in_ok-terms.ensures) w.put_decided.ensures))
     ]
@@ -2212,6 +2212,9 @@ pub truth::put_truth-put_literal-requires-clause-there : goal.truth::put_truth-p
 truth::put_truth-put_literal-requires-clause-there t c =
     literal_within c.args.context.now.checked.now c.args.place c.in-Literal.kind c.in-Literal.value (kind_here c.args.context.now.checked.now c.args.place c.node.result c.node.ensures (NodeKind.Literal c.in-Literal.kind c.in-Literal.value) c.in-Literal.is) c.requires.translated.right
 
+pub truth::put_truth-put_literal-requires-clause-nul_free : goal.truth::put_truth-put_literal-requires-clause-nul_free
+truth::put_truth-put_literal-requires-clause-nul_free t c = c.requires.translated.nul_free c.in-Literal.value
+
 pub truth::put_truth-put_literal-requires-clause-spelled : goal.truth::put_truth-put_literal-requires-clause-spelled
 truth::put_truth-put_literal-requires-clause-spelled t c =
     literal_spelled c.args.context.now.checked.now c.args.place c.in-Literal.kind c.in-Literal.value (kind_here c.args.context.now.checked.now c.args.place c.node.result c.node.ensures (NodeKind.Literal c.in-Literal.kind c.in-Literal.value) c.in-Literal.is) c.requires.translated.right
@@ -2306,6 +2309,9 @@ value::put_value-returns-then-is_kind t c =
 pub value::put_value-put_literal-requires-clause-there : goal.value::put_value-put_literal-requires-clause-there
 value::put_value-put_literal-requires-clause-there t c =
     literal_within c.args.context.now.checked.now c.args.place c.in-Literal.kind c.in-Literal.value (kind_here c.args.context.now.checked.now c.args.place c.node-node.result c.node-node.ensures (NodeKind.Literal c.in-Literal.kind c.in-Literal.value) c.in-Literal.is) c.requires.translated.right
+
+pub value::put_value-put_literal-requires-clause-nul_free : goal.value::put_value-put_literal-requires-clause-nul_free
+value::put_value-put_literal-requires-clause-nul_free t c = c.requires.translated.nul_free c.in-Literal.value
 
 pub value::put_value-put_literal-requires-clause-spelled : goal.value::put_value-put_literal-requires-clause-spelled
 value::put_value-put_literal-requires-clause-spelled t c =

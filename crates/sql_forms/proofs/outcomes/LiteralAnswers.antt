@@ -1,9 +1,9 @@
 -- What the functions that put literals return.
-use Rattle.sql_forms.proofs.Common.{◌≡◌, ◌≢◌, ◌↔◌, ◌++◌, ◌∷◌, [], ◌<◌, ℕ, ℤ, List, Bool, Some, Result, Ok, Err, OnOk, get_or, length, refl, sym, ap, subst, ◌∙◌, slice_get_read, String, slice_get, string_bytes, Global, Date, MomentValue, moment_spelling, MomentParts, boolean, date, guid, member, null, text, whole, Value, gives, SqlNode, SqlType, Parameter, Draft, Source, GrowsBy, GrowsByText, IsLiteralAt, SourceHas, Puts, Question, by_node, on_both, on_ok, puts_leaf}
+use Rattle.sql_forms.proofs.Common.{◌≡◌, ◌≢◌, ◌++◌, ◌∷◌, [], ◌<◌, ℕ, ℤ, List, Bool, Some, Result, OnOk, get_or, length, refl, sym, ap, subst, ◌∙◌, slice_get_read, String, slice_get, string_bytes, Global, Date, MomentValue, moment_spelling, MomentParts, boolean, date, guid, member, null, text, whole, Value, gives, SqlNode, SqlType, Parameter, Draft, Source, GrowsBy, GrowsByText, IsLiteralAt, SourceHas, Puts, Question, by_node, on_ok, puts_leaf}
 use Rattle.edm_values.specs.DateLiteral.{DateValue, date_spelling}
 use Rattle.edm_values.specs.GuidLiteral.{GuidValue, guid_spelling}
 use Rattle.sql_meaning.specs.ParameterGives.{HoldsNul}
-use Rattle.sql_draft.specs.declared.fault.SqlFault.{SqlFault}
+use Rattle.sql_draft.specs.Translated.{IsNulFreeAt}
 use Rattle.sql_forms.specs.private.AskedForms.{Itself}
 use Rattle.sql_forms.proofs.puts.LiteralsPut.{leaf_literal, moment_literal, no_literal, parameter_literal}
 use Rattle.sql_forms.proofs.puts.OperandsPut.{number_put}
@@ -14,11 +14,6 @@ literal_at values read place x value same within at is =
     subst (λ (xs : List Value). slice_get xs place ≡ Some x) same
     (slice_get_read read (length read) place x refl (subst (λ (xs : List Value). place < length xs) (sym same) within) at)
     ∙ ap Some is
-
--- a text that was put holds no U+0000
-pub put_whole : {T : Type 0} (r : Result T SqlFault) (t : List ℕ) → (r ≡ Err SqlFault.Nul ↔ HoldsNul t) → OnOk r (¬ HoldsNul t)
-put_whole {T} (Ok v) t nul = λ holds. let both : Ok v ≡ Err SqlFault.Nul = nul.1 holds in absurd (cc)
-put_whole (Err fault) t nul = tt
 
 module _ (question : Question) (place : ℕ) (old new : Draft) {T E : Type 0} (r : Result T E) where
   abbrev parameter_node : SqlType → SqlNode
@@ -49,13 +44,12 @@ module _ (question : Question) (place : ℕ) (old new : Draft) {T E : Type 0} (r
       (λ g. parameter_literal question old new place (Value.Date d) at SqlType.Date (Parameter.Text written) (date d) refl
       (d, subst (λ (bytes : List ℕ). DateValue bytes d) (sym (spelled ∙ ap (λ (f : List ℕ). f ++ date_spelling d) empty)) value, refl) g) put
 
-  pub ok_text : (own written : String Global) → slice_get question.filter.list.values place ≡ Some (Value.Text own) → string_bytes written ≡ string_bytes own
-      → OnOk r (¬ HoldsNul (string_bytes written)) → OnOk r (GrowsBy old new (parameter_node SqlType.Text ∷ []) [] (Parameter.Text written ∷ []))
-      → OnOk r (Puts question old new (IsLiteralAt question.filter place) Itself)
+  pub ok_text : (own written : String Global) → slice_get question.filter.list.values place ≡ Some (Value.Text own) → string_bytes written ≡ string_bytes own → IsNulFreeAt question.filter place
+      → OnOk r (GrowsBy old new (parameter_node SqlType.Text ∷ []) [] (Parameter.Text written ∷ [])) → OnOk r (Puts question old new (IsLiteralAt question.filter place) Itself)
   ok_text own written at same nul_free put =
-      on_both r (¬ HoldsNul (string_bytes written)) (GrowsBy old new (parameter_node SqlType.Text ∷ []) [] (Parameter.Text written ∷ [])) (Puts question old new (IsLiteralAt question.filter place) Itself)
-      (λ none g. parameter_literal question old new place (Value.Text own) at SqlType.Text (Parameter.Text written) (text (string_bytes own)) refl
-      (none, ap (λ (bytes : List ℕ). gives (text bytes)) (sym same)) g) nul_free put
+      on_ok r (GrowsBy old new (parameter_node SqlType.Text ∷ []) [] (Parameter.Text written ∷ [])) (Puts question old new (IsLiteralAt question.filter place) Itself)
+      (λ g. parameter_literal question old new place (Value.Text own) at SqlType.Text (Parameter.Text written) (text (string_bytes own)) refl
+      (subst (λ (bytes : List ℕ). ¬ HoldsNul bytes) (sym same) (nul_free own at), ap (λ (bytes : List ℕ). gives (text bytes)) (sym same)) g) put
 
   pub ok_guid : (bytes front : List ℕ) (written : String Global) → slice_get question.filter.list.values place ≡ Some (Value.Guid bytes) → GuidValue (guid_spelling bytes) bytes → front ≡ []
       → string_bytes written ≡ front ++ guid_spelling bytes → OnOk r (GrowsBy old new (parameter_node SqlType.Guid ∷ []) [] (Parameter.Text written ∷ []))

@@ -58,7 +58,7 @@ pub record IsLifted (operands : List Operand) (level : ℕ) (lifted : Lifted) : 
   pub inner : lifted.inner.items ≡ within_let level choices operands
   pub bound : lifted.bound.items ≡ chosen choices operands
   pub level_is : lifted.level ≡ level
-  pub few : lifted.level < 10_000
+  pub few : lifted.level < 1_000_000_000_000
 
 -- a `Let` begins, unless nothing is bound
 abbrev pub let_nodes : ℕ → ℕ → List SqlNode

@@ -1,6 +1,6 @@
 use Rattle.sql_forms.proofs.Common.{◌∷◌, [], ℤ, OnOk, arith, length, refl, rules, subst, w64, FitsSigned, string_bytes, Value, SqlNode, SqlType, Parameter, GrowsBy, question_of}
 use Rattle.std.proofs.lemmas.Int.{to_z-of_z}
-use Rattle.sql_forms.proofs.outcomes.LiteralAnswers.{literal_at, ok_date, ok_guid, ok_member, ok_moment, ok_other, ok_text, ok_truth, ok_whole, put_whole}
+use Rattle.sql_forms.proofs.outcomes.LiteralAnswers.{literal_at, ok_date, ok_guid, ok_member, ok_moment, ok_other, ok_text, ok_truth, ok_whole}
 use Rattle.sql_forms.proofs.value.put_literal.Goals as goal
 
 pub returns-in-Bool : goal.returns-in-Bool
@@ -18,14 +18,14 @@ returns-in-Int c =
 
 pub returns-in_ok-text-in-Text : goal.returns-in_ok-text-in-Text
 returns-in_ok-text-in-Text c =
-    ok_text (question_of c.args.context.now) c.args.value c.args.draft.now c.put_text.new.self c.put_text.result c.in-Text.text c.in_ok-text-in-Text.text (literal_at c.args.context.now.checked.now.list.values c.values.result.now c.args.value c.index-values-value.result (Value.Text c.in-Text.text) c.values.ensures c.requires.there c.index-values-value.is c.in-Text.is) c.in_ok-text-in-Text.ensures.cases
-    (put_whole c.put_text.result (string_bytes c.in_ok-text-in-Text.text) c.put_text.ensures.nul) c.put_text.ensures.ok
+    ok_text (question_of c.args.context.now) c.args.value c.args.draft.now c.put_parameter-in-Text.new.self c.put_parameter-in-Text.result c.in-Text.text c.in_ok-text-in-Text.text (literal_at c.args.context.now.checked.now.list.values c.values.result.now c.args.value c.index-values-value.result (Value.Text c.in-Text.text) c.values.ensures c.requires.there c.index-values-value.is c.in-Text.is) c.in_ok-text-in-Text.ensures.cases
+    c.requires.nul_free c.put_parameter-in-Text.ensures.ok
 
 pub returns-in_ok-write_date-in-Date : goal.returns-in_ok-write_date-in-Date
 returns-in_ok-write_date-in-Date c =
     let at = (literal_at c.args.context.now.checked.now.list.values c.values.result.now c.args.value c.index-values-value.result (Value.Date c.in-Date.date) c.values.ensures c.requires.there c.index-values-value.is c.in-Date.is) in
-    ok_date (question_of c.args.context.now) c.args.value c.args.draft.now c.put_text-in-Date.new.self c.put_text-in-Date.result c.in-Date.date (string_bytes c.new-text.result) c.write_date.new.out at
-    (c.dates_read_back.ensures.value c.in-Date.date (c.requires.spelled.0 c.in-Date.date at)) c.new-text.ensures.bytes c.in_ok-write_date-in-Date.ensures.ok c.put_text-in-Date.ensures.ok
+    ok_date (question_of c.args.context.now) c.args.value c.args.draft.now c.put_parameter-in-Date.new.self c.put_parameter-in-Date.result c.in-Date.date (string_bytes c.new-text.result) c.write_date.new.out at
+    (c.dates_read_back.ensures.value c.in-Date.date (c.requires.spelled.0 c.in-Date.date at)) c.new-text.ensures.bytes c.in_ok-write_date-in-Date.ensures.ok c.put_parameter-in-Date.ensures.ok
 
 pub returns-in-Moment : goal.returns-in-Moment
 returns-in-Moment c =
@@ -36,8 +36,8 @@ pub returns-in_ok-write_guid-in-Guid : goal.returns-in_ok-write_guid-in-Guid
 returns-in_ok-write_guid-in-Guid c =
     let at = (literal_at c.args.context.now.checked.now.list.values c.values.result.now c.args.value c.index-values-value.result (Value.Guid c.in-Guid.guid) c.values.ensures c.requires.there c.index-values-value.is c.in-Guid.is) in
     let sixteen = c.requires.spelled.1 c.in-Guid.guid at in
-    ok_guid (question_of c.args.context.now) c.args.value c.args.draft.now c.put_text-in-Guid.new.self c.put_text-in-Guid.result c.in-Guid.guid (string_bytes c.new-text-in-Guid.result) c.write_guid.new.out at
-    (c.guids_read_back.ensures c.in-Guid.guid sixteen.0 sixteen.1) c.new-text-in-Guid.ensures.bytes c.in_ok-write_guid-in-Guid.ensures.ok c.put_text-in-Guid.ensures.ok
+    ok_guid (question_of c.args.context.now) c.args.value c.args.draft.now c.put_parameter-in-Guid.new.self c.put_parameter-in-Guid.result c.in-Guid.guid (string_bytes c.new-text-in-Guid.result) c.write_guid.new.out at
+    (c.guids_read_back.ensures c.in-Guid.guid sixteen.0 sixteen.1) c.new-text-in-Guid.ensures.bytes c.in_ok-write_guid-in-Guid.ensures.ok c.put_parameter-in-Guid.ensures.ok
 
 pub returns-in-Enum : goal.returns-in-Enum
 returns-in-Enum c =
