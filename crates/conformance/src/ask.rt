@@ -16,7 +16,7 @@ use suite_driver::spelled_texts::{
     AskedOfText, answer_of as answer_of_text, token_count, tokens_of,
 };
 use suite_driver::token_pieces::{bytes_of, items_of, pair_of, text_of, word_of};
-use suite_driver::trouble::Trouble;
+use suite_driver::trouble::{Trouble, owned};
 
 /// The type that a case names.
 pub(crate) fn type_of<'c>(case: &Case<'c>) -> Result<TypeOf<'c>, Trouble> {
@@ -90,7 +90,7 @@ fn query_answer(alloc: Global, query: &Value) -> Result<String, Trouble> {
     let query = bytes_of(alloc, query)?;
     match filter_of_query(alloc, query.as_slice()) {
         Ok(Some(filter)) => Ok(format!(in alloc; "filter {filter}")?),
-        Ok(None) => Ok(String::from_str(alloc, "no filter")?),
+        Ok(None) => owned(alloc, "no filter"),
         Err(fault) => Ok(format!(in alloc; "refused {fault}")?),
     }
 }
@@ -109,13 +109,12 @@ fn schema_answer(alloc: Global, document: &Value) -> Result<String, Trouble> {
     fault_of(alloc, document.as_slice())
 }
 
+pub(crate) fn word_of_truth(truth: bool) -> &'static str {
+    if truth { "true" } else { "false" }
+}
+
 fn identifier_answer(alloc: Global, text: &Value) -> Result<String, Trouble> {
-    let reported = if is_identifier(word_of(text)?) {
-        "true"
-    } else {
-        "false"
-    };
-    Ok(String::from_str(alloc, reported)?)
+    owned(alloc, word_of_truth(is_identifier(word_of(text)?)))
 }
 
 /// What the line of a row is: `fits` with its values, or the fault.
@@ -142,7 +141,7 @@ fn reported_line(case: &Case<'_>, line: &Value) -> Result<String, Trouble> {
 /// `true` of what fits, instead of its values.
 fn without_values(alloc: Global, reported: String) -> Result<String, Trouble> {
     if reported.as_str().starts_with("fits ") {
-        Ok(String::from_str(alloc, "true")?)
+        owned(alloc, "true")
     } else {
         Ok(reported)
     }
@@ -151,12 +150,10 @@ fn without_values(alloc: Global, reported: String) -> Result<String, Trouble> {
 /// Whether a line fits.
 fn conforms(case: &Case<'_>, line: &Value) -> Result<String, Trouble> {
     let reported = reported_line(case, line)?;
-    let word = if reported.as_str().starts_with("fits ") {
-        "true"
-    } else {
-        "false"
-    };
-    Ok(String::from_str(case.alloc, word)?)
+    owned(
+        case.alloc,
+        word_of_truth(reported.as_str().starts_with("fits ")),
+    )
 }
 
 /// What is answered of a row or a line that is given.
@@ -215,7 +212,7 @@ fn plain(alloc: Global, wanted: &Value) -> Result<String, Trouble> {
 /// A word and a text, or what stands for null.
 fn marked(alloc: Global, word: &str, wanted: &Value, null: &str) -> Result<String, Trouble> {
     if wanted.is_null() {
-        return Ok(String::from_str(alloc, null)?);
+        return owned(alloc, null);
     }
     let text = text_of(alloc, wanted)?;
     Ok(format!(in alloc; "{word} {text}")?)

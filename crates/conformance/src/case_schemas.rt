@@ -1,4 +1,5 @@
 //! Documents, and the look-ups of their schemas.
+use crate::ask::word_of_truth;
 use crate::case_report::Report;
 use csdl_schema::{Schema, TypeId};
 use serde_json::{Map, Value};
@@ -8,7 +9,7 @@ use suite_driver::schemas::{
     is_entity_type, reported_slots, type_of, whole_enumeration_name, whole_type_name,
 };
 use suite_driver::token_pieces::{bytes_of, items_of, pair_of, word_of};
-use suite_driver::trouble::Trouble;
+use suite_driver::trouble::{Trouble, owned};
 
 /// The bytes of a document: an object as it stands, or its text.
 pub(crate) fn document_of(alloc: Global, given: &Value) -> Result<Vec<u8>, Trouble> {
@@ -16,46 +17,6 @@ pub(crate) fn document_of(alloc: Global, given: &Value) -> Result<Vec<u8>, Troub
         Value::Object(_) => Ok(given.to_vec(alloc)?),
         _ => bytes_of(alloc, given),
     }
-}
-
-/// A name that may be null.
-fn name_or_none(wanted: &Value) -> Result<&str, Trouble> {
-    match wanted {
-        Value::Null => Ok("none"),
-        _ => word_of(wanted),
-    }
-}
-
-fn compare_types(schema: &Schema, rows: &[Value], report: &mut Report) -> Result<(), Trouble> {
-    for row in rows {
-        let (name, wanted) = pair_of(row)?;
-        let found = whole_type_name(schema, word_of(name)?);
-        report.compare_at(name, name_or_none(wanted)?, found)?;
-    }
-    Ok(())
-}
-
-fn compare_enumerations(
-    schema: &Schema,
-    rows: &[Value],
-    report: &mut Report,
-) -> Result<(), Trouble> {
-    for row in rows {
-        let (name, wanted) = pair_of(row)?;
-        let found = whole_enumeration_name(schema, word_of(name)?);
-        report.compare_at(name, name_or_none(wanted)?, found)?;
-    }
-    Ok(())
-}
-
-fn compare_entities(schema: &Schema, rows: &[Value], report: &mut Report) -> Result<(), Trouble> {
-    for row in rows {
-        let (name, wanted) = pair_of(row)?;
-        if Some(is_entity_type(schema, word_of(name)?)) != wanted.as_bool() {
-            report.compare_at(name, "another answer", "whether it is an entity type")?;
-        }
-    }
-    Ok(())
 }
 
 /// The texts of a list, one after another.
@@ -72,16 +33,37 @@ pub(crate) fn joined(alloc: Global, texts: &[Value]) -> Result<String, Trouble> 
     Ok(line)
 }
 
-fn compare_slots(
+/// What a look-up of a name finds, as a text.
+fn found_of(alloc: Global, schema: &Schema, kind: &str, name: &str) -> Result<String, Trouble> {
+    match kind {
+        "types" => owned(alloc, whole_type_name(schema, name)),
+        "enumerations" => owned(alloc, whole_enumeration_name(schema, name)),
+        "entities" => owned(alloc, word_of_truth(is_entity_type(schema, name))),
+        _ => reported_slots(alloc, schema, type_of(schema, name)?),
+    }
+}
+
+/// What is expected of a look-up, as a text: a name that may be null, a truth value, or the texts of slots.
+fn wanted_of(alloc: Global, wanted: &Value) -> Result<String, Trouble> {
+    match wanted {
+        Value::Null => owned(alloc, "none"),
+        Value::Bool(truth) => owned(alloc, word_of_truth(*truth)),
+        Value::Array(texts) => joined(alloc, texts.as_slice()),
+        _ => owned(alloc, word_of(wanted)?),
+    }
+}
+
+fn compare_found(
     alloc: Global,
     schema: &Schema,
+    kind: &str,
     rows: &[Value],
     report: &mut Report,
 ) -> Result<(), Trouble> {
     for row in rows {
         let (name, wanted) = pair_of(row)?;
-        let wanted = joined(alloc, items_of(wanted)?)?;
-        let found = reported_slots(alloc, schema, type_of(schema, word_of(name)?)?)?;
+        let wanted = wanted_of(alloc, wanted)?;
+        let found = found_of(alloc, schema, kind, word_of(name)?)?;
         report.compare_at(name, wanted.as_str(), found.as_str())?;
     }
     Ok(())
@@ -150,10 +132,9 @@ fn look_up(
     report: &mut Report,
 ) -> Result<(), Trouble> {
     match kind {
-        "types" => compare_types(schema, rows, report),
-        "entities" => compare_entities(schema, rows, report),
-        "enumerations" => compare_enumerations(schema, rows, report),
-        "slots" => compare_slots(alloc, schema, rows, report),
+        "types" | "entities" | "enumerations" | "slots" => {
+            compare_found(alloc, schema, kind, rows, report)
+        }
         "no_slots" => compare_no_slots(schema, rows, report),
         "values" => compare_values(schema, rows, report),
         _ => Err(Trouble::NoKind),

@@ -1,15 +1,14 @@
 //! Lines as rows of a type: what fits, and the first fault of what does not.
 ghost use Rattle.csdl_schema.specs.SchemaModel.{HoldsType};
 
-use crate::filters::{TypeOf, moment_of, schema_of};
-use crate::spelled_numbers::shown_row_fault;
-use crate::trouble::Trouble;
+use crate::filters::{TypeOf, moment_of, schema_of, verdict_of_row};
+use crate::spelled_numbers::{shown_no_verdict, shown_row_fault};
+use crate::trouble::{Trouble, owned};
 use crate::values::push_slots;
 use csdl_schema::{Expansion, Schema, TypeId};
-use edm_entities::{Entity, RowFault, RowPlan, RowReader};
+use edm_entities::{Entity, RowPlan, RowReader};
 use edm_values::Moment;
 use odata_eval::Verdict;
-use odata_filter::{NoVerdict, judge_row, row_plan_of};
 use odata_typing::{Checked, check_to_store};
 use serde_json::Value;
 use std::alloc::Global;
@@ -27,7 +26,6 @@ fn by_json(alloc: Global, schema: &Schema, id: TypeId, json: &Value) -> Result<S
 {
     match &Entity::from_json(alloc, schema, id, json) {
         Ok(entity) => reported(alloc, entity),
-        Err(RowFault::Memory) => Err(Trouble::Memory),
         Err(fault) => shown_row_fault(alloc, fault),
     }
 }
@@ -39,7 +37,7 @@ fn by_tree(alloc: Global, schema: &Schema, id: TypeId, line: &[u8]) -> Result<St
     match &Value::from_slice(alloc, line) {
         Ok(json) => by_json(alloc, schema, id, json),
         Err(error) if error.is_memory() => Err(Trouble::Memory),
-        Err(_) => Ok(String::from_str(alloc, "Json")?),
+        Err(_) => owned(alloc, "Json"),
     }
 }
 
@@ -75,13 +73,12 @@ fn row_answer(
     line: &[u8],
     now: &Moment,
 ) -> Result<String, Trouble> {
-    let plan = row_plan_of(alloc, checked);
-    let mut reader = RowReader::new(alloc);
-    match &judge_row(checked, now, &plan, &mut reader, line) {
-        Ok(Verdict::True) => Ok(String::from_str(alloc, "fits")?),
-        Ok(_) => Ok(String::from_str(alloc, "no true")?),
-        Err(NoVerdict::Memory) => Err(Trouble::Memory),
-        Err(NoVerdict::Bad(fault)) => Ok(format!(in alloc; "{fault}")?),
+    match &verdict_of_row(alloc, checked, line, now) {
+        Ok(verdict) => {
+            let is_true = matches!(verdict, Verdict::True);
+            owned(alloc, if is_true { "fits" } else { "no true" })
+        }
+        Err(why) => shown_no_verdict(alloc, why),
     }
 }
 

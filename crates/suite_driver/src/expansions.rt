@@ -1,5 +1,5 @@
 //! Sets of property paths: what is put into them, and what a copy has.
-use crate::trouble::Trouble;
+use crate::trouble::{Trouble, owned};
 use csdl_schema::Expansion;
 use std::alloc::Global;
 
@@ -24,7 +24,7 @@ pub fn paths_answer(alloc: Global, paths: &[&[&str]]) -> Result<String, Trouble>
             return if count_needed(&set, paths) == before {
                 Err(Trouble::Memory)
             } else {
-                Ok(String::from_str(alloc, "another set behind a refusal")?)
+                owned(alloc, "another set behind a refusal")
             };
         }
     }
@@ -33,6 +33,6 @@ pub fn paths_answer(alloc: Global, paths: &[&[&str]]) -> Result<String, Trouble>
     if copy.covers(&set) && set.covers(&copy) && count_needed(&copy, paths) == count {
         Ok(format!(in alloc; "{count} of {}", paths.len())?)
     } else {
-        Ok(String::from_str(alloc, "another set in a copy")?)
+        owned(alloc, "another set in a copy")
     }
 }

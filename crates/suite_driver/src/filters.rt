@@ -4,19 +4,19 @@ ghost use Rattle.csdl_schema.specs.ExpansionView.{paths_in};
 ghost use Rattle.csdl_schema.specs.PathSet.{Covers};
 ghost use Rattle.csdl_schema.specs.SchemaModel.{HoldsType};
 ghost use Rattle.row_judges.specs.FilterRows.{AreRowsOfFilter};
-ghost use Rattle.row_judges.specs.RowAnswer.{IsPlanOfFilter};
 
+use crate::costs::cost;
 use crate::nodes::{reported_nodes, second_type};
-use crate::spelled_numbers::{shown_refusal, shown_row_fault};
-use crate::trouble::Trouble;
+use crate::spelled_numbers::{shown_no_verdict, shown_refusal, shown_row_fault};
+use crate::trouble::{Trouble, owned};
 use csdl_schema::{Schema, SchemaFault, TypeId};
 use edm_entities::{Entity, RowFault, RowReader};
 use edm_values::{Moment, read_moment};
 use jiff::civil;
 use odata_eval::{EvalFault, Verdict, evaluate};
 use odata_filter::{
-    BadRow, BoundedJudge, FaultKind, FilterRows, NoVerdict, Numbered, RunFault, Tally, fault_name,
-    filter_slice, judge_row, row_plan_of,
+    BadRow, FaultKind, FilterRows, NoVerdict, Numbered, RunFault, Tally, fault_name, filter_slice,
+    judge_row, row_plan_of,
 };
 use odata_typing::{Checked, check_to_store};
 use serde_json::Value;
@@ -51,8 +51,14 @@ pub struct TypeOf<'a> {
 pub fn schema_of(alloc: Global, document: &[u8]) -> Result<Schema, Trouble> {
     match Schema::read(alloc, document) {
         Ok(schema) => Ok(schema),
-        Err(SchemaFault::Memory) => Err(Trouble::Memory),
-        Err(_) => Err(Trouble::NoSchema),
+        Err(fault) => {
+            let is_memory = matches!(fault, SchemaFault::Memory);
+            Err(if is_memory {
+                Trouble::Memory
+            } else {
+                Trouble::NoSchema
+            })
+        }
     }
 }
 
@@ -65,7 +71,7 @@ pub fn moment_of(text: Option<&str>) -> Result<Moment, Trouble> {
     moment.ok_or(Trouble::NoMoment)
 }
 
-fn spelled(outcome: Result<Verdict, EvalFault>) -> &'static str {
+pub(crate) fn spelled(outcome: Result<Verdict, EvalFault>) -> &'static str {
     match outcome {
         Ok(Verdict::True) => "true",
         Ok(Verdict::False) => "false",
@@ -98,38 +104,71 @@ fn kept(alloc: Global, checked: &Checked<'_>, line: &[u8], now: &Moment) -> &'st
     }
 }
 
-/// What is reported about a row by itself: its outcome, unless the row is at fault.
-fn spelled_row(reported: &Result<Verdict, NoVerdict>) -> &'static str {
-    match reported {
-        Ok(verdict) => spelled(Ok(*verdict)),
-        Err(NoVerdict::Bad(BadRow::NoValue(fault))) => spelled(Err(*fault)),
-        Err(NoVerdict::Memory) => "memory",
-        Err(NoVerdict::Bad(_)) => "another fault",
+/// What is reported about a row by itself that has no verdict: the fault of the evaluation, unless the row is at fault.
+pub(crate) fn spelled_no_verdict(why: &NoVerdict) -> &'static str {
+    match why {
+        NoVerdict::Bad(BadRow::NoValue(fault)) => spelled(Err(*fault)),
+        NoVerdict::Bad(_) => "another fault",
+        NoVerdict::Memory => "memory",
     }
 }
 
-/// The one answer of a line that is judged by itself, by a reader of any filter's rows, by what is kept from row to row
-/// of this one, and by that so many times more.
-fn judged(
+/// What is reported about a row by itself.
+fn spelled_row(reported: &Result<Verdict, NoVerdict>) -> &'static str {
+    match reported {
+        Ok(verdict) => spelled(Ok(*verdict)),
+        Err(why) => spelled_no_verdict(why),
+    }
+}
+
+/// The one of two answers.
+pub(crate) fn one_of(first: &'static str, second: &'static str) -> &'static str {
+    if first == second {
+        first
+    } else if first == "memory" || second == "memory" {
+        "memory"
+    } else {
+        "another answer"
+    }
+}
+
+/// What is reported about a row that is judged by itself, by a reader of any filter's rows.
+pub(crate) fn verdict_of_row(
+    alloc: Global,
+    checked: &Checked<'_>,
+    line: &[u8],
+    now: &Moment,
+) -> Result<Verdict, NoVerdict> {
+    let plan = row_plan_of(alloc, checked);
+    let mut reader = RowReader::new(alloc);
+    judge_row(checked, now, &plan, &mut reader, line)
+}
+
+/// The one answer of a line that is judged by what is kept from row to row of the filter, and by that so many times
+/// more.
+fn judged_by_rows(
     alloc: Global,
     checked: &Checked<'_>,
     line: &[u8],
     now: &Moment,
     times: usize,
 ) -> &'static str {
-    let plan = row_plan_of(alloc, checked);
-    let mut reader = RowReader::new(alloc);
-    let said = spelled_row(&judge_row(checked, now, &plan, &mut reader, line));
     let mut rows = FilterRows::new(alloc, checked);
     let first = spelled_row(&rows.judge(checked, now, line));
-    let last = again(&mut rows, checked, line, now, times);
-    if said == "memory" || first == "memory" || last == "memory" {
-        "memory"
-    } else if first == said && last == said {
-        said
-    } else {
-        "another answer"
-    }
+    one_of(first, again(&mut rows, checked, line, now, times))
+}
+
+/// The one answer of a line that is judged by itself, by a reader of any filter's rows and by what is kept from row to
+/// row of this one.
+pub(crate) fn judged(
+    alloc: Global,
+    checked: &Checked<'_>,
+    line: &[u8],
+    now: &Moment,
+    times: usize,
+) -> &'static str {
+    let said = spelled_row(&verdict_of_row(alloc, checked, line, now));
+    one_of(said, judged_by_rows(alloc, checked, line, now, times))
 }
 
 /// The one answer of a line that is judged by itself once more, and so many times after that.
@@ -145,19 +184,11 @@ fn again(
     let said = spelled_row(&rows.judge(checked, now, line));
     for _ in 0..times {
         let found = spelled_row(&rows.judge(checked, now, line));
-        if found == "memory" || said == "memory" {
-            return "memory";
-        }
         if found != said {
-            return "another answer";
+            return one_of(said, found);
         }
     }
     said
-}
-
-/// Whether a row with that outcome is kept so.
-fn agrees(outcome: &str, said: &str) -> bool {
-    outcome == said || (outcome == "null" && said == "false")
 }
 
 /// The one outcome of so many evaluations.
@@ -210,12 +241,17 @@ fn fault_of_row(
     line: &[u8],
     now: &Moment,
 ) -> Result<String, Trouble> {
-    let plan = row_plan_of(alloc, checked);
-    let mut reader = RowReader::new(alloc);
-    match &judge_row(checked, now, &plan, &mut reader, line) {
-        Ok(_) => Ok(String::from_str(alloc, "no fault")?),
-        Err(NoVerdict::Memory) => Err(Trouble::Memory),
-        Err(NoVerdict::Bad(fault)) => Ok(format!(in alloc; "row 1 {fault}")?),
+    match &verdict_of_row(alloc, checked, line, now) {
+        Ok(_) => owned(alloc, "no fault"),
+        Err(why) => shown_no_verdict(alloc, why),
+    }
+}
+
+/// What is shown of a run's fault.
+fn shown_run_fault(alloc: Global, fault: &RunFault) -> Result<String, Trouble> {
+    match fault {
+        RunFault::Memory { .. } => Err(Trouble::Memory),
+        _ => Ok(format!(in alloc; "{fault}")?),
     }
 }
 
@@ -228,9 +264,8 @@ fn fault_of_run(
 ) -> Result<String, Trouble> {
     let mut out = Vec::new(alloc);
     match &filter_slice(alloc, checked, now, line, &mut out) {
-        Ok(_) => Ok(String::from_str(alloc, "no fault")?),
-        Err(RunFault::Memory { .. }) => Err(Trouble::Memory),
-        Err(fault) => Ok(format!(in alloc; "{fault}")?),
+        Ok(_) => owned(alloc, "no fault"),
+        Err(fault) => shown_run_fault(alloc, fault),
     }
 }
 
@@ -245,9 +280,20 @@ fn agreed_fault(
     let found = shown_row_fault(alloc, fault)?;
     let reported = fault_of_row(alloc, checked, line, now)?;
     let said = fault_of_run(alloc, checked, line, now)?;
-    let is_reported = reported.as_str().strip_prefix("row 1 ") == Some(found.as_str());
-    if is_reported && reported.as_str() == said.as_str() {
+    let is_said = said.as_str().strip_prefix("row 1 ") == Some(found.as_str());
+    if is_said && reported.as_str() == found.as_str() {
         Ok(found)
+    } else {
+        Ok(format!(in alloc; "{found}, but {reported} of a row, and {said} of a run")?)
+    }
+}
+
+/// The outcome, where it is reported about the row by itself, and a run says the same, which is false of null.
+fn agreed(alloc: Global, found: &str, reported: &str, said: &str) -> Result<String, Trouble> {
+    if found == "memory" || said == "memory" || reported == "memory" {
+        Err(Trouble::Memory)
+    } else if found == reported && (found == said || (found == "null" && said == "false")) {
+        owned(alloc, found)
     } else {
         Ok(format!(in alloc; "{found}, but {reported} of a row, and {said} of a run")?)
     }
@@ -266,107 +312,11 @@ fn agreed_outcome(
     let line = row.to_string(alloc)?;
     let found = match outcome(alloc, checked, row, now, times) {
         Ok(found) => found,
-        Err(RowFault::Memory) => return Err(Trouble::Memory),
         Err(fault) => return agreed_fault(alloc, checked, line.as_bytes(), now, &fault),
     };
     let said = kept(alloc, checked, line.as_bytes(), now);
     let reported = judged(alloc, checked, line.as_bytes(), now, times);
-    if found == "memory" || said == "memory" || reported == "memory" {
-        Err(Trouble::Memory)
-    } else if agrees(found, said) && found == reported {
-        Ok(String::from_str(alloc, found)?)
-    } else {
-        Ok(format!(in alloc; "{found}, but {reported} of a row, and {said} of a run")?)
-    }
-}
-
-/// The answer to a line within a bound, if it has one.
-fn within(by: &BoundedJudge<'_, '_>, reader: &mut RowReader, line: &[u8]) -> Option<&'static str>
-    requires { IsPlanOfFilter by.now.checked.now by.now.plan.now }
-{
-    spelled_within(by.judge(reader, line))
-}
-
-/// What is reported about a row within a bound, if that is enough.
-fn spelled_within(reported: Result<Option<Verdict>, NoVerdict>) -> Option<&'static str> {
-    match reported {
-        Ok(Some(verdict)) => Some(spelled(Ok(verdict))),
-        Ok(None) => None,
-        Err(why) => Some(spelled_row(&Err(why))),
-    }
-}
-
-/// The one answer within a bound of a line that is judged by what is kept from row to row of the filter, with none
-/// within a smaller bound.
-fn within_again(
-    alloc: Global,
-    checked: &Checked<'_>,
-    line: &[u8],
-    now: &Moment,
-    most: u64,
-) -> &'static str {
-    let mut rows = FilterRows::new(alloc, checked);
-    let first = spelled_within(rows.judge_within(checked, now, most, line));
-    let again = spelled_within(rows.judge_within(checked, now, most, line));
-    if most > 0 {
-        let below = spelled_within(rows.judge_within(checked, now, most - 1, line));
-        if let Some(found) = below {
-            return if found == "memory" {
-                "memory"
-            } else {
-                "an answer within less"
-            };
-        }
-    }
-    let (Some(first), Some(again)) = (first, again) else {
-        return "no answer";
-    };
-    if first == "memory" || again == "memory" {
-        "memory"
-    } else if first == again {
-        first
-    } else {
-        "another answer"
-    }
-}
-
-/// The most that a case says of what a filter costs.
-const MOST: u64 = 100_000;
-
-/// What a filter costs on a row: the least bound within which the row has an answer, which is that without a bound.
-fn cost(
-    alloc: Global,
-    checked: &Checked<'_>,
-    row: &Value,
-    now: &Moment,
-) -> Result<String, Trouble> {
-    let line = row.to_string(alloc)?;
-    let reported = judged(alloc, checked, line.as_bytes(), now, 0);
-    let plan = row_plan_of(alloc, checked);
-    let mut reader = RowReader::new(alloc);
-    for most in 0..MOST {
-        let by = BoundedJudge {
-            checked,
-            moment: now,
-            plan: &plan,
-            most,
-        };
-        let Some(said) = within(&by, &mut reader, line.as_bytes()) else {
-            continue;
-        };
-        let again = within_again(alloc, checked, line.as_bytes(), now, most);
-        if said == "memory" || reported == "memory" || again == "memory" {
-            return Err(Trouble::Memory);
-        }
-        return if said == reported && again == said {
-            Ok(format!(in alloc; "{most}")?)
-        } else {
-            Ok(format!(in alloc;
-                "{most}, but {said} and {again} within it, and {reported} without"
-            )?)
-        };
-    }
-    Ok(String::from_str(alloc, "more than is tried")?)
+    agreed(alloc, found, reported, said)
 }
 
 /// The outcome on a row of so many evaluations, reported without an allocation after the first of them; the row is
@@ -382,8 +332,14 @@ fn repeated_outcome(
     let line = row.to_string(alloc)?;
     let found = match outcome(alloc, checked, row, now, times) {
         Ok(found) => found,
-        Err(RowFault::Memory) => return Err(Trouble::Memory),
-        Err(_) => return Err(Trouble::NoEntity),
+        Err(fault) => {
+            let is_memory = matches!(fault, RowFault::Memory);
+            return Err(if is_memory {
+                Trouble::Memory
+            } else {
+                Trouble::NoEntity
+            });
+        }
     };
     let said = judged(alloc, checked, line.as_bytes(), now, times);
     if said == "memory" {
@@ -403,7 +359,7 @@ fn answer(
     asked: AskedOfFilter<'_>,
 ) -> Result<String, Trouble> {
     match asked {
-        AskedOfFilter::Acceptance => Ok(String::from_str(alloc, "accepted")?),
+        AskedOfFilter::Acceptance => owned(alloc, "accepted"),
         AskedOfFilter::Canonical => Ok(checked.canonical(alloc)?),
         AskedOfFilter::Nodes => reported_nodes(alloc, checked),
         AskedOfFilter::Explanation => Ok(checked.explain(alloc)?),

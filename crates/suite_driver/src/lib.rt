@@ -9,6 +9,7 @@
 //! ```
 #![tactic(auto)]
 
+mod costs;
 pub mod entities;
 pub mod expansions;
 pub mod filters;

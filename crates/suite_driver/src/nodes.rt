@@ -3,7 +3,7 @@ use crate::trouble::Trouble;
 use csdl_schema::{EnumId, Property, PropertyKind, Schema, TypeId};
 use edm_values::Prim;
 use odata_typing::{Checked, EdmType, ValueType};
-use std::alloc::Global;
+use std::alloc::{AllocError, Global};
 
 /// The name of a primitive type, as `Edm.Int32`.
 pub fn prim_name(prim: Prim) -> &'static str {
@@ -40,27 +40,26 @@ fn value_type_name(schema: &Schema, value_type: ValueType) -> &str {
 }
 
 /// Appends the name of a type, as `Edm.Int32` or `Collection(Shop.Part)`.
-fn push_type(text: &mut String, schema: &Schema, found: Option<EdmType>) -> Result<(), Trouble> {
+fn push_type(text: &mut String, schema: &Schema, found: Option<EdmType>) -> Result<(), AllocError> {
     match found {
-        Some(EdmType::Null) => text.push_str("Null")?,
-        Some(EdmType::Single(one)) => text.push_str(value_type_name(schema, one))?,
+        Some(EdmType::Null) => text.push_str("Null"),
+        Some(EdmType::Single(one)) => text.push_str(value_type_name(schema, one)),
         Some(EdmType::Collection(one)) => {
-            write!(text, "Collection({})", value_type_name(schema, one))?
+            write!(text, "Collection({})", value_type_name(schema, one))
         }
-        None => text.push_str("no type")?,
+        None => text.push_str("no type"),
     }
-    Ok(())
 }
 
 /// Appends a word and a number, if there is one.
-fn push_number(text: &mut String, word: &str, number: Option<usize>) -> Result<(), Trouble> {
+fn push_number(text: &mut String, word: &str, number: Option<usize>) -> Result<(), AllocError> {
     match number {
-        Some(number) => Ok(write!(text, " {word} {number}")?),
+        Some(number) => write!(text, " {word} {number}"),
         None => Ok(()),
     }
 }
 
-fn push_node(text: &mut String, checked: &Checked<'_>, node: usize) -> Result<(), Trouble> {
+fn push_node(text: &mut String, checked: &Checked<'_>, node: usize) -> Result<(), AllocError> {
     match checked.span_of(node) {
         Some(span) => write!(text, "{span} ")?,
         None => text.push_str("no node ")?,
@@ -118,17 +117,18 @@ pub fn push_property(
     text: &mut String,
     schema: &Schema,
     property: &Property,
-) -> Result<(), Trouble> {
-    text.push_str(kind_name(schema, property.kind))?;
-    if let Some(target) = property.target() {
-        text.push_str(" ")?;
-        text.push_str(structured_name(schema, target))?;
+) -> Result<(), AllocError> {
+    let kind = kind_name(schema, property.kind);
+    let nullable = if property.nullable { "?" } else { "" };
+    let many = if property.many { "*" } else { "" };
+    match property.target() {
+        Some(target) => {
+            write!(
+                text,
+                "{kind} {}{nullable}{many}",
+                structured_name(schema, target)
+            )
+        }
+        None => write!(text, "{kind}{nullable}{many}"),
     }
-    if property.nullable {
-        text.push_str("?")?;
-    }
-    if property.many {
-        text.push_str("*")?;
-    }
-    Ok(())
 }

@@ -1,22 +1,27 @@
 //! Command lines and query strings: what is read of them, and what a run says.
 use crate::spelled_numbers::shown_by_number;
-use crate::trouble::Trouble;
+use crate::trouble::{Trouble, owned};
 use odata_filter::command_line::{Plan, PlanFault};
 use odata_filter::{FaultKind, Numbered, plan, run};
 use odata_text::{QueryFault, filter_of_query};
 use std::alloc::Global;
 
+/// The refusal of a query string.
+fn refused_query(alloc: Global, fault: &QueryFault) -> Result<String, Trouble> {
+    if matches!(fault, QueryFault::Memory) {
+        return Err(Trouble::Memory);
+    }
+    let shown = format!(in alloc; "{fault}")?;
+    let shown = shown_by_number(alloc, shown, FaultKind::Query, fault.number())?;
+    Ok(format!(in alloc; "refused {shown}")?)
+}
+
 /// Returns the filter of a query string, or its refusal.
 pub fn query_filter(alloc: Global, query: &str) -> Result<String, Trouble> {
     match filter_of_query(alloc, query.as_bytes()) {
         Ok(Some(filter)) => Ok(filter),
-        Ok(None) => Ok(String::from_str(alloc, "no filter")?),
-        Err(QueryFault::Memory) => Err(Trouble::Memory),
-        Err(fault) => {
-            let shown = format!(in alloc; "{fault}")?;
-            let shown = shown_by_number(alloc, shown, FaultKind::Query, fault.number())?;
-            Ok(format!(in alloc; "refused {shown}")?)
-        }
+        Ok(None) => owned(alloc, "no filter"),
+        Err(fault) => refused_query(alloc, &fault),
     }
 }
 

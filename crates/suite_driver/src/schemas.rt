@@ -2,20 +2,25 @@
 use crate::filters::schema_of;
 use crate::nodes::{enumeration_name, push_property, structured_name};
 use crate::spelled_numbers::shown_by_number;
-use crate::trouble::Trouble;
+use crate::trouble::{Trouble, owned};
 use csdl_schema::{Schema, SchemaFault, TypeId};
 use odata_filter::{FaultKind, Numbered};
-use std::alloc::Global;
+use std::alloc::{AllocError, Global};
+
+/// What is shown of a document's fault.
+fn shown_fault(alloc: Global, fault: &SchemaFault) -> Result<String, Trouble> {
+    if matches!(fault, SchemaFault::Memory) {
+        return Err(Trouble::Memory);
+    }
+    let shown = format!(in alloc; "{fault}")?;
+    shown_by_number(alloc, shown, FaultKind::Schema, fault.number())
+}
 
 /// `accepted`, or the fault of a document.
 pub fn fault_of(alloc: Global, document: &[u8]) -> Result<String, Trouble> {
     match Schema::read(alloc, document) {
-        Ok(_) => Ok(String::from_str(alloc, "accepted")?),
-        Err(SchemaFault::Memory) => Err(Trouble::Memory),
-        Err(fault) => {
-            let shown = format!(in alloc; "{fault}")?;
-            shown_by_number(alloc, shown, FaultKind::Schema, fault.number())
-        }
+        Ok(_) => owned(alloc, "accepted"),
+        Err(fault) => shown_fault(alloc, &fault),
     }
 }
 
@@ -44,15 +49,22 @@ pub fn is_entity_type(schema: &Schema, name: &str) -> bool {
 }
 
 /// Appends the property at a slot, as `Name Edm.String`.
-fn push_slot(text: &mut String, schema: &Schema, id: TypeId, slot: usize) -> Result<(), Trouble> {
+fn push_slot(
+    text: &mut String,
+    schema: &Schema,
+    id: TypeId,
+    slot: usize,
+) -> Result<(), AllocError> {
     if slot >= schema.slots(id) {
         return Ok(());
     }
     let name = schema.slot_name(id, slot);
-    if schema.slot(id, name) != Some(slot) {
-        text.push_str("another slot of ")?;
-    }
-    write!(text, "{name} ")?;
+    let is_its = schema.slot(id, name) == Some(slot);
+    write!(
+        text,
+        "{}{name} ",
+        if is_its { "" } else { "another slot of " }
+    )?;
     push_property(text, schema, schema.property(id, slot))
 }
 

@@ -1,72 +1,71 @@
 //! The canonical spellings of the values of literals.
-use crate::trouble::Trouble;
+use crate::trouble::{Trouble, owned};
 use edm_values::{
     LitFault, read_date, read_guid, read_int, read_moment, read_string, write_date, write_guid,
     write_int, write_moment, write_string,
 };
 use jiff::civil::Date;
-use std::alloc::Global;
+use std::alloc::{AllocError, Global};
 
-/// Appends what stands for no value.
-fn push_none(out: &mut String) -> Result<(), Trouble> {
-    Ok(out.push_str("null")?)
-}
+/// What stands for no value.
+const NONE: &str = "null";
 
 /// Appends a date of the years 1 to 9999.
-pub fn push_date(out: &mut String, date: Date) -> Result<(), Trouble> {
+pub(crate) fn push_date(out: &mut String, date: Date) -> Result<(), AllocError> {
     if (1..=9999).contains(&date.year()) {
-        Ok(write_date(out, date)?)
+        write_date(out, date)
     } else {
-        Ok(out.push_str("another year")?)
+        out.push_str("another year")
     }
 }
 
-fn push_int(out: &mut String, text: &str) -> Result<(), Trouble> {
+fn push_int(out: &mut String, text: &str) -> Result<(), AllocError> {
     match read_int(text) {
-        Some(number) => Ok(write_int(out, number)?),
-        None => push_none(out),
+        Some(number) => write_int(out, number),
+        None => out.push_str(NONE),
     }
 }
 
-fn push_read_date(out: &mut String, text: &str) -> Result<(), Trouble> {
+fn push_read_date(out: &mut String, text: &str) -> Result<(), AllocError> {
     match read_date(text) {
         Some(date) => push_date(out, date),
-        None => push_none(out),
+        None => out.push_str(NONE),
     }
 }
 
-fn push_moment(out: &mut String, text: &str) -> Result<(), Trouble> {
+fn push_moment(out: &mut String, text: &str) -> Result<(), AllocError> {
     match read_moment(text) {
-        Some(moment) => Ok(write_moment(out, &moment)?),
-        None => push_none(out),
+        Some(moment) => write_moment(out, &moment),
+        None => out.push_str(NONE),
     }
 }
 
-fn push_guid(out: &mut String, text: &str) -> Result<(), Trouble> {
+fn push_guid(out: &mut String, text: &str) -> Result<(), AllocError> {
     match read_guid(text) {
-        Some(guid) => Ok(write_guid(out, guid)?),
-        None => push_none(out),
+        Some(guid) => write_guid(out, guid),
+        None => out.push_str(NONE),
     }
 }
 
-fn push_string(alloc: Global, out: &mut String, text: &str) -> Result<(), Trouble> {
+fn push_string(alloc: Global, out: &mut String, text: &str) -> Result<(), AllocError> {
     match read_string(alloc, text) {
-        Ok(value) => Ok(write_string(out, value.as_str())?),
-        Err(LitFault::Memory) => Err(Trouble::Memory),
-        Err(LitFault::Form) => push_none(out),
+        Ok(value) => write_string(out, value.as_str()),
+        Err(LitFault::Memory) => Err(AllocError),
+        Err(LitFault::Form) => out.push_str(NONE),
     }
 }
 
 /// Appends the canonical spelling of the literal of that kind which a text is, or `null`.
 fn push_literal(alloc: Global, out: &mut String, kind: &str, text: &str) -> Result<(), Trouble> {
     match kind {
-        "Int" => push_int(out, text),
-        "Date" => push_read_date(out, text),
-        "Moment" => push_moment(out, text),
-        "Guid" => push_guid(out, text),
-        "Str" => push_string(alloc, out, text),
-        _ => Err(Trouble::NoKind),
+        "Int" => push_int(out, text)?,
+        "Date" => push_read_date(out, text)?,
+        "Moment" => push_moment(out, text)?,
+        "Guid" => push_guid(out, text)?,
+        "Str" => push_string(alloc, out, text)?,
+        _ => return Err(Trouble::NoKind),
     }
+    Ok(())
 }
 
 /// Returns the canonical spelling of the literal of that kind which a text is, or `null`.
@@ -89,6 +88,6 @@ pub fn value_behind(alloc: Global, front: &str, kind: &str, text: &str) -> Resul
 pub fn instant_of(alloc: Global, text: &str) -> Result<String, Trouble> {
     match read_moment(text) {
         Some(moment) => Ok(format!(in alloc; "{}", moment.instant_nanos())?),
-        None => Ok(String::from_str(alloc, "null")?),
+        None => owned(alloc, NONE),
     }
 }

@@ -1,16 +1,15 @@
 //! What is read of texts: tokens, trees, canonical texts.
 use crate::tree::push_tree;
-use crate::trouble::Trouble;
+use crate::trouble::{Trouble, owned};
 use odata_syntax::{Expr, SyntaxFault, normal, parse, print};
 use odata_text::{TextFault, Token, tokens, tokens_are_spelled};
-use std::alloc::Global;
+use std::alloc::{AllocError, Global};
 
-fn push_token(line: &mut String, token: &Token<'_>) -> Result<(), Trouble> {
+fn push_token(line: &mut String, token: &Token<'_>) -> Result<(), AllocError> {
     if !line.is_empty() {
         line.push_str(", ")?;
     }
-    write!(line, "{:?} {}", token.kind, token.span)?;
-    Ok(())
+    write!(line, "{:?} {}", token.kind, token.span)
 }
 
 fn reported(alloc: Global, found: &[Token<'_>]) -> Result<String, Trouble> {
@@ -66,10 +65,10 @@ fn canonical(alloc: Global, expr: &Expr) -> Result<String, Trouble> {
 
 fn answer(alloc: Global, expr: &Expr, asked: AskedOfText) -> Result<String, Trouble> {
     match asked {
-        AskedOfText::Acceptance => Ok(String::from_str(alloc, "accepted")?),
+        AskedOfText::Acceptance => owned(alloc, "accepted"),
         AskedOfText::Tree => {
             let mut line = String::new(alloc);
-            push_tree(alloc, &mut line, expr.root())?;
+            push_tree(&mut line, expr.root())?;
             Ok(line)
         }
         AskedOfText::Canonical => canonical(alloc, expr),

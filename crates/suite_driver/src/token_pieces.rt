@@ -1,7 +1,7 @@
 //! Texts of cases: a JSON text, or pieces that stand one after another.
 use crate::trouble::Trouble;
 use serde_json::Value;
-use std::alloc::Global;
+use std::alloc::{AllocError, Global};
 
 /// Returns the text of a JSON text.
 pub fn word_of(given: &Value) -> Result<&str, Trouble> {
@@ -24,15 +24,17 @@ pub fn pair_of(given: &Value) -> Result<(&Value, &Value), Trouble> {
     }
 }
 
-fn number_of(given: &Value) -> Result<u64, Trouble> {
-    given.as_u64().ok_or(Trouble::NoNumber)
-}
-
-fn push_times(bytes: &mut Vec<u8>, piece: &str, times: u64) -> Result<(), Trouble> {
+fn push_times(bytes: &mut Vec<u8>, piece: &str, times: u64) -> Result<(), AllocError> {
     for _ in 0..times {
         bytes.extend_from_slice(piece.as_bytes())?;
     }
     Ok(())
+}
+
+/// The text with the number instead of each of these marks.
+fn numbered(alloc: Global, text: &str, mark: &str, number: u64) -> Result<String, AllocError> {
+    let number = format!(in alloc; "{number}")?;
+    text.replace(alloc, mark, number.as_str())
 }
 
 /// Appends the piece with the number instead of each `#`, and the one before it instead of each `##`.
@@ -41,13 +43,10 @@ fn push_numbered(
     bytes: &mut Vec<u8>,
     piece: &str,
     number: u64,
-) -> Result<(), Trouble> {
-    let before = format!(in alloc; "{}", number.saturating_sub(1))?;
-    let number = format!(in alloc; "{number}")?;
-    let text = piece.replace(alloc, "##", before.as_str())?;
-    let text = text.as_str().replace(alloc, '#', number.as_str())?;
-    bytes.extend_from_slice(text.as_bytes())?;
-    Ok(())
+) -> Result<(), AllocError> {
+    let text = numbered(alloc, piece, "##", number.saturating_sub(1))?;
+    let text = numbered(alloc, text.as_str(), "#", number)?;
+    bytes.extend_from_slice(text.as_bytes())
 }
 
 fn push_counted(
@@ -56,7 +55,7 @@ fn push_counted(
     piece: &str,
     start: u64,
     stop: u64,
-) -> Result<(), Trouble> {
+) -> Result<(), AllocError> {
     for number in start..stop {
         push_numbered(alloc, bytes, piece, number)?;
     }
@@ -66,18 +65,15 @@ fn push_counted(
 /// Appends a piece so many times, or once for each number from one on and before another.
 fn push_repeated(alloc: Global, bytes: &mut Vec<u8>, parts: &[Value]) -> Result<(), Trouble> {
     match parts {
-        [piece, times] => push_times(bytes, word_of(piece)?, number_of(times)?),
-        [piece, start, stop] => {
-            let (start, stop) = (number_of(start)?, number_of(stop)?);
-            push_counted(alloc, bytes, word_of(piece)?, start, stop)
+        [piece, times] => {
+            let times = times.as_u64().ok_or(Trouble::NoNumber)?;
+            Ok(push_times(bytes, word_of(piece)?, times)?)
         }
-        _ => Err(Trouble::NoPiece),
-    }
-}
-
-fn push_byte(bytes: &mut Vec<u8>, number: Option<u64>) -> Result<(), Trouble> {
-    match number {
-        Some(number) if number < 256 => Ok(bytes.push(number as u8)?),
+        [piece, start, stop] => {
+            let start = start.as_u64().ok_or(Trouble::NoNumber)?;
+            let stop = stop.as_u64().ok_or(Trouble::NoNumber)?;
+            Ok(push_counted(alloc, bytes, word_of(piece)?, start, stop)?)
+        }
         _ => Err(Trouble::NoPiece),
     }
 }
@@ -86,27 +82,25 @@ fn push_byte(bytes: &mut Vec<u8>, number: Option<u64>) -> Result<(), Trouble> {
 pub fn push_piece(alloc: Global, bytes: &mut Vec<u8>, piece: &Value) -> Result<(), Trouble> {
     match piece {
         Value::String(text) => Ok(bytes.extend_from_slice(text.as_bytes())?),
-        Value::Number(_) => push_byte(bytes, piece.as_u64()),
+        Value::Number(_) => match piece.as_u64() {
+            Some(number) if number < 256 => Ok(bytes.push(number as u8)?),
+            _ => Err(Trouble::NoPiece),
+        },
         Value::Array(parts) => push_repeated(alloc, bytes, parts.as_slice()),
         _ => Err(Trouble::NoPiece),
     }
 }
 
-/// Appends a text: a JSON text as it stands, or the pieces of an array.
-fn push_text(alloc: Global, bytes: &mut Vec<u8>, given: &Value) -> Result<(), Trouble> {
-    if given.is_string() {
-        return push_piece(alloc, bytes, given);
-    }
-    for piece in items_of(given)? {
-        push_piece(alloc, bytes, piece)?;
-    }
-    Ok(())
-}
-
-/// Returns the bytes of a text.
+/// Returns the bytes of a text: of a JSON text as it stands, or the pieces of an array.
 pub fn bytes_of(alloc: Global, given: &Value) -> Result<Vec<u8>, Trouble> {
     let mut bytes = Vec::new(alloc);
-    push_text(alloc, &mut bytes, given)?;
+    if given.is_string() {
+        push_piece(alloc, &mut bytes, given)?;
+        return Ok(bytes);
+    }
+    for piece in items_of(given)? {
+        push_piece(alloc, &mut bytes, piece)?;
+    }
     Ok(bytes)
 }
 

@@ -1,53 +1,65 @@
-use std::alloc::{AllocError, AllocFailed};
-use thiserror::Error;
+use std::alloc::{AllocError, AllocFailed, Global};
+use std::fmt::{self, Display, Formatter, Write};
 
 /// Why a case cannot be asked: what is wrong with it, or that an allocation failed. It is displayed as it is reported.
-#[derive(Clone, Copy, Debug, PartialEq, Eq, Error)]
+#[derive(Clone, Copy, Debug)]
 pub enum Trouble {
-    #[error("from is no section of a standard")]
     NoSource,
-    #[error("another case of the file has its name")]
     NameTwice,
-    #[error("no form of a case has just these members")]
     NoForm,
-    #[error("a member is missing")]
     NoMember,
-    #[error("a text is wanted")]
     NoText,
-    #[error("a list is wanted")]
     NoList,
-    #[error("a pair is wanted")]
     NoPair,
-    #[error("a number is wanted")]
     NoNumber,
-    #[error("an object is wanted")]
     NoObject,
-    #[error("no piece of a text")]
     NoPiece,
-    #[error("a text that is no UTF-8")]
     NotUtf8,
-    #[error("a row that is no JSON")]
     NoJson,
-    #[error("no such kind of literal or look-up")]
     NoKind,
-    #[error("a schema, a row or a file of that name is not there")]
     NoSuchFile,
-    #[error("a type of that name is not there")]
     NoSuchType,
-    #[error("a schema that is refused")]
     NoSchema,
-    #[error("a row that does not fit")]
     NoEntity,
-    #[error("an entity that is no record")]
     NoRecord,
-    #[error("a moment that is none")]
     NoMoment,
-    #[error("a matrix with too few or too many lists or letters")]
     OtherCount,
-    #[error("another form of a case is wanted")]
     OtherForm,
-    #[error("memory")]
     Memory,
+}
+
+impl Display for Trouble {
+    fn fmt<W: Write>(&self, f: &mut Formatter<W>) -> Result<(), fmt::Error> {
+        f.write_str(match self {
+            Trouble::NoSource => "from is no section of a standard",
+            Trouble::NameTwice => "another case of the file has its name",
+            Trouble::NoForm => "no form of a case has just these members",
+            Trouble::NoMember => "a member is missing",
+            Trouble::NoText => "a text is wanted",
+            Trouble::NoList => "a list is wanted",
+            Trouble::NoPair => "a pair is wanted",
+            Trouble::NoNumber => "a number is wanted",
+            Trouble::NoObject => "an object is wanted",
+            Trouble::NoPiece => "no piece of a text",
+            Trouble::NotUtf8 => "a text that is no UTF-8",
+            Trouble::NoJson => "a row that is no JSON",
+            Trouble::NoKind => "no such kind of literal or look-up",
+            Trouble::NoSuchFile => "a schema, a row or a file of that name is not there",
+            Trouble::NoSuchType => "a type of that name is not there",
+            Trouble::NoSchema => "a schema that is refused",
+            Trouble::NoEntity => "a row that does not fit",
+            Trouble::NoRecord => "an entity that is no record",
+            Trouble::NoMoment => "a moment that is none",
+            Trouble::OtherCount => "a matrix with too few or too many lists or letters",
+            Trouble::OtherForm => "another form of a case is wanted",
+            Trouble::Memory => "memory",
+        })
+    }
+}
+
+/// Returns a text of its own.
+pub fn owned(alloc: Global, text: &str) -> Result<String, Trouble> {
+    Ok(String::from_str(alloc, text)?)
 }
 
 impl From<AllocError> for Trouble {

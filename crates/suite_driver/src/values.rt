@@ -2,20 +2,21 @@
 use crate::spelled_literals::push_date;
 use crate::trouble::Trouble;
 use edm_values::{Value, write_guid, write_int, write_moment, write_string};
+use std::alloc::AllocError;
 
 /// Appends a value in its canonical spelling; a record stands in braces, a list in brackets, an enumeration value is
 /// its number.
 #[cycle(push)]
-fn push_value(text: &mut String, value: &Value) -> Result<(), Trouble> {
+fn push_value(text: &mut String, value: &Value) -> Result<(), AllocError> {
     match value {
-        Value::Null => Ok(text.push_str("null")?),
-        Value::Bool(truth) => Ok(write!(text, "{truth}")?),
-        Value::Int(number) => Ok(write_int(text, *number)?),
-        Value::Text(content) => Ok(write_string(text, content.as_str())?),
+        Value::Null => text.push_str("null"),
+        Value::Bool(truth) => write!(text, "{truth}"),
+        Value::Int(number) => write_int(text, *number),
+        Value::Text(content) => write_string(text, content.as_str()),
         Value::Date(date) => push_date(text, *date),
-        Value::Moment(moment) => Ok(write_moment(text, moment)?),
-        Value::Guid(guid) => Ok(write_guid(text, *guid)?),
-        Value::Enum(number) => Ok(write_int(text, *number)?),
+        Value::Moment(moment) => write_moment(text, moment),
+        Value::Guid(guid) => write_guid(text, *guid),
+        Value::Enum(number) => write_int(text, *number),
         Value::Record(items) => push_values(text, "{", items.as_slice(), "}"),
         Value::List(items) => push_values(text, "[", items.as_slice(), "]"),
     }
@@ -27,7 +28,7 @@ fn push_values(
     before: &str,
     values: &[Value],
     behind: &str,
-) -> Result<(), Trouble> {
+) -> Result<(), AllocError> {
     text.push_str(before)?;
     let mut is_first = true;
     for value in values {
@@ -37,14 +38,13 @@ fn push_values(
         push_value(text, value)?;
         is_first = false;
     }
-    text.push_str(behind)?;
-    Ok(())
+    text.push_str(behind)
 }
 
 /// Appends the values of a record in slot order.
 pub fn push_slots(text: &mut String, value: &Value) -> Result<(), Trouble> {
     match value {
-        Value::Record(items) => push_values(text, "", items.as_slice(), ""),
+        Value::Record(items) => Ok(push_values(text, "", items.as_slice(), "")?),
         _ => Err(Trouble::NoRecord),
     }
 }

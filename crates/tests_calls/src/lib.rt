@@ -1,6 +1,6 @@
 //! Calls that no case of the suite (`conformance`) can ask: over readers and writers that give or take little, or fail;
-//! of which an allocation is refused; of constants, of rows that are drawn; and the library's example. There is nothing
-//! here but tests.
+//! of which an allocation is refused; over rows that are drawn; and the library's example. There is nothing here but
+//! tests.
 #![tactic(auto)]
 
 #[cfg(test)]
@@ -8,13 +8,9 @@ mod answers;
 #[cfg(test)]
 mod both_ways;
 #[cfg(test)]
-mod constants;
-#[cfg(test)]
 mod devices;
 #[cfg(test)]
 mod drawn;
-#[cfg(test)]
-mod ends_again;
 #[cfg(test)]
 mod example;
 #[cfg(test)]
@@ -31,8 +27,6 @@ mod moments;
 mod more_expanded;
 #[cfg(test)]
 mod order;
-#[cfg(test)]
-mod place_tests;
 #[cfg(test)]
 mod properties;
 #[cfg(test)]
