@@ -33,10 +33,6 @@ ODFILTER_LIBRARY, else as libodfilter.so in the folder of this module, or in the
 from __future__ import annotations
 
 import ctypes
-import functools
-import json
-import mmap
-import os
 import threading
 from typing import Any, Callable, Mapping, NamedTuple, Optional, TypeVar, Union
 from urllib.parse import unquote_to_bytes
@@ -44,23 +40,16 @@ from urllib.parse import unquote_to_bytes
 from ._errors import Closed, Error, LibraryNotFound, MomentNeeded, NoFilter, NotAMoment, NotUtf8, QueryRefused
 from ._errors import Refused, RowFault, SchemaFault, TooCostly, UnknownColumn, UnknownType, Unsayable
 from ._files import FileOrPath, Tally, filter_file
+from ._library import FALSE, MOMENT_NEEDED, NO_FILTER, NO_TRUTH_VALUE, NOT_A_MOMENT, OK, QUERY_FAULT, ROW_FAULT
+from ._library import SCHEMA_FAULT, SYNTAX_FAULT, TEXT_FAULT, TOO_COSTLY, TRUE, TYPE_FAULT, UNKNOWN_TYPE
+from ._library import BytesOrText, Library, _Answer, _borrowed, _borrowed_text, _buffer_of, _found
+from ._sql import Conditions, Statement, columns_in, conditions_of, form_of, postgresql_functions
 
 __all__ = [
     "Closed", "Conditions", "Error", "Filter", "Judge", "Kept", "Library", "LibraryNotFound", "MomentNeeded",
     "NoFilter", "NotAMoment", "NotUtf8", "QueryRefused", "Refused", "RowFault", "Schema", "SchemaFault",
     "Statement", "Tally", "TooCostly", "Type", "UnknownColumn", "UnknownType", "Unsayable", "postgresql_functions",
 ]
-
-BytesOrText = Union[bytes, bytearray, memoryview, mmap.mmap, str]
-
-# the statuses of odfilter.h
-OK, NULL, OTHER_KIND, NOT_UTF8, TOO_SMALL, MEMORY, UNKNOWN_TYPE, NO_FILTER, MOMENT_NEEDED, NOT_A_MOMENT = range(10)
-SCHEMA_FAULT, TEXT_FAULT, SYNTAX_FAULT, TYPE_FAULT, QUERY_FAULT = range(16, 21)
-JSON_FAULT, ROW_FAULT, EVAL_FAULT, LINE_TOO_LONG, TOO_COSTLY, UNSAYABLE, TOO_DEEP, UNKNOWN_COLUMN = range(21, 29)
-# its forms of SQL, by the dialect and whether one column has the row as JSON
-_FORMS = {("postgresql", False): 0, ("postgresql", True): 1, ("sqlite", False): 2, ("sqlite", True): 3}
-# its verdicts
-FALSE, TRUE, NO_TRUTH_VALUE = range(3)
 
 # how many names each fault of a schema carries, by its number
 _NAMES_OF = (0, 0, 0, 0, 1, 2, 1, 1, 2, 2, 0)
@@ -74,189 +63,6 @@ class Kept(NamedTuple):
     text: bytes
     rows: int
     kept: int
-
-
-class Statement(NamedTuple):
-    """An expression of SQL over a table `t`, and the values of its parameters, which are numbered from 1."""
-
-    text: str
-    parameters: list[Union[int, str]]
-
-
-class Conditions(NamedTuple):
-    """What a filter says of the rows of a table.
-
-    `outcome` is a number: 0 for false, 1 for true, 2 for null, 3 for Overflow and 4 for DivideByZero. `keep` is true
-    where the filter is, and `fault` where it has a fault; `fault` is None where no row can have one.
-    """
-
-    outcome: Statement
-    keep: Statement
-    fault: Optional[Statement]
-
-
-class _Bytes(ctypes.Structure):
-    """Bytes that a call borrows."""
-
-    _fields_ = [("at", ctypes.c_char_p), ("length", ctypes.c_size_t)]
-
-
-class _PyBuffer(ctypes.Structure):
-    """Where the bytes of a Python object are: the interpreter's own Py_buffer."""
-
-    _fields_ = [("at", ctypes.c_void_p), ("owner", ctypes.c_void_p), ("length", ctypes.c_ssize_t)]
-    _fields_ += [("item_size", ctypes.c_ssize_t), ("readonly", ctypes.c_int), ("ndim", ctypes.c_int)]
-    _fields_ += [(name, ctypes.c_void_p) for name in ("format", "shape", "strides", "suboffsets", "internal")]
-
-
-class _BufferBytes(_Bytes):
-    """The bytes of a bytearray, a memoryview or an mmap, which stay where they are as long as this is held."""
-
-    def __init__(self, given: Any) -> None:
-        self._buffer = _PyBuffer()
-        ctypes.pythonapi.PyObject_GetBuffer(ctypes.py_object(given), ctypes.byref(self._buffer), 0)
-        super().__init__(ctypes.c_char_p(self._buffer.at), self._buffer.length)
-
-    def __del__(self, release: Any = ctypes.pythonapi.PyBuffer_Release, byref: Any = ctypes.byref) -> None:
-        release(byref(self._buffer))
-
-
-class _Buffer(ctypes.Structure):
-    """A buffer that a call writes a text into."""
-
-    _fields_ = [("at", ctypes.c_void_p), ("length", ctypes.c_size_t)]
-
-
-class _Answer(ctypes.Structure):
-    """What a call answers besides its status."""
-
-    _fields_ = [("fault", ctypes.c_uint32), ("verdict", ctypes.c_uint32), ("start", ctypes.c_size_t)]
-    _fields_ += [("stop", ctypes.c_size_t), ("number", ctypes.c_uint64), ("length", ctypes.c_size_t)]
-    _fields_ += [("first", ctypes.c_size_t), ("rows", ctypes.c_uint64), ("kept", ctypes.c_uint64)]
-    _fields_ += [("piece_start", ctypes.c_size_t), ("piece_stop", ctypes.c_size_t)]
-    _fields_ += [("value_start", ctypes.c_size_t), ("value_stop", ctypes.c_size_t)]
-
-
-_AnError = TypeVar("_AnError", bound=Error)
-_HANDLE, _PLACE, _ANSWER = ctypes.c_void_p, ctypes.POINTER(ctypes.c_void_p), ctypes.POINTER(_Answer)
-_NUMBER = ctypes.c_uint32
-_COUNT = ctypes.c_uint64
-# the calls of odfilter.h, without odfilter_: what each is given
-_CALLS: dict[str, list[Any]] = {
-    "read_schema": [_Bytes, _Buffer, _PLACE, _ANSWER],
-    "find_type": [_HANDLE, _Bytes, _PLACE],
-    "check": [_HANDLE, _Bytes, _PLACE, _ANSWER],
-    "check_query": [_HANDLE, _Bytes, _PLACE, _ANSWER],
-    "check_url": [_HANDLE, _Bytes, _Buffer, _PLACE, _ANSWER],
-    "canonical": [_HANDLE, _Buffer, _ANSWER],
-    "explain": [_HANDLE, _Buffer, _ANSWER],
-    "needs_moment": [_HANDLE, _ANSWER],
-    "lambda_depth": [_HANDLE, _ANSWER],
-    "node_count": [_HANDLE, _ANSWER],
-    "property_paths": [_HANDLE, _Buffer, _ANSWER],
-    "sql": [_HANDLE, _NUMBER, _Bytes, _Buffer, _ANSWER],
-    "new_judge": [_PLACE],
-    "new_judge_of": [_HANDLE, _PLACE],
-    "set_moment": [_HANDLE, _Bytes],
-    "set_bound": [_HANDLE, _COUNT],
-    "judge": [_HANDLE, _HANDLE, _Bytes, _ANSWER],
-    "judge_next": [_HANDLE, _Bytes, _ANSWER],
-    "filter_lines": [_HANDLE, _HANDLE, _Bytes, _Buffer, _ANSWER],
-    "path": [_HANDLE, _Buffer, _ANSWER],
-    "free": [_PLACE],
-    "version": [_Buffer, _ANSWER],
-    "status_name": [_NUMBER, _Buffer, _ANSWER],
-    "fault_name": [_NUMBER, _NUMBER, _Buffer, _ANSWER],
-    "fault_text": [_HANDLE, _NUMBER, _Bytes, _Buffer, _ANSWER, _ANSWER],
-}
-
-
-class Library:
-    """The C library: that of a path, else that of the variable ODFILTER_LIBRARY, else the one beside this module."""
-
-    def __init__(self, path: Optional[Union[str, os.PathLike[str]]] = None) -> None:
-        self.path = os.fspath(path or os.environ.get("ODFILTER_LIBRARY") or _beside())
-        try:
-            loaded = ctypes.CDLL(self.path)
-            self._calls = {name: getattr(loaded, f"odfilter_{name}") for name in _CALLS}
-        except (OSError, AttributeError) as fault:
-            raise LibraryNotFound(f"no library odfilter at {self.path}: {fault}") from fault
-        for name, given in _CALLS.items():
-            self._calls[name].argtypes, self._calls[name].restype = given, _NUMBER
-        self._free = self._calls["free"]
-        self._fault = functools.lru_cache(maxsize=None)(self._fault_name)
-
-    @property
-    def version(self) -> str:
-        """The library's version."""
-        return self._text("version")
-
-    def _call(self, name: str, *given: Any) -> int:
-        """The status of a call, unless it is one of those of any call."""
-        status: int = self._calls[name](*given)
-        if status == OK:
-            return OK
-        if status == MEMORY:
-            raise MemoryError("odfilter")
-        if status == NOT_UTF8:
-            raise NotUtf8()
-        if status in (NULL, OTHER_KIND):
-            raise Error(f"odfilter_{name}: {self._text('status_name', status)}")
-        return status
-
-    def _number(self, name: str, handle: ctypes.c_void_p) -> int:
-        """The number that a call answers of a handle."""
-        answer = _Answer()
-        self._call(name, handle, ctypes.byref(answer))
-        number: int = answer.number
-        return number
-
-    def _text(self, name: str, *given: Any, about: tuple[Any, ...] = ()) -> str:
-        """The text that a call writes; `about` is what it is given after the buffer."""
-        size = 256
-        while True:
-            (room, borrowed), answer = _buffer_of(size), _Answer()
-            if self._call(name, *given, borrowed, *about, ctypes.byref(answer)) != TOO_SMALL:
-                return room[: answer.length].decode()
-            size = answer.length
-
-    def _fault_name(self, status: int, fault: int) -> str:
-        if status in (JSON_FAULT, LINE_TOO_LONG):
-            return "Json" if status == JSON_FAULT else "LineTooLong"
-        return self._text("fault_name", status, fault)
-
-    def _worded(self, error: _AnError, status: int, answer: _Answer, about: BytesOrText, of: Any = None) -> _AnError:
-        """An error with its sentence: `about` is the text at fault, `of` the handle of the type, where there is one."""
-        borrowed = _borrowed(about, "a text")
-        error.sentence = self._text("fault_text", of, status, borrowed, about=(ctypes.byref(answer),))
-        return error
-
-
-def _buffer_of(size: int) -> tuple[bytearray, _Buffer]:
-    """A buffer of our own, and as the argument of a call, which must not outlive it."""
-    room = bytearray(max(size, 1))
-    return room, _Buffer(ctypes.addressof(ctypes.c_char.from_buffer(room)), size)
-
-
-def _beside() -> str:
-    """Where the library is beside this module: in its folder, or in the one that holds that."""
-    folder = os.path.dirname(os.path.realpath(__file__))
-    paths = [os.path.join(it, "libodfilter.so") for it in (folder, os.path.dirname(folder))]
-    return next((path for path in paths if os.path.exists(path)), paths[0])
-
-
-@functools.lru_cache(maxsize=None)
-def _found() -> Library:
-    return Library()
-
-
-def postgresql_functions() -> str:
-    """The statements that make what conditions for PostgreSQL call, the functions of a schema `odf`.
-
-    Run them once in each database, as a user who may create a schema there.
-    """
-    with open(os.path.join(os.path.dirname(os.path.realpath(__file__)), "postgresql.sql"), encoding="utf-8") as file:
-        return file.read()
 
 
 class _Owned:
@@ -435,22 +241,9 @@ class Filter(_Held):
         `now` is the moment that now() stands for. Each property has a column of its name, or the one that `columns` has
         for it; or the column `document` has the row as JSON. Raises Unsayable, UnknownColumn, NotAMoment, MomentNeeded.
         """
-        form = _FORMS.get((dialect, document is not None))
-        if form is None:
-            raise ValueError(f"a dialect is postgresql or sqlite, not {dialect!r}")
+        form = form_of(dialect, document)
         owned = self._open()
-        how = _borrowed_text("\n".join([now or "", *_columns_in(columns or {}, document)]), "a name")
-        size = 4096
-        while True:
-            (room, text), answer = _buffer_of(size), _Answer()
-            status = owned.library._call("sql", owned.handle, form, how, text, ctypes.byref(answer))
-            if status != TOO_SMALL:
-                break
-            size = answer.length
-        if status != OK:
-            raise _unsaid(owned.library, status, answer, now or "")
-        found = json.loads(room[: answer.length])
-        return Conditions(*(Statement(**found[it]) if it in found else None for it in Conditions._fields))
+        return conditions_of(owned.library, owned.handle, form, now or "", columns_in(columns or {}, document))
 
     def judge(self, now: Optional[str] = None, bound: Optional[int] = None) -> Judge:
         """A judge by this filter; `now` is the moment that now() stands for. Raises NotAMoment.
@@ -529,25 +322,6 @@ class Judge(_Held):
         return library._worded(fault, status, answer, path)
 
 
-def _columns_in(columns: Mapping[str, str], document: Optional[str]) -> list[str]:
-    """The lines about columns, or the name of the one."""
-    if document is not None:
-        return [document]
-    lines = [f"{name}={column}" for name, column in columns.items()]
-    if any("\n" in line for line in lines):
-        raise ValueError("the name of a column has a line feed")
-    return lines
-
-
-def _unsaid(library: Library, status: int, answer: _Answer, now: str) -> Error:
-    """Why a filter has no conditions."""
-    if status == MOMENT_NEEDED:
-        return library._worded(MomentNeeded(), status, answer, "")
-    if status == NOT_A_MOMENT:
-        return library._worded(NotAMoment(), status, answer, now)
-    return UnknownColumn() if status == UNKNOWN_COLUMN else Unsayable("Nul" if status == UNSAYABLE else "TooDeep")
-
-
 def _bound_of(bound: int) -> int:
     """The bound as the library takes it; what no row can cost is as good as none."""
     if bound < 0:
@@ -568,22 +342,3 @@ def _names_in(room: bytearray, answer: _Answer) -> tuple[str, ...]:
     """The names that a schema's fault carries, one directly after the other."""
     names = room[: answer.first].decode(), room[answer.first : answer.length].decode()
     return names[: _NAMES_OF[answer.fault]]
-
-
-def _borrowed(given: BytesOrText, what: str) -> _Bytes:
-    """Bytes as a call borrows them; a str stands for its UTF-8."""
-    if isinstance(given, str):
-        given = given.encode("utf-8", "surrogatepass")
-    if isinstance(given, bytes):
-        return _Bytes(given, len(given))
-    if isinstance(given, (bytearray, memoryview, mmap.mmap)) and len(given) > 0:
-        return _BufferBytes(given)
-    if isinstance(given, (bytearray, memoryview)):
-        return _Bytes(b"", 0)
-    raise TypeError(f"{what} is bytes or a str, not {type(given).__name__}")
-
-
-def _borrowed_text(given: str, what: str) -> _Bytes:
-    if not isinstance(given, str):
-        raise TypeError(f"{what} is a str, not {type(given).__name__}")
-    return _borrowed(given, what)

@@ -140,7 +140,10 @@ class TooCostly(Error):
 
 
 class Unsayable(Error):
-    """A filter has no conditions of SQL for an engine: `name` is "Nul" for a text with U+0000, or "TooDeep"."""
+    """A filter has no conditions of SQL for an engine: `name` is "Nul" or "TooDeep".
+
+    "Nul": a literal, or the name of a column that the filter need not ask, has U+0000.
+    """
 
     def __init__(self, name: str) -> None:
         super().__init__(name)

@@ -14,7 +14,7 @@ LINE_LIMIT = 1 << 20  # a longer line is at fault
 BLOCK = 1 << 20  # bytes that are read at once
 FEW = 1 << 12  # bytes that are judged at once after a fault
 
-FileOrPath = Union[BinaryIO, str, "os.PathLike[str]"]
+FileOrPath = Union[BinaryIO, str, os.PathLike[str]]
 
 
 class Tally(NamedTuple):

@@ -10,7 +10,7 @@ use Rattle.odata_checked_filter.specs.Filter.{Filter, tree_of_filter}
 use Rattle.sql_tree.specs.TableModel.{StorageModel, in_columns, in_document}
 use Rattle.sql_tree.specs.declared.dialect.Dialect.{Dialect}
 use Rattle.handle_calls.specs.RowCalls.{IsMomentFor}
-use Rattle.handle_calls.specs.SqlCalls.{HasConditions, IsNoConditions, IsNoNow, IsNoSql, IsNoTableSql, IsNowBy, IsSqlBy, IsSqlOf, IsStoredBy, IsTableSql}
+use Rattle.handle_calls.specs.SqlCalls.{HasConditions, IsNoConditions, IsNoNow, IsNoSql, IsNoSqlBy, IsNoTableSql, IsNowBy, IsSqlBy, IsSqlOf, IsStoredBy, IsTableSql}
 use Rattle.sql_tables.specs.Columns.{AreColumns, AreKnown}
 use Rattle.sql_tables.specs.Forms.{form_numbered}
 use Rattle.sql_tables.specs.Lines.{after_line, first_line, lines_of}
@@ -56,25 +56,28 @@ no_now filter form how line fault first none = absurd none
 abbrev pub IsTableOutcome : Filter → Dialect → Bool → List ℕ → MomentParts → Result (String Global) Fault → Type 0
 IsTableOutcome filter dialect by_columns names now result =
     MatchResult result (λ text. IsTableSql filter dialect by_columns names now (string_bytes text))
-    (IsNoTableSql filter by_columns names)
+    (IsNoTableSql filter dialect by_columns names now)
 
 abbrev HasTexts : Filter → StorageModel → Dialect → MomentParts → Result (String Global) Fault → Type 0
 HasTexts filter storage dialect now result =
-    MatchResult result (λ text. HasConditions filter storage dialect now (string_bytes text)) IsNoConditions
+    MatchResult result (λ text. HasConditions filter storage dialect now (string_bytes text)) (IsNoConditions filter storage dialect now)
 
-none_of_columns : (filter : Filter) (names : List ℕ) (fault : Fault) → IsNoConditions fault → IsNoTableSql filter true names fault
-none_of_columns filter names Fault.UnknownColumn none = absurd none
-none_of_columns filter names fault none = none
+none_over : (filter : Filter) (storage : StorageModel) (dialect : Dialect) (by_columns : Bool) (names : List ℕ) (now : MomentParts) (fault : Fault) → IsStoredBy by_columns filter names storage
+    → IsNoConditions filter storage dialect now fault → IsNoTableSql filter dialect by_columns names now fault
+none_over filter storage dialect true names now Fault.UnknownColumn stored none = absurd none
+none_over filter storage dialect true names now Fault.Memory stored none = tt
+none_over filter storage dialect true names now fault stored none = (storage, stored, none)
+none_over filter storage dialect false names now Fault.Memory stored none = tt
+none_over filter storage dialect false names now fault stored none = (storage, stored, none)
 
 over : (filter : Filter) (storage : StorageModel) (dialect : Dialect) (by_columns : Bool) (names : List ℕ) (now : MomentParts) (result : Result (String Global) Fault)
     → IsStoredBy by_columns filter names storage → HasTexts filter storage dialect now result → IsTableOutcome filter dialect by_columns names now result
 over filter storage dialect by_columns names now (Ok text) stored has = (storage, stored, has)
-over filter storage dialect true names now (Err fault) stored has = none_of_columns filter names fault has
-over filter storage dialect false names now (Err fault) stored has = has
+over filter storage dialect by_columns names now (Err fault) stored has = none_over filter storage dialect by_columns names now fault stored has
 
-pub not_known : (filter : Filter) (schema : SchemaModel) (id : ℕ) (lines : List ℕ) (known : Bool) → schema ≡ filter.schema → id ≡ filter.filtered
-    → IsTrue known ↔ AreKnown (properties_at schema id) (lines_of lines) → known ≡ false → IsNoTableSql filter true lines Fault.UnknownColumn
-not_known filter schema id lines known same at is unknown =
+pub not_known : (filter : Filter) (dialect : Dialect) (now : MomentParts) (schema : SchemaModel) (id : ℕ) (lines : List ℕ) (known : Bool) → schema ≡ filter.schema → id ≡ filter.filtered
+    → IsTrue known ↔ AreKnown (properties_at schema id) (lines_of lines) → known ≡ false → IsNoTableSql filter dialect true lines now Fault.UnknownColumn
+not_known filter dialect now schema id lines known same at is unknown =
     λ (all : AreKnown (properties_at filter.schema filter.filtered) (lines_of lines)).
     let holds = is.1 (subst (λ (s : SchemaModel). AreKnown (properties_at s id) (lines_of lines)) (sym same)
     (subst (λ (n : ℕ). AreKnown (properties_at filter.schema n) (lines_of lines)) (sym at) all)) in
@@ -107,22 +110,22 @@ in_named filter (c ∷ cs) dialect now result empty is other has = over filter (
 
 -- ---- the conditions
 
-no_table : (filter : Filter) (form : ℕ) (how : List ℕ) (dialect : Dialect) (by_columns : Bool) (fault : Fault) → form_numbered form ≡ Some (dialect, by_columns)
-    → IsNoTableSql filter by_columns (after_line how) fault → IsNoSql (Handle.Filter filter) form how fault
-no_table filter form how dialect true Fault.OtherKind numbered none = absurd none
-no_table filter form how dialect true Fault.NotUtf8 numbered none = absurd none
-no_table filter form how dialect true Fault.UnknownNumber numbered none = absurd none
-no_table filter form how dialect true Fault.NotAMoment numbered none = absurd none
-no_table filter form how dialect true Fault.MomentNeeded numbered none = absurd none
-no_table filter form how dialect true fault numbered none =
-    subst (λ (f : Option (Dialect × Bool)). IsSomeAnd f (λ g. IsNoTableSql filter g.1 (after_line how) fault)) (sym numbered) none
-no_table filter form how dialect false Fault.OtherKind numbered none = absurd none
-no_table filter form how dialect false Fault.NotUtf8 numbered none = absurd none
-no_table filter form how dialect false Fault.UnknownNumber numbered none = absurd none
-no_table filter form how dialect false Fault.NotAMoment numbered none = absurd none
-no_table filter form how dialect false Fault.MomentNeeded numbered none = absurd none
-no_table filter form how dialect false fault numbered none =
-    subst (λ (f : Option (Dialect × Bool)). IsSomeAnd f (λ g. IsNoTableSql filter g.1 (after_line how) fault)) (sym numbered) none
+no_table : (filter : Filter) (form : ℕ) (how : List ℕ) (dialect : Dialect) (by_columns : Bool) (now : MomentParts) (fault : Fault) → form_numbered form ≡ Some (dialect, by_columns)
+    → IsNowBy filter (first_line how) now → IsNoTableSql filter dialect by_columns (after_line how) now fault → IsNoSql (Handle.Filter filter) form how fault
+no_table filter form how dialect true now Fault.OtherKind numbered by none = absurd none.2
+no_table filter form how dialect true now Fault.NotUtf8 numbered by none = absurd none.2
+no_table filter form how dialect true now Fault.UnknownNumber numbered by none = absurd none.2
+no_table filter form how dialect true now Fault.NotAMoment numbered by none = absurd none.2
+no_table filter form how dialect true now Fault.MomentNeeded numbered by none = absurd none.2
+no_table filter form how dialect true now fault numbered by none =
+    subst (λ (f : Option (Dialect × Bool)). IsSomeAnd f (λ g. IsNoSqlBy filter g.0 g.1 how fault)) (sym numbered) (now, by, none)
+no_table filter form how dialect false now Fault.OtherKind numbered by none = absurd none.2
+no_table filter form how dialect false now Fault.NotUtf8 numbered by none = absurd none.2
+no_table filter form how dialect false now Fault.UnknownNumber numbered by none = absurd none.2
+no_table filter form how dialect false now Fault.NotAMoment numbered by none = absurd none.2
+no_table filter form how dialect false now Fault.MomentNeeded numbered by none = absurd none.2
+no_table filter form how dialect false now fault numbered by none =
+    subst (λ (f : Option (Dialect × Bool)). IsSomeAnd f (λ g. IsNoSqlBy filter g.0 g.1 how fault)) (sym numbered) (now, by, none)
 
 pub table_sql : (filter : Filter) (form : ℕ) (how line names : List ℕ) (dialect : Dialect) (by_columns : Bool) (now : MomentParts) (result : Result (String Global) Fault)
     → form_numbered form ≡ Some (dialect, by_columns) → line ≡ first_line how → names ≡ after_line how → IsNowBy filter line now
@@ -131,4 +134,5 @@ table_sql filter form how line names dialect by_columns now (Ok text) numbered f
     subst (λ (f : Option (Dialect × Bool)). IsSomeAnd f (λ g. IsSqlBy filter g.0 g.1 how (string_bytes text))) (sym numbered)
     (now, subst (λ (l : List ℕ). IsNowBy filter l now) first by, subst (λ (n : List ℕ). IsTableSql filter dialect by_columns n now (string_bytes text)) after table)
 table_sql filter form how line names dialect by_columns now (Err fault) numbered first after by table =
-    no_table filter form how dialect by_columns fault numbered (subst (λ (n : List ℕ). IsNoTableSql filter by_columns n fault) after table)
+    no_table filter form how dialect by_columns now fault numbered (subst (λ (l : List ℕ). IsNowBy filter l now) first by)
+    (subst (λ (n : List ℕ). IsNoTableSql filter dialect by_columns n now fault) after table)

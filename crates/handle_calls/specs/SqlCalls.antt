@@ -1,6 +1,6 @@
 -- A filter as conditions of SQL: by a form, which is a dialect and how the table stores entities, and by lines about the
 -- table.
-use Rattle.std.specs.Prelude.{◌≡◌, ℕ, IsSomeAnd, IsUtf8, List, [], Bool, true, false, None, IfNone, IfSome, codes}
+use Rattle.std.specs.Prelude.{◌≡◌, ◌⊎◌, ℕ, IsSomeAnd, IsUtf8, List, [], Bool, true, false, None, IfNone, IfSome, codes}
 use Rattle.csdl_schema.specs.SchemaModel.{properties_at}
 use Rattle.edm_values.specs.MomentLiteral.{MomentValue}
 use Rattle.edm_values.specs.MomentParts.{MomentParts}
@@ -8,6 +8,7 @@ use Rattle.odata_checked_filter.specs.Calls.{UsesNow}
 use Rattle.odata_checked_filter.specs.Filter.{Filter, tree_of_filter}
 use Rattle.odata_sql.specs.Conditions.{FaultsIt, IsItsCode, KeepsIt}
 use Rattle.odata_sql.specs.JsonText.{IsTextOf}
+use Rattle.odata_sql.specs.Refusals.{IsNulFree, NamesWhatIsNot, NestsTooDeeply, SomeTreeWith}
 use Rattle.odata_sql.specs.Translation.{NeverFaults, Says, table_of}
 use Rattle.odata_sql.specs.declared.translation.Conditions.{Conditions}
 use Rattle.sql_tables.specs.Columns.{AreColumns, AreKnown}
@@ -70,18 +71,28 @@ IsNoNow filter line Fault.NotAMoment = (now : MomentParts) → ¬ MomentValue li
 IsNoNow filter line Fault.MomentNeeded = (line ≡ []) × UsesNow (tree_of_filter filter)
 IsNoNow filter line fault = ⊥
 
--- no SQL says them, or memory ends
-abbrev pub IsNoConditions : Fault → Type 0
-IsNoConditions Fault.Unsayable = Unit {0}
-IsNoConditions Fault.TooDeep = Unit {0}
-IsNoConditions Fault.Memory = Unit {0}
-IsNoConditions fault = ⊥
+-- a literal or a name has U+0000, or a tree that says them names what the table does not have; such a tree nests too
+-- deeply for the engine; or memory ends
+abbrev pub IsNoConditions : Filter → StorageModel → Dialect → MomentParts → Fault → Type 0
+IsNoConditions filter storage dialect now Fault.Unsayable =
+    (¬ IsNulFree filter storage) ⊎ SomeTreeWith filter now (NamesWhatIsNot (table_of filter storage))
+IsNoConditions filter storage dialect now Fault.TooDeep = SomeTreeWith filter now (NestsTooDeeply dialect)
+IsNoConditions filter storage dialect now Fault.Memory = Unit {0}
+IsNoConditions filter storage dialect now fault = ⊥
 
--- the same, or a line after the first is about no property
-abbrev pub IsNoTableSql : Filter → Bool → List ℕ → Fault → Type 0
-IsNoTableSql filter true names Fault.UnknownColumn =
+-- the same over a table that stores entities so, or a line after the first is about no property
+abbrev pub IsNoTableSql : Filter → Dialect → Bool → List ℕ → MomentParts → Fault → Type 0
+IsNoTableSql filter dialect true names now Fault.UnknownColumn =
     ¬ AreKnown (properties_at filter.schema filter.filtered) (lines_of names)
-IsNoTableSql filter by_columns names fault = IsNoConditions fault
+IsNoTableSql filter dialect by_columns names now Fault.Memory = Unit {0}
+IsNoTableSql filter dialect by_columns names now fault =
+    (storage : StorageModel) × IsStoredBy by_columns filter names storage
+    × IsNoConditions filter storage dialect now fault
+
+abbrev pub IsNoSqlBy : Filter → Dialect → Bool → List ℕ → Fault → Type 0
+IsNoSqlBy filter dialect by_columns how fault =
+    (now : MomentParts) × IsNowBy filter (first_line how) now
+    × IsNoTableSql filter dialect by_columns (after_line how) now fault
 
 abbrev pub IsNoSql : Handle → ℕ → List ℕ → Fault → Type 0
 IsNoSql given form how Fault.OtherKind = ¬ IsFilterKind given
@@ -90,5 +101,5 @@ IsNoSql (Handle.Filter filter) form how Fault.UnknownNumber = form_numbered form
 IsNoSql (Handle.Filter filter) form how Fault.NotAMoment = IsNoNow filter (first_line how) Fault.NotAMoment
 IsNoSql (Handle.Filter filter) form how Fault.MomentNeeded = IsNoNow filter (first_line how) Fault.MomentNeeded
 IsNoSql (Handle.Filter filter) form how fault =
-    IsSomeAnd (form_numbered form) (λ f. IsNoTableSql filter f.1 (after_line how) fault)
+    IsSomeAnd (form_numbered form) (λ f. IsNoSqlBy filter f.0 f.1 how fault)
 IsNoSql given form how fault = ⊥

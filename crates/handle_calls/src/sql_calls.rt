@@ -26,7 +26,7 @@ fn conditions_text(
     now: &Moment,
 ) -> Result<String, Fault>
     ensures { MatchResult result (λ text. HasConditions checked.now (storage_in storage.entry) dialect now.now
-        (string_bytes text)) IsNoConditions }
+        (string_bytes text)) (IsNoConditions checked.now (storage_in storage.entry) dialect now.now) }
 {
     match translate(alloc, checked, storage, dialect, now) {
         Ok(found) => match conditions_json(alloc, &found, dialect) {
@@ -50,7 +50,7 @@ fn document_text(
     now: &Moment,
 ) -> Result<String, Fault>
     ensures { MatchResult result (λ text. IsTableSql checked.now dialect false name.now now.now (string_bytes text))
-        (IsNoTableSql checked.now false name.now) }
+        (IsNoTableSql checked.now dialect false name.now now.now) }
 {
     if name.is_empty() {
         return conditions_text(alloc, checked, Storage::Document("doc"), dialect, now);
@@ -67,7 +67,7 @@ fn columns_text(
     now: &Moment,
 ) -> Result<String, Fault>
     ensures { MatchResult result (λ text. IsTableSql checked.now dialect true lines.now now.now (string_bytes text))
-        (IsNoTableSql checked.now true lines.now) }
+        (IsNoTableSql checked.now dialect true lines.now now.now) }
 {
     let schema = checked.schema();
     let id = checked.filtered_type();

@@ -3,7 +3,7 @@ use Rattle.handle_calls.proofs.sql_calls.columns_text.Goals as goal
 
 pub returns-then-not-are_known : goal.returns-then-not-are_known
 returns-then-not-are_known c =
-    not_known c.args.checked.now c.schema-schema.result.now c.filtered_type-id.result c.args.lines.now c.are_known.result c.schema-schema.ensures c.filtered_type-id.ensures.same c.are_known.ensures c.if-not-are_known.true
+    not_known c.args.checked.now c.args.dialect c.args.now.now c.schema-schema.result.now c.filtered_type-id.result c.args.lines.now c.are_known.result c.schema-schema.ensures c.filtered_type-id.ensures.same c.are_known.ensures c.if-not-are_known.true
 
 pub returns : goal.returns
 returns c =
