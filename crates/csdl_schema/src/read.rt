@@ -35,7 +35,10 @@ impl Schema {
         if document.len() > MAX_BYTES {
             return Err(SchemaFault::TooLarge);
         }
-        match Value::from_slice(alloc, document) {
+        let Ok(text) = str::from_utf8(document) else {
+            return Err(SchemaFault::NotJson);
+        };
+        match Value::from_str(alloc, text) {
             Ok(value) => read_document(alloc, &value),
             Err(refusal) => {
                 if refusal.is_memory() {
