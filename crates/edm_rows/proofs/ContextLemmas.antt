@@ -185,14 +185,14 @@ context_comma context type depth from end next seen read ends = seen_comma (slot
 -- where it ends, which slots were seen, where the order after it is kept, and how deep values may nest
 pub record Joined (context : ReadContext) (type : RowType) (depth from place seen order now : ℕ) : Type 0 where
   pub read : ContextRead context type depth from place seen
-  pub fits : order < 1024
+  pub fits : order < 256
   pub same : now ≡ depth
 
 pub joined_as : (context : ReadContext) (type : RowType) (depth from p place s seen o order n now : ℕ) → place ≡ p → seen ≡ s → order ≡ o → now ≡ n → Joined context type depth from p s o n → Joined context type depth from place seen order now
 joined_as context type depth from p place s seen o order n now same_place same_seen same_order same_now joined =
     record {
       read = subst (λ k. ContextRead context type depth from k seen) (sym same_place) (subst (λ k. ContextRead context type depth from p k) (sym same_seen) joined.read);
-      fits = subst (λ k. k < 1024) (sym same_order) joined.fits;
+      fits = subst (λ k. k < 256) (sym same_order) joined.fits;
       same = same_now ∙ joined.same;
     }
 
@@ -206,7 +206,7 @@ joined_slot context plan type depth from place value end seen before now after s
       same = kept ∙ same;
     }
 
-pub joined_other : (context : ReadContext) (type : RowType) (depth from place end seen order before now : ℕ) → FindsSlot context type before place None end → ContextUpTo context type depth from place seen → before ≡ depth → now ≡ depth → order < 1024
+pub joined_other : (context : ReadContext) (type : RowType) (depth from place end seen order before now : ℕ) → FindsSlot context type before place None end → ContextUpTo context type depth from place seen → before ≡ depth → now ≡ depth → order < 256
     → Joined context type depth from end seen order now
 joined_other context type depth from place end seen order before now found so_far was same fits =
     record { read = other_seen_read context type depth from place end seen so_far (subst (λ n. FindsSlot context type n place None end) was found); fits = fits; same = same }

@@ -31,7 +31,7 @@ pub record SlotFound (context : ReadContext) (type : RowType) (place value : ℕ
   pub within : slot.index < length (properties_at context.schema.now type.type_id)
   pub agrees : IsSlotOf context.plan.now.plans.items slot
   pub task : IsTaskOf slot slot.task
-  pub order : slot.order < 1024
+  pub order : slot.order < 256
   pub fits : (v : Value) (json : Data) → IsFilledIn context slot slot.task v json
       → IfSome (slice_get (properties_at context.schema.now type.type_id) slot.index) (λ p. FitsSeen (slots_behind (slots_behind_node context type.node) p.name) p.nullable p.type_of (Some json) (val_of v))
       × IfSome (slice_get (properties_at context.schema.now type.type_id) slot.index) (λ p. HoldsInSlot (slots_behind (slots_behind_node context type.node) p.name) p.type_of v)

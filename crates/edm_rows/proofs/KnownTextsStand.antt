@@ -1,5 +1,5 @@
 -- Texts of enumerations that are kept, where they stand in a line.
-use Rattle.std.proofs.Common.{◌≡◌, ℕ, zero, suc, ◌+◌, ◌<◌, ◌≤◌, List, [], ◌∷◌, length, take, drop, get_or, ℤ, Option, Some, None, IfSome, slice_get, slice_set, is_none, true, false, refl, sym, ap, ◌∙◌, subst, arith}
+use Rattle.std.proofs.Common.{◌≡◌, ℕ, zero, suc, ◌+◌, ◌<◌, ◌≤◌, List, [], ◌∷◌, ◌++◌, length, take, drop, replicate, get_or, ℤ, Bool, Option, Some, None, IfSome, slice_get, slice_set, is_none, true, false, if◌then◌else◌, refl, sym, ap, ◌∙◌, subst, arith}
 use Rattle.std.proofs.lemmas.Bool.{true≢false}
 use Rattle.std.proofs.lemmas.Simd.{get_or-chunk}
 use Rattle.std.proofs.lemmas.List.{ext_get_or, get_or-drop, get_or-take, length-drop, length-take-le}
@@ -54,6 +54,24 @@ each_set (x ∷ xs) zero zero v P new old = new
 each_set (x ∷ xs) zero (suc at) v P new old = old
 each_set (x ∷ xs) (suc n) zero v P new old = old
 each_set (x ∷ xs) (suc n) (suc at) v P new old = each_set xs n at v P new old
+
+each_same : {A : Type 0} (n at : ℕ) (v : A) (P : A → Type 0) → P v → IfSome (slice_get (replicate n v) at) P
+each_same zero zero v P holds = tt
+each_same zero (suc at) v P holds = tt
+each_same (suc n) zero v P holds = holds
+each_same (suc n) (suc at) v P holds = each_same n at v P holds
+
+-- a list that is filled up to a length
+pub each_filled : {A : Type 0} (xs : List A) (n m at : ℕ) (v : A) (P : A → Type 0) → P v → ((k : ℕ) → IfSome (slice_get xs k) P) → IfSome (slice_get (take n xs ++ replicate m v) at) P
+each_filled [] zero m at v P new old = each_same m at v P new
+each_filled [] (suc n) m at v P new old = each_same m at v P new
+each_filled (x ∷ xs) zero m at v P new old = each_same m at v P new
+each_filled (x ∷ xs) (suc n) m zero v P new old = old zero
+each_filled (x ∷ xs) (suc n) m (suc at) v P new old = each_filled xs n m at v P new (λ k. old (suc k))
+
+pub each_resized : {A : Type 0} (b : Bool) (new old filled : List A) (P : A → Type 0) → b ≡ true → new ≡ (if b then filled else old) → ((at : ℕ) → IfSome (slice_get filled at) P) → (at : ℕ) → IfSome (slice_get new at) P
+each_resized true new old filled P is same each at = subst (λ xs. IfSome (slice_get xs at) P) (sym same) (each at)
+each_resized false new old filled P is same each at = absurd (true≢false (sym is))
 
 pub some_member : (schema : SchemaModel) (id : ℕ) (text : List ℕ) (r : Option ℤ) → is_none r ≡ false → IsEnumerationByName schema id → IfSome r (IsValueIn (enumeration_at schema id) text) → IfSome r (IsOfUnderlying (enumeration_at schema id))
     → IsTextOf schema (Some id) text

@@ -185,8 +185,8 @@ none_bounds context type place found is finds = go (subst (λ (o : Option (Bor R
     go (name, value, names, others, reads) = (omega (arith, names.bounds.0, reads.bounds.0), reads.bounds.1)
 
 -- where a value ends that was passed
-pub further_on : (context : ReadContext) (slot : RowSlot) (r : Option Progress) (place value : ℕ) → place < value → IfSome r (λ read. PassesValue context slot slot.task context.depth value read.place) → IfSome r (λ read. read.order < 1024)
-    → IfSome r (λ read. (place < read.place) × (read.place ≤ length context.line) × (read.order < 1024))
+pub further_on : (context : ReadContext) (slot : RowSlot) (r : Option Progress) (place value : ℕ) → place < value → IfSome r (λ read. PassesValue context slot slot.task context.depth value read.place) → IfSome r (λ read. read.order < 256)
+    → IfSome r (λ read. (place < read.place) × (read.place ≤ length context.line) × (read.order < 256))
 further_on context slot None place value less passed order = tt
 further_on context slot (Some read) place value less passed order = (omega (arith, less, passed.bounds.0), passed.bounds.1, order)
 

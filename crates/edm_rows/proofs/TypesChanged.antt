@@ -66,7 +66,7 @@ module _ (schema : SchemaModel) (steps : List StepModel) (plans : List TypePlan)
         of_type = (id ∙ is.of_type.0, node ∙ is.of_type.1);
         count = long ∙ is.count;
         few = subst (λ k. k ≤ 64) (sym long) is.few;
-        order = subst (λ k. k < 1024) (sym order) is.order;
+        order = subst (λ k. k < 256) (sym order) is.order;
         each = λ k. subst (λ xs. IfSome (slice_get xs k) (λ s. IfSome (slice_get p.slots.items k) (λ q. IsRowSlot schema steps plans k q s))) (sym same) (each_stays type.slots.items p.slots.items n slot kept sieve at is.each k);
         all = all ∙ is.all ∙ ap (λ k. 2 ^ k - 1) (sym long);
         optional = λ k e.

@@ -391,11 +391,11 @@ fn fill_found(
     requires plan { IsTypeOf context.now.schema.now context.now.plan.now.expansion context.now.plan.now.plans.items
         plan.now }
     requires found { FindsMember context.now plan.now cache.old.depth so_far.place found }
-    requires order { so_far.order < 1024 }
+    requires order { so_far.order < 256 }
     requires long { length values.old.items ≡ length plan.now.slots.items }
     ensures filled { (from : ℕ) → IsFilledUpTo context.now plan.now cache.old.depth from values.old.items so_far
         → IfSome result (IsFilledTo context.now plan.now cache.old.depth from values.new.items) }
-    ensures further { IfSome result (λ read. (so_far.place < read.place) × (read.order < 1024)) }
+    ensures further { IfSome result (λ read. (so_far.place < read.place) × (read.order < 256)) }
     ensures long { length values.new.items ≡ length values.old.items }
     ensures depth { cache.new.depth ≡ cache.old.depth }
 {

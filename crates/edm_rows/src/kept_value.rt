@@ -219,7 +219,7 @@ fn take_found(
     requires context { IsContext context.now }
     requires plan { IsRootType context.now plan.now }
     requires found { FindsMember context.now plan.now context.now.depth so_far.place found }
-    requires order { so_far.order < 1024 }
+    requires order { so_far.order < 256 }
     requires depth { cache.old.depth ≡ context.now.depth }
     requires long { length values.old ≡ length (root_properties context.now) }
     ensures read { (from : ℕ) → IsUpTo context.now plan.now false from values.old so_far
@@ -269,7 +269,7 @@ fn pass_rest(
     requires context { IsContext context.now }
     requires plan { IsRootType context.now plan.now }
     requires within { rejected.place ≤ length context.now.line }
-    requires order { rejected.order < 1024 }
+    requires order { rejected.order < 256 }
     requires depth { cache.old.depth ≡ context.now.depth }
     requires conforms { RowConforms (root_slots context.now) (root_properties context.now) values.old }
     ensures read { (from : ℕ) → IsReadTo context.now plan.now true from values.old rejected
@@ -310,13 +310,13 @@ fn pass_next(
     requires context { IsContext context.now }
     requires plan { IsRootType context.now plan.now }
     requires found { FindsMember context.now plan.now context.now.depth so_far.place found }
-    requires order { so_far.order < 1024 }
+    requires order { so_far.order < 256 }
     requires depth { cache.old.depth ≡ context.now.depth }
     ensures read { (from : ℕ) (values : List Value) → length values ≡ length (root_properties context.now)
         → IsUpTo context.now plan.now true from values so_far
         → IfSome result (IsReadTo context.now plan.now true from values) }
     ensures further { IfSome result (λ read. (so_far.place < read.place) × (read.place ≤ length context.now.line)
-        × (read.order < 1024)) }
+        × (read.order < 256)) }
     ensures depth { cache.new.depth ≡ context.now.depth }
 {
     let Some(slot) = found.slot else {
@@ -356,7 +356,7 @@ fn pass_found(
         (λ read. PassesValue context.now slot.now slot.now.task context.now.depth place read.place) }
     ensures further { IfSome result (λ read. place < read.place) }
     ensures seen { IfSome result (λ read. read.seen ≡ bit_or seen slot.now.bit) }
-    ensures order { IfSome result (λ read. read.order < 1024) }
+    ensures order { IfSome result (λ read. read.order < 256) }
     ensures depth { cache.new.depth ≡ context.now.depth }
 {
     match value_end(cache, context, slot, slot.task, place) {

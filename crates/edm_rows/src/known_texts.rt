@@ -15,6 +15,7 @@ use spare_values::Spares;
 use std::alloc::Global;
 use std::simd::prelude::*;
 
+/// How many texts are kept.
 const KNOWN: usize = 32;
 
 /// A text of so many bytes or more is not kept.
@@ -93,7 +94,8 @@ struct KnownText {
 /// Short texts that were found to be some of an enumeration.
 #[derive(Drop)]
 pub(crate) struct KnownTexts {
-    kept: [KnownText; KNOWN],
+    /// None until the first is kept.
+    kept: Vec<KnownText>,
 }
 
 /// Where a text is kept that begins with that byte and has so many.
@@ -118,16 +120,11 @@ fn before_quote(lanes: u8x16) -> usize
 
 impl KnownTexts {
     #[inline(always)]
-    pub(crate) fn new() -> KnownTexts
+    pub(crate) fn new(alloc: Global) -> KnownTexts
         ensures { (schema : SchemaModel) → AreKnown schema result }
     {
         KnownTexts {
-            kept: [KnownText {
-                id: None,
-                length: TOO_LONG,
-                front: [0; 16],
-                mask: [0; 16],
-            }; KNOWN],
+            kept: Vec::new(alloc),
         }
     }
 
@@ -149,7 +146,12 @@ impl KnownTexts {
             return None;
         }
         let lanes = u8x16::from_slice(&bytes[place + 1..]);
-        let known = &self.kept[place_of(bytes[place + 1], before_quote(lanes))];
+        let kept = self.kept.as_slice();
+        let index = place_of(bytes[place + 1], before_quote(lanes));
+        if index >= kept.len() {
+            return None;
+        }
+        let known = &kept[index];
         if known.length < TOO_LONG
             && known.id == id
             && are_front(
@@ -164,14 +166,22 @@ impl KnownTexts {
         }
     }
 
-    /// Keeps a text that was noted, if it is one of its enumeration.
+    /// Keeps a text that was noted, if it is one of its enumeration, unless out of memory.
     #[inline(never)]
     pub(crate) fn keep(&mut self, schema: &Schema, noted: &Noted)
         requires { AreKnown schema.now self.old }
         ensures { AreKnown schema.now self.new }
     {
+        let none = KnownText {
+            id: None,
+            length: TOO_LONG,
+            front: [0; 16],
+            mask: [0; 16],
+        };
         if let Some(known) = known_text(schema, noted) {
-            self.kept[place_of(known.front[0], known.length)] = known;
+            if self.kept.resize(KNOWN, none).is_ok() {
+                self.kept[place_of(known.front[0], known.length)] = known;
+            }
         }
     }
 }

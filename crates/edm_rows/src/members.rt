@@ -56,14 +56,14 @@ fn after_blanks(line: &RoomyLine<'_>, end: usize) -> Option<After>
 /// The slot that came next the last time.
 #[inline(always)]
 fn likely_slot(cache: &Cache, order: usize) -> usize
-    requires { order < 1024 }
+    requires { order < 256 }
 {
     cache.next[order] as usize
 }
 
 /// Notes that the slot that was found comes next there.
 fn note_next(cache: &mut Cache, order: usize)
-    requires { order < 1024 }
+    requires { order < 256 }
     ensures depth { cache.new.depth ≡ cache.old.depth }
     ensures slot { cache.new.slot ≡ cache.old.slot }
 {
@@ -84,7 +84,7 @@ pub(crate) fn next_member<'w>(
     requires context { IsContext context.now }
     requires plan { IsTypeOf context.now.schema.now context.now.plan.now.expansion context.now.plan.now.plans.items
         plan.now }
-    requires order { order < 1024 }
+    requires order { order < 256 }
     requires within { place ≤ length context.now.line }
     ensures found { IfSome result (FindsMember context.now plan.now cache.old.depth place) }
     ensures depth { cache.new.depth ≡ cache.old.depth }
@@ -126,7 +126,7 @@ fn other_member(
     requires context { IsContext context.now }
     requires plan { IsTypeOf context.now.schema.now context.now.plan.now.expansion context.now.plan.now.plans.items
         plan.now }
-    requires order { order < 1024 }
+    requires order { order < 256 }
     requires within { from ≤ length context.now.line }
     ensures found { IfSome result (NextMember cache.old.depth context.now.line
         (properties_at context.now.schema.now plan.now.type_id) cache.new.slot from) }

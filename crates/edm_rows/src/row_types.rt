@@ -29,7 +29,7 @@ pub(crate) const DEPTH: usize = 127;
 const SLOTS: usize = 64;
 
 /// How many entries there are to store the order of members.
-pub(crate) const PLACES: usize = 1024;
+pub(crate) const PLACES: usize = 256;
 
 /// What a value, or an item, is held to.
 #[derive(Clone, Copy, Debug, PartialEq, Eq)]
@@ -234,7 +234,7 @@ fn row_slot(
     name: &str,
 ) -> Option<RowSlot>
     requires index { index < 64 }
-    requires order { order < 1024 }
+    requires order { order < 256 }
     ensures made { IfSome result (IsMadeOf index name.now plan.now) }
     ensures fresh { IfSome result IsFresh }
 {
@@ -298,7 +298,7 @@ fn row_type(
 ) -> Option<RowType>
     requires plans { ArePlans schema.now plan.now.expansion plan.now.plans.items }
     requires place { place < length plan.now.plans.items }
-    requires order { order < 1024 }
+    requires order { order < 256 }
     ensures planned { IfSome result (λ type. IfSome (slice_get plan.now.plans.items place)
         (λ p. IsRowType schema.now plan.now.expansion plan.now.plans.items p type)) }
     ensures fresh { IfSome result IsFreshType }

@@ -103,7 +103,7 @@ impl<'s> TypeRows<'s> {
             types,
             plan,
             cache: Cache::new(alloc),
-            known: KnownTexts::new(),
+            known: KnownTexts::new(alloc),
             is_ready: false,
             row: Value::Null,
         }
@@ -290,7 +290,10 @@ fn row_of_line(alloc: Global, schema: &Schema, plan: &RowPlan, line: &[u8]) -> O
     ensures { IfSome result
         (IsRowValue (slots_at schema.now plan.now.expansion (Some 0)) (properties_at schema.now plan.now.type_id)) }
 {
-    match serde_json::Value::from_slice(alloc, line) {
+    let Ok(text) = str::from_utf8(line) else {
+        return None;
+    };
+    match serde_json::Value::from_str(alloc, text) {
         Ok(json) => Entity::value_from_json(alloc, schema, plan.type_id, &plan.expansion, &json),
         Err(_) => None,
     }

@@ -35,7 +35,7 @@ decreases-passed_value::items_end-items l = length l.context.line - l.place
 -- the slots that were seen are passed
 abbrev pub invariant-members::pass_members-members : goal.invariant-members::pass_members-members
 invariant-members::pass_members-members l =
-    (l.cache.depth ≡ l.initial.cache.depth) × (l.order < 1024) × ContextUpTo l.context l.plan l.initial.cache.depth l.from l.place l.seen
+    (l.cache.depth ≡ l.initial.cache.depth) × (l.order < 256) × ContextUpTo l.context l.plan l.initial.cache.depth l.from l.place l.seen
 
 abbrev pub decreases-members::pass_members-members : goal.decreases-members::pass_members-members
 decreases-members::pass_members-members l = length l.context.line - l.place

@@ -76,8 +76,8 @@ StepsTo context type from values Broken = Unit {0}
 
 -- a member that was read ends after that offset
 abbrev pub StepsFrom : ℕ → Step → Type 0
-StepsFrom place (Read read) = (place < read.place) × (read.order < 1024)
-StepsFrom place (Rejected read) = (place < read.place) × (read.order < 1024)
+StepsFrom place (Read read) = (place < read.place) × (read.order < 256)
+StepsFrom place (Rejected read) = (place < read.place) × (read.order < 256)
 StepsFrom place Nothing = Unit {0}
 StepsFrom place Broken = Unit {0}
 

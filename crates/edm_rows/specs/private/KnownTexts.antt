@@ -22,5 +22,4 @@ pub record IsKnown (schema : SchemaModel) (known : KnownText) : Type 0 where
 
 -- each of these texts that is shorter than 16 bytes; where none is kept the length is 16
 pub record AreKnown (schema : SchemaModel) (texts : KnownTexts) : Type 0 where
-  pub count : length texts.kept ≡ 32
-  pub each : (at : ℕ) → IfSome (slice_get texts.kept at) (λ known. known.length < 16 → IsKnown schema known)
+  pub each : (at : ℕ) → IfSome (slice_get texts.kept.items at) (λ known. known.length < 16 → IsKnown schema known)

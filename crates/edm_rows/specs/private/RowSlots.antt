@@ -79,7 +79,7 @@ pub record IsRowSlot
   pub behind : slot.node ≡ plan.node
   pub index_is : slot.index ≡ index
   pub bit : slot.bit ≡ 2 ^ index
-  pub order : slot.order < 1024
+  pub order : slot.order < 256
   pub agrees : IsSlotOf plans slot
   pub task : IsTaskOf slot slot.task
   pub fits : (json : Data) → IsSlotHeld schema steps plans slot json
@@ -111,7 +111,7 @@ pub record IsRowType
   pub of_type : (type.type_id ≡ plan.type_id) × (type.node ≡ plan.node)
   pub count : length type.slots.items ≡ length plan.slots.items
   pub few : length type.slots.items ≤ 64
-  pub order : type.order < 1024
+  pub order : type.order < 256
   pub each : (index : ℕ) → IfSome (slice_get type.slots.items index)
       (λ slot. IfSome (slice_get plan.slots.items index) (λ p. IsRowSlot schema steps plans index p slot))
   pub all : type.all ≡ 2 ^ length type.slots.items - 1

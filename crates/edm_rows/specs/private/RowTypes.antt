@@ -61,7 +61,7 @@ pub record IsMadeOf (index : ℕ) (name : List ℕ) (plan : SlotPlan) (slot : Ro
   pub points : slot.record ≡ plan.record
   pub index_is : slot.index ≡ index
   pub bit : slot.bit ≡ 2 ^ index
-  pub order : slot.order < 1024
+  pub order : slot.order < 256
   pub values : IsSlotAs plan slot
 
 -- where records are wanted, their plan is one of these, of that type and after that node

@@ -39,7 +39,7 @@ decreases-fill_items-items l = length l.context.line - l.place
 -- the members before the offset fill the slots of their names
 abbrev pub invariant-fill_members-members : goal.invariant-fill_members-members
 invariant-fill_members-members l =
-    (l.cache.depth ≡ l.initial.cache.depth) × (l.so_far.order < 1024) × IsFilledUpTo l.context l.plan l.initial.cache.depth l.from l.values.items l.so_far × (length l.values.items ≡ length l.plan.slots.items)
+    (l.cache.depth ≡ l.initial.cache.depth) × (l.so_far.order < 256) × IsFilledUpTo l.context l.plan l.initial.cache.depth l.from l.values.items l.so_far × (length l.values.items ≡ length l.plan.slots.items)
 
 abbrev pub decreases-fill_members-members : goal.decreases-fill_members-members
 decreases-fill_members-members l = length l.context.line - l.so_far.place

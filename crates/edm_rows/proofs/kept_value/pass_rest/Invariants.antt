@@ -6,7 +6,7 @@ use Rattle.edm_rows.proofs.kept_value.pass_rest.Given as goal
 -- one of the members before the offset is rejected, and the others were passed
 abbrev pub invariant-members : goal.invariant-members
 invariant-members l =
-    (l.read.place ≤ length l.context.line) × (l.read.order < 1024) × (l.cache.depth ≡ l.context.depth)
+    (l.read.place ≤ length l.context.line) × (l.read.order < 256) × (l.cache.depth ≡ l.context.depth)
     × ((from : ℕ) → IsReadTo l.context l.plan true from l.initial.values l.initial.read → IsReadTo l.context l.plan true from l.values l.read)
     × RowConforms (root_slots l.context) (root_properties l.context) l.values
 

@@ -6,7 +6,7 @@ use Rattle.edm_rows.proofs.kept_value.take_members.Given as goal
 -- the members before the offset were put into their slots
 abbrev pub invariant-members : goal.invariant-members
 invariant-members l =
-    (l.so_far.place ≤ length l.context.line) × (l.so_far.order < 1024) × (l.cache.depth ≡ l.context.depth)
+    (l.so_far.place ≤ length l.context.line) × (l.so_far.order < 256) × (l.cache.depth ≡ l.context.depth)
     × IsUpTo l.context l.plan false l.from l.values l.so_far
     × RowConforms (root_slots l.context) (root_properties l.context) l.values
 

@@ -1,5 +1,5 @@
-use Rattle.std.proofs.Common.{◌≡◌, ◌+◌, ◌<◌, ℕ, Option, Some, IfSome, length, get_or, slice_get, subst, sym, arith, rules}
-use Rattle.std.proofs.lemmas.Option.{slice_get-get_or}
+use Rattle.std.proofs.Common.{◌≡◌, ◌+◌, ◌<◌, ℕ, List, Option, Some, IfSome, length, get_or, slice_get, refl, subst, arith, rules}
+use Rattle.std.proofs.lemmas.Option.{slice_get_read}
 use Rattle.csdl_schema.specs.ExprType.{enumeration, single}
 use Rattle.csdl_schema.specs.SchemaModel.{slots_of}
 use Rattle.edm_entities.specs.private.Passed.{FitsSomeHowever}
@@ -16,13 +16,14 @@ returns-then-are_front c schema depth known =
     let r = c.bytes-bytes.ensures in
     let b = c.bytes-bytes.result.now in
     let place = c.args.place in
-    let kept = c.args.self.now.kept in
-    let k = get_or kept c.place_of.result c.index-self-place_of.result in
+    let kept = c.as_slice-kept.result.now in
+    let n = c.place_of-index.result in
+    let k = c.index-kept-index.result in
     let opens : get_or b place 0 ≡ 34 = omega arith in
     let few : k.length < 16 = c.if-known-lt-TOO_LONG.true in
-    let inside : c.place_of.result < length kept = omega (arith, c.place_of.ensures, known.count) in
-    let at : slice_get kept c.place_of.result ≡ Some k = slice_get-get_or kept c.place_of.result c.index-self-place_of.result inside in
-    let is : k.length < 16 → IsKnown schema k = subst (λ (o : Option KnownText). IfSome o (λ t. t.length < 16 → IsKnown schema t)) at (known.each c.place_of.result) in
+    let read : slice_get kept n ≡ Some k = slice_get_read kept (length kept) n k refl (omega arith) c.index-kept-index.is in
+    let at : slice_get c.args.self.now.kept.items n ≡ Some k = subst (λ (ks : List KnownText). slice_get ks n ≡ Some k) c.as_slice-kept.ensures.value read in
+    let is : k.length < 16 → IsKnown schema k = subst (λ (o : Option KnownText). IfSome o (λ t. t.length < 16 → IsKnown schema t)) at (known.each n) in
     let same : k.id ≡ c.args.id = search rules in
     let stands = known_stands schema k line b place r.front r.line_feed r.room c.requires opens few (is few) (c.are_front.ensures c.if-are_front.true) depth in
     subst (λ (o : Option ℕ). ReadsTo depth line place (place + k.length + 2) (FitsSomeHowever (slots_of schema) (single (enumeration (name_at schema o))))) same stands
