@@ -16,6 +16,23 @@ use super::tally::Tally;
 use std::alloc::AllocError;
 use std::io::Write;
 
+/// Holds the text and LF back as [`keep`] does. It is not inlined, so that what judges the items is.
+#[inline(never)]
+fn keep_item<W: Write, T: Writes<W>>(
+    out: &mut W,
+    held: &mut Vec<u8>,
+    text: &[u8],
+) -> Result<(), NotWritten>
+    ensures ok { OnOk result
+        (WritesBut (W.contents out.old) (W.contents out.new) held.new.items (held.old.items ++ text_of_line text.now)) }
+    ensures err { OnErr result
+        (WritesFront (W.contents out.old) (W.contents out.new) (held.old.items ++ text_of_line text.now)) }
+    ensures well { OnOk result (StaysWell (T.calls out.old) (T.calls out.new)) }
+    ensures failed { OnErr result (FailsLast (T.calls out.old) (T.calls out.new)) }
+{
+    keep::<W, T>(out, held, text)
+}
+
 /// Writes the text and then LF, where its item is kept.
 fn keep_where<W: Write, T: Writes<W>>(
     is_kept: bool,
@@ -32,7 +49,7 @@ fn keep_where<W: Write, T: Writes<W>>(
     ensures failed { OnErr result (FailsLast (T.calls out.old) (T.calls out.new)) }
 {
     if is_kept {
-        keep::<W, T>(out, held, text)
+        keep_item::<W, T>(out, held, text)
     } else {
         Ok(())
     }

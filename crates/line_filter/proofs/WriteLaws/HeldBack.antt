@@ -58,14 +58,6 @@ pub held_both : (h₀ h₁ h₂ x y first second : List ℕ) → h₀ ++ x ≡ f
 held_both h₀ h₁ h₂ x y first second e f =
     sym (append_assoc h₀ x y) ∙ ap (λ l. l ++ y) e ∙ append_assoc first h₁ y ∙ ap (λ l. first ++ l) f ∙ sym (append_assoc first second h₂)
 
-pub WritesBut-after : (a b c : Option (List ℕ)) (h₀ h₁ h₂ x y : List ℕ) → WritesBut a b h₁ (h₀ ++ x) → WritesBut b c h₂ (h₁ ++ y) → WritesBut a c h₂ (h₀ ++ (x ++ y))
-WritesBut-after a b c h₀ h₁ h₂ x y (first, wrote, e) (second, more, f) =
-    (first ++ second, Appends-trans a b c first second wrote more, held_both h₀ h₁ h₂ x y first second e f)
-
-pub WritesFront-held : (a b c : Option (List ℕ)) (h₀ h₁ x y : List ℕ) → WritesBut a b h₁ (h₀ ++ x) → WritesFront b c (h₁ ++ y) → WritesFront a c (h₀ ++ (x ++ y))
-WritesFront-held a b c h₀ h₁ x y (first, wrote, e) (second, more, (rest, f)) =
-    (first ++ second, Appends-trans a b c first second wrote more, (rest, held_both h₀ h₁ rest x y first second e f))
-
 -- nothing was written, and nothing more is held
 pub WritesBut-same : (a : Option (List ℕ)) (held : List ℕ) → WritesBut a a held (held ++ [])
 WritesBut-same a held = ([], Appends-nil a, append-nil held)
