@@ -65,14 +65,8 @@ fn schema_bytes(rt: &HostRuntime, name: &str) -> Result<Vec<u8>, ReadAllError> {
     }
 }
 
-/// Reads the schema file, opens the rows that the plan names, and carries it out.
-fn carry_out(rt: &HostRuntime, plan: &Plan<'_>) -> u8 {
-    let document = match schema_bytes(rt, plan.schema) {
-        Ok(document) => document,
-        Err(ReadAllError::Memory) => return report_memory(rt),
-        Err(ReadAllError::Read) => return report(rt, format_args!("read {}", plan.schema), 5),
-    };
-    let (alloc, document) = (rt.alloc(), document.as_slice());
+/// Opens the rows that the plan names, and carries it out over the bytes of its schema file.
+fn carry_out_over(rt: &HostRuntime, plan: &Plan<'_>, document: &[u8]) -> u8 {
     let (mut out, mut err) = (rt.stdout(), rt.stderr());
     let rows = match plan.rows {
         Some(name) => match File::open(rt, name) {
@@ -81,7 +75,17 @@ fn carry_out(rt: &HostRuntime, plan: &Plan<'_>) -> u8 {
         },
         None => Some(Rows::Stdin(rt.stdin())),
     };
-    run(alloc, plan, document, rows, &mut out, &mut err)
+    run(rt.alloc(), plan, document, rows, &mut out, &mut err)
+}
+
+/// Reads the schema file and carries the plan out. What reports a failure comes after what a run calls, in the program
+/// too, and so stays out of memory.
+fn carry_out(rt: &HostRuntime, plan: &Plan<'_>) -> u8 {
+    match schema_bytes(rt, plan.schema) {
+        Ok(document) => carry_out_over(rt, plan, document.as_slice()),
+        Err(ReadAllError::Memory) => report_memory(rt),
+        Err(ReadAllError::Read) => report(rt, format_args!("read {}", plan.schema), 5),
+    }
 }
 
 /// The words of the command line, the program's name first.

@@ -182,7 +182,8 @@ fn report_nodes<'p, W: Write>(
 }
 
 /// What the plan's verb makes of its filter. `check` and `explain` look at no rows. A frame of its own has what reads
-/// rows: the schema was read before. Filtering comes first, so that in memory nothing of the others is beside it.
+/// rows: the schema was read before. The order is that of the functions in the program: what a run over rows does not
+/// call is one stretch after what it calls, but for `check`, whose canonical text brings functions that it shares.
 #[inline(never)]
 fn by_verb<'p, R: Read + Drop, W: Write>(
     alloc: Global,
@@ -199,8 +200,8 @@ fn by_verb<'p, R: Read + Drop, W: Write>(
         (streams (option_map (λ r. R.remaining r) rows) (W.contents out.old) (W.contents out.new)) }
 {
     match asked.plan.verb {
-        Verb::Filter => filter_rows(alloc, asked, rows, out),
         Verb::Check => report_filter(alloc, asked.checked, out),
+        Verb::Filter => filter_rows(alloc, asked, rows, out),
         Verb::Explain => report_nodes(alloc, asked.checked, out),
     }
 }
