@@ -8,9 +8,17 @@ pub mod MemberTexts
 pub mod NameQuotes
 pub mod PathPieces
 pub mod PathReading
+pub mod PlainModels
+pub mod PlainNames
 pub mod Printing
+pub mod QuoteFree
 pub mod Reading
 pub mod Shapes
+pub mod Spelled
+pub mod SpelledContent
+pub mod SpelledJson
+pub mod SpelledTexts
+pub mod SpelledTokens
 pub mod Steps
 pub mod TreeReading
 pub mod Written

@@ -40,7 +40,7 @@ AreBalanced text = read (outside 0) text ≡ outside 0
 abbrev pub HasNoQuote : List ℕ → Type 0
 HasNoQuote = AllByRecursion (λ c. c ≢ 39)
 
--- so it is with the names of properties and of members: identifiers have none
+-- no name of a property or of an enumeration's member has one
 pub record AreNamesPlain (table : TableModel) : Type 0 where
   pub steps : (step : Step) → HasNoQuote (step_name table step)
   pub members : (id : ℕ) → AllByRecursion (λ m. HasNoQuote m.name) (members_in (enumeration_at table.schema id))
