@@ -1,12 +1,13 @@
 -- The outcome of a handle that is a filter, from that of the filter, of its table and of the moment.
-use Rattle.std.proofs.Common.{◌≡◌, ◌↔◌, inl, inr, ℕ, Bool, true, false, List, [], ◌∷◌, Result, Ok, Err, Option, Some, None, MatchResult, String, Global, Bor, string_bytes, map, length, refl, sym, subst, arith}
+use Rattle.std.proofs.Common.{◌≡◌, ◌↔◌, inl, inr, ℕ, suc, Bool, true, false, List, [], ◌∷◌, Result, Ok, Err, Option, Some, None, MatchResult, String, Global, Bor, string_bytes, map, length, refl, sym, ap, subst, arith}
 use Rattle.std.proofs.lemmas.Bool.Decides.{eqb_tells}
 use Rattle.std.specs.Prelude.{IfErr, IfOk, IsSomeAnd, IsTrue, codes, ◌==◌}
-use Rattle.csdl_schema.specs.SchemaModel.{SchemaModel, properties_at}
+use Rattle.csdl_schema.specs.SchemaModel.{PropertyModel, SchemaModel, properties_at}
 use Rattle.edm_values.specs.MomentLiteral.{MomentValue}
 use Rattle.edm_values.specs.MomentParts.{MomentParts}
 use Rattle.odata_checked_filter.specs.Calls.{UsesNow}
-use Rattle.odata_checked_filter.specs.Filter.{Filter, tree_of_filter}
+use Rattle.odata_checked_filter.specs.Filter.{Filter, IsFilter, tree_of_filter}
+use Rattle.odata_sql.specs.Refusals.{ColumnsSuffice, HasColumns}
 use Rattle.sql_tree.specs.TableModel.{StorageModel, in_columns, in_document}
 use Rattle.sql_tree.specs.declared.dialect.Dialect.{Dialect}
 use Rattle.handle_calls.specs.RowCalls.{IsMomentFor}
@@ -86,6 +87,22 @@ not_known filter dialect now schema id lines known same at is unknown =
 -- the names of columns that a slice borrows
 abbrev pub names_in : List (Bor (List ℕ)) → List (List ℕ)
 names_in slice = map (λ (name : Bor (List ℕ)). name.now) slice
+
+columns_many : (properties : List PropertyModel) (lines columns : List (List ℕ)) → AreColumns properties lines columns → length columns ≡ length properties
+columns_many [] lines columns none = ap length none
+columns_many (p ∷ properties) lines [] columns = absurd columns
+columns_many (p ∷ properties) lines (column ∷ columns) all = ap suc (columns_many properties lines columns all.1)
+
+-- each property has its column
+pub each_stored : (filter : Filter) (schema : SchemaModel) (id : ℕ) (lines : List ℕ) (slice items : List (Bor (List ℕ))) → ColumnsSuffice → IsFilter filter → schema ≡ filter.schema → id ≡ filter.filtered
+    → slice ≡ items → AreColumns (properties_at schema id) (lines_of lines) (names_in items) → HasColumns filter.list.nodes (in_columns (names_in slice))
+each_stored filter schema id lines slice items suffice right same at whole columns =
+    let many : length (names_in items) ≡ length (properties_at schema id) = columns_many (properties_at schema id) (lines_of lines) (names_in items) columns in
+    let as_many : length (names_in slice) ≡ length (properties_at filter.schema filter.filtered) =
+    subst (λ (n : ℕ). length (names_in slice) ≡ length (properties_at filter.schema n)) at
+    (subst (λ (s : SchemaModel). length (names_in slice) ≡ length (properties_at s id)) same
+    (subst (λ (xs : List (Bor (List ℕ))). length (names_in xs) ≡ length (properties_at schema id)) (sym whole) many)) in
+    suffice filter (names_in slice) right as_many
 
 pub over_columns : (filter : Filter) (schema : SchemaModel) (id : ℕ) (lines : List ℕ) (dialect : Dialect) (now : MomentParts) (slice items : List (Bor (List ℕ))) (result : Result (String Global) Fault)
     → schema ≡ filter.schema → id ≡ filter.filtered → slice ≡ items → AreKnown (properties_at schema id) (lines_of lines) → AreColumns (properties_at schema id) (lines_of lines) (names_in items)

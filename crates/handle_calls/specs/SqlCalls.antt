@@ -1,6 +1,6 @@
 -- A filter as conditions of SQL: by a form, which is a dialect and how the table stores entities, and by lines about the
 -- table.
-use Rattle.std.specs.Prelude.{◌≡◌, ◌⊎◌, ℕ, IsSomeAnd, IsUtf8, List, [], Bool, true, false, None, IfNone, IfSome, codes}
+use Rattle.std.specs.Prelude.{◌≡◌, ℕ, IsSomeAnd, IsUtf8, List, [], Bool, true, false, None, IfNone, IfSome, codes}
 use Rattle.csdl_schema.specs.SchemaModel.{properties_at}
 use Rattle.edm_values.specs.MomentLiteral.{MomentValue}
 use Rattle.edm_values.specs.MomentParts.{MomentParts}
@@ -8,7 +8,7 @@ use Rattle.odata_checked_filter.specs.Calls.{UsesNow}
 use Rattle.odata_checked_filter.specs.Filter.{Filter, tree_of_filter}
 use Rattle.odata_sql.specs.Conditions.{FaultsIt, IsItsCode, KeepsIt}
 use Rattle.odata_sql.specs.JsonText.{IsTextOf}
-use Rattle.odata_sql.specs.Refusals.{IsNulFree, NamesWhatIsNot, NestsTooDeeply, SomeTreeWith}
+use Rattle.odata_sql.specs.Refusals.{IsNulFree, NestsTooDeeply, SomeTreeWith}
 use Rattle.odata_sql.specs.Translation.{NeverFaults, Says, table_of}
 use Rattle.odata_sql.specs.declared.translation.Conditions.{Conditions}
 use Rattle.sql_tables.specs.Columns.{AreColumns, AreKnown}
@@ -71,11 +71,9 @@ IsNoNow filter line Fault.NotAMoment = (now : MomentParts) → ¬ MomentValue li
 IsNoNow filter line Fault.MomentNeeded = (line ≡ []) × UsesNow (tree_of_filter filter)
 IsNoNow filter line fault = ⊥
 
--- a literal or a name has U+0000, or a tree that says them names what the table does not have; such a tree nests too
--- deeply for the engine; or memory ends
+-- a literal or a name has U+0000; a tree that says them nests too deeply for the engine; or memory ends
 abbrev pub IsNoConditions : Filter → StorageModel → Dialect → MomentParts → Fault → Type 0
-IsNoConditions filter storage dialect now Fault.Unsayable =
-    (¬ IsNulFree filter storage) ⊎ SomeTreeWith filter now (NamesWhatIsNot (table_of filter storage))
+IsNoConditions filter storage dialect now Fault.Unsayable = ¬ IsNulFree filter storage
 IsNoConditions filter storage dialect now Fault.TooDeep = SomeTreeWith filter now (NestsTooDeeply dialect)
 IsNoConditions filter storage dialect now Fault.Memory = Unit {0}
 IsNoConditions filter storage dialect now fault = ⊥

@@ -2,6 +2,7 @@
 ghost use Rattle.handle_calls.specs.declared.call_fault.Fault.{Fault};
 ghost use Rattle.handle_calls.specs.declared.handle.Handle.{Handle};
 ghost use Rattle.std.specs.Prelude.{MatchResult, string_bytes, true, false};
+ghost use Rattle.odata_sql.specs.Refusals.{HasColumns};
 ghost use Rattle.sql_tree.specs.TableModel.{storage_in};
 ghost use Rattle.handle_calls.specs.SqlCalls.{HasConditions};
 ghost use Rattle.handle_calls.specs.SqlCalls.{IsNoConditions, IsNoNow, IsNoSql, IsNoTableSql, IsNowBy, IsSqlOf};
@@ -11,7 +12,7 @@ use crate::call_fault::Fault;
 use crate::handle::Handle;
 use crate::judge_calls::moment_for;
 use edm_values::{Moment, read_moment};
-use odata_sql::{SqlFault, conditions_json, translate};
+use odata_sql::{SqlFault, columns_suffice, conditions_json, translate};
 use odata_typing::Checked;
 use sql_tables::{are_known, columns_of, form_of, split_first_line};
 use sql_tree::{Dialect, Storage};
@@ -25,6 +26,7 @@ fn conditions_text(
     dialect: Dialect,
     now: &Moment,
 ) -> Result<String, Fault>
+    requires { HasColumns checked.now.list.nodes (storage_in storage) }
     ensures { MatchResult result (λ text. HasConditions checked.now (storage_in storage.entry) dialect now.now
         (string_bytes text)) (IsNoConditions checked.now (storage_in storage.entry) dialect now.now) }
 {
@@ -34,8 +36,7 @@ fn conditions_text(
             Err(_) => Err(Fault::Memory),
         },
         Err(SqlFault::Nul) => Err(Fault::Unsayable),
-        // Each property has its column here.
-        Err(SqlFault::NoColumn) => Err(Fault::Unsayable),
+        Err(SqlFault::NoColumn) => unreachable!(),
         Err(SqlFault::TooDeep) => Err(Fault::TooDeep),
         Err(SqlFault::Memory) => Err(Fault::Memory),
     }
@@ -77,6 +78,8 @@ fn columns_text(
     let Ok(columns) = columns_of(alloc, schema, id, lines) else {
         return Err(Fault::Memory);
     };
+    columns_suffice();
+    let _nodes = checked.nodes();
     conditions_text(
         alloc,
         checked,

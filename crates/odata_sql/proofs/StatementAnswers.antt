@@ -1,7 +1,6 @@
 -- What the statements of a whole filter say.
 use Rattle.std.proofs.Common.{◌≡◌, ◌≢◌, ◌↔◌, ◌++◌, ◌∷◌, ◌∙◌, [], ℕ, List, Vec, String, Some, Result, Ok, Err, IfErr, IfOk, true, false, length, refl, sym, ap, subst, Bool, IsTrue, ◌<◌, ◌≤◌, arith}
 use Rattle.std.specs.Prelude.{IsSomeAnd, slice_get}
-use Rattle.std.specs.List.{AllByRecursion}
 use Rattle.std.specs.declared.alloc.Global.{Global}
 use Rattle.edm_values.specs.MomentParts.{IsMoment, MomentParts}
 use Rattle.csdl_schema.specs.SchemaModel.{slots_of, type_name_at, SchemaModel}
@@ -17,7 +16,7 @@ use Rattle.odata_eval.proofs.walking.Parts.{there_found, some_there}
 use Rattle.odata_ranges.specs.Within.{IsWithin}
 use Rattle.odata_ranges.specs.declared.range.Range.{Range}
 use Rattle.sql_meaning.specs.OneMeaning.{HaveOneMeaning}
-use Rattle.odata_sql.specs.Refusals.{IsNulFree, NamesWhatIsNot, NestsTooDeeply, TreeWith, most_symbols}
+use Rattle.odata_sql.specs.Refusals.{HasColumns, IsNulFree, NestsTooDeeply, TreeWith, most_symbols}
 use Rattle.odata_sql.specs.private.Refused.{IsRefused, IsRefusedTree}
 use Rattle.odata_sql.specs.private.ShapedTrees.{IsOfShape, IsTextOfShape}
 use Rattle.odata_sql.specs.declared.fault.SqlFault.{SqlFault}
@@ -50,7 +49,7 @@ use Rattle.sql_tree.specs.Numbered.{AreNumbered, parameters_of}
 use Rattle.sql_tree.specs.ParserDepth.{symbols_of}
 use Rattle.sql_tree.specs.Printed.{IsListOf, IsOfTree, IsTextOf}
 use Rattle.sql_tree.specs.TreeText.{IsWhole}
-use Rattle.sql_tree.specs.Shapes.{IsShaped, IsThere}
+use Rattle.sql_tree.specs.Shapes.{IsShaped}
 use Rattle.sql_tree.specs.declared.tree.SqlTree.{SqlTree}
 use Rattle.odata_ranges.proofs.Forms.{inside_there}
 use Rattle.sql_forms.proofs.puts.FormsPut.{code_there}
@@ -113,24 +112,17 @@ module _ (question : Question) (dialect : Dialect) (table : TableModel) (old new
       is = is;
     }
 
-    pub refused_for : (fault : SqlFault) → IsRefusedTree dialect table new.tree fault → IsRefused question.filter question.now dialect table Holds fault
+    pub refused_for : (fault : SqlFault) → IsRefusedTree dialect new.tree fault → IsRefused question.filter question.now dialect Holds fault
     refused_for SqlFault.Nul refused = refused
-    refused_for SqlFault.NoColumn absent = tree_with (NamesWhatIsNot table) (absent put.t nodes_are)
+    refused_for SqlFault.NoColumn refused = refused
     refused_for SqlFault.TooDeep deep = tree_with (NestsTooDeeply dialect) (deep put.t nodes_are put.shaped)
     refused_for SqlFault.Memory refused = tt
 
-    pub refused_says : {T : Type 0} (r : Result T SqlFault) → IfErr r (IsRefusedTree dialect table new.tree) → IfErr r (IsRefused question.filter question.now dialect table Holds)
+    pub refused_says : {T : Type 0} (r : Result T SqlFault) → IfErr r (IsRefusedTree dialect new.tree) → IfErr r (IsRefused question.filter question.now dialect Holds)
     refused_says (Ok v) refused = tt
     refused_says (Err fault) refused = refused_for fault refused
 
--- what is not all there
-pub absent_there : (table : TableModel) (paths : List Path) (nodes : List SqlNode) (answer : Bool) → IsTrue answer ↔ AllByRecursion (IsThere table paths) nodes → answer ≡ false
-    → (t : Term) → nodes ≡ nodes_of t → NamesWhatIsNot table paths t
-absent_there table paths nodes answer is missing t same = λ there.
-    let holds : IsTrue answer = is.1 (subst (AllByRecursion (IsThere table paths)) (sym same) there) in
-    let both : true ≡ false = sym holds ∙ missing in cc
-
--- and what nests too deeply
+-- what nests too deeply
 pub deep_there : (dialect : Dialect) (table : TableModel) (tree : SqlTree) (answer : Bool) → MakesWhole dialect table tree answer → IsTrue answer
     → (most depth : ℕ) → ((over : TableModel) (t : Term) → IsListOf Dialect.Sqlite over tree t → depth ≤ symbols_of t) → most ≡ most_symbols dialect → most < depth
     → (t : Term) → tree.nodes.items ≡ nodes_of t → IsShaped t → NestsTooDeeply dialect tree.paths.items t
@@ -139,33 +131,49 @@ deep_there dialect table tree answer makes holds most depth bound is_most deep t
     omega (arith, below, is_most, deep)
 
 -- what a filter is refused for, of which a statement is
-module _ (filter : Filter) (now : MomentParts) (dialect : Dialect) (storage : StorageModel) (free : IsNulFree filter storage) {T : Type 0} (result : Result T SqlFault) (fault : SqlFault) (is : result ≡ Err fault) where
+module _ (filter : Filter) (now : MomentParts) (dialect : Dialect) (storage : StorageModel) (free : IsNulFree filter storage) (there : HasColumns filter.list.nodes storage) {T : Type 0} (result : Result T SqlFault) (fault : SqlFault) (is : result ≡ Err fault) where
   same_fault : (other : SqlFault) → result ≡ Err other → fault ≡ other
   same_fault other as_other = let both : Err fault ≡ Err other = sym is ∙ as_other in cc
 
-  not_nul : (own : SqlFault) → own ≢ SqlFault.Nul → own ≡ fault → result ≡ Err SqlFault.Nul ↔ ¬ IsNulFree filter storage
+  abbrev IsNul : Type 0
+  IsNul = result ≡ Err SqlFault.Nul ↔ ¬ IsNulFree filter storage
+
+  abbrev IsNoColumn : Type 0
+  IsNoColumn = result ≡ Err SqlFault.NoColumn ↔ (IsNulFree filter storage × ¬ HasColumns filter.list.nodes storage)
+
+  not_nul : (own : SqlFault) → own ≢ SqlFault.Nul → own ≡ fault → IsNul
   not_nul own other same = (λ nul. absurd (other (same ∙ same_fault SqlFault.Nul nul)), λ bound. absurd (bound free))
 
-  pub memory_is_no_nul : fault ≡ SqlFault.Memory → result ≡ Err SqlFault.Nul ↔ ¬ IsNulFree filter storage
+  not_column : (own : SqlFault) → own ≢ SqlFault.NoColumn → own ≡ fault → IsNoColumn
+  not_column own other same = (λ column. absurd (other (same ∙ same_fault SqlFault.NoColumn column)), λ missing. absurd (missing.1 there))
+
+  pub memory_is_no_nul : fault ≡ SqlFault.Memory → IsNul
   memory_is_no_nul memory = not_nul SqlFault.Memory (λ same. cc) (sym memory)
 
-  module _ (table : TableModel) (own : table ≡ table_of filter storage) (Holds : Outcome → Outcome → Type 0) (refused : IsRefused filter now dialect table Holds fault) where
-    pub refused_no_nul : result ≡ Err SqlFault.Nul ↔ ¬ IsNulFree filter storage
+  pub memory_is_no_column : fault ≡ SqlFault.Memory → IsNoColumn
+  memory_is_no_column memory = not_column SqlFault.Memory (λ same. cc) (sym memory)
+
+  module _ (Holds : Outcome → Outcome → Type 0) (refused : IsRefused filter now dialect Holds fault) where
+    pub refused_no_nul : IsNul
     refused_no_nul = by_fault fault refused refl
       where
-        by_fault : (f : SqlFault) → IsRefused filter now dialect table Holds f → f ≡ fault → result ≡ Err SqlFault.Nul ↔ ¬ IsNulFree filter storage
+        by_fault : (f : SqlFault) → IsRefused filter now dialect Holds f → f ≡ fault → IsNul
         by_fault SqlFault.Nul reason same = absurd reason
-        by_fault SqlFault.NoColumn reason same = not_nul SqlFault.NoColumn (λ e. cc) same
+        by_fault SqlFault.NoColumn reason same = absurd reason
         by_fault SqlFault.TooDeep reason same = not_nul SqlFault.TooDeep (λ e. cc) same
         by_fault SqlFault.Memory reason same = not_nul SqlFault.Memory (λ e. cc) same
 
-    pub refused_column : result ≡ Err SqlFault.NoColumn → TreeWith filter now Holds (NamesWhatIsNot (table_of filter storage))
-    refused_column column =
-        subst (λ (over : TableModel). TreeWith filter now Holds (NamesWhatIsNot over)) own
-        (subst (IsRefused filter now dialect table Holds) (same_fault SqlFault.NoColumn column) refused)
+    pub refused_no_column : IsNoColumn
+    refused_no_column = by_fault fault refused refl
+      where
+        by_fault : (f : SqlFault) → IsRefused filter now dialect Holds f → f ≡ fault → IsNoColumn
+        by_fault SqlFault.Nul reason same = absurd reason
+        by_fault SqlFault.NoColumn reason same = absurd reason
+        by_fault SqlFault.TooDeep reason same = not_column SqlFault.TooDeep (λ e. cc) same
+        by_fault SqlFault.Memory reason same = not_column SqlFault.Memory (λ e. cc) same
 
     pub refused_depth : result ≡ Err SqlFault.TooDeep → TreeWith filter now Holds (NestsTooDeeply dialect)
-    refused_depth deep = subst (IsRefused filter now dialect table Holds) (same_fault SqlFault.TooDeep deep) refused
+    refused_depth deep = subst (IsRefused filter now dialect Holds) (same_fault SqlFault.TooDeep deep) refused
 
 -- the condition of a fault
 pub fault_is_put : (question : Question) (ranges : List Range) → AreRanges question ranges → EndsOnceOnEntities → IsMoment question.now.civil question.now.offset_minutes → IsTruthAt question.filter 0

@@ -1,15 +1,17 @@
 -- Why a filter has no conditions in a dialect.
-use Rattle.std.specs.Prelude.{◌<◌, ◌⊎◌, ℕ, List, [], ◌∷◌, string_bytes}
+use Rattle.std.specs.Prelude.{◌≡◌, ◌<◌, ◌+◌, ◌⊎◌, ℕ, List, [], ◌∷◌, Bool, true, false, IfSome, Option, Some, None, length, option_and_then, slice_get, string_bytes}
 use Rattle.std.specs.List.{AllByRecursion}
 use Rattle.edm_values.specs.MomentParts.{MomentParts}
 use Rattle.edm_values.specs.declared.value.Value.{Value}
-use Rattle.odata_checked_filter.specs.Filter.{Filter}
+use Rattle.csdl_schema.specs.SchemaModel.{properties_at}
+use Rattle.odata_checked_filter.specs.Filter.{Filter, IsFilter}
+use Rattle.odata_checked_filter.specs.declared.checked_node.CheckedNode.{CheckedNode}
+use Rattle.odata_checked_filter.specs.declared.checked_node.NodeKind.{NodeKind}
 use Rattle.odata_filter_operations.specs.Outcome.{Outcome}
 use Rattle.sql_meaning.specs.ParameterGives.{HoldsNul}
 use Rattle.sql_tree.specs.ParserDepth.{symbols_of}
-use Rattle.sql_tree.specs.Shapes.{IsThere}
-use Rattle.sql_tree.specs.TableModel.{StorageModel, TableModel, in_columns, in_document}
-use Rattle.sql_tree.specs.Term.{Term, nodes_of}
+use Rattle.sql_tree.specs.TableModel.{StorageModel, in_columns, in_document}
+use Rattle.sql_tree.specs.Term.{Term}
 use Rattle.sql_tree.specs.declared.dialect.Dialect.{Dialect}
 use Rattle.sql_tree.specs.declared.parameter.Parameter.{Parameter}
 use Rattle.sql_tree.specs.declared.path.Path.{Path}
@@ -32,6 +34,45 @@ abbrev pub IsNulFree : Filter → StorageModel → Type 0
 IsNulFree filter storage =
     AllByRecursion HasNoNul filter.list.values × AllByRecursion (λ name. ¬ HoldsNul name) (names_of storage)
 
+-- ---- `NoColumn`
+
+abbrev pub is_it : NodeKind → Bool
+is_it NodeKind.It = true
+is_it kind = false
+
+abbrev pub is_it_there : Option CheckedNode → Bool
+is_it_there None = false
+is_it_there (Some node) = is_it node.kind
+
+-- whether the node at an index is `$it`
+abbrev pub it_at : List CheckedNode → ℕ → Bool
+it_at nodes place = is_it_there (slice_get nodes place)
+
+-- the slot of the row's own type that a node names: by a property's name, or by a step from `$it`, which comes after it
+abbrev pub own_slot : NodeKind → Bool → Option ℕ
+own_slot (NodeKind.Property slot) before_it = Some slot
+own_slot (NodeKind.Member slot) true = Some slot
+own_slot kind before_it = None
+
+abbrev pub own_slot_at : List CheckedNode → ℕ → Option ℕ
+own_slot_at nodes place = option_and_then (λ node. own_slot node.kind (it_at nodes (place + 1))) (slice_get nodes place)
+
+-- each slot of the row that the nodes name is below a number
+abbrev pub AreBelow : ℕ → List CheckedNode → Type 0
+AreBelow count nodes = (place : ℕ) → IfSome (own_slot_at nodes place) (λ slot. slot < count)
+
+-- each has a column, or the row is stored as JSON
+abbrev pub HasColumns : List CheckedNode → StorageModel → Type 0
+HasColumns nodes (in_columns names) = AreBelow (length names) nodes
+HasColumns nodes (in_document name) = Unit {0}
+
+-- a table with a column for each property of the row has what a filter names
+abbrev pub ColumnsSuffice : Type 0
+ColumnsSuffice =
+    (filter : Filter) (columns : List (List ℕ)) → IsFilter filter
+    → length columns ≡ length (properties_at filter.schema filter.filtered)
+    → HasColumns filter.list.nodes (in_columns columns)
+
 -- ---- of a tree that says so of each row
 
 -- such a tree, of which this holds
@@ -47,10 +88,6 @@ pub record TreeWith
 abbrev pub SomeTreeWith : Filter → MomentParts → (List Path → Term → Type 0) → Type 0
 SomeTreeWith filter now Is =
     TreeWith filter now IsItsCode Is ⊎ (TreeWith filter now KeepsIt Is ⊎ TreeWith filter now FaultsIt Is)
-
--- `NoColumn`: one of its nodes names what the table does not have
-abbrev pub NamesWhatIsNot : TableModel → List Path → Term → Type 0
-NamesWhatIsNot table paths t = ¬ AllByRecursion (IsThere table paths) (nodes_of t)
 
 -- how many symbols of the engine's parser an expression may take
 abbrev pub most_symbols : Dialect → ℕ

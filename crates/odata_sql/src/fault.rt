@@ -10,7 +10,7 @@ pub enum SqlFault {
     /// The text nests more deeply than the engine's parser goes.
     #[error("TooDeep")]
     TooDeep,
-    /// The table has no column for a property that the filter names.
+    /// The table has no column for a property of the row that the filter names.
     #[error("NoColumn")]
     NoColumn,
     /// An allocation failed.

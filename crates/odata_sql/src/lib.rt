@@ -7,11 +7,14 @@
 //! ```
 #![tactic(auto)]
 
+mod columns;
 mod fault;
 mod json_text;
+mod laws;
 mod nul_free;
 mod translation;
 
 pub use fault::SqlFault;
 pub use json_text::conditions_json;
+pub use laws::columns_suffice;
 pub use translation::{Conditions, Statement, translate};

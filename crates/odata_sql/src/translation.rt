@@ -3,12 +3,13 @@ ghost use Rattle.std.specs.Prelude.{◌≡◌, ◌↔◌, Err, IfErr, IfOk, IfNo
 ghost use Rattle.sql_tree.specs.TableModel.{storage_in, table_in};
 ghost use Rattle.odata_sql.specs.Conditions.{FaultsIt, IsItsCode, KeepsIt};
 ghost use Rattle.odata_sql.specs.Translation.{NeverFaults, Says, table_of};
-ghost use Rattle.odata_sql.specs.Refusals.{IsNulFree, NamesWhatIsNot, NestsTooDeeply, SomeTreeWith, most_symbols};
+ghost use Rattle.odata_sql.specs.Refusals.{HasColumns, IsNulFree, NestsTooDeeply, SomeTreeWith, most_symbols};
 ghost use Rattle.odata_sql.specs.declared.fault.SqlFault.{SqlFault};
 ghost use Rattle.odata_sql.specs.private.Refused.{IsRefused, IsRefusedTree};
 ghost use Rattle.odata_sql.specs.private.ShapedTrees.{IsOfShape, IsTextOfShape};
 ghost use Rattle.sql_draft.specs.Translated.{IsTranslated};
 
+use super::columns::has_columns;
 use super::fault::SqlFault;
 use super::nul_free::is_nul_free;
 use edm_entities::what_fits_has_its_type;
@@ -57,7 +58,7 @@ pub struct Conditions {
     pub fault: Option<Statement>,
 }
 
-/// The text of a tree and its parameters. `NoColumn` where a node names what the table does not have.
+/// The text of a tree and its parameters.
 fn statement_of(
     alloc: Global,
     tree: SqlTree,
@@ -67,10 +68,11 @@ fn statement_of(
     requires { IsOfShape tree }
     ensures text { IfOk result (λ s. IsTextOfShape dialect (table_in table.now) tree s.text) }
     ensures parameters { IfOk result (λ s. s.parameters ≡ tree.parameters) }
-    ensures refused { IfErr result (IsRefusedTree dialect (table_in table.now) tree) }
+    ensures refused { IfErr result (IsRefusedTree dialect tree) }
 {
     if !names_what_is(&tree, table) {
-        return Err(SqlFault::NoColumn);
+        // Never so: `has_columns` has looked for what the filter names.
+        return Err(SqlFault::Memory);
     }
     if most_symbols(dialect) < parser_depth(alloc, &tree)? {
         return Err(SqlFault::TooDeep);
@@ -99,12 +101,15 @@ pub fn translate(
         (table_of checked.now (storage_in storage.entry)) statement FaultsIt)) }
     ensures no_fault { IfOk result (λ c. IfNone c.fault (NeverFaults checked.now now.now)) }
     ensures nul { result ≡ Err SqlFault.Nul ↔ ¬ IsNulFree checked.now (storage_in storage.entry) }
-    ensures no_column { result ≡ Err SqlFault.NoColumn → SomeTreeWith checked.now now.now
-        (NamesWhatIsNot (table_of checked.now (storage_in storage.entry))) }
+    ensures no_column { result ≡ Err SqlFault.NoColumn ↔ (IsNulFree checked.now (storage_in storage.entry)
+        × ¬ HasColumns checked.now.list.nodes (storage_in storage.entry)) }
     ensures too_deep { result ≡ Err SqlFault.TooDeep → SomeTreeWith checked.now now.now (NestsTooDeeply dialect) }
 {
     if !is_nul_free(checked, storage) {
         return Err(SqlFault::Nul);
+    }
+    if !has_columns(checked, storage) {
+        return Err(SqlFault::NoColumn);
     }
     entities_are_kept();
     what_fits_has_its_type();
@@ -139,14 +144,13 @@ fn outcome_of(
     requires stored { table_in table.now ≡ table_of context.now.checked.now (storage_in context.now.storage) }
     ensures ok { IfOk result (λ s. Says context.now.checked.now context.now.moment.now dialect
         (table_in table.now) s IsItsCode) }
-    ensures refused { IfErr result (IsRefused context.now.checked.now context.now.moment.now dialect
-        (table_in table.now) IsItsCode) }
+    ensures refused { IfErr result (IsRefused context.now.checked.now context.now.moment.now dialect IsItsCode) }
 {
     trees_have_one_type();
     trees_have_one_meaning();
-    let mut draft = Draft::new(alloc);
-    put_code(context, &mut draft, 0)?;
-    statement_of(alloc, draft.tree, table, dialect)
+    let mut code = Draft::new(alloc);
+    put_code(context, &mut code, 0)?;
+    statement_of(alloc, code.tree, table, dialect)
 }
 
 /// The condition that keeps a row.
@@ -160,8 +164,7 @@ fn keep_of(
     requires stored { table_in table.now ≡ table_of context.now.checked.now (storage_in context.now.storage) }
     ensures ok { IfOk result (λ s. Says context.now.checked.now context.now.moment.now dialect
         (table_in table.now) s KeepsIt) }
-    ensures refused { IfErr result (IsRefused context.now.checked.now context.now.moment.now dialect
-        (table_in table.now) KeepsIt) }
+    ensures refused { IfErr result (IsRefused context.now.checked.now context.now.moment.now dialect KeepsIt) }
 {
     trees_have_one_type();
     trees_have_one_meaning();
@@ -182,8 +185,7 @@ fn fault_of(
     ensures some { IfOk result (λ found. IfSome found (λ s. Says context.now.checked.now context.now.moment.now dialect
         (table_in table.now) s FaultsIt)) }
     ensures none { IfOk result (λ found. IfNone found (NeverFaults context.now.checked.now context.now.moment.now)) }
-    ensures refused { IfErr result (IsRefused context.now.checked.now context.now.moment.now dialect
-        (table_in table.now) FaultsIt) }
+    ensures refused { IfErr result (IsRefused context.now.checked.now context.now.moment.now dialect FaultsIt) }
 {
     typed_trees_end_once_on_entities();
     trees_have_one_type();

@@ -4,26 +4,23 @@ use Rattle.edm_values.specs.MomentParts.{MomentParts}
 use Rattle.odata_checked_filter.specs.Filter.{Filter}
 use Rattle.odata_filter_operations.specs.Outcome.{Outcome}
 use Rattle.sql_tree.specs.Shapes.{IsShaped}
-use Rattle.sql_tree.specs.TableModel.{TableModel}
 use Rattle.sql_tree.specs.Term.{Term, nodes_of}
 use Rattle.sql_tree.specs.declared.dialect.Dialect.{Dialect}
 use Rattle.sql_tree.specs.declared.tree.SqlTree.{SqlTree}
-use Rattle.odata_sql.specs.Refusals.{NamesWhatIsNot, NestsTooDeeply, TreeWith}
+use Rattle.odata_sql.specs.Refusals.{NestsTooDeeply, TreeWith}
 use Rattle.odata_sql.specs.declared.fault.SqlFault.{SqlFault}
 
 -- a tree of the code with as many children as its nodes take is such a one
-abbrev pub IsRefusedTree : Dialect → TableModel → SqlTree → SqlFault → Type 0
-IsRefusedTree dialect table tree SqlFault.Nul = ⊥
-IsRefusedTree dialect table tree SqlFault.NoColumn =
-    (t : Term) → tree.nodes.items ≡ nodes_of t → NamesWhatIsNot table tree.paths.items t
-IsRefusedTree dialect table tree SqlFault.TooDeep =
+abbrev pub IsRefusedTree : Dialect → SqlTree → SqlFault → Type 0
+IsRefusedTree dialect tree SqlFault.Nul = ⊥
+IsRefusedTree dialect tree SqlFault.NoColumn = ⊥
+IsRefusedTree dialect tree SqlFault.TooDeep =
     (t : Term) → tree.nodes.items ≡ nodes_of t → IsShaped t → NestsTooDeeply dialect tree.paths.items t
-IsRefusedTree dialect table tree SqlFault.Memory = Unit {0}
+IsRefusedTree dialect tree SqlFault.Memory = Unit {0}
 
 -- a tree that says so of each row is such a one
-abbrev pub IsRefused :
-    Filter → MomentParts → Dialect → TableModel → (Outcome → Outcome → Type 0) → SqlFault → Type 0
-IsRefused filter now dialect table Holds SqlFault.Nul = ⊥
-IsRefused filter now dialect table Holds SqlFault.NoColumn = TreeWith filter now Holds (NamesWhatIsNot table)
-IsRefused filter now dialect table Holds SqlFault.TooDeep = TreeWith filter now Holds (NestsTooDeeply dialect)
-IsRefused filter now dialect table Holds SqlFault.Memory = Unit {0}
+abbrev pub IsRefused : Filter → MomentParts → Dialect → (Outcome → Outcome → Type 0) → SqlFault → Type 0
+IsRefused filter now dialect Holds SqlFault.Nul = ⊥
+IsRefused filter now dialect Holds SqlFault.NoColumn = ⊥
+IsRefused filter now dialect Holds SqlFault.TooDeep = TreeWith filter now Holds (NestsTooDeeply dialect)
+IsRefused filter now dialect Holds SqlFault.Memory = Unit {0}

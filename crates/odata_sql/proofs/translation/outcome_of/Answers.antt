@@ -11,17 +11,17 @@ put_code-requires-clause-truth c = filter_truth c.args.context.now.checked.now c
 
 pub statement_of-requires : goal.statement_of-requires
 statement_of-requires c =
-    of_shape (question_of c.args.context.now) c.args.dialect (table_in c.args.table.now) c.new-draft.result c.put_code.new.draft c.requires.translated.right c.new-draft.ensures.nodes c.new-draft.ensures.parameters
-    c.new-draft.ensures.depth c.new-draft.ensures.members (IsInForm Form.Code) c.in_ok-put_code.ensures
+    of_shape (question_of c.args.context.now) c.args.dialect (table_in c.args.table.now) c.new-code.result c.put_code.new.draft c.requires.translated.right c.new-code.ensures.nodes c.new-code.ensures.parameters
+    c.new-code.ensures.depth c.new-code.ensures.members (IsInForm Form.Code) c.in_ok-put_code.ensures
 
 pub returns-clause-ok : goal.returns-clause-ok
 returns-clause-ok c =
-    ok_says (question_of c.args.context.now) c.args.dialect (table_in c.args.table.now) c.new-draft.result c.put_code.new.draft c.requires.translated.right c.new-draft.ensures.nodes c.new-draft.ensures.parameters
-    c.new-draft.ensures.depth c.new-draft.ensures.members (IsInForm Form.Code) c.in_ok-put_code.ensures IsItsCode c.trees_have_one_meaning.ensures (λ o x is. is) c.statement_of.result
+    ok_says (question_of c.args.context.now) c.args.dialect (table_in c.args.table.now) c.new-code.result c.put_code.new.draft c.requires.translated.right c.new-code.ensures.nodes c.new-code.ensures.parameters
+    c.new-code.ensures.depth c.new-code.ensures.members (IsInForm Form.Code) c.in_ok-put_code.ensures IsItsCode c.trees_have_one_meaning.ensures (λ o x is. is) c.statement_of.result
     c.statement_of.ensures.text c.statement_of.ensures.parameters
 
 pub returns-clause-refused : goal.returns-clause-refused
 returns-clause-refused c =
-    refused_says (question_of c.args.context.now) c.args.dialect (table_in c.args.table.now) c.new-draft.result c.put_code.new.draft c.requires.translated.right c.new-draft.ensures.nodes c.new-draft.ensures.parameters
-    c.new-draft.ensures.depth c.new-draft.ensures.members (IsInForm Form.Code) c.in_ok-put_code.ensures IsItsCode c.trees_have_one_meaning.ensures (λ o x is. is) c.statement_of.result
+    refused_says (question_of c.args.context.now) c.args.dialect (table_in c.args.table.now) c.new-code.result c.put_code.new.draft c.requires.translated.right c.new-code.ensures.nodes c.new-code.ensures.parameters
+    c.new-code.ensures.depth c.new-code.ensures.members (IsInForm Form.Code) c.in_ok-put_code.ensures IsItsCode c.trees_have_one_meaning.ensures (λ o x is. is) c.statement_of.result
     c.statement_of.ensures.refused

@@ -1,5 +1,5 @@
 use Rattle.sql_tree.specs.TableModel.{table_in}
-use Rattle.odata_sql.proofs.StatementAnswers.{absent_there, deep_there, printed_shape, shape_printed}
+use Rattle.odata_sql.proofs.StatementAnswers.{deep_there, printed_shape, shape_printed}
 use Rattle.odata_sql.proofs.translation.statement_of.Goals as goal
 
 pub print-requires : goal.print-requires
@@ -9,10 +9,6 @@ print-requires c =
 pub returns-clause-text : goal.returns-clause-text
 returns-clause-text c =
     shape_printed c.args.dialect (table_in c.args.table.now) c.args.tree c.names_what_is.result c.names_what_is.ensures.whole c.if-not-names_what_is.false c.in_ok-text.text c.in_ok-text.ensures
-
-pub returns-then-not-names_what_is-clause-refused : goal.returns-then-not-names_what_is-clause-refused
-returns-then-not-names_what_is-clause-refused c =
-    absent_there (table_in c.args.table.now) c.args.tree.paths.items c.args.tree.nodes.items c.names_what_is.result c.names_what_is.ensures.there c.if-not-names_what_is.true
 
 pub returns-then-branch-clause-refused : goal.returns-then-branch-clause-refused
 returns-then-branch-clause-refused c =

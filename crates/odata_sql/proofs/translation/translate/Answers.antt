@@ -11,7 +11,7 @@ use Rattle.odata_sql.specs.Conditions.{IsItsCode, KeepsIt}
 use Rattle.odata_sql.specs.Translation.{Says}
 use Rattle.odata_sql.specs.private.Refused.{IsRefused}
 use Rattle.odata_sql.specs.declared.translation.Statement.{Statement}
-use Rattle.odata_sql.proofs.StatementAnswers.{memory_is_no_nul, own_table, refused_column, refused_depth, refused_no_nul}
+use Rattle.odata_sql.proofs.StatementAnswers.{memory_is_no_column, memory_is_no_nul, own_table, refused_depth, refused_no_column, refused_no_nul}
 use Rattle.odata_sql.proofs.NulFree.{free_at}
 use Rattle.odata_sql.proofs.RangesFollow.{ranges_follow}
 use Rattle.sql_forms.proofs.nodes.Contexts.{entities_typed}
@@ -80,61 +80,75 @@ returns-clause-fault c =
 pub returns-then-not-is_nul_free-clause-nul : goal.returns-then-not-is_nul_free-clause-nul
 returns-then-not-is_nul_free-clause-nul c = (λ is. λ free. let both : true ≡ false = sym (c.is_nul_free.ensures.1 free) ∙ c.if-not-is_nul_free.true in cc, λ bound. refl)
 
+pub returns-then-not-is_nul_free-clause-no_column : goal.returns-then-not-is_nul_free-clause-no_column
+returns-then-not-is_nul_free-clause-no_column c = (λ is. absurd (cc), λ missing. let both : true ≡ false = sym (c.is_nul_free.ensures.1 missing.0) ∙ c.if-not-is_nul_free.true in absurd (cc))
+
+pub returns-then-not-has_columns-clause-nul : goal.returns-then-not-has_columns-clause-nul
+returns-then-not-has_columns-clause-nul c = (λ is. absurd (cc), λ bound. absurd (bound (c.is_nul_free.ensures.0 c.if-not-is_nul_free.false)))
+
+pub returns-then-not-has_columns-clause-no_column : goal.returns-then-not-has_columns-clause-no_column
+returns-then-not-has_columns-clause-no_column c = (λ is. ((c.is_nul_free.ensures.0 c.if-not-is_nul_free.false), λ all. let both : true ≡ false = sym (c.has_columns.ensures.1 all) ∙ c.if-not-has_columns.true in cc), λ missing. refl)
+
 pub returns-in_err-ranges-clause-nul : goal.returns-in_err-ranges-clause-nul
 returns-in_err-ranges-clause-nul c =
     let exit = err_from_is_err_and c.from_residual.result c.from_residual.ensures.1 in
-    memory_is_no_nul c.args.checked.now c.args.now.now c.args.dialect (storage_in c.args.storage) (c.is_nul_free.ensures.0 c.if-not-is_nul_free.false) c.from_residual.result exit.0 exit.1 exit.2
+    memory_is_no_nul c.args.checked.now c.args.now.now c.args.dialect (storage_in c.args.storage) (c.is_nul_free.ensures.0 c.if-not-is_nul_free.false) (c.has_columns.ensures.0 c.if-not-has_columns.false) c.from_residual.result exit.0 exit.1 exit.2
+
+pub returns-in_err-ranges-clause-no_column : goal.returns-in_err-ranges-clause-no_column
+returns-in_err-ranges-clause-no_column c =
+    let exit = err_from_is_err_and c.from_residual.result c.from_residual.ensures.1 in
+    memory_is_no_column c.args.checked.now c.args.now.now c.args.dialect (storage_in c.args.storage) (c.is_nul_free.ensures.0 c.if-not-is_nul_free.false) (c.has_columns.ensures.0 c.if-not-has_columns.false) c.from_residual.result exit.0 exit.1 exit.2
 
 pub returns-in_err-outcome_of-clause-nul : goal.returns-in_err-outcome_of-clause-nul
 returns-in_err-outcome_of-clause-nul c =
     let exit = err_from_is_err_and c.from_residual-in_err-outcome_of.result c.from_residual-in_err-outcome_of.ensures.1 in
-    refused_no_nul c.args.checked.now c.args.now.now c.args.dialect (storage_in c.args.storage) (c.is_nul_free.ensures.0 c.if-not-is_nul_free.false) c.from_residual-in_err-outcome_of.result exit.0 exit.1 (record { schema = c.schema.result.now; row_type = c.filtered_type.result; storage = storage_in c.args.storage }) (own_table c.args.checked.now c.schema.result.now c.filtered_type.result (storage_in c.args.storage) c.schema.ensures c.filtered_type.ensures.same) IsItsCode
-    (subst (IsRefused c.args.checked.now c.args.now.now c.args.dialect (record { schema = c.schema.result.now; row_type = c.filtered_type.result; storage = storage_in c.args.storage }) IsItsCode) (sym exit.2) c.in_err-outcome_of.ensures.refused)
+    refused_no_nul c.args.checked.now c.args.now.now c.args.dialect (storage_in c.args.storage) (c.is_nul_free.ensures.0 c.if-not-is_nul_free.false) (c.has_columns.ensures.0 c.if-not-has_columns.false) c.from_residual-in_err-outcome_of.result exit.0 exit.1 IsItsCode
+    (subst (IsRefused c.args.checked.now c.args.now.now c.args.dialect IsItsCode) (sym exit.2) c.in_err-outcome_of.ensures.refused)
 
 pub returns-in_err-outcome_of-clause-no_column : goal.returns-in_err-outcome_of-clause-no_column
 returns-in_err-outcome_of-clause-no_column c =
     let exit = err_from_is_err_and c.from_residual-in_err-outcome_of.result c.from_residual-in_err-outcome_of.ensures.1 in
-    λ is. inl (refused_column c.args.checked.now c.args.now.now c.args.dialect (storage_in c.args.storage) (c.is_nul_free.ensures.0 c.if-not-is_nul_free.false) c.from_residual-in_err-outcome_of.result exit.0 exit.1 (record { schema = c.schema.result.now; row_type = c.filtered_type.result; storage = storage_in c.args.storage }) (own_table c.args.checked.now c.schema.result.now c.filtered_type.result (storage_in c.args.storage) c.schema.ensures c.filtered_type.ensures.same) IsItsCode
-    (subst (IsRefused c.args.checked.now c.args.now.now c.args.dialect (record { schema = c.schema.result.now; row_type = c.filtered_type.result; storage = storage_in c.args.storage }) IsItsCode) (sym exit.2) c.in_err-outcome_of.ensures.refused) is)
+    refused_no_column c.args.checked.now c.args.now.now c.args.dialect (storage_in c.args.storage) (c.is_nul_free.ensures.0 c.if-not-is_nul_free.false) (c.has_columns.ensures.0 c.if-not-has_columns.false) c.from_residual-in_err-outcome_of.result exit.0 exit.1 IsItsCode
+    (subst (IsRefused c.args.checked.now c.args.now.now c.args.dialect IsItsCode) (sym exit.2) c.in_err-outcome_of.ensures.refused)
 
 pub returns-in_err-outcome_of-clause-too_deep : goal.returns-in_err-outcome_of-clause-too_deep
 returns-in_err-outcome_of-clause-too_deep c =
     let exit = err_from_is_err_and c.from_residual-in_err-outcome_of.result c.from_residual-in_err-outcome_of.ensures.1 in
-    λ is. inl (refused_depth c.args.checked.now c.args.now.now c.args.dialect (storage_in c.args.storage) (c.is_nul_free.ensures.0 c.if-not-is_nul_free.false) c.from_residual-in_err-outcome_of.result exit.0 exit.1 (record { schema = c.schema.result.now; row_type = c.filtered_type.result; storage = storage_in c.args.storage }) (own_table c.args.checked.now c.schema.result.now c.filtered_type.result (storage_in c.args.storage) c.schema.ensures c.filtered_type.ensures.same) IsItsCode
-    (subst (IsRefused c.args.checked.now c.args.now.now c.args.dialect (record { schema = c.schema.result.now; row_type = c.filtered_type.result; storage = storage_in c.args.storage }) IsItsCode) (sym exit.2) c.in_err-outcome_of.ensures.refused) is)
+    λ is. inl (refused_depth c.args.checked.now c.args.now.now c.args.dialect (storage_in c.args.storage) (c.is_nul_free.ensures.0 c.if-not-is_nul_free.false) (c.has_columns.ensures.0 c.if-not-has_columns.false) c.from_residual-in_err-outcome_of.result exit.0 exit.1 IsItsCode
+    (subst (IsRefused c.args.checked.now c.args.now.now c.args.dialect IsItsCode) (sym exit.2) c.in_err-outcome_of.ensures.refused) is)
 
 pub returns-in_err-keep_of-clause-nul : goal.returns-in_err-keep_of-clause-nul
 returns-in_err-keep_of-clause-nul c =
     let exit = err_from_is_err_and c.from_residual-in_err-keep_of.result c.from_residual-in_err-keep_of.ensures.1 in
-    refused_no_nul c.args.checked.now c.args.now.now c.args.dialect (storage_in c.args.storage) (c.is_nul_free.ensures.0 c.if-not-is_nul_free.false) c.from_residual-in_err-keep_of.result exit.0 exit.1 (record { schema = c.schema.result.now; row_type = c.filtered_type.result; storage = storage_in c.args.storage }) (own_table c.args.checked.now c.schema.result.now c.filtered_type.result (storage_in c.args.storage) c.schema.ensures c.filtered_type.ensures.same) KeepsIt
-    (subst (IsRefused c.args.checked.now c.args.now.now c.args.dialect (record { schema = c.schema.result.now; row_type = c.filtered_type.result; storage = storage_in c.args.storage }) KeepsIt) (sym exit.2) c.in_err-keep_of.ensures.refused)
+    refused_no_nul c.args.checked.now c.args.now.now c.args.dialect (storage_in c.args.storage) (c.is_nul_free.ensures.0 c.if-not-is_nul_free.false) (c.has_columns.ensures.0 c.if-not-has_columns.false) c.from_residual-in_err-keep_of.result exit.0 exit.1 KeepsIt
+    (subst (IsRefused c.args.checked.now c.args.now.now c.args.dialect KeepsIt) (sym exit.2) c.in_err-keep_of.ensures.refused)
 
 pub returns-in_err-keep_of-clause-no_column : goal.returns-in_err-keep_of-clause-no_column
 returns-in_err-keep_of-clause-no_column c =
     let exit = err_from_is_err_and c.from_residual-in_err-keep_of.result c.from_residual-in_err-keep_of.ensures.1 in
-    λ is. inr (inl (refused_column c.args.checked.now c.args.now.now c.args.dialect (storage_in c.args.storage) (c.is_nul_free.ensures.0 c.if-not-is_nul_free.false) c.from_residual-in_err-keep_of.result exit.0 exit.1 (record { schema = c.schema.result.now; row_type = c.filtered_type.result; storage = storage_in c.args.storage }) (own_table c.args.checked.now c.schema.result.now c.filtered_type.result (storage_in c.args.storage) c.schema.ensures c.filtered_type.ensures.same) KeepsIt
-    (subst (IsRefused c.args.checked.now c.args.now.now c.args.dialect (record { schema = c.schema.result.now; row_type = c.filtered_type.result; storage = storage_in c.args.storage }) KeepsIt) (sym exit.2) c.in_err-keep_of.ensures.refused) is))
+    refused_no_column c.args.checked.now c.args.now.now c.args.dialect (storage_in c.args.storage) (c.is_nul_free.ensures.0 c.if-not-is_nul_free.false) (c.has_columns.ensures.0 c.if-not-has_columns.false) c.from_residual-in_err-keep_of.result exit.0 exit.1 KeepsIt
+    (subst (IsRefused c.args.checked.now c.args.now.now c.args.dialect KeepsIt) (sym exit.2) c.in_err-keep_of.ensures.refused)
 
 pub returns-in_err-keep_of-clause-too_deep : goal.returns-in_err-keep_of-clause-too_deep
 returns-in_err-keep_of-clause-too_deep c =
     let exit = err_from_is_err_and c.from_residual-in_err-keep_of.result c.from_residual-in_err-keep_of.ensures.1 in
-    λ is. inr (inl (refused_depth c.args.checked.now c.args.now.now c.args.dialect (storage_in c.args.storage) (c.is_nul_free.ensures.0 c.if-not-is_nul_free.false) c.from_residual-in_err-keep_of.result exit.0 exit.1 (record { schema = c.schema.result.now; row_type = c.filtered_type.result; storage = storage_in c.args.storage }) (own_table c.args.checked.now c.schema.result.now c.filtered_type.result (storage_in c.args.storage) c.schema.ensures c.filtered_type.ensures.same) KeepsIt
-    (subst (IsRefused c.args.checked.now c.args.now.now c.args.dialect (record { schema = c.schema.result.now; row_type = c.filtered_type.result; storage = storage_in c.args.storage }) KeepsIt) (sym exit.2) c.in_err-keep_of.ensures.refused) is))
+    λ is. inr (inl (refused_depth c.args.checked.now c.args.now.now c.args.dialect (storage_in c.args.storage) (c.is_nul_free.ensures.0 c.if-not-is_nul_free.false) (c.has_columns.ensures.0 c.if-not-has_columns.false) c.from_residual-in_err-keep_of.result exit.0 exit.1 KeepsIt
+    (subst (IsRefused c.args.checked.now c.args.now.now c.args.dialect KeepsIt) (sym exit.2) c.in_err-keep_of.ensures.refused) is))
 
 pub returns-in_err-fault_of-clause-nul : goal.returns-in_err-fault_of-clause-nul
 returns-in_err-fault_of-clause-nul c =
     let exit = err_from_is_err_and c.from_residual-in_err-fault_of.result c.from_residual-in_err-fault_of.ensures.1 in
-    refused_no_nul c.args.checked.now c.args.now.now c.args.dialect (storage_in c.args.storage) (c.is_nul_free.ensures.0 c.if-not-is_nul_free.false) c.from_residual-in_err-fault_of.result exit.0 exit.1 (record { schema = c.schema.result.now; row_type = c.filtered_type.result; storage = storage_in c.args.storage }) (own_table c.args.checked.now c.schema.result.now c.filtered_type.result (storage_in c.args.storage) c.schema.ensures c.filtered_type.ensures.same) FaultsIt
-    (subst (IsRefused c.args.checked.now c.args.now.now c.args.dialect (record { schema = c.schema.result.now; row_type = c.filtered_type.result; storage = storage_in c.args.storage }) FaultsIt) (sym exit.2) c.in_err-fault_of.ensures.refused)
+    refused_no_nul c.args.checked.now c.args.now.now c.args.dialect (storage_in c.args.storage) (c.is_nul_free.ensures.0 c.if-not-is_nul_free.false) (c.has_columns.ensures.0 c.if-not-has_columns.false) c.from_residual-in_err-fault_of.result exit.0 exit.1 FaultsIt
+    (subst (IsRefused c.args.checked.now c.args.now.now c.args.dialect FaultsIt) (sym exit.2) c.in_err-fault_of.ensures.refused)
 
 pub returns-in_err-fault_of-clause-no_column : goal.returns-in_err-fault_of-clause-no_column
 returns-in_err-fault_of-clause-no_column c =
     let exit = err_from_is_err_and c.from_residual-in_err-fault_of.result c.from_residual-in_err-fault_of.ensures.1 in
-    λ is. inr (inr (refused_column c.args.checked.now c.args.now.now c.args.dialect (storage_in c.args.storage) (c.is_nul_free.ensures.0 c.if-not-is_nul_free.false) c.from_residual-in_err-fault_of.result exit.0 exit.1 (record { schema = c.schema.result.now; row_type = c.filtered_type.result; storage = storage_in c.args.storage }) (own_table c.args.checked.now c.schema.result.now c.filtered_type.result (storage_in c.args.storage) c.schema.ensures c.filtered_type.ensures.same) FaultsIt
-    (subst (IsRefused c.args.checked.now c.args.now.now c.args.dialect (record { schema = c.schema.result.now; row_type = c.filtered_type.result; storage = storage_in c.args.storage }) FaultsIt) (sym exit.2) c.in_err-fault_of.ensures.refused) is))
+    refused_no_column c.args.checked.now c.args.now.now c.args.dialect (storage_in c.args.storage) (c.is_nul_free.ensures.0 c.if-not-is_nul_free.false) (c.has_columns.ensures.0 c.if-not-has_columns.false) c.from_residual-in_err-fault_of.result exit.0 exit.1 FaultsIt
+    (subst (IsRefused c.args.checked.now c.args.now.now c.args.dialect FaultsIt) (sym exit.2) c.in_err-fault_of.ensures.refused)
 
 pub returns-in_err-fault_of-clause-too_deep : goal.returns-in_err-fault_of-clause-too_deep
 returns-in_err-fault_of-clause-too_deep c =
     let exit = err_from_is_err_and c.from_residual-in_err-fault_of.result c.from_residual-in_err-fault_of.ensures.1 in
-    λ is. inr (inr (refused_depth c.args.checked.now c.args.now.now c.args.dialect (storage_in c.args.storage) (c.is_nul_free.ensures.0 c.if-not-is_nul_free.false) c.from_residual-in_err-fault_of.result exit.0 exit.1 (record { schema = c.schema.result.now; row_type = c.filtered_type.result; storage = storage_in c.args.storage }) (own_table c.args.checked.now c.schema.result.now c.filtered_type.result (storage_in c.args.storage) c.schema.ensures c.filtered_type.ensures.same) FaultsIt
-    (subst (IsRefused c.args.checked.now c.args.now.now c.args.dialect (record { schema = c.schema.result.now; row_type = c.filtered_type.result; storage = storage_in c.args.storage }) FaultsIt) (sym exit.2) c.in_err-fault_of.ensures.refused) is))
+    λ is. inr (inr (refused_depth c.args.checked.now c.args.now.now c.args.dialect (storage_in c.args.storage) (c.is_nul_free.ensures.0 c.if-not-is_nul_free.false) (c.has_columns.ensures.0 c.if-not-has_columns.false) c.from_residual-in_err-fault_of.result exit.0 exit.1 FaultsIt
+    (subst (IsRefused c.args.checked.now c.args.now.now c.args.dialect FaultsIt) (sym exit.2) c.in_err-fault_of.ensures.refused) is))
