@@ -36,6 +36,7 @@ fn conditions_text(
             Err(_) => Err(Fault::Memory),
         },
         Err(SqlFault::Nul) => Err(Fault::Unsayable),
+        // What the filter names has its column, as `requires` says.
         Err(SqlFault::NoColumn) => unreachable!(),
         Err(SqlFault::TooDeep) => Err(Fault::TooDeep),
         Err(SqlFault::Memory) => Err(Fault::Memory),
