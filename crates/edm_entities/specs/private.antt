@@ -6,7 +6,6 @@ pub mod NextMember
 pub mod Passed
 pub mod PropertyCursor
 pub mod RowTokens
-pub mod RowWalk
 pub mod Scalars
 pub mod SlotsSoFar
 pub mod Walk

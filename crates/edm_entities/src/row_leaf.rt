@@ -1,7 +1,7 @@
 //! Values without parts, from a row's bytes, each read as its type requires. Where a text, a number or a truth value
 //! stood, one is written over it, so that nothing is dropped.
 ghost use Rattle.std.specs.Prelude.{◌≡◌, ◌≢◌, ◌↔◌, Ok, IsTrue};
-ghost use Rattle.serde_json.specs.Data.{Data, string};
+ghost use Rattle.serde_json.specs.Data.{Data};
 ghost use Rattle.csdl_schema.specs.ExprType.{ExprType, enumeration, primitive, single};
 ghost use Rattle.csdl_schema.specs.SchemaModel.{Slots, slots_of, type_name_at};
 ghost use Rattle.edm_values.specs.NumberTypes.{IsNumberOf};
@@ -12,12 +12,13 @@ ghost use Rattle.edm_entities.specs.private.Scalars.{IsJsonNumber};
 
 use super::flaw::ReadFlaw;
 use super::leaf::{read_member, read_text};
-use super::row_cache::{RowCache, SpareTexts, TEXT_ROOM};
+use super::row_cache::RowCache;
 use super::row_token::number_written;
 use super::scalar::{JsonNumber, Scalar};
 use csdl_schema::{EnumId, Schema};
 use edm_values::{Prim, Value};
 use json_tokens::{Scratch, TokenReader};
+use spare_values::{put_number, put_truth};
 
 /// What became of a single value. What most are is looked for first, and a null where something else came.
 #[derive(Clone, Copy, Drop)]
@@ -71,7 +72,7 @@ fn take_number(wanted: Prim, reader: &mut TokenReader<'_>, place: &mut Value) ->
     ensures kept { result ≡ Leaf.Other → reader.new ≡ reader.old }
 {
     if let Some(n) = reader.take_whole() {
-        return leaf_put(put_number(wanted, JsonNumber::Whole(n as i64), place));
+        return leaf_put(put_json_number(wanted, JsonNumber::Whole(n as i64), place));
     }
     take_other_number(wanted, reader, place)
 }
@@ -89,7 +90,7 @@ fn take_other_number(wanted: Prim, reader: &mut TokenReader<'_>, place: &mut Val
     let Some(number) = number_written(text) else {
         return Leaf::Refused;
     };
-    leaf_put(put_number(wanted, number, place))
+    leaf_put(put_json_number(wanted, number, place))
 }
 
 /// The same of `Edm.Boolean`.
@@ -116,7 +117,7 @@ fn take_text(cache: &mut RowCache, reader: &mut TokenReader<'_>, place: &mut Val
     let Some(text) = reader.take_text(&mut cache.scratch) else {
         return Leaf::Other;
     };
-    leaf_put(put_text(&mut cache.texts, text, place))
+    leaf_put(cache.spares.put_text(text, place))
 }
 
 /// The same of the types whose values are written as texts.
@@ -157,17 +158,7 @@ pub(crate) fn take_enumeration(
 }
 
 #[inline(always)]
-fn put_truth(truth: bool, place: &mut Value)
-    ensures { place.new ≡ Value.Bool truth }
-{
-    match place {
-        Value::Bool(old) => *old = truth,
-        _ => *place = Value::Bool(truth),
-    }
-}
-
-#[inline(always)]
-fn put_number(wanted: Prim, number: JsonNumber, place: &mut Value) -> bool
+fn put_json_number(wanted: Prim, number: JsonNumber, place: &mut Value) -> bool
     ensures { (json : Data) (slots : Slots) (type : ExprType) → IsJsonNumber number json
         → IsTrue result → FitsPrimitive wanted json (val_of place.new slots.properties type) }
 {
@@ -177,7 +168,7 @@ fn put_number(wanted: Prim, number: JsonNumber, place: &mut Value) -> bool
     if !wanted.is_number() || !is_of(wanted, n) {
         return false;
     }
-    put_whole(n, place);
+    put_number(n, place);
     true
 }
 
@@ -191,36 +182,6 @@ fn is_of(wanted: Prim, n: i64) -> bool
         Prim::Int32 => i32::try_from(n).is_ok(),
         Prim::Int64 => true,
         _ => wanted.holds_number(n),
-    }
-}
-
-#[inline(always)]
-fn put_whole(n: i64, place: &mut Value)
-    ensures { place.new ≡ Value.Int n }
-{
-    match place {
-        Value::Int(old) => *old = n,
-        _ => *place = Value::Int(n),
-    }
-}
-
-#[inline(always)]
-fn put_text(texts: &mut SpareTexts, text: &str, place: &mut Value) -> bool
-    ensures { (slots : Slots) (type : ExprType)
-        → IsTrue result → FitsPrimitive Prim.String (string text.now) (val_of place.new slots.properties type) }
-{
-    if let Value::Text(old) = place {
-        if old.capacity() <= TEXT_ROOM {
-            old.clear();
-            return old.push_str(text).is_ok();
-        }
-    }
-    match texts.copy(text) {
-        Some(copy) => {
-            *place = Value::Text(copy);
-            true
-        }
-        None => false,
     }
 }
 

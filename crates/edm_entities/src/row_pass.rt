@@ -282,7 +282,8 @@ fn pass_primitive(cache: &mut RowCache, wanted: Prim, reader: &mut TokenReader<'
             None => Leaf::Other,
         };
     }
-    let mut place = Value::Null;
+    // Most are numbers: over a number one is written without a call.
+    let mut place = Value::Int(0);
     take_primitive(cache, wanted, reader, &mut place)
 }
 

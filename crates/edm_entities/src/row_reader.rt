@@ -13,11 +13,12 @@ use super::entity::Entity;
 use super::kept_row::KeptRow;
 use super::row_cache::RowCache;
 use super::row_root::take_row_members;
-use super::row_walk::{ReadContext, record_in};
+use super::row_walk::ReadContext;
 use csdl_schema::{Schema, TypeId};
 use edm_row_plans::{RowPlan, plan_at};
 use edm_values::Value;
 use json_tokens::{TokenReader, text_of_line};
+use spare_values::{Spare, record_in};
 use std::alloc::Global;
 use std::marker::Model;
 
@@ -112,7 +113,7 @@ fn take_row(
     if !reader.take_begin_object() {
         return false;
     }
-    cache.begin_record(place);
+    cache.spares.begin_record(Spare::Record(0), place);
     match record_in(place) {
         Some(values) => {
             if !take_row_members(cache, context, plan, &mut reader, values) {

@@ -1,5 +1,5 @@
 //! The members of a row itself. A collection that the plan passes is held to its type, and is stored as an empty one.
-ghost use Rattle.std.specs.Prelude.{◌≡◌, ◌<◌, [], length, get_or, slice_get, true, false, Some, IfSome, IsTrue};
+ghost use Rattle.std.specs.Prelude.{◌≡◌, ◌<◌, length, get_or, slice_get, true, false, Some, IfSome, IsTrue};
 ghost use Rattle.serde_json.specs.Data.{Data};
 ghost use Rattle.csdl_schema.specs.PropertyView.{property_type};
 ghost use Rattle.csdl_schema.specs.SchemaModel.{properties_at};
@@ -11,15 +11,16 @@ ghost use Rattle.edm_entities.specs.private.RowTokens.{Reads, ReadsMembers};
 ghost use Rattle.edm_entities.specs.private.SlotsSoFar.{slots_below};
 ghost use Rattle.edm_entities.specs.private.Walk.{HoldsInSlot};
 
-use super::row_cache::RowCache;
+use super::row_cache::{RowCache, spare_of};
 use super::row_member::{Member, find_member};
 use super::row_pass::pass_other_property;
 use super::row_skip::skip_value;
 use super::row_slots::{begin_slots, fill_slots};
-use super::row_walk::{ReadContext, list_in, take_property};
+use super::row_walk::{ReadContext, take_property};
 use edm_row_plans::{SlotPlan, TypePlan, wanted_with};
 use edm_values::Value;
 use json_tokens::{KeyMarks, TokenReader};
+use spare_values::list_in;
 
 /// A slot of a row, and whether it is passed.
 #[derive(Drop)]
@@ -177,14 +178,6 @@ fn take_slot(
     take_property(cache, context, slot.plan, reader, place)
 }
 
-/// Takes all values out of a list; their memory is filled again.
-#[inline(always)]
-fn empty(cache: &mut RowCache, values: &mut Vec<Value>)
-    ensures { values.new.items ≡ [] }
-{
-    cache.cut(values, 0);
-}
-
 /// Passes the value of a collection, and puts an empty one into its slot. One that is not looked at is held as null.
 #[inline(never)]
 fn pass_collection(
@@ -206,14 +199,14 @@ fn pass_collection(
     ensures holds { IsTrue result → HoldsInSlot (slots_below context.now plan.now.node)
         (property_type context.now.schema.now plan.now.property) place.new }
 {
-    let Some(_wanted) = wanted_with(&plan.property, plan.target) else {
+    let Some(wanted) = wanted_with(&plan.property, plan.target) else {
         *place = Value::Null;
         return pass_other_property(cache, context, plan, reader);
     };
-    cache.begin_list(place);
+    cache.spares.begin_list(place);
     match list_in(place) {
         Some(values) => {
-            empty(cache, values);
+            cache.spares.cut(spare_of(wanted, plan.record), values, 0);
             pass_other_property(cache, context, plan, reader)
         }
         None => false,

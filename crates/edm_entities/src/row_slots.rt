@@ -11,24 +11,11 @@ ghost use Rattle.edm_row_plans.specs.Expanded.{slots_at, target_if};
 ghost use Rattle.edm_entities.specs.private.SlotsSoFar.{SlotsSoFar};
 ghost use Rattle.edm_entities.specs.private.Walk.{FitSlots};
 
-use super::row_cache::RowCache;
+use super::row_cache::{RowCache, spare_of};
 use edm_row_plans::{SlotPlan, TypePlan, navigates, wanted_with};
 use edm_values::Value;
 use json_tokens::{KeyMarks, MARKS};
-use std::mem;
-
-/// As many values as there are slots, whatever they are.
-fn fit_count(cache: &mut RowCache, values: &mut Vec<Value>, count: usize) -> bool
-    ensures { IsTrue result → length values.new.items ≡ count }
-{
-    cache.cut(values, count);
-    'missing: while values.len() < count {
-        if values.push(Value::Null).is_err() {
-            return false;
-        }
-    }
-    values.len() == count
-}
+use spare_values::{Spare, fit_count};
 
 /// Makes the values as many as the slots, whatever they are; false where there are more slots than marks, which no type
 /// has.
@@ -36,7 +23,11 @@ pub(crate) fn begin_slots(cache: &mut RowCache, values: &mut Vec<Value>, count: 
     ensures long { IsTrue result → length values.new.items ≡ count }
     ensures few { IsTrue result → count ≤ MARKS }
 {
-    count <= MARKS && (values.len() == count || fit_count(cache, values, count))
+    if count > MARKS {
+        return false;
+    }
+    cache.spares.cut(Spare::Other, values, count);
+    fit_count(values, count)
 }
 
 /// Whether a property may be absent. A navigation property that is expanded may not.
@@ -86,7 +77,11 @@ fn fill_absent(
     if !may_be_absent(plan) {
         return false;
     }
-    cache.retire(mem::replace(&mut values[slot], Value::Null));
+    let spare = match wanted_with(&plan.property, plan.target) {
+        Some(wanted) => spare_of(wanted, plan.record),
+        None => Spare::Other,
+    };
+    cache.spares.put_null(spare, &mut values[slot]);
     filled.set(slot);
     true
 }

@@ -2,26 +2,22 @@
 //! allocation fails. What most rows are, an object of values without parts whose members come in the order of the last
 //! time, is one piece of code (`inline(always)`); arrays and objects within it, and a member that was not expected, are
 //! called apart: that saves a call for each value.
-ghost use Rattle.std.specs.Borrow.{LendsIf, sem};
-ghost use Rattle.std.specs.Prelude.{◌≡◌, ◌∷◌, ◌<◌, ◌≤◌, ℕ, length, take, true, false, Some, IfSome, IsTrue};
-ghost use Rattle.json.specs.Token.{null};
+ghost use Rattle.std.specs.Prelude.{◌≡◌, ◌∷◌, ℕ, length, true, false, Some, IfSome, IsTrue};
+ghost use Rattle.json.specs.Token.{begin_object, null};
 ghost use Rattle.serde_json.specs.Data.{object};
 ghost use Rattle.csdl_schema.specs.ExprType.{single, collection, primitive, structured};
 ghost use Rattle.csdl_schema.specs.PropertyView.{property_type};
 ghost use Rattle.csdl_schema.specs.SchemaModel.{Slots, properties_at, type_name_at};
-ghost use Rattle.edm_values.specs.contracts.value.Value.{the_row};
-ghost use Rattle.edm_values.specs.declared.value.Value.{List, Record};
 ghost use Rattle.edm_entities.specs.Fits.{FitsProperty};
 ghost use Rattle.edm_entities.specs.HoldsEachSlot.{HoldsEachSlot};
 ghost use Rattle.edm_entities.specs.Row.{field_of, val_of};
 ghost use Rattle.edm_row_plans.specs.Plans.{ArePlans, IsPlan, target_at};
 ghost use Rattle.edm_entities.specs.private.RowTokens.{Reads, ReadsItems, ReadsMembers, FitsNullable, FitsHoweverNullable};
-ghost use Rattle.edm_entities.specs.private.RowWalk.{list_row};
 ghost use Rattle.edm_entities.specs.private.SlotsSoFar.{TakesMember, slots_below};
 ghost use Rattle.edm_entities.specs.private.Walk.{FitList, FitSlots, HoldsInSlot, HoldInItems, wanted_single};
 
-use super::row_cache::RowCache;
-use super::row_leaf::{Leaf, leaf_put, take_enumeration, take_primitive};
+use super::row_cache::{RowCache, spare_of};
+use super::row_leaf::{Leaf, take_enumeration, take_primitive};
 use super::row_member::{Member, find_member};
 use super::row_skip::skip_value;
 use super::row_slots::{begin_slots, fill_slots};
@@ -29,7 +25,7 @@ use csdl_schema::{Expansion, PropertyKind, Schema};
 use edm_row_plans::{SlotPlan, TypePlan, Wanted, may_hold_null, plan_at, wanted_with};
 use edm_values::{Prim, Value};
 use json_tokens::{KeyMarks, TokenReader};
-use std::mem;
+use spare_values::{Spare, list_in, record_in};
 
 /// What a walk goes by: the types, and how deep values may nest. It is borrowed, and made anew one level down.
 #[derive(Drop)]
@@ -255,11 +251,14 @@ fn take_single(
     match one.wanted {
         Wanted::Prim(prim) => take_scalar(cache, prim, one.nullable, reader, place),
         Wanted::Complex(id) => match plan_at(context.plans, one.record, id, one.node) {
-            Some(plan) => match take_record(cache, context, plan, reader, place) {
-                Leaf::Read => true,
-                Leaf::Other => take_null_instead(cache, one.nullable, reader, place),
-                Leaf::Refused => false,
-            },
+            Some(plan) => {
+                let spare = Spare::Record(one.record);
+                if !reader.take_begin_object() {
+                    return take_null_instead(cache, spare, one.nullable, reader, place);
+                }
+                cache.spares.begin_record(spare, place);
+                take_record(cache, context, plan, reader, place)
+            }
             None => false,
         },
         Wanted::Enum(id) => match take_enumeration(
@@ -270,7 +269,7 @@ fn take_single(
             place,
         ) {
             Leaf::Read => true,
-            Leaf::Other => take_null_instead(cache, one.nullable, reader, place),
+            Leaf::Other => take_null_instead(cache, Spare::Other, one.nullable, reader, place),
             Leaf::Refused => false,
         },
     }
@@ -291,7 +290,10 @@ fn take_scalar(
 {
     match take_primitive(cache, wanted, reader, place) {
         Leaf::Read => true,
-        Leaf::Other => take_null_instead(cache, nullable, reader, place),
+        Leaf::Other => {
+            let spare = spare_of(Wanted::Prim(wanted), 0);
+            take_null_instead(cache, spare, nullable, reader, place)
+        }
         Leaf::Refused => false,
     }
 }
@@ -300,6 +302,7 @@ fn take_scalar(
 #[inline(never)]
 fn take_null_instead(
     cache: &mut RowCache,
+    spare: Spare,
     nullable: bool,
     reader: &mut TokenReader<'_>,
     place: &mut Value,
@@ -310,11 +313,11 @@ fn take_null_instead(
     if !reader.take_null() {
         return false;
     }
-    cache.retire(mem::replace(place, Value::Null));
+    cache.spares.put_null(spare, place);
     nullable
 }
 
-/// Puts a value of a complex type into its slot.
+/// Fills the record in a slot from an object of a complex type, after its brace.
 #[inline(never)]
 #[cycle(row)]
 fn take_record(
@@ -323,21 +326,17 @@ fn take_record(
     plan: &TypePlan,
     reader: &mut TokenReader<'_>,
     place: &mut Value,
-) -> Leaf
+) -> bool
     requires plans { ArePlans context.now.schema.now context.now.expansion.now context.now.plans.now }
     requires plan { IsPlan context.now.schema.now context.now.expansion.now plan.now }
-    ensures read { result ≡ Leaf.Read → Reads context.now.depth reader.old reader.new (FitsHoweverNullable
+    ensures read { IsTrue result → Reads context.now.depth (begin_object ∷ reader.old) reader.new (FitsHoweverNullable
         (slots_below context.now plan.now.node)
         (single (structured (type_name_at context.now.schema.now plan.now.type_id))) place.new) }
-    ensures holds { result ≡ Leaf.Read → HoldsEachSlot place.new (slots_below context.now plan.now.node)
+    ensures holds { IsTrue result → HoldsEachSlot place.new (slots_below context.now plan.now.node)
         (single (structured (type_name_at context.now.schema.now plan.now.type_id))) }
-    ensures kept { result ≡ Leaf.Other → reader.new ≡ reader.old }
 {
-    if !reader.take_begin_object() {
-        return Leaf::Other;
-    }
     if context.depth == 0 {
-        return Leaf::Refused;
+        return false;
     }
     let inner = ReadContext {
         schema: context.schema,
@@ -346,22 +345,9 @@ fn take_record(
         passed: context.passed,
         depth: context.depth - 1,
     };
-    cache.begin_record(place);
     match record_in(place) {
-        Some(values) => leaf_put(take_members(cache, &inner, plan, reader, values)),
-        None => Leaf::Refused,
-    }
-}
-
-/// The values of the record in a slot, to be filled there.
-#[inline(always)]
-pub(crate) fn record_in(place: &mut Value) -> Option<&mut Vec<Value>>
-    ensures* { sem 𝓛 (LendsIf the_row list_row place.entry result Record place.old) }
-{
-    if let Value::Record(values) = place {
-        Some(values)
-    } else {
-        None
+        Some(values) => take_members(cache, &inner, plan, reader, values),
+        None => false,
     }
 }
 
@@ -392,34 +378,11 @@ fn take_array(
         passed: context.passed,
         depth: context.depth - 1,
     };
-    cache.begin_list(place);
+    cache.spares.begin_list(place);
     match list_in(place) {
         Some(values) => take_items(cache, &inner, one, reader, values),
         None => false,
     }
-}
-
-/// The values of the array in a slot, to be filled there: to move them out and back took 27 instructions
-/// more an array.
-#[inline(always)]
-pub(crate) fn list_in(place: &mut Value) -> Option<&mut Vec<Value>>
-    ensures* { sem 𝓛 (LendsIf the_row list_row place.entry result List place.old) }
-{
-    if let Value::List(values) = place {
-        Some(values)
-    } else {
-        None
-    }
-}
-
-/// Whether a value may be added after so many.
-#[inline(always)]
-fn has_place(values: &mut Vec<Value>, count: usize) -> bool
-    requires { count ≤ length values.old.items }
-    ensures room { IsTrue result → count < length values.new.items }
-    ensures kept { take count values.new.items ≡ take count values.old.items }
-{
-    count < values.len() || values.push(Value::Null).is_ok()
 }
 
 /// Puts the values of an array's items, in order, into a list.
@@ -439,9 +402,10 @@ fn take_items(
     ensures holds { IsTrue result → HoldInItems (slots_below context.now one.now.node)
         (wanted_single context.now.schema.now one.now.wanted) values.new.items }
 {
+    let spare = spare_of(one.wanted, one.record);
     let mut count = 0;
     'items: while !reader.take_end_array() {
-        if !has_place(values, count) {
+        if !cache.spares.has_item(spare, values, count) {
             return false;
         }
         if !take_single(cache, context, one, reader, &mut values[count]) {
@@ -449,6 +413,6 @@ fn take_items(
         }
         count += 1;
     }
-    cache.cut(values, count);
+    cache.spares.cut(spare, values, count);
     true
 }

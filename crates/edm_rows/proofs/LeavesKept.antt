@@ -1,6 +1,5 @@
 -- Values without parts that are put into a row's slots, or are rejected.
-use Rattle.std.proofs.Common.{◌≡◌, ℕ, ℤ, pos, ◌<◌, List, [], ◌++◌, Bool, true, false, if◌then◌else◌, Option, Some, None, String, Global, string_bytes, refl, sym, ap, ◌∙◌, subst, rules}
-use Rattle.std.proofs.lemmas.Bool.{true≢false}
+use Rattle.std.proofs.Common.{◌≡◌, ℕ, ℤ, pos, ◌<◌, List, Bool, Option, Some, None, refl, sym, ap, ◌∙◌, subst, rules}
 use Rattle.std.specs.Str.{IsUtf8}
 use Rattle.json.specs.Token.{Token}
 use Rattle.serde_json.specs.Data.{Data, Num, unsigned, boolean, number, string}
@@ -16,18 +15,18 @@ use Rattle.edm_values.specs.Val as val
 use Rattle.edm_values.specs.declared.primitive.PrimitiveType.{PrimitiveType}
 use Rattle.edm_values.specs.declared.primitive.PrimitiveType.TheVariants as prim
 use Rattle.edm_values.specs.declared.sieve.Sieve.{Sieve}
-use Rattle.edm_values.specs.declared.value.Value.{Value, Bool as BoolValue, Enum, Int, Text, the_lemmas}
+use Rattle.edm_values.specs.declared.value.Value.{Value, Bool as BoolValue, Enum, Int, the_lemmas}
 use Rattle.edm_entities.specs.FitsPrimitive.{FitsPrimitive, IsTextValue}
 use Rattle.edm_entities.specs.Row.{val_of}
 use Rattle.edm_entities.specs.private.Passed.{FitsSomeHowever}
 use Rattle.edm_entities.specs.private.RowTokens.{FitsHoweverNullable}
-use Rattle.edm_entities.proofs.FitLemmas.Numbers.{none_some, val_of-Bool, val_of-Enum, val_of-Text}
+use Rattle.edm_entities.proofs.FitLemmas.Numbers.{none_some, val_of-Bool, val_of-Enum}
 use Rattle.edm_entities.proofs.RowLemmas.Leaves.{boolean_token, number_token, string_token}
 use Rattle.json_tokens.specs.private.Lexemes.{IsTextAt}
 use Rattle.json_room.specs.Lexemes.{StandsTo}
 use Rattle.json_room.proofs.Standing.{string_stands}
 use Rattle.edm_rows.specs.private.Held.{ReadsTo}
-use Rattle.edm_rows.specs.private.KeptLeaves.{HoldsText, IsLeafRejected, PutsLeaf, PutsMember}
+use Rattle.edm_rows.specs.private.KeptLeaves.{IsLeafRejected, PutsLeaf, PutsMember}
 use Rattle.edm_rows.proofs.Places.{reads_to_as, token_to}
 use Rattle.edm_rows.proofs.Values.{number_fits, text_fits}
 
@@ -71,16 +70,6 @@ module _ (line : List ℕ) (from to : ℕ) (v : Value) where
             token_to depth line from to (Token.string s) (FitsHoweverNullable slots (single (primitive type)) v) (string_stands line from to s further stands.within stands.lexed)
             (record { json = string s; is_read = λ d rest. string_token s d rest; no_null = refl; holds = fits slots }),
       )
-
--- a text is the value of its bytes
-pub text_is : (v : Value) (s : List ℕ) → HoldsText v s → IsUtf8 s → (slots : Slots) (type : ExprType) → IsTextValue prim.String s (val_of v slots.properties type)
-text_is v s holds utf8 slots type =
-    (utf8, ap (λ (w : Value). val_of w slots.properties type) holds.1 ∙ val_of-Text slots type holds.0 ∙ ap text holds.2)
-
--- a text that was written over another, or was not
-pub pushed : (done : Bool) (written cleared s : List ℕ) → done ≡ true → cleared ≡ [] → written ≡ (if done then cleared ++ s else cleared) → written ≡ s
-pushed true written cleared s is none by = by ∙ ap (λ l. l ++ s) none
-pushed false written cleared s is none by = absurd (true≢false (sym is))
 
 -- a member of an enumeration
 pub member_puts : (slots : Slots) (name s : List ℕ) (line : List ℕ) (from to : ℕ) (n : ℤ) → from < to → IsTextAt line from s to → IsValueIn (slots.enumerations name) s n → IsOfUnderlying (slots.enumerations name) n → PutsMember line slots name (Enum n) from to

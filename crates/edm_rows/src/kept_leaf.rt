@@ -5,7 +5,7 @@ ghost use Rattle.edm_values.specs.SieveMeaning.{Rejects};
 ghost use Rattle.edm_values.specs.Val.{text as val_text};
 ghost use Rattle.csdl_schema.specs.ExprType.{primitive};
 ghost use Rattle.csdl_schema.specs.SchemaModel.{slots_of};
-ghost use Rattle.edm_rows.specs.private.KeptLeaves.{HoldsText, PutsLeaf, PutsMember, TakesLeaf};
+ghost use Rattle.edm_rows.specs.private.KeptLeaves.{PutsLeaf, PutsMember, TakesLeaf};
 ghost use Rattle.edm_rows.specs.private.RowSlots.{HasPrimitive, name_at};
 
 use super::known_texts::Cache;
@@ -14,11 +14,7 @@ use super::passed_value::{ReadContext, typed_number_at};
 use super::row_types::{RowSlot, Task};
 use edm_values::{Prim, Value};
 use json_room::{RoomyLine, any_text_at, text_at, truth_end, whole_at};
-use spare_values::{put_number, put_truth};
-use std::alloc::Global;
-
-/// A text that is written over has room for so many bytes at most.
-const TEXT_ROOM: usize = 4096;
+use spare_values::{is_filled_again, overwrite_text, put_number, put_truth, write_text};
 
 /// What became of a value of a row.
 #[derive(Clone, Copy, Drop)]
@@ -100,19 +96,10 @@ pub(crate) fn take_text(
     if !is_filled_again(value) {
         return Taken::Nothing;
     }
-    if put_text(text, value) {
+    if overwrite_text(text, value) {
         Taken::Put(end)
     } else {
         Taken::Broken
-    }
-}
-
-/// Whether it is a text that may be written over: one that has more room than most texts want is let go.
-#[inline(always)]
-fn is_filled_again(value: &Value) -> bool {
-    match value {
-        Value::Text(text) => text.capacity() <= TEXT_ROOM,
-        _ => false,
     }
 }
 
@@ -123,34 +110,6 @@ fn is_text_rejected(slot: &RowSlot, text: &str) -> bool
     ensures utf8 { IsUtf8 text.now }
 {
     slot.sieve.rejects_text(text)
-}
-
-/// Writes a text over another; none where no text stood there, or an allocation failed.
-#[inline(always)]
-fn put_text(text: &str, value: &mut Value) -> bool
-    ensures { IsTrue result → HoldsText value.new text.now }
-{
-    match value {
-        Value::Text(old) => {
-            old.clear();
-            old.push_str(text).is_ok()
-        }
-        _ => false,
-    }
-}
-
-/// Puts a copy of a text where any value stands.
-#[inline(never)]
-fn replace_text(alloc: Global, text: &str, value: &mut Value) -> bool
-    ensures { IsTrue result → HoldsText value.new text.now }
-{
-    match String::from_str(alloc, text) {
-        Ok(copy) => {
-            *value = Value::Text(copy);
-            true
-        }
-        Err(_) => false,
-    }
 }
 
 /// Takes any number of the slot's type.
@@ -170,17 +129,6 @@ pub(crate) fn take_number(
         }
         None => None,
     }
-}
-
-/// Puts a text where any value stands.
-fn write_text(alloc: Global, text: &str, value: &mut Value) -> bool
-    ensures utf8 { IsUtf8 text.now }
-    ensures put { IsTrue result → HoldsText value.new text.now }
-{
-    if is_filled_again(value) {
-        return put_text(text, value);
-    }
-    replace_text(alloc, text, value)
 }
 
 /// Takes any text.

@@ -1,6 +1,9 @@
 //! Values that no row holds any more, to be filled again.
 ghost use Rattle.std.specs.Prelude.{◌≡◌, ◌<◌, ◌≤◌, ℕ, length, take, IsTrue};
+ghost use Rattle.std.specs.Str.{IsUtf8};
+ghost use Rattle.spare_values.specs.Texts.{HoldsText};
 
+use super::texts::{TEXT_ROOM, is_filled_again, overwrite_text, write_text};
 use edm_values::Value;
 use std::alloc::Global;
 use std::mem;
@@ -11,9 +14,7 @@ const SPARES: usize = 64;
 /// The greatest capacity of a list that is filled again, in values.
 const LIST_ROOM: usize = 1024;
 
-/// The greatest capacity of a text within a stored value, in bytes, and of a list, in values.
-const SMALL_TEXT: usize = 4096;
-
+/// The greatest capacity of a list within a stored value, in values.
 const SMALL_LIST: usize = 64;
 
 /// How deep values within a value that is kept may nest.
@@ -92,12 +93,13 @@ impl Spares {
     }
 
     /// Keeps a value that no row holds any more, if it is of that kind.
+    #[inline(always)]
     fn keep(&mut self, spare: Spare, value: Value) {
         match spare {
             Spare::Record(place) => if is_record(&value) {
                 self.keep_record(place, value);
             },
-            Spare::Text => if is_text(&value) && self.texts.len() < SPARES && is_small(&value, 0) {
+            Spare::Text => if is_filled_again(&value) && self.texts.len() < SPARES {
                 drop(self.texts.push(value));
             },
             Spare::Other => {}
@@ -111,6 +113,29 @@ impl Spares {
     {
         let old = mem::replace(value, Value::Null);
         self.keep(spare, old);
+    }
+
+    /// Puts a text into a slot. It is written over the one that stands there, or over a stored one; false where an
+    /// allocation failed.
+    #[inline(always)]
+    pub fn put_text(&mut self, text: &str, value: &mut Value) -> bool
+        ensures utf8 { IsUtf8 text.now }
+        ensures put { IsTrue result → HoldsText value.new text.now }
+    {
+        if is_filled_again(value) {
+            return overwrite_text(text, value);
+        }
+        self.put_over_stored(text, value)
+    }
+
+    #[inline(never)]
+    fn put_over_stored(&mut self, text: &str, value: &mut Value) -> bool
+        ensures { IsTrue result → HoldsText value.new text.now }
+    {
+        if let Some(stored) = self.texts.pop() {
+            *value = stored;
+        }
+        write_text(self.alloc, text, value)
     }
 
     /// Makes sure that a slot holds a record.
@@ -190,18 +215,11 @@ fn is_record(value: &Value) -> bool {
     }
 }
 
-fn is_text(value: &Value) -> bool {
-    match value {
-        Value::Text(_) => true,
-        _ => false,
-    }
-}
-
 /// Whether little memory is held by a value, so many levels deep.
 #[cycle(small)]
 fn is_small(value: &Value, depth: usize) -> bool {
     match value {
-        Value::Text(text) => text.capacity() <= SMALL_TEXT,
+        Value::Text(text) => text.capacity() <= TEXT_ROOM,
         Value::Record(values) => depth > 0 && are_small(values, depth - 1),
         Value::List(items) => {
             depth > 0 && items.capacity() <= SMALL_LIST && are_small(items, depth - 1)

@@ -1,13 +1,12 @@
 -- For private clauses: values without parts that are put into a row's slots.
-use Rattle.std.specs.Prelude.{◌≡◌, ℕ, List, Bool, Some, String, string_bytes}
-use Rattle.std.specs.declared.alloc.Global.{Global}
+use Rattle.std.specs.Prelude.{◌≡◌, ℕ, List, Bool, Some}
 use Rattle.serde_json.specs.Data.{Data}
 use Rattle.csdl_schema.specs.ExprType.{SingleType, enumeration, single}
 use Rattle.csdl_schema.specs.SchemaModel.{Slots}
 use Rattle.edm_values.specs.SieveMeaning.{Rejects}
 use Rattle.edm_values.specs.Val.{Val}
 use Rattle.edm_values.specs.declared.sieve.Sieve.{Sieve}
-use Rattle.edm_values.specs.declared.value.Value.{Value, Text}
+use Rattle.edm_values.specs.declared.value.Value.{Value}
 use Rattle.edm_entities.specs.Fits.{FitsFound, FitsType}
 use Rattle.edm_entities.specs.private.Passed.{FitsSomeHowever}
 use Rattle.edm_entities.specs.private.RowTokens.{FitsHoweverNullable}
@@ -47,7 +46,3 @@ TakesLeaf line type sieve old new from Broken = Unit {0}
 TakesLeaf line type sieve old new from (Put to) = PutsLeaf line type new from to
 TakesLeaf line type sieve old new from (Rejected to) =
     ((slots : Slots) (depth : ℕ) → ReadsTo depth line from to (IsLeafRejected slots type sieve)) × (new ≡ old)
-
--- the value is a text of these bytes
-abbrev pub HoldsText : Value → List ℕ → Type 0
-HoldsText value bytes = (s : String Global) × (value ≡ Text s) × (string_bytes s ≡ bytes)

@@ -15,6 +15,6 @@ returns-in-Some-clause-read c slots done =
     let found = c.in-Some.ensures.taken in
     let s = found.0 in
     let whole = found.2 in
-    token_leaf slots (primitive c.args.wanted) (number s) c.args.reader.now c.take_whole.new.self (IsJsonNumber (Whole _)) c.put_number.new.place found.1
+    token_leaf slots (primitive c.args.wanted) (number s) c.args.reader.now c.take_whole.new.self (IsJsonNumber (Whole _)) c.put_json_number.new.place found.1
     (number_reads s (unsigned n) (Whole _) whole.read (unsigned n, record { is_number = refl; holds = ap Some (sym (to_z_pos w64 n (omega (arith, whole.bound)))) }))
-    (λ json nullable is. c.put_number.ensures json slots (single (primitive c.args.wanted)) is (c.leaf_put.ensures.read done))
+    (λ json nullable is. c.put_json_number.ensures json slots (single (primitive c.args.wanted)) is (c.leaf_put.ensures.read done))

@@ -9,5 +9,5 @@ use Rattle.edm_entities.proofs.row_leaf.take_truth.Goals as goal
 pub returns-clause-read : goal.returns-clause-read
 returns-clause-read c slots _ =
     let type = single (primitive prim.Bool) in
-    truth_leaf slots (primitive prim.Bool) c.in-Some.truth c.args.reader.now c.take_truth.new.self c.put_truth.new.place c.in-Some.ensures.taken
+    truth_leaf slots (primitive prim.Bool) c.in-Some.truth c.args.reader.now c.take_truth.new.self c.put_truth.new.value c.in-Some.ensures.taken
     (λ nullable. (c.in-Some.truth, refl, ap (λ v. val_of v slots.properties type) c.put_truth.ensures ∙ val_of-Bool slots type c.in-Some.truth))

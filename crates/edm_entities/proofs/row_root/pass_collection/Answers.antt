@@ -7,6 +7,7 @@ use Rattle.edm_row_plans.specs.Expanded.{wanted_with}
 use Rattle.edm_entities.specs.private.SlotsSoFar.{slots_below}
 use Rattle.edm_entities.specs.private.Walk.{FitList, HoldInItems, wanted_single}
 use Rattle.edm_entities.proofs.RowLemmas.Parts.{list_held}
+use Rattle.edm_entities.proofs.RowLemmas.Plans.{take_none}
 use Rattle.edm_entities.proofs.SlotLemmas.EachSlot.{IsLookedAt, held_seen, list_held as array_holds, null_in_slot}
 use Rattle.edm_entities.proofs.SlotLemmas.FoundWalk.{items_null, seen_as, seen_fits, type_wanted, unwanted_fits}
 use Rattle.edm_entities.proofs.row_root.pass_collection.Goals as goal
@@ -27,10 +28,10 @@ returns-in-Some-list_in-clause-kept c done =
     let schema = c.args.context.now.schema.now in
     let slots = slots_below c.args.context.now c.args.plan.now.node in
     let p = c.args.plan.now.property in
-    let wanted = c.in-Some._wanted in
+    let wanted = c.in-Some.wanted in
     let type = wanted_single schema wanted in
-    let values = c.empty.new.values in
-    let none : values.items ≡ [] = c.empty.ensures in
+    let values = c.cut.new.items in
+    let none : values.items ≡ [] = c.cut.ensures ∙ take_none c.in-Some-list_in.values.now.items in
     let is = ap (wanted_with p.kind) (sym c.requires.leads) ∙ sym c.wanted_with.ensures ∙ c.in-Some.is in
     let seen = subst (IsLookedAt slots (property_type schema p)) (ap (type_wanted schema wanted) c.requires.many) (seen_as schema slots p.kind (target_of p) p.many wanted is) in
     let inner = items_null (property_type schema p) p.nullable in (
@@ -44,10 +45,10 @@ returns-in-Some-list_in-clause-holds c done =
     let schema = c.args.context.now.schema.now in
     let slots = slots_below c.args.context.now c.args.plan.now.node in
     let p = c.args.plan.now.property in
-    let wanted = c.in-Some._wanted in
+    let wanted = c.in-Some.wanted in
     let type = wanted_single schema wanted in
-    let values = c.empty.new.values in
-    let none : values.items ≡ [] = c.empty.ensures in
+    let values = c.cut.new.items in
+    let none : values.items ≡ [] = c.cut.ensures ∙ take_none c.in-Some-list_in.values.now.items in
     let is = ap (wanted_with p.kind) (sym c.requires.leads) ∙ sym c.wanted_with.ensures ∙ c.in-Some.is in
     let seen = subst (IsLookedAt slots (property_type schema p)) (ap (type_wanted schema wanted) c.requires.many) (seen_as schema slots p.kind (target_of p) p.many wanted is) in
     held_seen slots (property_type schema p) (collection type) (ListOf values) seen (array_holds slots type values (subst (HoldInItems slots type) (sym none) refl))

@@ -24,11 +24,11 @@ returns-clause-so_far c schema steps id node found planned so_far =
     let fits = behind_named (λ s p. FitsProperty s p.nullable p.type_of None (field_of slots.properties p.type_of (val_of Null))) slots inner ps slot plan.key (slot_slots schema steps id node slot plan planned) planned.named.0
     (property_fits schema inner (slice_get ps slot) plan.property None Null planned.named.1 absent) in
     let set = slot_filled slots (found_in found) ps filled values slot fits not so_far in
-    subst (λ (bs : List Bool). SlotsSoFar slots ps found bs (slice_set values slot c.replace.new.dest)) (sym c.set.ensures)
-    (subst (λ (v : Value). SlotsSoFar slots ps found (slice_set filled slot true) (slice_set values slot v)) (sym c.replace.ensures.after) set)
+    subst (λ (bs : List Bool). SlotsSoFar slots ps found bs (slice_set values slot c.put_null.new.value)) (sym c.set.ensures)
+    (subst (λ (v : Value). SlotsSoFar slots ps found (slice_set filled slot true) (slice_set values slot v)) (sym c.put_null.ensures) set)
 
 pub returns-clause-long : goal.returns-clause-long
-returns-clause-long c = (ap length c.set.ensures ∙ long_set c.args.filled.now c.args.slot true, long_set c.args.values.now.items c.args.slot c.replace.new.dest)
+returns-clause-long c = (ap length c.set.ensures ∙ long_set c.args.filled.now c.args.slot true, long_set c.args.values.now.items c.args.slot c.put_null.new.value)
 
 pub returns-clause-filled : goal.returns-clause-filled
 returns-clause-filled c _ = ap (λ (bs : List Bool). get_or bs c.args.slot false) c.set.ensures ∙ mark_set c.args.filled.now c.args.slot c.requires.marks
@@ -39,4 +39,4 @@ returns-clause-others c k is = ap (λ (bs : List Bool). get_or bs k false) c.set
 pub returns-clause-kept : goal.returns-clause-kept
 returns-clause-kept c k is =
     let not : get_or c.args.filled.now c.args.slot false ≡ false = grind arith in
-    other_kept c.args.values.now.items c.args.slot k c.replace.new.dest (λ same. true≢false (sym is ∙ ap (λ n. get_or c.args.filled.now n false) same ∙ not))
+    other_kept c.args.values.now.items c.args.slot k c.put_null.new.value (λ same. true≢false (sym is ∙ ap (λ n. get_or c.args.filled.now n false) same ∙ not))

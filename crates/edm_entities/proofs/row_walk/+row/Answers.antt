@@ -83,12 +83,12 @@ take_items-items-preserved t c =
     let type = wanted_single c.args.context.now.schema.now one.wanted in
     let nullable = one.nullable in
     let v = c.take_single.new.place in
-    let held = c.has_place.new.values.items in
-    let within : l.count < length held = c.has_place.ensures.room c.if-not-has_place.false in
+    let held = c.has_item.new.items.items in
+    let within : l.count < length held = c.has_item.ensures.room c.if-not-has_item.false in
     let Q : (Data → Type 0) = FitsNullable slots nullable nullable (single type) v in
     let kept : c.take_end_array.new.self ≡ l.reader = grind arith in
     let read : Reads depth l.reader c.take_single.new.reader Q = subst (λ ts. Reads depth ts c.take_single.new.reader Q) kept (c.take_single.ensures.read c.if-not-take_single.false) in
-    let pushed : take (l.count + 1) (slice_set held l.count v) ≡ take l.count l.values.items ++ v ∷ [] = take_set held l.count v within ∙ ap (λ vs. vs ++ v ∷ []) c.has_place.ensures.kept in (
+    let pushed : take (l.count + 1) (slice_set held l.count v) ≡ take l.count l.values.items ++ v ∷ [] = take_set held l.count v within ∙ ap (λ vs. vs ++ v ∷ []) c.has_item.ensures.kept in (
       item_more depth c.args.reader.now l.reader c.take_single.new.reader (λ jsons. FitList slots nullable type jsons (take l.count l.values.items)) Q
           (λ jsons. FitList slots nullable type jsons (take (l.count + 1) (slice_set held l.count v))) (unclosed depth l.reader c.take_single.new.reader Q read)
           (λ found json fits here. subst (λ vs. FitList slots nullable type (append_items found (item json no_items)) vs) (sym pushed)
@@ -305,22 +305,19 @@ take_members-returns-else-are_first t c done =
 
 pub take_record-returns-in-Some-clause-holds : goal.take_record-returns-in-Some-clause-holds
 take_record-returns-in-Some-clause-holds t c done =
-    let read = c.take_members.ensures (c.leaf_put.ensures.read done) in
+    let read = c.take_members.ensures done in
     slots_held (slots_below c.args.context.now c.args.plan.now.node) (type_name_at c.args.context.now.schema.now c.args.plan.now.type_id) (λ name. get name (object read.found)) c.take_members.new.values read.holds
 
 pub take_record-returns-in-Some-clause-read : goal.take_record-returns-in-Some-clause-read
 take_record-returns-in-Some-clause-read t c done =
     let schema = c.args.context.now.schema.now in
     let slots = slots_below c.args.context.now c.args.plan.now.node in
-    let depth = c.args.context.now.depth in
     let id = c.args.plan.now.type_id in
     let values = c.take_members.new.values in
     let type : SingleType = structured (type_name_at schema id) in
-    let first : c.args.reader.now ≡ Token.begin_object ∷ c.take_begin_object.new.self = c.take_begin_object.ensures.taken c.if-not-take_begin_object.false in
-    subst (λ ts. Reads depth ts c.take_members.new.reader (FitsHoweverNullable slots (single type) (Record values))) (sym first)
-    (object_reads depth c.take_begin_object.new.self c.take_members.new.reader (λ found. FitSlots slots (object found) (properties_at schema id) values.items)
+    object_reads c.args.context.now.depth c.args.reader.now c.take_members.new.reader (λ found. FitSlots slots (object found) (properties_at schema id) values.items)
     (FitsHoweverNullable slots (single type) (Record values)) (omega arith)
-    (λ found fits. record_held schema c.args.context.now.expansion.now c.args.plan.now.node id values found c.requires.plan.distinct fits) (c.take_members.ensures (c.leaf_put.ensures.read done)))
+    (λ found fits. record_held schema c.args.context.now.expansion.now c.args.plan.now.node id values found c.requires.plan.distinct fits) (c.take_members.ensures done)
 
 -- a single value of a primitive type
 pub take_property-returns-then-not-plan-clause-read : goal.take_property-returns-then-not-plan-clause-read
@@ -401,55 +398,57 @@ take_single-take_record-requires t c =
     let plan = c.in-Some.ensures.plan c.args.context.now.schema.now c.args.context.now.expansion.now c.requires in
     search rules
 
-pub take_single-returns-in-Read-clause-read : goal.take_single-returns-in-Read-clause-read
-take_single-returns-in-Read-clause-read t c _ =
+pub take_single-returns-else-not-take_begin_object-clause-read : goal.take_single-returns-else-not-take_begin_object-clause-read
+take_single-returns-else-not-take_begin_object-clause-read t c done =
     let schema = c.args.context.now.schema.now in
     let one = c.args.one.now in
     let v = c.take_record.new.place in
     let depth = c.args.context.now.depth in
+    let first : c.args.reader.now ≡ Token.begin_object ∷ c.take_begin_object.new.self = c.take_begin_object.ensures.taken c.if-not-take_begin_object.false in
     wanted_read schema (slots_below c.args.context.now one.node) one.wanted (Complex c.in-Complex.id) one.nullable depth c.args.reader.now c.take_record.new.reader v c.in-Complex.is
     (subst (λ node. Reads depth c.args.reader.now c.take_record.new.reader (FitsHoweverNullable (slots_below c.args.context.now node) (single (structured (type_name_at schema c.in-Complex.id))) v)) c.in-Some.ensures.of_node
     (subst (λ id. Reads depth c.args.reader.now c.take_record.new.reader (FitsHoweverNullable (slots_below c.args.context.now c.in-Some.plan.now.node) (single (structured (type_name_at schema id))) v)) c.in-Some.ensures.of_type
-    (c.take_record.ensures.read c.in-Read.is)))
+    (subst (λ ts. Reads depth ts c.take_record.new.reader (FitsHoweverNullable (slots_below c.args.context.now c.in-Some.plan.now.node) (single (structured (type_name_at schema c.in-Some.plan.now.type_id))) v)) (sym first)
+    (c.take_record.ensures.read done))))
 
-pub take_single-returns-in-Read-clause-holds : goal.take_single-returns-in-Read-clause-holds
-take_single-returns-in-Read-clause-holds t c _ =
+pub take_single-returns-else-not-take_begin_object-clause-holds : goal.take_single-returns-else-not-take_begin_object-clause-holds
+take_single-returns-else-not-take_begin_object-clause-holds t c done =
     let schema = c.args.context.now.schema.now in
     let v = c.take_record.new.place in
     holds_as (slots_below c.args.context.now c.args.one.now.node) (wanted_single schema c.args.one.now.wanted) (structured (type_name_at schema c.in-Some.plan.now.type_id)) v
     (ap (wanted_single schema) c.in-Complex.is ∙ ap (λ id. structured (type_name_at schema id)) (sym c.in-Some.ensures.of_type))
-    (subst (λ node. HoldsEachSlot v (slots_below c.args.context.now node) (single (structured (type_name_at schema c.in-Some.plan.now.type_id)))) c.in-Some.ensures.of_node (c.take_record.ensures.holds c.in-Read.is))
+    (subst (λ node. HoldsEachSlot v (slots_below c.args.context.now node) (single (structured (type_name_at schema c.in-Some.plan.now.type_id)))) c.in-Some.ensures.of_node (c.take_record.ensures.holds done))
 
-pub take_single-returns-in-Other-clause-read : goal.take_single-returns-in-Other-clause-read
-take_single-returns-in-Other-clause-read t c done =
+pub take_single-returns-then-not-take_begin_object-clause-read : goal.take_single-returns-then-not-take_begin_object-clause-read
+take_single-returns-then-not-take_begin_object-clause-read t c done =
     let one = c.args.one.now in
     let is = c.take_null_instead.ensures.may_be done in
     null_taken (slots_below c.args.context.now one.node) one.nullable (wanted_single c.args.context.now.schema.now one.wanted) c.args.context.now.depth c.args.reader.now c.take_null_instead.new.reader c.take_null_instead.new.place
-    (sym (c.take_record.ensures.kept c.in-Other.is) ∙ c.take_null_instead.ensures.taken done) is.0 is.1
+    (sym (c.take_begin_object.ensures.kept c.if-not-take_begin_object.true) ∙ c.take_null_instead.ensures.taken done) is.0 is.1
 
-pub take_single-returns-in-Read-take_enumeration-clause-read : goal.take_single-returns-in-Read-take_enumeration-clause-read
-take_single-returns-in-Read-take_enumeration-clause-read t c _ =
+pub take_single-returns-in-Read-clause-read : goal.take_single-returns-in-Read-clause-read
+take_single-returns-in-Read-clause-read t c _ =
     let schema = c.args.context.now.schema.now in
     let one = c.args.one.now in
     let v = c.take_enumeration.new.place in
     wanted_read schema (slots_below c.args.context.now one.node) one.wanted (Enum c.in-Enum.id) one.nullable c.args.context.now.depth c.args.reader.now c.take_enumeration.new.reader v c.in-Enum.is
     (leaf_read c.args.context.now.depth c.args.reader.now c.take_enumeration.new.reader (FitsHoweverNullable (slots_below c.args.context.now one.node) (single (enumeration (type_name_at schema c.in-Enum.id))) v)
-    (c.take_enumeration.ensures.read c.in-Read-take_enumeration.is))
+    (c.take_enumeration.ensures.read c.in-Read.is))
 
-pub take_single-returns-in-Read-take_enumeration-clause-holds : goal.take_single-returns-in-Read-take_enumeration-clause-holds
-take_single-returns-in-Read-take_enumeration-clause-holds t c _ =
+pub take_single-returns-in-Read-clause-holds : goal.take_single-returns-in-Read-clause-holds
+take_single-returns-in-Read-clause-holds t c _ =
     let schema = c.args.context.now.schema.now in
     let name = type_name_at schema c.in-Enum.id in
     let v = c.take_enumeration.new.place in
     holds_as (slots_below c.args.context.now c.args.one.now.node) (wanted_single schema c.args.one.now.wanted) (enumeration name) v (ap (wanted_single schema) c.in-Enum.is)
-    (member_leaf_holds (slots_below c.args.context.now c.args.one.now.node) name c.args.reader.now c.take_enumeration.new.reader v (c.take_enumeration.ensures.read c.in-Read-take_enumeration.is))
+    (member_leaf_holds (slots_below c.args.context.now c.args.one.now.node) name c.args.reader.now c.take_enumeration.new.reader v (c.take_enumeration.ensures.read c.in-Read.is))
 
-pub take_single-returns-in-Other-take_enumeration-clause-read : goal.take_single-returns-in-Other-take_enumeration-clause-read
-take_single-returns-in-Other-take_enumeration-clause-read t c done =
+pub take_single-returns-in-Other-clause-read : goal.take_single-returns-in-Other-clause-read
+take_single-returns-in-Other-clause-read t c done =
     let one = c.args.one.now in
-    let is = c.take_null_instead-in-Other-take_enumeration.ensures.may_be done in
-    null_taken (slots_below c.args.context.now one.node) one.nullable (wanted_single c.args.context.now.schema.now one.wanted) c.args.context.now.depth c.args.reader.now c.take_null_instead-in-Other-take_enumeration.new.reader c.take_null_instead-in-Other-take_enumeration.new.place
-    (sym (c.take_enumeration.ensures.kept c.in-Other-take_enumeration.is) ∙ c.take_null_instead-in-Other-take_enumeration.ensures.taken done) is.0 is.1
+    let is = c.take_null_instead-in-Other.ensures.may_be done in
+    null_taken (slots_below c.args.context.now one.node) one.nullable (wanted_single c.args.context.now.schema.now one.wanted) c.args.context.now.depth c.args.reader.now c.take_null_instead-in-Other.new.reader c.take_null_instead-in-Other.new.place
+    (sym (c.take_enumeration.ensures.kept c.in-Other.is) ∙ c.take_null_instead-in-Other.ensures.taken done) is.0 is.1
 
 pub take_single-returns-in-Prim-clause-read : goal.take_single-returns-in-Prim-clause-read
 take_single-returns-in-Prim-clause-read t c done =

@@ -1,4 +1,4 @@
-use Rattle.edm_rows.proofs.kept_leaf.write_text.Goals as goal
+use Rattle.spare_values.proofs.spares.Spares.put_text.Goals as goal
 
 pub returns-clause-utf8 : goal.returns-clause-utf8
 returns-clause-utf8 c = c.utf8.text

@@ -1,7 +1,0 @@
-use Rattle.std.proofs.Common.{rules}
-use Rattle.std.proofs.lemmas.Int.{to_z-of_z}
-use Rattle.std.specs.Int.{w64}
-use Rattle.edm_entities.proofs.row_leaf.put_whole.Goals as goal
-
-pub returns-in-Int : goal.returns-in-Int
-returns-in-Int c = rw (to_z-of_z w64 c.args.n c.ranges.n) (search rules)
