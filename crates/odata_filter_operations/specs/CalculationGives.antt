@@ -4,15 +4,11 @@ use Rattle.edm_values.specs.Val.{Val, null, whole}
 use Rattle.edm_values.specs.declared.primitive.PrimitiveType.{PrimitiveType}
 use Rattle.csdl_schema.specs.ExprType.{ExprType, single, primitive}
 use Rattle.odata_functions.specs.Arithmetic as numbers
+pub use Rattle.odata_functions.specs.KeptVal.{number_val}
 use Rattle.odata_functions.specs.declared.arithmetic.ArithFault.{ArithFault}
 use Rattle.odata_functions.specs.declared.arithmetic.ArithFault.TheVariants.{Overflow, DivideByZero}
 use Rattle.odata_syntax.specs.declared.binary_operator.ArithmeticOperator.{ArithmeticOperator}
 use Rattle.odata_filter_operations.specs.Outcome.{Outcome, gives, overflow, divides_by_zero}
-
--- a whole number, or null for none
-abbrev pub number_val : Option ℤ → Val
-number_val (Some n) = whole n
-number_val None = null
 
 -- what comes of numbers, as an outcome
 abbrev pub number_outcome : Result (Option ℤ) ArithFault → Outcome

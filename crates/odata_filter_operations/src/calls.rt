@@ -54,7 +54,7 @@ fn called_on_date<'e>(function: Function, given: Date) -> Result<Datum<'e>, Eval
         Function::Month => int32(month_of(given)),
         Function::Day => int32(day_of(given)),
         // `Applies`: no other function takes a date.
-        _ => unreachable!(),
+        _ => Ok(Datum::Null),
     }
 }
 
@@ -90,7 +90,7 @@ fn called_on_text<'e>(
         Function::ToLower => made(to_lower(alloc, given.as_str())),
         Function::ToUpper => made(to_upper(alloc, given.as_str())),
         // `Applies`: no other function takes one text.
-        _ => unreachable!(),
+        _ => Ok(Datum::Null),
     }
 }
 
@@ -136,7 +136,7 @@ fn called_on_texts<'e>(
         Function::IndexOf => counted(index_of(given, part)),
         Function::Concat => made(concat(alloc, given, part)),
         // `Applies`: no other function takes two texts.
-        _ => unreachable!(),
+        _ => Ok(Datum::Null),
     }
 }
 

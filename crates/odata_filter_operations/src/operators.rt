@@ -3,7 +3,7 @@ ghost use Rattle.std.specs.Prelude.{◌≡◌, ◌↔◌, Some, IfNone, IfSome, 
 ghost use Rattle.edm_values.specs.declared.primitive.PrimitiveType.{PrimitiveType};
 ghost use Rattle.csdl_schema.specs.SchemaModel.{SchemaModel};
 ghost use Rattle.odata_functions.specs.Comparable.{AreComparableBy};
-ghost use Rattle.odata_functions.specs.Comparison.{AreEqual, ComparesTrue, IsGreater};
+ghost use Rattle.odata_functions.specs.Comparison.{ComparesTrue};
 ghost use Rattle.odata_functions.specs.KeptVal.{Contents, kept_val};
 ghost use Rattle.odata_signatures.specs.TypeView.{expr_type};
 ghost use Rattle.odata_filter_operations.specs.CalculationGives.{CalculationGives, NegatedGives, number_outcome, number_val};
@@ -40,34 +40,7 @@ pub fn compare_numbers(
 ) -> bool
     ensures { IsTrue result ↔ ComparesTrue comparison (number_val left) (number_val right) }
 {
-    match comparison {
-        ComparisonOperator::Eq => are_equal(left, right),
-        ComparisonOperator::Ne => !are_equal(left, right),
-        ComparisonOperator::Gt => is_greater(left, right),
-        ComparisonOperator::Ge => is_greater(left, right) || are_equal(left, right),
-        ComparisonOperator::Lt => is_greater(right, left),
-        ComparisonOperator::Le => is_greater(right, left) || are_equal(left, right),
-    }
-}
-
-/// Whether they are equal. Null equals itself and nothing else.
-fn are_equal(left: Option<i64>, right: Option<i64>) -> bool
-    ensures { IsTrue result ↔ AreEqual (number_val left) (number_val right) }
-{
-    match left {
-        Some(l) => matches!(right, Some(r) if l == r),
-        None => right.is_none(),
-    }
-}
-
-/// Whether the left one is the greater. Null is greater than nothing, and nothing than null.
-fn is_greater(left: Option<i64>, right: Option<i64>) -> bool
-    ensures { IsTrue result ↔ IsGreater (number_val left) (number_val right) }
-{
-    match left {
-        Some(l) => matches!(right, Some(r) if l > r),
-        None => false,
-    }
+    compare_values(comparison, &left, &right)
 }
 
 /// Returns the result of arithmetic on two numbers or nulls, where its node has that type.

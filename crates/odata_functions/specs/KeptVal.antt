@@ -1,5 +1,5 @@
 -- What a stored value stands for, where a record and a list may hold anything.
-use Rattle.std.specs.Prelude.{ℕ, List, string_bytes}
+use Rattle.std.specs.Prelude.{ℕ, ℤ, List, string_bytes, Option, Some, None}
 use Rattle.edm_values.specs.Val.{Val, null, boolean, whole, text, date, moment, guid, member, fields, items}
 use Rattle.edm_values.specs.Val.{FieldVal, Vals}
 use Rattle.edm_values.specs.declared.value.Value.{Value, Null, Bool, Int, Text, Date, Moment, Guid, Enum, Record', List'}
@@ -21,3 +21,8 @@ kept_val contents (Guid bytes) = guid bytes
 kept_val contents (Enum n) = member n
 kept_val contents (Record' _ _) = fields contents.fields_are
 kept_val contents (List' _ _) = items contents.items_are
+
+-- a whole number, or null for none
+abbrev pub number_val : Option ℤ → Val
+number_val (Some n) = whole n
+number_val None = null

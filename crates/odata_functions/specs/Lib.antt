@@ -14,6 +14,7 @@ pub mod Division
 pub mod Gregorian
 pub mod KeptVal
 pub mod LowerCase
+pub mod Pair
 pub mod Promotion
 pub mod Texts
 pub mod private

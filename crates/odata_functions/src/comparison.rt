@@ -2,111 +2,71 @@
 ghost use Rattle.std.specs.Prelude.{◌≡◌, ◌↔◌, IsTrue};
 ghost use Rattle.std.specs.Str.{chars};
 ghost use Rattle.std.specs.declared.cmp.Ordering.TheVariants.{Greater};
+ghost use Rattle.edm_values.specs.Val.{Val};
 ghost use Rattle.odata_functions.specs.DatumVal.{Reading, datum_val};
-ghost use Rattle.odata_functions.specs.KeptVal.{Contents, kept_val};
 ghost use Rattle.odata_functions.specs.Comparable.{AreComparableBy};
 ghost use Rattle.odata_functions.specs.Comparison.{AreEqual, ComparesTrue, IsGreater, text_cmp};
+ghost use Rattle.odata_functions.specs.Pair.{IsPairOf};
 
-use edm_values::{Datum, Value};
+use super::pair::{Compared, Pair};
+use edm_values::Datum;
 use odata_syntax::ComparisonOperator;
 
-/// Whether the comparison is true.
+/// Returns whether the comparison is true.
 pub fn compare(operator: ComparisonOperator, left: &Datum<'_>, right: &Datum<'_>) -> bool
     requires { (l r : Reading) → AreComparableBy operator (datum_val l left.now) (datum_val r right.now) }
     ensures { (l r : Reading)
         → IsTrue result ↔ ComparesTrue operator (datum_val l left.now) (datum_val r right.now) }
 {
+    compare_values(operator, left, right)
+}
+
+/// Returns whether the comparison of two values of one type is true.
+#[inline(always)]
+pub fn compare_values<V: Compared>(operator: ComparisonOperator, left: &V, right: &V) -> bool
+    ensures { (l r : V.Read)
+        → IsTrue result ↔ ComparesTrue operator (V.val l left.now) (V.val r right.now) }
+{
     match operator {
-        ComparisonOperator::Eq => are_equal(left, right),
-        ComparisonOperator::Ne => !are_equal(left, right),
-        ComparisonOperator::Gt => is_greater(left, right),
-        ComparisonOperator::Ge => is_greater(left, right) || are_equal(left, right),
-        ComparisonOperator::Lt => is_greater(right, left),
-        ComparisonOperator::Le => is_greater(right, left) || are_equal(left, right),
+        ComparisonOperator::Eq => are_equal(left.beside(right)),
+        ComparisonOperator::Ne => !are_equal(left.beside(right)),
+        ComparisonOperator::Gt => is_greater(left.beside(right)),
+        ComparisonOperator::Ge => is_greater(left.beside(right)) || are_equal(left.beside(right)),
+        ComparisonOperator::Lt => is_greater(right.beside(left)),
+        ComparisonOperator::Le => is_greater(right.beside(left)) || are_equal(left.beside(right)),
     }
 }
 
 /// Whether they are equal. Null equals itself and nothing else.
-fn are_equal(left: &Datum<'_>, right: &Datum<'_>) -> bool
-    ensures { (l r : Reading) → IsTrue result ↔ AreEqual (datum_val l left.now) (datum_val r right.now) }
+#[inline(always)]
+fn are_equal(pair: Pair<'_>) -> bool
+    ensures { (v w : Val) → IsPairOf pair.entry v w → IsTrue result ↔ AreEqual v w }
 {
-    match left {
-        Datum::Null => matches!(right, Datum::Null),
-        Datum::Bool(l) => matches!(right, Datum::Bool(r) if l == r),
-        Datum::Int(l) => matches!(right, Datum::Int(r) if l == r),
-        Datum::Text(l) => matches!(right, Datum::Text(r) if is_same_text(l.as_str(), r.as_str())),
-        Datum::Date(l) => matches!(right, Datum::Date(r) if l == r),
-        Datum::Moment(l) =>
-            matches!(right, Datum::Moment(r) if l.instant_nanos() == r.instant_nanos()),
-        Datum::Guid(l) => matches!(right, Datum::Guid(r) if l == r),
-        Datum::Enum(l) => matches!(right, Datum::Enum(r) if l == r),
-        Datum::Record(_) | Datum::List(_) => false,
+    match pair {
+        Pair::Nulls => true,
+        Pair::Bools(l, r) => l == r,
+        Pair::Ints(l, r) => l == r,
+        Pair::Texts(l, r) => is_same_text(l, r),
+        Pair::Dates(l, r) => l == r,
+        Pair::Moments(l, r) => l.instant_nanos() == r.instant_nanos(),
+        Pair::Guids(l, r) => l == r,
+        Pair::Enums(l, r) => l == r,
+        Pair::Unlike => false,
     }
 }
 
-/// Whether the left value is the greater one. Null is greater than nothing, and nothing than null.
-fn is_greater(left: &Datum<'_>, right: &Datum<'_>) -> bool
-    ensures { (l r : Reading) → IsTrue result ↔ IsGreater (datum_val l left.now) (datum_val r right.now) }
+/// Whether the left one is the greater. Null is greater than nothing, and nothing than null.
+#[inline(always)]
+fn is_greater(pair: Pair<'_>) -> bool
+    ensures { (v w : Val) → IsPairOf pair.entry v w → IsTrue result ↔ IsGreater v w }
 {
-    match left {
-        Datum::Bool(l) => matches!(right, Datum::Bool(r) if *l && !*r),
-        Datum::Int(l) => matches!(right, Datum::Int(r) if l > r),
-        Datum::Text(l) =>
-            matches!(right, Datum::Text(r) if is_greater_text(l.as_str(), r.as_str())),
-        Datum::Date(l) => matches!(right, Datum::Date(r) if l > r),
-        Datum::Moment(l) =>
-            matches!(right, Datum::Moment(r) if l.instant_nanos() > r.instant_nanos()),
-        Datum::Null | Datum::Guid(_) | Datum::Enum(_) | Datum::Record(_) | Datum::List(_) => false,
-    }
-}
-
-/// Returns whether the comparison of two stored values is true.
-pub fn compare_values(operator: ComparisonOperator, left: &Value, right: &Value) -> bool
-    requires { (l r : Contents) → AreComparableBy operator (kept_val l left.now) (kept_val r right.now) }
-    ensures { (l r : Contents)
-        → IsTrue result ↔ ComparesTrue operator (kept_val l left.now) (kept_val r right.now) }
-{
-    match operator {
-        ComparisonOperator::Eq => are_equal_values(left, right),
-        ComparisonOperator::Ne => !are_equal_values(left, right),
-        ComparisonOperator::Gt => is_greater_value(left, right),
-        ComparisonOperator::Ge => is_greater_value(left, right) || are_equal_values(left, right),
-        ComparisonOperator::Lt => is_greater_value(right, left),
-        ComparisonOperator::Le => is_greater_value(right, left) || are_equal_values(left, right),
-    }
-}
-
-/// The same as `are_equal`, of stored values.
-fn are_equal_values(left: &Value, right: &Value) -> bool
-    ensures { (l r : Contents) → IsTrue result ↔ AreEqual (kept_val l left.now) (kept_val r right.now) }
-{
-    match left {
-        Value::Null => matches!(right, Value::Null),
-        Value::Bool(l) => matches!(right, Value::Bool(r) if l == r),
-        Value::Int(l) => matches!(right, Value::Int(r) if l == r),
-        Value::Text(l) => matches!(right, Value::Text(r) if is_same_text(l.as_str(), r.as_str())),
-        Value::Date(l) => matches!(right, Value::Date(r) if l == r),
-        Value::Moment(l) =>
-            matches!(right, Value::Moment(r) if l.instant_nanos() == r.instant_nanos()),
-        Value::Guid(l) => matches!(right, Value::Guid(r) if l == r),
-        Value::Enum(l) => matches!(right, Value::Enum(r) if l == r),
-        Value::Record(_) | Value::List(_) => false,
-    }
-}
-
-/// The same as `is_greater`, of stored values.
-fn is_greater_value(left: &Value, right: &Value) -> bool
-    ensures { (l r : Contents) → IsTrue result ↔ IsGreater (kept_val l left.now) (kept_val r right.now) }
-{
-    match left {
-        Value::Bool(l) => matches!(right, Value::Bool(r) if *l && !*r),
-        Value::Int(l) => matches!(right, Value::Int(r) if l > r),
-        Value::Text(l) =>
-            matches!(right, Value::Text(r) if is_greater_text(l.as_str(), r.as_str())),
-        Value::Date(l) => matches!(right, Value::Date(r) if l > r),
-        Value::Moment(l) =>
-            matches!(right, Value::Moment(r) if l.instant_nanos() > r.instant_nanos()),
-        Value::Null | Value::Guid(_) | Value::Enum(_) | Value::Record(_) | Value::List(_) => false,
+    match pair {
+        Pair::Bools(l, r) => l && !r,
+        Pair::Ints(l, r) => l > r,
+        Pair::Texts(l, r) => is_greater_text(l, r),
+        Pair::Dates(l, r) => l > r,
+        Pair::Moments(l, r) => l.instant_nanos() > r.instant_nanos(),
+        Pair::Nulls | Pair::Guids(_, _) | Pair::Enums(_, _) | Pair::Unlike => false,
     }
 }
 

@@ -23,6 +23,7 @@ mod function_laws;
 mod kept_text;
 mod laws;
 mod made_text;
+mod pair;
 mod promoting;
 mod text_case;
 mod text_parts;
@@ -43,6 +44,7 @@ pub use laws::{
     operands_lie_within_promotion, texts_in_byte_order,
 };
 pub use made_text::{concat, to_lower, to_upper};
+pub use pair::{Compared, Pair};
 pub use promoting::{negation_type, promotion};
 pub use text_case::lower_starts_with;
 pub use text_parts::trim;
