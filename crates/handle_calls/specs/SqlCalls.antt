@@ -8,8 +8,8 @@ use Rattle.odata_checked_filter.specs.Calls.{UsesNow}
 use Rattle.odata_checked_filter.specs.Filter.{Filter, tree_of_filter}
 use Rattle.odata_sql.specs.Conditions.{FaultsIt, IsItsCode, KeepsIt}
 use Rattle.odata_sql.specs.JsonText.{IsTextOf}
-use Rattle.odata_sql.specs.Refusals.{IsNulFree, NestsTooDeeply, SomeTreeWith}
-use Rattle.odata_sql.specs.Translation.{NeverFaults, Says, table_of}
+use Rattle.odata_sql.specs.Refusals.{IsNulFree, IsTooDeep}
+use Rattle.odata_sql.specs.Translation.{CanFault, NeverFaults, Says, table_of}
 use Rattle.odata_sql.specs.declared.translation.Conditions.{Conditions}
 use Rattle.sql_tables.specs.Columns.{AreColumns, AreKnown}
 use Rattle.sql_tables.specs.Forms.{form_numbered}
@@ -46,6 +46,7 @@ pub record HasConditions
   pub keep : Says filter now dialect (table_of filter storage) conditions.keep KeepsIt
   pub fault : IfSome conditions.fault (λ s. Says filter now dialect (table_of filter storage) s FaultsIt)
   pub no_fault : IfNone conditions.fault (NeverFaults filter now)
+  pub can_fault : IfSome conditions.fault (λ _. CanFault filter)
 
 -- the conditions of a filter over a table, by what follows the first line
 abbrev pub IsTableSql : Filter → Dialect → Bool → List ℕ → MomentParts → List ℕ → Type 0
@@ -71,10 +72,11 @@ IsNoNow filter line Fault.NotAMoment = (now : MomentParts) → ¬ MomentValue li
 IsNoNow filter line Fault.MomentNeeded = (line ≡ []) × UsesNow (tree_of_filter filter)
 IsNoNow filter line fault = ⊥
 
--- a literal or a name has U+0000; a tree that says them nests too deeply for the engine; or memory ends
+-- a literal or a name has U+0000; a tree that says them nests too deeply for the engine, and the filter is not small; or
+-- memory ends
 abbrev pub IsNoConditions : Filter → StorageModel → Dialect → MomentParts → Fault → Type 0
 IsNoConditions filter storage dialect now Fault.Unsayable = ¬ IsNulFree filter storage
-IsNoConditions filter storage dialect now Fault.TooDeep = SomeTreeWith filter now (NestsTooDeeply dialect)
+IsNoConditions filter storage dialect now Fault.TooDeep = IsTooDeep filter now dialect
 IsNoConditions filter storage dialect now Fault.Memory = Unit {0}
 IsNoConditions filter storage dialect now fault = ⊥
 

@@ -35,9 +35,8 @@ fn conditions_text(
             Ok(text) => Ok(text),
             Err(_) => Err(Fault::Memory),
         },
-        Err(SqlFault::Nul) => Err(Fault::Unsayable),
-        // What the filter names has its column, as `requires` says.
-        Err(SqlFault::NoColumn) => unreachable!(),
+        // `NoColumn` never comes: what the filter names has its column, as `requires` says.
+        Err(SqlFault::Nul) | Err(SqlFault::NoColumn) => Err(Fault::Unsayable),
         Err(SqlFault::TooDeep) => Err(Fault::TooDeep),
         Err(SqlFault::Memory) => Err(Fault::Memory),
     }

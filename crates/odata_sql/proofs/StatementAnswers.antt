@@ -1,6 +1,6 @@
 -- What the statements of a whole filter say.
 use Rattle.std.proofs.Common.{◌≡◌, ◌≢◌, ◌↔◌, ◌++◌, ◌∷◌, ◌∙◌, [], ℕ, List, Vec, String, Some, Result, Ok, Err, IfErr, IfOk, true, false, length, refl, sym, ap, subst, Bool, IsTrue, ◌<◌, ◌≤◌, arith}
-use Rattle.std.specs.Prelude.{IsSomeAnd, slice_get}
+use Rattle.std.specs.Prelude.{◌-◌, ◌^◌, IsSomeAnd, min, slice_get}
 use Rattle.std.specs.declared.alloc.Global.{Global}
 use Rattle.edm_values.specs.MomentParts.{IsMoment, MomentParts}
 use Rattle.csdl_schema.specs.SchemaModel.{slots_of, type_name_at, SchemaModel}
@@ -8,6 +8,7 @@ use Rattle.odata_syntax.specs.declared.binary_operator.ComparisonOperator.{Compa
 use Rattle.odata_signatures.specs.ExprTypes.{IsBooleanOrNull}
 use Rattle.odata_signatures.specs.TypeView.{expr_type}
 use Rattle.odata_signatures.specs.Laws.{OneType}
+use Rattle.odata_signatures.specs.PreOrder.{pre_order}
 use Rattle.odata_checked_filter.specs.Filter.{Filter, IsFilter, tree_of_filter}
 use Rattle.odata_checked_filter.specs.FlatTree.{tree_of_nodes}
 use Rattle.odata_checked_filter.specs.declared.checked_node.CheckedNode.{CheckedNode}
@@ -16,7 +17,7 @@ use Rattle.odata_eval.proofs.walking.Parts.{there_found, some_there}
 use Rattle.odata_ranges.specs.Within.{IsWithin}
 use Rattle.odata_ranges.specs.declared.range.Range.{Range}
 use Rattle.sql_meaning.specs.OneMeaning.{HaveOneMeaning}
-use Rattle.odata_sql.specs.Refusals.{HasColumns, IsNulFree, NestsTooDeeply, TreeWith, most_symbols}
+use Rattle.odata_sql.specs.Refusals.{HasColumns, IsNulFree, IsTooDeep, NestsTooDeeply, SomeTreeWith, TreeWith, fewest_nodes, most_symbols}
 use Rattle.odata_sql.specs.private.Refused.{IsRefused, IsRefusedTree}
 use Rattle.odata_sql.specs.private.ShapedTrees.{IsOfShape, IsTextOfShape}
 use Rattle.odata_sql.specs.declared.fault.SqlFault.{SqlFault}
@@ -63,6 +64,11 @@ filter_truth filter right types =
     there_found (λ (n : CheckedNode). IsTruthKind (kind_of_type n.edm_type)) (slice_get filter.list.nodes 0) top.found top.at
     (truth_kind filter.schema top.found.edm_type (subst IsBooleanOrNull same right.truth))
 
+-- a count that is not above what the parser takes is that of all symbols
+all_fit : (dialect : Dialect) (symbols most depth : ℕ) → depth ≡ min symbols (2 ^ 64 - 1) → most ≡ most_symbols dialect → depth ≤ most → symbols ≤ most_symbols dialect
+all_fit Dialect.PostgreSql symbols most depth counted is few = omega (arith, counted, is, few)
+all_fit Dialect.Sqlite symbols most depth counted is few = omega (arith, counted, is, few)
+
 -- what is printed of a tree whose names are there
 module _ (dialect : Dialect) (table : TableModel) (tree : SqlTree) where
   -- that names are there makes a tree of that shape whole
@@ -72,9 +78,28 @@ module _ (dialect : Dialect) (table : TableModel) (tree : SqlTree) where
   pub printed_shape : IsOfShape tree → (answer : Bool) → MakesWhole answer → IsTrue answer → IsOfTree dialect table tree
   printed_shape shape answer makes holds = (shape.0, record { nodes_are = shape.1; whole = makes holds dialect shape.0 shape.1 shape.2 })
 
-  pub shape_printed : (answer : Bool) → MakesWhole answer → IsTrue answer → (text : String Global) → IsTextOf dialect table tree text → IsTextOfShape dialect table tree text
-  shape_printed answer makes holds text is = λ t nodes shaped.
-      let whole = makes holds dialect t nodes shaped in (whole, is t (record { nodes_are = nodes; whole = whole }))
+  -- a tree of so many symbols, as they are counted
+  abbrev pub IsCounted : ℕ → Type 0
+  IsCounted depth = (over : TableModel) (t : Term) → IsListOf Dialect.Sqlite over tree t → depth ≡ min (symbols_of t) (2 ^ 64 - 1)
+
+  counted_there : (answer : Bool) → MakesWhole answer → IsTrue answer → (depth : ℕ) → IsCounted depth → (t : Term) → tree.nodes.items ≡ nodes_of t → IsShaped t → depth ≡ min (symbols_of t) (2 ^ 64 - 1)
+  counted_there answer makes holds depth counts t nodes shaped = counts table t (record { nodes_are = nodes; whole = makes holds Dialect.Sqlite t nodes shaped })
+
+  pub shape_printed : (answer : Bool) → MakesWhole answer → IsTrue answer → (text : String Global) → IsTextOf dialect table tree text
+      → (most depth : ℕ) → IsCounted depth → most ≡ most_symbols dialect → depth ≤ most → IsTextOfShape dialect table tree text
+  shape_printed answer makes holds text is most depth counts is_most few = λ t nodes shaped.
+      let whole = makes holds dialect t nodes shaped in
+      let counted = counted_there answer makes holds depth counts t nodes shaped in
+      (whole, is t (record { nodes_are = nodes; whole = whole }), all_fit dialect (symbols_of t) most depth counted is_most few)
+
+  -- what nests too deeply, of a filter of so many nodes
+  pub deep_there : (answer : Bool) → MakesWhole answer → IsTrue answer → (most depth fewest size : ℕ) → IsCounted depth → most ≡ most_symbols dialect → most < depth
+      → fewest ≡ fewest_nodes dialect → fewest ≤ size → IsRefusedTree dialect tree size SqlFault.TooDeep
+  deep_there answer makes holds most depth fewest size counts is_most deep is_fewest large = (
+    omega (arith, is_fewest, large),
+    λ t nodes shaped.
+        let counted = counted_there answer makes holds depth counts t nodes shaped in omega (arith, counted, is_most, deep),
+  )
 
 module _ (question : Question) (dialect : Dialect) (table : TableModel) (old new : Draft) (right : IsFilter question.filter) (no_nodes : old.tree.nodes.items ≡ []) (no_parameters : old.tree.parameters.items ≡ []) (no_depth : old.depth ≡ 0)
     (no_members : old.members.items ≡ []) (Shown : Outcome → Outcome → Type 0) (put : Puts question old new (OfPlace question.filter 0) Shown) where
@@ -91,6 +116,7 @@ module _ (question : Question) (dialect : Dialect) (table : TableModel) (old new
       paths = new.tree.paths.items;
       whole = (text put.t nodes_are put.shaped).0;
       text_is = (text put.t nodes_are put.shaped).1;
+      fits = (text put.t nodes_are put.shaped).2;
       numbered = subst (λ (ps : Vec Parameter Global). AreNumbered 0 (parameters_of (nodes_of put.t)) (length ps.items)) (sym parameters)
           (subst (λ (ps : List Parameter). AreNumbered (length ps) (parameters_of (nodes_of put.t)) (length new.tree.parameters.items)) no_parameters put.grows.numbered);
       says = subst (λ (ps : Vec Parameter Global). SaysOfEach question.filter question.now new.tree.paths.items ps.items put.t Holds) (sym parameters)
@@ -112,23 +138,15 @@ module _ (question : Question) (dialect : Dialect) (table : TableModel) (old new
       is = is;
     }
 
-    pub refused_for : (fault : SqlFault) → IsRefusedTree dialect new.tree fault → IsRefused question.filter question.now dialect Holds fault
-    refused_for SqlFault.Nul refused = refused
-    refused_for SqlFault.NoColumn refused = refused
-    refused_for SqlFault.TooDeep deep = tree_with (NestsTooDeeply dialect) (deep put.t nodes_are put.shaped)
-    refused_for SqlFault.Memory refused = tt
+    pub refused_for : (size : ℕ) → size ≡ length (pre_order (tree_of_filter question.filter)) → (fault : SqlFault) → IsRefusedTree dialect new.tree size fault → IsRefused question.filter question.now dialect Holds fault
+    refused_for size all SqlFault.Nul refused = refused
+    refused_for size all SqlFault.NoColumn refused = refused
+    refused_for size all SqlFault.TooDeep deep = (subst (λ (n : ℕ). fewest_nodes dialect ≤ n) all deep.0, tree_with (NestsTooDeeply dialect) (deep.1 put.t nodes_are put.shaped))
+    refused_for size all SqlFault.Memory refused = tt
 
-    pub refused_says : {T : Type 0} (r : Result T SqlFault) → IfErr r (IsRefusedTree dialect new.tree) → IfErr r (IsRefused question.filter question.now dialect Holds)
-    refused_says (Ok v) refused = tt
-    refused_says (Err fault) refused = refused_for fault refused
-
--- what nests too deeply
-pub deep_there : (dialect : Dialect) (table : TableModel) (tree : SqlTree) (answer : Bool) → MakesWhole dialect table tree answer → IsTrue answer
-    → (most depth : ℕ) → ((over : TableModel) (t : Term) → IsListOf Dialect.Sqlite over tree t → depth ≤ symbols_of t) → most ≡ most_symbols dialect → most < depth
-    → (t : Term) → tree.nodes.items ≡ nodes_of t → IsShaped t → NestsTooDeeply dialect tree.paths.items t
-deep_there dialect table tree answer makes holds most depth bound is_most deep t nodes shaped =
-    let below = bound table t (record { nodes_are = nodes; whole = makes holds Dialect.Sqlite t nodes shaped }) in
-    omega (arith, below, is_most, deep)
+    pub refused_says : {T : Type 0} (size : ℕ) → size ≡ length (pre_order (tree_of_filter question.filter)) → (r : Result T SqlFault) → IfErr r (IsRefusedTree dialect new.tree size) → IfErr r (IsRefused question.filter question.now dialect Holds)
+    refused_says size all (Ok v) refused = tt
+    refused_says size all (Err fault) refused = refused_for size all fault refused
 
 -- what a filter is refused for, of which a statement is
 module _ (filter : Filter) (now : MomentParts) (dialect : Dialect) (storage : StorageModel) (free : IsNulFree filter storage) (there : HasColumns filter.list.nodes storage) {T : Type 0} (result : Result T SqlFault) (fault : SqlFault) (is : result ≡ Err fault) where
@@ -172,8 +190,10 @@ module _ (filter : Filter) (now : MomentParts) (dialect : Dialect) (storage : St
         by_fault SqlFault.TooDeep reason same = not_column SqlFault.TooDeep (λ e. cc) same
         by_fault SqlFault.Memory reason same = not_column SqlFault.Memory (λ e. cc) same
 
-    pub refused_depth : result ≡ Err SqlFault.TooDeep → TreeWith filter now Holds (NestsTooDeeply dialect)
-    refused_depth deep = subst (IsRefused filter now dialect Holds) (same_fault SqlFault.TooDeep deep) refused
+    pub refused_depth : (TreeWith filter now Holds (NestsTooDeeply dialect) → SomeTreeWith filter now (NestsTooDeeply dialect)) → result ≡ Err SqlFault.TooDeep → IsTooDeep filter now dialect
+    refused_depth one deep =
+        let is : IsRefused filter now dialect Holds SqlFault.TooDeep = subst (IsRefused filter now dialect Holds) (same_fault SqlFault.TooDeep deep) refused in
+        (is.0, one is.1)
 
 -- the condition of a fault
 pub fault_is_put : (question : Question) (ranges : List Range) → AreRanges question ranges → EndsOnceOnEntities → IsMoment question.now.civil question.now.offset_minutes → IsTruthAt question.filter 0

@@ -1,13 +1,14 @@
 -- Why a filter has no conditions in a dialect.
-use Rattle.std.specs.Prelude.{◌≡◌, ◌<◌, ◌+◌, ◌⊎◌, ℕ, List, [], ◌∷◌, Bool, true, false, IfSome, Option, Some, None, length, option_and_then, slice_get, string_bytes}
+use Rattle.std.specs.Prelude.{◌≡◌, ◌<◌, ◌≤◌, ◌+◌, ◌⊎◌, ℕ, List, [], ◌∷◌, Bool, true, false, IfSome, Option, Some, None, length, option_and_then, slice_get, string_bytes}
 use Rattle.std.specs.List.{AllByRecursion}
 use Rattle.edm_values.specs.MomentParts.{MomentParts}
 use Rattle.edm_values.specs.declared.value.Value.{Value}
 use Rattle.csdl_schema.specs.SchemaModel.{properties_at}
-use Rattle.odata_checked_filter.specs.Filter.{Filter, IsFilter}
+use Rattle.odata_checked_filter.specs.Filter.{Filter, IsFilter, tree_of_filter}
 use Rattle.odata_checked_filter.specs.declared.checked_node.CheckedNode.{CheckedNode}
 use Rattle.odata_checked_filter.specs.declared.checked_node.NodeKind.{NodeKind}
 use Rattle.odata_filter_operations.specs.Outcome.{Outcome}
+use Rattle.odata_signatures.specs.PreOrder.{pre_order}
 use Rattle.sql_meaning.specs.ParameterGives.{HoldsNul}
 use Rattle.sql_tree.specs.ParserDepth.{symbols_of}
 use Rattle.sql_tree.specs.TableModel.{StorageModel, in_columns, in_document}
@@ -73,9 +74,9 @@ ColumnsSuffice =
     → length columns ≡ length (properties_at filter.schema filter.filtered)
     → HasColumns filter.list.nodes (in_columns columns)
 
--- ---- of a tree that says so of each row
+-- ---- `TooDeep`
 
--- such a tree, of which this holds
+-- a tree that says so of each row, of which this holds
 pub record TreeWith
     (filter : Filter) (now : MomentParts) (Holds : Outcome → Outcome → Type 0) (Is : List Path → Term → Type 0) : Type 0 where
   pub t : Term
@@ -94,6 +95,18 @@ abbrev pub most_symbols : Dialect → ℕ
 most_symbols Dialect.PostgreSql = 8_000
 most_symbols Dialect.Sqlite = 88
 
--- `TooDeep`: its text takes more
+-- the text of a tree takes more
 abbrev pub NestsTooDeeply : Dialect → List Path → Term → Type 0
 NestsTooDeeply dialect paths t = most_symbols dialect < symbols_of t
+
+-- how many nodes a filter has at least that is too deep: a comparison of a member of JSON with six minus signs before it
+-- has 9, and 89 symbols
+abbrev pub fewest_nodes : Dialect → ℕ
+fewest_nodes Dialect.PostgreSql = 700
+fewest_nodes Dialect.Sqlite = 9
+
+-- the filter is not small, and such a tree nests too deeply
+abbrev pub IsTooDeep : Filter → MomentParts → Dialect → Type 0
+IsTooDeep filter now dialect =
+    (fewest_nodes dialect ≤ length (pre_order (tree_of_filter filter)))
+    × SomeTreeWith filter now (NestsTooDeeply dialect)

@@ -2,11 +2,12 @@
 ghost use Rattle.std.specs.Prelude.{◌≡◌, ◌↔◌, Err, IfErr, IfOk, IfNone, IfSome};
 ghost use Rattle.sql_tree.specs.TableModel.{storage_in, table_in};
 ghost use Rattle.odata_sql.specs.Conditions.{FaultsIt, IsItsCode, KeepsIt};
-ghost use Rattle.odata_sql.specs.Translation.{NeverFaults, Says, table_of};
-ghost use Rattle.odata_sql.specs.Refusals.{HasColumns, IsNulFree, NestsTooDeeply, SomeTreeWith, most_symbols};
+ghost use Rattle.odata_sql.specs.Translation.{CanFault, NeverFaults, Says, table_of};
+ghost use Rattle.odata_sql.specs.Refusals.{HasColumns, IsNulFree, IsTooDeep, fewest_nodes, most_symbols};
 ghost use Rattle.odata_sql.specs.declared.fault.SqlFault.{SqlFault};
 ghost use Rattle.odata_sql.specs.private.Refused.{IsRefused, IsRefusedTree};
 ghost use Rattle.odata_sql.specs.private.ShapedTrees.{IsOfShape, IsTextOfShape};
+ghost use Rattle.odata_ranges.specs.Faults.{AreReportedFrom};
 ghost use Rattle.sql_draft.specs.Translated.{IsTranslated};
 
 use super::columns::has_columns;
@@ -39,6 +40,17 @@ fn most_symbols(dialect: Dialect) -> usize
     }
 }
 
+/// How many nodes a filter has at least that is too deep. Nothing nests more than minus signs before one another: eleven
+/// symbols each.
+fn fewest_nodes(dialect: Dialect) -> usize
+    ensures { result ≡ fewest_nodes dialect }
+{
+    match dialect {
+        Dialect::PostgreSql => 700,
+        Dialect::Sqlite => 9,
+    }
+}
+
 /// An expression of SQL over the rows of a table that goes by `t`.
 /// Its parameters are numbered from 1.
 #[derive(Drop)]
@@ -58,24 +70,29 @@ pub struct Conditions {
     pub fault: Option<Statement>,
 }
 
-/// The text of a tree and its parameters.
+/// The text of a tree of a filter of so many nodes, and its parameters.
 fn statement_of(
     alloc: Global,
     tree: SqlTree,
     table: &Table<'_>,
     dialect: Dialect,
+    size: usize,
 ) -> Result<Statement, SqlFault>
     requires { IsOfShape tree }
     ensures text { IfOk result (λ s. IsTextOfShape dialect (table_in table.now) tree s.text) }
     ensures parameters { IfOk result (λ s. s.parameters ≡ tree.parameters) }
-    ensures refused { IfErr result (IsRefusedTree dialect tree) }
+    ensures refused { IfErr result (IsRefusedTree dialect tree size) }
 {
     if !names_what_is(&tree, table) {
         // Never so: `has_columns` has looked for what the filter names.
         return Err(SqlFault::Memory);
     }
     if most_symbols(dialect) < parser_depth(alloc, &tree)? {
-        return Err(SqlFault::TooDeep);
+        if fewest_nodes(dialect) <= size {
+            return Err(SqlFault::TooDeep);
+        }
+        // Never so: trees of smaller filters nest less deeply.
+        return Err(SqlFault::Memory);
     }
     let text = print(alloc, &tree, table, dialect)?;
     Ok(Statement {
@@ -100,10 +117,11 @@ pub fn translate(
     ensures fault { IfOk result (λ c. IfSome c.fault (λ statement. Says checked.now now.now dialect
         (table_of checked.now (storage_in storage.entry)) statement FaultsIt)) }
     ensures no_fault { IfOk result (λ c. IfNone c.fault (NeverFaults checked.now now.now)) }
+    ensures can_fault { IfOk result (λ c. IfSome c.fault (λ _. CanFault checked.now)) }
     ensures nul { result ≡ Err SqlFault.Nul ↔ ¬ IsNulFree checked.now (storage_in storage.entry) }
     ensures no_column { result ≡ Err SqlFault.NoColumn ↔ (IsNulFree checked.now (storage_in storage.entry)
         × ¬ HasColumns checked.now.list.nodes (storage_in storage.entry)) }
-    ensures too_deep { result ≡ Err SqlFault.TooDeep → SomeTreeWith checked.now now.now (NestsTooDeeply dialect) }
+    ensures too_deep { result ≡ Err SqlFault.TooDeep → IsTooDeep checked.now now.now dialect }
 {
     if !is_nul_free(checked, storage) {
         return Err(SqlFault::Nul);
@@ -150,7 +168,8 @@ fn outcome_of(
     trees_have_one_meaning();
     let mut code = Draft::new(alloc);
     put_code(context, &mut code, 0)?;
-    statement_of(alloc, code.tree, table, dialect)
+    let size = context.checked.node_count();
+    statement_of(alloc, code.tree, table, dialect, size)
 }
 
 /// The condition that keeps a row.
@@ -170,7 +189,8 @@ fn keep_of(
     trees_have_one_meaning();
     let mut draft = Draft::new(alloc);
     put_keeps(context, &mut draft, 0)?;
-    statement_of(alloc, draft.tree, table, dialect)
+    let size = context.checked.node_count();
+    statement_of(alloc, draft.tree, table, dialect, size)
 }
 
 /// The condition of a fault, where there can be one.
@@ -181,10 +201,12 @@ fn fault_of(
     dialect: Dialect,
 ) -> Result<Option<Statement>, SqlFault>
     requires translated { IsTranslated context.now }
+    requires reported { AreReportedFrom context.now.checked.now 0 context.now.ranges.now }
     requires stored { table_in table.now ≡ table_of context.now.checked.now (storage_in context.now.storage) }
     ensures some { IfOk result (λ found. IfSome found (λ s. Says context.now.checked.now context.now.moment.now dialect
         (table_in table.now) s FaultsIt)) }
     ensures none { IfOk result (λ found. IfNone found (NeverFaults context.now.checked.now context.now.moment.now)) }
+    ensures can { IfOk result (λ found. IfSome found (λ _. CanFault context.now.checked.now)) }
     ensures refused { IfErr result (IsRefused context.now.checked.now context.now.moment.now dialect FaultsIt) }
 {
     typed_trees_end_once_on_entities();
@@ -200,5 +222,6 @@ fn fault_of(
     })?;
     put_code(context, &mut draft, 0)?;
     draft.put_number(Digit::Three)?;
-    Ok(Some(statement_of(alloc, draft.tree, table, dialect)?))
+    let size = context.checked.node_count();
+    Ok(Some(statement_of(alloc, draft.tree, table, dialect, size)?))
 }

@@ -1,20 +1,18 @@
 -- How deeply the trees nest that stand one after another.
-use Rattle.std.proofs.Common.{◌≡◌, ◌∙◌, ◌<◌, ◌≤◌, ◌+◌, ◌-◌, ◌++◌, ℕ, List, [], ◌∷◌, Option, Some, None, take, reverse, refl, sym, ap, subst, append-nil, append_assoc, arith}
+use Rattle.std.proofs.Common.{◌≡◌, ◌∙◌, ◌<◌, ◌≤◌, ◌+◌, ◌-◌, ◌^◌, ◌++◌, ℕ, List, [], ◌∷◌, Option, Some, None, take, reverse, refl, sym, ap, subst, append-nil, append_assoc, arith}
 use Rattle.std.specs.Option.{option_to_list}
-use Rattle.std.specs.Prelude.{MatchOption, max}
+use Rattle.std.specs.Prelude.{MatchOption, max, min}
 use Rattle.std.proofs.lemmas.List.{reverse-append}
-use Rattle.std.proofs.Math.Nat.{le-max_left, le-max_right, max-le}
-use Rattle.sql_tree.specs.ParserDepth.{kept_symbols, own_symbols, symbols_among, symbols_of}
+use Rattle.sql_tree.specs.ParserDepth.{kept_symbols, own_of_field, own_of_function, own_symbols, symbols_among, symbols_of}
 use Rattle.sql_tree.specs.TableModel.{TableModel}
 use Rattle.sql_tree.specs.Term.{Term, Terms, term, no_terms, more_terms, nodes_of, nodes_of_all}
 use Rattle.sql_tree.specs.TreeText.{AreWhole, IsWhole, count_of}
 use Rattle.sql_tree.specs.declared.dialect.Dialect.{Dialect}
+use Rattle.sql_tree.specs.declared.node.FieldType.{FieldType}
+use Rattle.sql_tree.specs.declared.node.SqlFunction.{SqlFunction}
 use Rattle.sql_tree.specs.declared.node.SqlNode.{SqlNode}
 use Rattle.sql_tree.specs.declared.path.Path.{Path}
-use Rattle.sql_tree.specs.private.Depths.{AreBounded, joined}
-
-at_most : (a b c : ℕ) → a ≤ b → b ≤ c → a ≤ c
-at_most a b c first second = omega (arith, first, second)
+use Rattle.sql_tree.specs.private.Depths.{AreDepths, joined}
 
 -- ---- what a number is taken from
 
@@ -37,62 +35,90 @@ nothing_taken (Some x) all new n m is items cases rest = cc
 pub empty_none : (all : List ℕ) → all ≡ [] → (depth : ℕ) (below : List ℕ) → reverse all ≡ depth ∷ below → ⊥
 empty_none all none depth below is = let both : [] ≡ depth ∷ below = sym (ap reverse none) ∙ is in cc
 
+-- ---- the symbols of a node itself
+
+field_fits : (type : FieldType) → own_of_field type ≤ 36
+field_fits (FieldType.Prim prim) = omega arith
+field_fits (FieldType.Enum id) = omega arith
+
+function_fits : (function : SqlFunction) → own_of_function function ≤ 36
+function_fits SqlFunction.Instant = omega arith
+function_fits SqlFunction.OffsetMinutes = omega arith
+function_fits SqlFunction.Second = omega arith
+function_fits SqlFunction.StartsWith = omega arith
+function_fits SqlFunction.EndsWith = omega arith
+function_fits SqlFunction.RestFrom = omega arith
+function_fits SqlFunction.PartFrom = omega arith
+function_fits SqlFunction.Trim = omega arith
+function_fits _ = omega arith
+
+own_fits : (node : SqlNode) → own_symbols node ≤ 36
+own_fits (SqlNode.Field path type) = field_fits type
+own_fits (SqlNode.Exists path level) = omega arith
+own_fits (SqlNode.Least path level) = omega arith
+own_fits (SqlNode.Count path) = omega arith
+own_fits (SqlNode.IsMissing path) = omega arith
+own_fits (SqlNode.Function function) = function_fits function
+own_fits _ = omega arith
+
 -- ---- the children of a node
 
 -- so many of its children have ended; the numbers are of those left, and of what comes after
 pub record IsPartway (node : SqlNode) (children rest : Terms) (done deepest : ℕ) (depths : List ℕ) : Type 0 where
   pub left : Terms
   pub counted : count_of left + done ≡ count_of children
-  pub most : deepest ≤ symbols_of (term node children)
-  pub among : symbols_among node done left ≤ symbols_of (term node children)
-  pub bounded : AreBounded depths (joined left rest)
+  pub fits : deepest ≤ 2 ^ 64 - 1
+  pub most : min (max deepest (symbols_among node done left)) (2 ^ 64 - 1) ≡ min (symbols_of (term node children)) (2 ^ 64 - 1)
+  pub are : AreDepths depths (joined left rest)
 
-pub none_done : (node : SqlNode) (children rest : Terms) (depths : List ℕ) → AreBounded depths (joined children rest) → IsPartway node children rest 0 (own_symbols node) depths
-none_done node children rest depths bounded = record {
+pub none_done : (node : SqlNode) (children rest : Terms) (depths : List ℕ) → AreDepths depths (joined children rest) → IsPartway node children rest 0 (own_symbols node) depths
+none_done node children rest depths are = record {
   left = children;
   counted = omega arith;
-  most = le-max_left (own_symbols node) (symbols_among node 0 children);
-  among = le-max_right (own_symbols node) (symbols_among node 0 children);
-  bounded = bounded;
+  fits = omega (arith, own_fits node);
+  most = refl;
+  are = are;
 }
 
-module _ (node : SqlNode) (children rest : Terms) (done deepest depth here : ℕ) (within : done < count_of children) (sum : here ≤ kept_symbols node done + depth) where
+-- a child more, of so many symbols, beside which so many are kept
+with_child : (before kept symbols after depth here : ℕ) → depth ≡ min symbols (2 ^ 64 - 1) → here ≡ min (kept + depth) (2 ^ 64 - 1)
+    → min (max (max before here) after) (2 ^ 64 - 1) ≡ min (max before (max (kept + symbols) after)) (2 ^ 64 - 1)
+with_child before kept symbols after depth here is sum = omega (arith, is, sum)
+
+module _ (node : SqlNode) (children rest : Terms) (done deepest depth here : ℕ) (within : done < count_of children) (sum : here ≡ min (kept_symbols node done + depth) (2 ^ 64 - 1)) where
   next_left : (left : Terms) (depths new : List ℕ) → ((d : ℕ) (below : List ℕ) → depths ≡ d ∷ below → (depth ≡ d) × (new ≡ below)) → count_of left + done ≡ count_of children
-      → deepest ≤ symbols_of (term node children) → symbols_among node done left ≤ symbols_of (term node children) → AreBounded depths (joined left rest) → IsPartway node children rest (done + 1) (max deepest here) new
-  next_left no_terms depths new takes counted most among bounded = absurd (omega (arith, counted, within))
-  next_left (more_terms first more) [] new takes counted most among bounded = absurd bounded
-  next_left (more_terms first more) (d ∷ below) new takes counted most among bounded =
+      → deepest ≤ 2 ^ 64 - 1 → min (max deepest (symbols_among node done left)) (2 ^ 64 - 1) ≡ min (symbols_of (term node children)) (2 ^ 64 - 1) → AreDepths depths (joined left rest)
+      → IsPartway node children rest (done + 1) (max deepest here) new
+  next_left no_terms depths new takes counted fits most are = absurd (omega (arith, counted, within))
+  next_left (more_terms first more) [] new takes counted fits most are = absurd are
+  next_left (more_terms first more) (d ∷ below) new takes counted fits most are =
       let both = takes d below refl in
-      let whole = symbols_of (term node children) in
-      let of_first : kept_symbols node done + symbols_of first ≤ whole =
-      at_most (kept_symbols node done + symbols_of first) (max (kept_symbols node done + symbols_of first) (symbols_among node (done + 1) more)) whole
-      (le-max_left (kept_symbols node done + symbols_of first) (symbols_among node (done + 1) more)) among in
-      let first_most = bounded.0 in
-      let taken_is = both.0 in
-      let here_most : here ≤ whole = omega (arith, sum, of_first, first_most, taken_is) in
       record {
         left = more;
         counted = omega (arith, counted);
-        most = max-le most here_most;
-        among =
-            at_most (symbols_among node (done + 1) more) (max (kept_symbols node done + symbols_of first) (symbols_among node (done + 1) more)) whole
-            (le-max_right (kept_symbols node done + symbols_of first) (symbols_among node (done + 1) more)) among;
-        bounded = subst (λ (ds : List ℕ). AreBounded ds (joined more rest)) (sym both.1) bounded.1;
+        fits = omega (arith, fits, sum);
+        most = with_child deepest (kept_symbols node done) (symbols_of first) (symbols_among node (done + 1) more) depth here (both.0 ∙ are.0) sum ∙ most;
+        are = subst (λ (ds : List ℕ). AreDepths ds (joined more rest)) (sym both.1) are.1;
       }
 
   pub one_done : (depths new : List ℕ) → ((d : ℕ) (below : List ℕ) → depths ≡ d ∷ below → (depth ≡ d) × (new ≡ below)) → IsPartway node children rest done deepest depths
       → IsPartway node children rest (done + 1) (max deepest here) new
-  one_done depths new takes is = next_left is.left depths new takes is.counted is.most is.among is.bounded
+  one_done depths new takes is = next_left is.left depths new takes is.counted is.fits is.most is.are
 
-none_left : (left rest : Terms) (depths : List ℕ) → count_of left ≡ 0 → AreBounded depths (joined left rest) → AreBounded depths rest
-none_left no_terms rest depths none bounded = bounded
-none_left (more_terms first more) rest depths none bounded = absurd (omega (arith, none))
+-- no child is left
+none_more : (node : SqlNode) (children rest : Terms) (done deepest : ℕ) (left : Terms) (depths : List ℕ) → count_of left ≡ 0 → deepest ≤ 2 ^ 64 - 1
+    → min (max deepest (symbols_among node done left)) (2 ^ 64 - 1) ≡ min (symbols_of (term node children)) (2 ^ 64 - 1) → AreDepths depths (joined left rest)
+    → (deepest ≡ min (symbols_of (term node children)) (2 ^ 64 - 1)) × AreDepths depths rest
+none_more node children rest done deepest no_terms depths none fits most are =
+    let alone : deepest ≡ min (max deepest 0) (2 ^ 64 - 1) = omega (arith, fits) in
+    (alone ∙ most, are)
+none_more node children rest done deepest (more_terms first more) depths none fits most are = absurd (omega (arith, none))
 
 pub all_done : (node : SqlNode) (children rest : Terms) (done deepest : ℕ) (depths : List ℕ) → count_of children ≤ done → IsPartway node children rest done deepest depths
-    → (deepest ≤ symbols_of (term node children)) × AreBounded depths rest
+    → (deepest ≡ min (symbols_of (term node children)) (2 ^ 64 - 1)) × AreDepths depths rest
 all_done node children rest done deepest depths past is =
     let counted = is.counted in
-    (is.most, none_left is.left rest depths (omega (arith, counted, past)) is.bounded)
+    none_more node children rest done deepest is.left depths (omega (arith, counted, past)) is.fits is.most is.are
 
 -- ---- terms one after another
 
@@ -107,30 +133,30 @@ module _ (table : TableModel) (paths : List Path) where
   joined_whole (more_terms first rest) more whole others = (whole.0, joined_whole rest more whole.1 others)
 
   -- whatever trees the nodes are of
-  abbrev pub Bounds : List SqlNode → List ℕ → Type 0
-  Bounds nodes depths = (terms : Terms) → nodes ≡ nodes_of_all terms → AreWhole Dialect.Sqlite table paths terms → AreBounded depths terms
+  abbrev pub AreCounted : List SqlNode → List ℕ → Type 0
+  AreCounted nodes depths = (terms : Terms) → nodes ≡ nodes_of_all terms → AreWhole Dialect.Sqlite table paths terms → AreDepths depths terms
 
-  pub none_bound : (nodes : List SqlNode) (depths : List ℕ) → nodes ≡ [] → depths ≡ [] → Bounds nodes depths
-  none_bound nodes depths no_nodes no_depths no_terms is whole = subst (λ (ds : List ℕ). AreBounded ds no_terms) (sym no_depths) tt
-  none_bound nodes depths no_nodes no_depths (more_terms (term node children) rest) is whole = let both : [] ≡ node ∷ (nodes_of_all children ++ nodes_of_all rest) = sym no_nodes ∙ is in absurd (cc)
+  pub none_counted : (nodes : List SqlNode) (depths : List ℕ) → nodes ≡ [] → depths ≡ [] → AreCounted nodes depths
+  none_counted nodes depths no_nodes no_depths no_terms is whole = subst (λ (ds : List ℕ). AreDepths ds no_terms) (sym no_depths) tt
+  none_counted nodes depths no_nodes no_depths (more_terms (term node children) rest) is whole = let both : [] ≡ node ∷ (nodes_of_all children ++ nodes_of_all rest) = sym no_nodes ∙ is in absurd (cc)
 
   -- a node before these, after the numbers of its children have been taken
-  pub one_bound : (node : SqlNode) (nodes : List SqlNode) (depth : ℕ) (depths new : List ℕ) → Bounds nodes depths
-      → ((children rest : Terms) → IsWhole Dialect.Sqlite table paths (term node children) → AreBounded depths (joined children rest) → (depth ≤ symbols_of (term node children)) × AreBounded new rest)
-      → Bounds (node ∷ nodes) (depth ∷ new)
-  one_bound node nodes depth depths new bounds takes no_terms is whole = let none : node ∷ nodes ≡ [] = is in absurd (cc)
-  one_bound node nodes depth depths new bounds takes (more_terms (term own children) rest) is whole =
+  pub one_counted : (node : SqlNode) (nodes : List SqlNode) (depth : ℕ) (depths new : List ℕ) → AreCounted nodes depths
+      → ((children rest : Terms) → IsWhole Dialect.Sqlite table paths (term node children) → AreDepths depths (joined children rest) → (depth ≡ min (symbols_of (term node children)) (2 ^ 64 - 1)) × AreDepths new rest)
+      → AreCounted (node ∷ nodes) (depth ∷ new)
+  one_counted node nodes depth depths new counted takes no_terms is whole = let none : node ∷ nodes ≡ [] = is in absurd (cc)
+  one_counted node nodes depth depths new counted takes (more_terms (term own children) rest) is whole =
       let both : node ∷ nodes ≡ own ∷ (nodes_of_all children ++ nodes_of_all rest) = is in
       let same : own ≡ node = cc in
       let after : nodes ≡ nodes_of_all children ++ nodes_of_all rest = cc in
       let first : IsWhole Dialect.Sqlite table paths (term node children) = subst (λ (n : SqlNode). IsWhole Dialect.Sqlite table paths (term n children)) same whole.0 in
-      let inner : AreBounded depths (joined children rest) = bounds (joined children rest) (after ∙ sym (joined_nodes children rest)) (joined_whole children rest first.3 whole.1) in
-      subst (λ (n : SqlNode). AreBounded (depth ∷ new) (more_terms (term n children) rest)) (sym same) (takes children rest first inner)
+      let inner : AreDepths depths (joined children rest) = counted (joined children rest) (after ∙ sym (joined_nodes children rest)) (joined_whole children rest first.3 whole.1) in
+      subst (λ (n : SqlNode). AreDepths (depth ∷ new) (more_terms (term n children) rest)) (sym same) (takes children rest first inner)
 
-  of_first : (depths : List ℕ) (t : Term) → AreBounded depths (more_terms t no_terms) → (depth : ℕ) (new : List ℕ) → ((d : ℕ) (below : List ℕ) → depths ≡ d ∷ below → (depth ≡ d) × (new ≡ below)) → depth ≤ symbols_of t
-  of_first [] t bounded depth new takes = absurd bounded
-  of_first (d ∷ below) t bounded depth new takes = let is = (takes d below refl).0 in let most = bounded.0 in omega (arith, is, most)
+  of_first : (depths : List ℕ) (t : Term) → AreDepths depths (more_terms t no_terms) → (depth : ℕ) (new : List ℕ) → ((d : ℕ) (below : List ℕ) → depths ≡ d ∷ below → (depth ≡ d) × (new ≡ below)) → depth ≡ min (symbols_of t) (2 ^ 64 - 1)
+  of_first [] t are depth new takes = absurd are
+  of_first (d ∷ below) t are depth new takes = (takes d below refl).0 ∙ are.0
 
-  pub whole_bound : (nodes : List SqlNode) (depths : List ℕ) (t : Term) → nodes ≡ nodes_of t → IsWhole Dialect.Sqlite table paths t → Bounds nodes depths
-      → (depth : ℕ) (new : List ℕ) → ((d : ℕ) (below : List ℕ) → depths ≡ d ∷ below → (depth ≡ d) × (new ≡ below)) → depth ≤ symbols_of t
-  whole_bound nodes depths t is whole bounds = of_first depths t (bounds (more_terms t no_terms) (is ∙ sym (append-nil (nodes_of t))) (whole, tt))
+  pub whole_counted : (nodes : List SqlNode) (depths : List ℕ) (t : Term) → nodes ≡ nodes_of t → IsWhole Dialect.Sqlite table paths t → AreCounted nodes depths
+      → (depth : ℕ) (new : List ℕ) → ((d : ℕ) (below : List ℕ) → depths ≡ d ∷ below → (depth ≡ d) × (new ≡ below)) → depth ≡ min (symbols_of t) (2 ^ 64 - 1)
+  whole_counted nodes depths t is whole counted = of_first depths t (counted (more_terms t no_terms) (is ∙ sym (append-nil (nodes_of t))) (whole, tt))

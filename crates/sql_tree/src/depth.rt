@@ -1,6 +1,6 @@
 //! How deeply an engine's parser nests at a text: it keeps the symbols of all that is not ended yet. They are counted
 //! as SQLite has them.
-ghost use Rattle.std.specs.Prelude.{◌≡◌, ◌<◌, ◌≤◌, ◌∷◌, ℕ, List, IfOk, reverse};
+ghost use Rattle.std.specs.Prelude.{◌≡◌, ◌<◌, ◌-◌, ◌^◌, ◌∷◌, ℕ, List, IfOk, min, reverse};
 ghost use Rattle.sql_tree.specs.ParserDepth.{after_first, kept_of_function, kept_of_node, kept_of_range, kept_symbols, own_of_field, own_of_function, own_symbols, symbols_of};
 ghost use Rattle.sql_tree.specs.Printed.{IsListOf};
 ghost use Rattle.sql_tree.specs.TableModel.{TableModel};
@@ -8,7 +8,7 @@ ghost use Rattle.sql_tree.specs.Term.{Term, Terms, term};
 ghost use Rattle.sql_tree.specs.TreeText.{IsWhole};
 ghost use Rattle.sql_tree.specs.declared.dialect.Dialect.{Dialect};
 ghost use Rattle.sql_tree.specs.declared.path.Path.{Path};
-ghost use Rattle.sql_tree.specs.private.Depths.{AreBounded, joined};
+ghost use Rattle.sql_tree.specs.private.Depths.{AreDepths, joined};
 
 use super::dialect::Dialect;
 use super::frames::arity_of;
@@ -17,10 +17,10 @@ use super::tree::SqlTree;
 use edm_values::Prim;
 use std::alloc::{AllocError, Global};
 
-/// How many symbols the parser keeps at a time for the text of a tree.
+/// How many symbols the parser keeps at a time for the text of a tree. If they are more, the greatest number.
 pub fn parser_depth(alloc: Global, tree: &SqlTree) -> Result<usize, AllocError>
     ensures { IfOk result (λ depth. (table : TableModel) (t : Term) → IsListOf Dialect.Sqlite table tree.now t
-        → depth ≤ symbols_of t) }
+        → depth ≡ min (symbols_of t) (2 ^ 64 - 1)) }
 {
     // Those of each tree that begins after a node: the next one comes last.
     let mut depths: Vec<usize> = Vec::new(alloc);
@@ -38,8 +38,8 @@ pub fn parser_depth(alloc: Global, tree: &SqlTree) -> Result<usize, AllocError>
 fn depth_with_children(depths: &mut Vec<usize>, node: SqlNode) -> usize
     ensures { (table : TableModel) (paths : List Path) (children rest : Terms)
         → IsWhole Dialect.Sqlite table paths (term node children)
-        → AreBounded (reverse depths.old.items) (joined children rest)
-        → (result ≤ symbols_of (term node children)) × AreBounded (reverse depths.new.items) rest }
+        → AreDepths (reverse depths.old.items) (joined children rest)
+        → (result ≡ min (symbols_of (term node children)) (2 ^ 64 - 1)) × AreDepths (reverse depths.new.items) rest }
 {
     let mut deepest = own_symbols(node);
     for done in 0..arity_of(Dialect::Sqlite, &node) {

@@ -8,4 +8,5 @@ returns-in-Ok-conditions_json c = record {
   keep = c.in-Ok.ensures.keep;
   fault = c.in-Ok.ensures.fault;
   no_fault = c.in-Ok.ensures.no_fault;
+  can_fault = c.in-Ok.ensures.can_fault;
 }

@@ -4,6 +4,7 @@ use Rattle.odata_sql.specs.Conditions.{FaultsIt}
 use Rattle.sql_draft.specs.Translated.{question_of}
 use Rattle.sql_draft.specs.World.{OfPlace, Puts}
 use Rattle.sql_tree.specs.TableModel.{table_in}
+use Rattle.odata_sql.proofs.QuietFilters.{can_fault}
 use Rattle.odata_sql.proofs.StatementAnswers.{fault_is_put, filter_truth, first_inside, never_by_range, of_shape, refused_for, says_it}
 use Rattle.odata_sql.proofs.translation.fault_of.Goals as goal
 
@@ -36,6 +37,10 @@ returns-clause-some c =
     c.new-draft.ensures.parameters c.new-draft.ensures.depth c.new-draft.ensures.members FaultsIt put FaultsIt c.trees_have_one_meaning.ensures (λ o x is. is) c.in_ok-statement_of.field-0
     c.in_ok-statement_of.ensures.text c.in_ok-statement_of.ensures.parameters
 
+pub returns-clause-can : goal.returns-clause-can
+returns-clause-can c =
+    can_fault c.args.context.now.checked.now c.args.context.now.ranges.now c.requires.translated.ranges.count c.requires.reported c.may_fault.result c.may_fault.ensures c.if-not-may_fault.false
+
 pub returns-in_err-statement_of-clause-refused : goal.returns-in_err-statement_of-clause-refused
 returns-in_err-statement_of-clause-refused c =
     let put : Puts (question_of c.args.context.now) c.new-draft.result c.put_number.new.self (OfPlace c.args.context.now.checked.now 0) FaultsIt =
@@ -44,4 +49,4 @@ returns-in_err-statement_of-clause-refused c =
     c.in_ok-put_code.ensures c.in_ok-put_number.ensures.ok in
     let exit = err_from_is_err_and c.from_residual-in_err-statement_of.result c.from_residual-in_err-statement_of.ensures.1 in
     rw (exit.1 ∙ ap Err exit.2) (refused_for (question_of c.args.context.now) c.args.dialect (table_in c.args.table.now) c.new-draft.result c.put_number.new.self c.requires.translated.right c.new-draft.ensures.nodes
-    c.new-draft.ensures.parameters c.new-draft.ensures.depth c.new-draft.ensures.members FaultsIt put FaultsIt c.trees_have_one_meaning.ensures (λ o x is. is) c.in_err-statement_of.field-0.0 c.in_err-statement_of.ensures.refused)
+    c.new-draft.ensures.parameters c.new-draft.ensures.depth c.new-draft.ensures.members FaultsIt put FaultsIt c.trees_have_one_meaning.ensures (λ o x is. is) c.node_count-size.result c.node_count-size.ensures c.in_err-statement_of.field-0.0 c.in_err-statement_of.ensures.refused)

@@ -23,5 +23,5 @@ returns-clause-ok c =
 pub returns-clause-refused : goal.returns-clause-refused
 returns-clause-refused c =
     refused_says (question_of c.args.context.now) c.args.dialect (table_in c.args.table.now) c.new-draft.result c.put_keeps.new.draft c.requires.translated.right c.new-draft.ensures.nodes c.new-draft.ensures.parameters
-    c.new-draft.ensures.depth c.new-draft.ensures.members (IsInForm Form.Keeps) c.in_ok-put_keeps.ensures KeepsIt c.trees_have_one_meaning.ensures (λ o x is. is) c.statement_of.result
+    c.new-draft.ensures.depth c.new-draft.ensures.members (IsInForm Form.Keeps) c.in_ok-put_keeps.ensures KeepsIt c.trees_have_one_meaning.ensures (λ o x is. is) c.node_count-size.result c.node_count-size.ensures c.statement_of.result
     c.statement_of.ensures.refused

@@ -23,5 +23,5 @@ returns-clause-ok c =
 pub returns-clause-refused : goal.returns-clause-refused
 returns-clause-refused c =
     refused_says (question_of c.args.context.now) c.args.dialect (table_in c.args.table.now) c.new-code.result c.put_code.new.draft c.requires.translated.right c.new-code.ensures.nodes c.new-code.ensures.parameters
-    c.new-code.ensures.depth c.new-code.ensures.members (IsInForm Form.Code) c.in_ok-put_code.ensures IsItsCode c.trees_have_one_meaning.ensures (λ o x is. is) c.statement_of.result
+    c.new-code.ensures.depth c.new-code.ensures.members (IsInForm Form.Code) c.in_ok-put_code.ensures IsItsCode c.trees_have_one_meaning.ensures (λ o x is. is) c.node_count-size.result c.node_count-size.ensures c.statement_of.result
     c.statement_of.ensures.refused

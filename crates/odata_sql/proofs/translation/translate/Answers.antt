@@ -60,6 +60,9 @@ fault_of-requires-clause-translated c = record {
 pub fault_of-requires-clause-stored : goal.fault_of-requires-clause-stored
 fault_of-requires-clause-stored c = own_table c.args.checked.now c.schema.result.now c.filtered_type.result (storage_in c.args.storage) c.schema.ensures c.filtered_type.ensures.same
 
+pub fault_of-requires-clause-reported : goal.fault_of-requires-clause-reported
+fault_of-requires-clause-reported c = (subst (AreRangesOf c.args.checked.now) (sym c.as_slice.ensures.value) c.in_ok-ranges.ensures).reported
+
 pub returns-clause-outcome : goal.returns-clause-outcome
 returns-clause-outcome c =
     subst (λ (table : TableModel). Says c.args.checked.now c.args.now.now c.args.dialect table c.in_ok-outcome_of.field-0 IsItsCode)
@@ -74,6 +77,9 @@ pub returns-clause-fault : goal.returns-clause-fault
 returns-clause-fault c =
     subst (λ (table : TableModel). IfSome c.in_ok-fault_of.field-0 (λ (s : Statement). Says c.args.checked.now c.args.now.now c.args.dialect table s FaultsIt))
     (own_table c.args.checked.now c.schema.result.now c.filtered_type.result (storage_in c.args.storage) c.schema.ensures c.filtered_type.ensures.same) c.in_ok-fault_of.ensures.some
+
+pub returns-clause-can_fault : goal.returns-clause-can_fault
+returns-clause-can_fault c = c.in_ok-fault_of.ensures.can
 
 -- ---- refusals
 
@@ -114,8 +120,8 @@ returns-in_err-outcome_of-clause-no_column c =
 pub returns-in_err-outcome_of-clause-too_deep : goal.returns-in_err-outcome_of-clause-too_deep
 returns-in_err-outcome_of-clause-too_deep c =
     let exit = err_from_is_err_and c.from_residual-in_err-outcome_of.result c.from_residual-in_err-outcome_of.ensures.1 in
-    λ is. inl (refused_depth c.args.checked.now c.args.now.now c.args.dialect (storage_in c.args.storage) (c.is_nul_free.ensures.0 c.if-not-is_nul_free.false) (c.has_columns.ensures.0 c.if-not-has_columns.false) c.from_residual-in_err-outcome_of.result exit.0 exit.1 IsItsCode
-    (subst (IsRefused c.args.checked.now c.args.now.now c.args.dialect IsItsCode) (sym exit.2) c.in_err-outcome_of.ensures.refused) is)
+    refused_depth c.args.checked.now c.args.now.now c.args.dialect (storage_in c.args.storage) (c.is_nul_free.ensures.0 c.if-not-is_nul_free.false) (c.has_columns.ensures.0 c.if-not-has_columns.false) c.from_residual-in_err-outcome_of.result exit.0 exit.1 IsItsCode
+    (subst (IsRefused c.args.checked.now c.args.now.now c.args.dialect IsItsCode) (sym exit.2) c.in_err-outcome_of.ensures.refused) (λ t. inl t)
 
 pub returns-in_err-keep_of-clause-nul : goal.returns-in_err-keep_of-clause-nul
 returns-in_err-keep_of-clause-nul c =
@@ -132,8 +138,8 @@ returns-in_err-keep_of-clause-no_column c =
 pub returns-in_err-keep_of-clause-too_deep : goal.returns-in_err-keep_of-clause-too_deep
 returns-in_err-keep_of-clause-too_deep c =
     let exit = err_from_is_err_and c.from_residual-in_err-keep_of.result c.from_residual-in_err-keep_of.ensures.1 in
-    λ is. inr (inl (refused_depth c.args.checked.now c.args.now.now c.args.dialect (storage_in c.args.storage) (c.is_nul_free.ensures.0 c.if-not-is_nul_free.false) (c.has_columns.ensures.0 c.if-not-has_columns.false) c.from_residual-in_err-keep_of.result exit.0 exit.1 KeepsIt
-    (subst (IsRefused c.args.checked.now c.args.now.now c.args.dialect KeepsIt) (sym exit.2) c.in_err-keep_of.ensures.refused) is))
+    refused_depth c.args.checked.now c.args.now.now c.args.dialect (storage_in c.args.storage) (c.is_nul_free.ensures.0 c.if-not-is_nul_free.false) (c.has_columns.ensures.0 c.if-not-has_columns.false) c.from_residual-in_err-keep_of.result exit.0 exit.1 KeepsIt
+    (subst (IsRefused c.args.checked.now c.args.now.now c.args.dialect KeepsIt) (sym exit.2) c.in_err-keep_of.ensures.refused) (λ t. inr (inl t))
 
 pub returns-in_err-fault_of-clause-nul : goal.returns-in_err-fault_of-clause-nul
 returns-in_err-fault_of-clause-nul c =
@@ -150,5 +156,5 @@ returns-in_err-fault_of-clause-no_column c =
 pub returns-in_err-fault_of-clause-too_deep : goal.returns-in_err-fault_of-clause-too_deep
 returns-in_err-fault_of-clause-too_deep c =
     let exit = err_from_is_err_and c.from_residual-in_err-fault_of.result c.from_residual-in_err-fault_of.ensures.1 in
-    λ is. inr (inr (refused_depth c.args.checked.now c.args.now.now c.args.dialect (storage_in c.args.storage) (c.is_nul_free.ensures.0 c.if-not-is_nul_free.false) (c.has_columns.ensures.0 c.if-not-has_columns.false) c.from_residual-in_err-fault_of.result exit.0 exit.1 FaultsIt
-    (subst (IsRefused c.args.checked.now c.args.now.now c.args.dialect FaultsIt) (sym exit.2) c.in_err-fault_of.ensures.refused) is))
+    refused_depth c.args.checked.now c.args.now.now c.args.dialect (storage_in c.args.storage) (c.is_nul_free.ensures.0 c.if-not-is_nul_free.false) (c.has_columns.ensures.0 c.if-not-has_columns.false) c.from_residual-in_err-fault_of.result exit.0 exit.1 FaultsIt
+    (subst (IsRefused c.args.checked.now c.args.now.now c.args.dialect FaultsIt) (sym exit.2) c.in_err-fault_of.ensures.refused) (λ t. inr (inr t))

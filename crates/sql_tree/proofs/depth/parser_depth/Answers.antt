@@ -1,7 +1,7 @@
 use Rattle.std.proofs.Common.{◌≡◌, ◌∙◌, ◌<◌, ◌+◌, ◌-◌, ◌∷◌, [], ℕ, List, drop, length, reverse, sym, ap, subst, arith}
 use Rattle.std.proofs.lemmas.List.{drop_all}
 use Rattle.sql_tree.specs.declared.node.SqlNode.{SqlNode}
-use Rattle.sql_tree.proofs.Deepest.{Bounds, none_bound, one_bound, pushed, whole_bound}
+use Rattle.sql_tree.proofs.Deepest.{AreCounted, none_counted, one_counted, pushed, whole_counted}
 use Rattle.sql_tree.proofs.Printing.{from_node}
 use Rattle.sql_tree.proofs.depth.parser_depth.Goals as goal
 
@@ -10,7 +10,7 @@ loop-at-init c =
     let long = ap length c.as_slice-nodes.ensures.value in
     record {
       inside = omega (arith, long);
-      bounds = λ table. none_bound table c.args.tree.now.paths.items (drop (length c.as_slice-nodes.result.now) c.args.tree.now.nodes.items) (reverse c.new-depths.result.items)
+      counted = λ table. none_counted table c.args.tree.now.paths.items (drop (length c.as_slice-nodes.result.now) c.args.tree.now.nodes.items) (reverse c.new-depths.result.items)
           (drop_all (length c.as_slice-nodes.result.now) c.args.tree.now.nodes.items (omega (arith, long))) (ap reverse c.new-depths.ensures.items);
     }
 
@@ -27,12 +27,12 @@ loop-at-preserved c =
     ∙ ap (λ (n : ℕ). c.index-nodes-at.result ∷ drop n nodes) back in
     record {
       inside = omega (arith, inside);
-      bounds = λ table.
-          subst (λ (ns : List SqlNode). Bounds table c.args.tree.now.paths.items ns (reverse c.push.new.self.items)) (sym at)
-          (subst (λ (ds : List ℕ). Bounds table c.args.tree.now.paths.items (c.index-nodes-at.result ∷ drop c.loop-at.at nodes) ds)
+      counted = λ table.
+          subst (λ (ns : List SqlNode). AreCounted table c.args.tree.now.paths.items ns (reverse c.push.new.self.items)) (sym at)
+          (subst (λ (ds : List ℕ). AreCounted table c.args.tree.now.paths.items (c.index-nodes-at.result ∷ drop c.loop-at.at nodes) ds)
           (sym (pushed c.push.new.self.items c.depth_with_children-depth.new.depths.items c.depth_with_children-depth.result c.in_ok-push.ensures.items))
-          (one_bound table c.args.tree.now.paths.items c.index-nodes-at.result (drop c.loop-at.at nodes) c.depth_with_children-depth.result (reverse c.loop-at.depths.items)
-          (reverse c.depth_with_children-depth.new.depths.items) (c.loop-at.invariant.bounds table) (c.depth_with_children-depth.ensures table c.args.tree.now.paths.items)));
+          (one_counted table c.args.tree.now.paths.items c.index-nodes-at.result (drop c.loop-at.at nodes) c.depth_with_children-depth.result (reverse c.loop-at.depths.items)
+          (reverse c.depth_with_children-depth.new.depths.items) (c.loop-at.invariant.counted table) (c.depth_with_children-depth.ensures table c.args.tree.now.paths.items)));
     }
 
 pub returns : goal.returns
@@ -40,5 +40,5 @@ returns c = λ table t is.
     let nodes = c.args.tree.now.nodes.items in
     let past = c.loop-at-test.false in
     let first : c.loop-at.at ≡ 0 = omega (arith, past) in
-    whole_bound table c.args.tree.now.paths.items (drop c.loop-at.at nodes) (reverse c.loop-at.depths.items) t (ap (λ (n : ℕ). drop n nodes) first ∙ is.nodes_are) is.whole (c.loop-at.invariant.bounds table)
+    whole_counted table c.args.tree.now.paths.items (drop c.loop-at.at nodes) (reverse c.loop-at.depths.items) t (ap (λ (n : ℕ). drop n nodes) first ∙ is.nodes_are) is.whole (c.loop-at.invariant.counted table)
     c.take_depth.result (reverse c.take_depth.new.depths.items) c.take_depth.ensures
