@@ -1,6 +1,7 @@
 -- What arithmetic evaluates to, of operands within two ranges.
 use Rattle.odata_ranges.proofs.Common.{◌≡◌, ◌≢◌, ◌⊎◌, inl, inr, ℤ, pos, ◌*ℤ◌, ◌<ℤ◌, ◌≤ℤ◌, Bool, true, false, ◌||◌, Option, Some, None, Result, Ok, Err, refl, sym, subst, ◌∙◌, int_div, int_rem, by_lt_z, IsNumberOf, null, whole, PrimitiveType, number_outcome, Outcome, division, one_quotient, ArithmeticGives, IsDividing, MakesNumber, ArithFault, Overflow, DivideByZero, ArithmeticOperator, HoldsNumber, IsBounded, LiesBetween, Reaches, CalculatesWithin, IsWithin, Range}
 use Rattle.odata_ranges.proofs.Corners.{product_between, quotient_between}
+use Rattle.odata_ranges.proofs.Counts.{fault_or}
 
 -- ---- spans by their corners
 
@@ -46,10 +47,6 @@ either_null false r (inr is) = is
 
 pub true_false : (b : Bool) → b ≡ true → b ≡ false → ⊥
 true_false b is other = cc
-
-fault_or : (b : Bool) → (b ≡ false → ⊥) → b ≡ true
-fault_or true other = refl
-fault_or false other = absurd (other refl)
 
 pub never_false : (result within : Bool) → result ≡ (within || true) → result ≡ false → ⊥
 never_false result true is other = cc

@@ -1,5 +1,5 @@
 -- What a function evaluates to, of arguments within two ranges.
-use Rattle.odata_ranges.proofs.Common.{◌≡◌, ℕ, zero, suc, ◌+◌, ◌-◌, ◌≤◌, ◌++◌, List, [], ◌∷◌, length, map, take, drop, ℤ, pos, negsuc, neg_ℤ, ◌<ℤ◌, ◌≤ℤ◌, Bool, true, false, sym, ap, subst, ◌∙◌, arith, cond, length-append, length-drop, FitsSigned, slice_index, w32, AllByRecursion, ints, Date, epoch_day, IsFourDigitYear, boolean, whole, text, date, moment, Function, GivesTruth, GivesCount, GivesText, Outcome, gives, CalledWithin, HoldsCount, IsUpTo, IsWithin, unbounded, Range}
+use Rattle.odata_ranges.proofs.Common.{◌≡◌, ℕ, zero, suc, ◌+◌, ◌-◌, ◌≤◌, ◌++◌, List, [], ◌∷◌, length, map, take, drop, ℤ, pos, negsuc, neg_ℤ, ◌<ℤ◌, ◌≤ℤ◌, Bool, true, false, sym, ap, subst, ◌∙◌, arith, cond, length-append, length-drop, FitsSigned, slice_index, w32, AllByRecursion, ints, Int32, Date, epoch_day, IsFourDigitYear, boolean, whole, text, date, moment, NodeKind, EdmType, Function, GivesTruth, GivesCount, GivesText, Outcome, gives, CalledWithin, HoldsCount, IsUpTo, IsWithin, unbounded, MakesNone, IsCalledRange, Range}
 use Rattle.std.specs.Str.{chars}
 use Rattle.std.specs.Char.{to_ascii_lowercase, to_ascii_uppercase}
 use Rattle.std.proofs.Math.Utf8.{scalars}
@@ -10,7 +10,7 @@ use Rattle.odata_functions.specs.DateParts.{IsDayOf, IsMonthOf, IsYearOf, hour_o
 use Rattle.odata_functions.specs.Gregorian.{IsDateOf, days_of_month, has_leap_day, month_lengths}
 use Rattle.odata_functions.specs.Texts.{HasEnd, HasPart, HasStart, IsPlaceOf, IsTrimmed, StandsBehind, from_zero, part_from, rest_from}
 use Rattle.odata_meaning.proofs.meaning.MadeTexts.{dropped_characters, inner_characters, joined_characters, lower_characters, taken_characters, upper_characters}
-use Rattle.odata_ranges.proofs.Counts.{count_within}
+use Rattle.odata_ranges.proofs.Counts.{number_within}
 
 -- ---- texts
 
@@ -109,14 +109,15 @@ module _ (first second result : Range) where
 
 -- ---- parts of dates and moments
 
+-- a range without faults and null
+abbrev pub sure : ℤ → ℤ → Range
+sure low high = record { may_fault = false; may_be_null = false; low = low; high = high }
+
 -- a number between two bounds, of type Int32 both
-between_bounds : (result : Range) (low high n : ℤ) (o : Outcome) → result.low ≡ low → result.high ≡ high
-    → neg_ℤ (pos 1_000_000) ≤ℤ low → high ≤ℤ pos 1_000_000 → low ≤ℤ n → n ≤ℤ high → GivesCount n o → IsWithin result o
-between_bounds result low high n o is_low is_high not_low not_high from up_to given =
+between_bounds : (low high n : ℤ) (o : Outcome) → neg_ℤ (pos 1_000_000) ≤ℤ low → high ≤ℤ pos 1_000_000 → low ≤ℤ n → n ≤ℤ high → GivesCount n o → IsWithin (sure low high) o
+between_bounds low high n o not_low not_high from up_to given =
     let fits : FitsSigned w32 n = omega (arith, ints) in
-    count_within result n o
-    (λ known. (subst (λ (z : ℤ). z ≤ℤ n) (sym is_low) from, subst (λ (z : ℤ). n ≤ℤ z) (sym is_high) up_to))
-    (λ safe. fits) given
+    number_within Int32 (sure low high) n o (λ known. (from, up_to)) (λ safe. fits) given
 
 few_at : (xs : List ℕ) (i : ℕ) → AllByRecursion (λ x. x ≤ 31) xs → slice_index xs i ≤ 31
 few_at [] i all = omega arith
@@ -139,71 +140,72 @@ OneDate = (number y y' : ℤ) (m m' d d' : ℕ) → IsDateOf number y m d → Is
 abbrev pub SomeDate : Type 0
 SomeDate = (day : Date) → IsDateOf (epoch_day day) day.year day.month day.day
 
--- the range has these bounds
-abbrev pub Has : Range → ℤ → ℤ → Type 0
-Has result low high = (result.low ≡ low) × (result.high ≡ high)
-
-module _ (first second result : Range) where
-  year_given : OneDate → SomeDate → Has result (pos 1) (pos 9999) → (d : Date) (o : Outcome) → IsFourDigitYear d.year
-      → (n : ℤ) × IsYearOf (epoch_day d) n × GivesCount n o → IsWithin result o
-  year_given one some has d o valid given =
+module _ (first second : Range) where
+  year_given : OneDate → SomeDate → (d : Date) (o : Outcome) → IsFourDigitYear d.year
+      → (n : ℤ) × IsYearOf (epoch_day d) n × GivesCount n o → IsWithin (sure (pos 1) (pos 9999)) o
+  year_given one some d o valid given =
       let same = (one (epoch_day d) d.year given.0 d.month given.1.0 d.day given.1.1 (some d) given.1.2).0 in
       let within = subst IsFourDigitYear same valid in
-      between_bounds result (pos 1) (pos 9999) given.0 o has.0 has.1 (omega (arith, ints)) (omega (arith, ints)) within.0 within.1 given.2
+      between_bounds (pos 1) (pos 9999) given.0 o (omega (arith, ints)) (omega (arith, ints)) within.0 within.1 given.2
 
-  pub year_within : OneDate → SomeDate → Has result (pos 1) (pos 9999) → CalledWithin Function.Year first second result
-  year_within one some has now (date d ∷ []) o are given = year_given one some has d o are.0 given
-  year_within one some has now (moment m ∷ []) o are given = year_given one some has m.civil.date o are.0.0 given
-  year_within one some has now _ o are given = absurd given
+  pub year_within : OneDate → SomeDate → CalledWithin Function.Year first second (sure (pos 1) (pos 9999))
+  year_within one some now (date d ∷ []) o are given = year_given one some d o are.0 given
+  year_within one some now (moment m ∷ []) o are given = year_given one some m.civil.date o are.0.0 given
+  year_within one some now _ o are given = absurd given
 
-  month_given : Has result (pos 1) (pos 12) → (number : ℤ) (o : Outcome) → (n : ℤ) × IsMonthOf number n × GivesCount n o → IsWithin result o
-  month_given has number o given =
+  month_given : (number : ℤ) (o : Outcome) → (n : ℤ) × IsMonthOf number n × GivesCount n o → IsWithin (sure (pos 1) (pos 12)) o
+  month_given number o given =
       let in_year = given.1.4.month_in in
       let same : given.0 ≡ pos given.1.1 = given.1.3 in
-      between_bounds result (pos 1) (pos 12) given.0 o has.0 has.1 (omega (arith, ints)) (omega (arith, ints))
-      (omega (arith, ints, same, in_year.0)) (omega (arith, ints, same, in_year.1)) given.2
+      between_bounds (pos 1) (pos 12) given.0 o (omega (arith, ints)) (omega (arith, ints)) (omega (arith, ints, same, in_year.0)) (omega (arith, ints, same, in_year.1)) given.2
 
-  pub month_within : Has result (pos 1) (pos 12) → CalledWithin Function.Month first second result
-  month_within has now (date d ∷ []) o are given = month_given has (epoch_day d) o given
-  month_within has now (moment m ∷ []) o are given = month_given has (epoch_day m.civil.date) o given
-  month_within has now _ o are given = absurd given
+  pub month_within : CalledWithin Function.Month first second (sure (pos 1) (pos 12))
+  month_within now (date d ∷ []) o are given = month_given (epoch_day d) o given
+  month_within now (moment m ∷ []) o are given = month_given (epoch_day m.civil.date) o given
+  month_within now _ o are given = absurd given
 
-  day_given : Has result (pos 1) (pos 31) → (number : ℤ) (o : Outcome) → (n : ℤ) × IsDayOf number n × GivesCount n o → IsWithin result o
-  day_given has number o given =
+  day_given : (number : ℤ) (o : Outcome) → (n : ℤ) × IsDayOf number n × GivesCount n o → IsWithin (sure (pos 1) (pos 31)) o
+  day_given number o given =
       let in_month = given.1.4.day_in in
       let few = few_days given.1.0 given.1.1 in
       let same : given.0 ≡ pos given.1.2 = given.1.3 in
-      between_bounds result (pos 1) (pos 31) given.0 o has.0 has.1 (omega (arith, ints)) (omega (arith, ints))
-      (omega (arith, ints, same, in_month.0)) (omega (arith, ints, same, in_month.1, few)) given.2
+      between_bounds (pos 1) (pos 31) given.0 o (omega (arith, ints)) (omega (arith, ints)) (omega (arith, ints, same, in_month.0)) (omega (arith, ints, same, in_month.1, few)) given.2
 
-  pub day_within : Has result (pos 1) (pos 31) → CalledWithin Function.Day first second result
-  day_within has now (date d ∷ []) o are given = day_given has (epoch_day d) o given
-  day_within has now (moment m ∷ []) o are given = day_given has (epoch_day m.civil.date) o given
-  day_within has now _ o are given = absurd given
+  pub day_within : CalledWithin Function.Day first second (sure (pos 1) (pos 31))
+  day_within now (date d ∷ []) o are given = day_given (epoch_day d) o given
+  day_within now (moment m ∷ []) o are given = day_given (epoch_day m.civil.date) o given
+  day_within now _ o are given = absurd given
 
-  pub hour_within : Has result (pos 0) (pos 23) → CalledWithin Function.Hour first second result
-  hour_within has now (moment m ∷ []) o are given =
+  pub hour_within : CalledWithin Function.Hour first second (sure (pos 0) (pos 23))
+  hour_within now (moment m ∷ []) o are given =
       let clock = m.civil.time.hour_in in
-      between_bounds result (pos 0) (pos 23) (hour_of m) o has.0 has.1 (omega (arith, ints)) (omega (arith, ints)) (omega (arith, ints)) (omega (arith, ints, clock)) given
-  hour_within has now _ o are given = absurd given
+      between_bounds (pos 0) (pos 23) (hour_of m) o (omega (arith, ints)) (omega (arith, ints)) (omega (arith, ints)) (omega (arith, ints, clock)) given
+  hour_within now _ o are given = absurd given
 
-  pub minute_within : Has result (pos 0) (pos 59) → CalledWithin Function.Minute first second result
-  minute_within has now (moment m ∷ []) o are given =
+  pub minute_within : CalledWithin Function.Minute first second (sure (pos 0) (pos 59))
+  minute_within now (moment m ∷ []) o are given =
       let clock = m.civil.time.minute_in in
-      between_bounds result (pos 0) (pos 59) (minute_of m) o has.0 has.1 (omega (arith, ints)) (omega (arith, ints)) (omega (arith, ints)) (omega (arith, ints, clock)) given
-  minute_within has now _ o are given = absurd given
+      between_bounds (pos 0) (pos 59) (minute_of m) o (omega (arith, ints)) (omega (arith, ints)) (omega (arith, ints)) (omega (arith, ints, clock)) given
+  minute_within now _ o are given = absurd given
 
-  pub second_within : Has result (pos 0) (pos 59) → CalledWithin Function.Second first second result
-  second_within has now (moment m ∷ []) o are given =
+  pub second_within : CalledWithin Function.Second first second (sure (pos 0) (pos 59))
+  second_within now (moment m ∷ []) o are given =
       let clock = m.civil.time.second_in in
-      between_bounds result (pos 0) (pos 59) (second_of m) o has.0 has.1 (omega (arith, ints)) (omega (arith, ints)) (omega (arith, ints)) (omega (arith, ints, clock)) given
-  second_within has now _ o are given = absurd given
+      between_bounds (pos 0) (pos 59) (second_of m) o (omega (arith, ints)) (omega (arith, ints)) (omega (arith, ints)) (omega (arith, ints, clock)) given
+  second_within now _ o are given = absurd given
 
-  pub offset_within : Has result (neg_ℤ (pos 1439)) (pos 1439) → CalledWithin Function.TotalOffsetMinutes first second result
-  offset_within has now (moment m ∷ []) o are given =
-      between_bounds result (neg_ℤ (pos 1439)) (pos 1439) (offset_of m) o has.0 has.1 (omega (arith, ints)) (omega (arith, ints)) are.0.1.0 are.0.1.1 given
-  offset_within has now _ o are given = absurd given
+  pub offset_within : CalledWithin Function.TotalOffsetMinutes first second (sure (neg_ℤ (pos 1439)) (pos 1439))
+  offset_within now (moment m ∷ []) o are given =
+      between_bounds (neg_ℤ (pos 1439)) (pos 1439) (offset_of m) o (omega (arith, ints)) (omega (arith, ints)) are.0.1.0 are.0.1.1 given
+  offset_within now _ o are given = absurd given
 
+-- ---- values without bounds
+
+pub truth_within : (result : Range) (Fact : Type 0) (o : Outcome) → GivesTruth Fact o → IsWithin result o
+truth_within result Fact (gives (boolean b)) given = tt
+truth_within result Fact _ given = absurd given
+
+module _ (first second result : Range) where
   pub date_within : CalledWithin Function.Date first second result
   date_within now (moment m ∷ []) o are given = subst (IsWithin result) (sym given) tt
   date_within now _ o are given = absurd given
@@ -212,13 +214,6 @@ module _ (first second result : Range) where
   now_within now [] o are given = subst (IsWithin result) (sym given) tt
   now_within now (v ∷ more) o are given = absurd given
 
--- ---- truth values
-
-pub truth_within : (result : Range) (Fact : Type 0) (o : Outcome) → GivesTruth Fact o → IsWithin result o
-truth_within result Fact (gives (boolean b)) given = tt
-truth_within result Fact _ given = absurd given
-
-module _ (first second result : Range) where
   pub contains_within : CalledWithin Function.Contains first second result
   contains_within now (text s ∷ text t ∷ []) o are given = truth_within result (HasPart (chars s) (chars t)) o given
   contains_within now _ o are given = absurd given
@@ -230,3 +225,12 @@ module _ (first second result : Range) where
   pub ends_within : CalledWithin Function.EndsWith first second result
   ends_within now (text s ∷ text t ∷ []) o are given = truth_within result (HasEnd (chars s) (chars t)) o given
   ends_within now _ o are given = absurd given
+
+-- ---- by the function that is called
+
+pub called_as : {f g : Function} {first second made result : Range} → f ≡ g → result ≡ made
+    → ((type : EdmType) → MakesNone (NodeKind.Call g) type → made.may_fault ≡ false) → CalledWithin g first second made → IsCalledRange f first second result
+called_as {g = g} {first = first} {second = second} {result = result} is same quiet within = record {
+  within = subst (λ (h : Function). CalledWithin h first second result) (sym is) (subst (λ (r : Range). CalledWithin g first second r) (sym same) within);
+  quiet = λ type makes. ap (λ (r : Range). r.may_fault) same ∙ quiet type (subst (λ (h : Function). MakesNone (NodeKind.Call h) type) is makes);
+}

@@ -7,7 +7,7 @@ pub use Rattle.edm_values.specs.MomentParts.{IsFourDigitYear, IsMoment, MomentPa
 pub use Rattle.edm_values.specs.NumberTypes.{IsNumberOf, IsNumberType}
 pub use Rattle.edm_values.specs.Val.{FieldVal, Val, Vals, absent, boolean, date, fields, item, items, moment, no_items, null, present, text, whole}
 pub use Rattle.edm_values.specs.declared.primitive.PrimitiveType.{PrimitiveType}
-pub use Rattle.edm_values.specs.declared.primitive.PrimitiveType.TheVariants.{Byte, Int16, Int32, Int64, SByte}
+pub use Rattle.edm_values.specs.declared.primitive.PrimitiveType.TheVariants.{Int16, Int32, Int64}
 pub use Rattle.edm_values.specs.declared.value.Value.{Value}
 pub use Rattle.odata_checked_filter.proofs.flat.Children.{body_there, one_there, two_there}
 pub use Rattle.odata_checked_filter.proofs.flat.Lying.{stands_lie}
@@ -54,7 +54,8 @@ pub use Rattle.odata_ranges.specs.Reach.{HoldsNumber, IsBounded, IsSmall, LiesBe
 pub use Rattle.odata_ranges.specs.Within.{CalculatesWithin, HoldsCount, IsUpTo, IsValueWithin, IsWithin, unbounded}
 pub use Rattle.odata_ranges.specs.declared.node_form.NodeForm.{NodeForm}
 pub use Rattle.odata_ranges.specs.declared.range.Range.{Range}
-pub use Rattle.odata_ranges.specs.private.NodeForm.{IsOwnRange, form_of}
+pub use Rattle.odata_ranges.specs.private.Called.{IsCalledRange}
+pub use Rattle.odata_ranges.specs.private.NodeForm.{AreKnownAfter, HasForm, IsOwnRange, form_of}
 pub use Rattle.odata_ranges.specs.private.Operators.{CoversFaults, CoversNulls, HoldsArithmetic, HoldsOperator, IsNumericIn}
 pub use Rattle.odata_ranges.specs.private.Values.{AllPlaced, Covers, CoversLine, HoldsValues, IsNumeric, LieBetween}
 pub use Rattle.odata_signatures.specs.CollectionTyped.{IsCollection}

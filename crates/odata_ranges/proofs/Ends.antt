@@ -1,5 +1,5 @@
 -- Where trees end: within the list of nodes, and after their children.
-use Rattle.odata_ranges.proofs.Common.{◌≡◌, ℕ, ◌<◌, ◌≤◌, ◌+◌, Some, length, slice_get, sym, subst, arith, slice_get_within, Shape, Tree, Trees, any_item, binary, call, count, has, in_list, in_path, it, lambda, literal, logical_not, member, more_trees, name, negation, no_trees, node, single, Filter, IsFilter, AllLie, ChildrenLie, SideBySide, CheckedNode, NodeKind, body_there, one_there, two_there, numbered, lies_nonempty, Scope, with_variable, NodeForm, form_of}
+use Rattle.odata_ranges.proofs.Common.{◌≡◌, ℕ, ◌<◌, ◌≤◌, ◌+◌, Some, length, slice_get, arith, slice_get_within, Shape, Tree, Trees, any_item, binary, call, count, has, in_list, in_path, lambda, logical_not, member, more_trees, negation, no_trees, node, single, Filter, IsFilter, AllLie, ChildrenLie, SideBySide, CheckedNode, NodeKind, body_there, one_there, two_there, numbered, lies_nonempty, refl, Scope, with_variable, NodeForm, form_of}
 use Rattle.odata_ranges.proofs.Layouts.{LiesIn, by_kind, stop_there}
 
 mutual
@@ -53,53 +53,58 @@ module _ (filter : Filter) (is : IsFilter filter) (place : ℕ) (found : Checked
       let further = lies_nonempty filter.schema filter.filtered there.scope filter.list place there.stop there.part there.stands in
       omega (arith, same, further)
 
-  -- the one child stands before the stop
-  pub one_below : (kind : NodeKind) → found.kind ≡ kind → form_of kind ≡ NodeForm.One → place + 1 < found.stop
-  one_below kind kind_is form =
-      let there = numbered filter place found is at in
-      let same = stop_there filter there.scope place found at there.stop there.part there.stands in
-      let below = below_there there.scope kind kind_is form there.stop there.part there.stands in
-      omega (arith, same, below)
-    where
-      below_there : (scope : Scope) (k : NodeKind) → found.kind ≡ k → form_of k ≡ NodeForm.One → (stop : ℕ) (tree : Tree) → LiesIn filter scope place stop tree → place + 1 < stop
-      below_there scope NodeKind.Count k_is f = by_kind filter scope place found at NodeKind.Count k_is (λ s t. place + 1 < s)
-          (λ base s from to stands. lies_nonempty filter.schema filter.filtered scope filter.list (place + 1) s base (one_there filter.schema filter.filtered scope filter.list (place + 1) s base stands.children))
-      below_there scope NodeKind.AnyItem k_is f = by_kind filter scope place found at NodeKind.AnyItem k_is (λ s t. place + 1 < s)
-          (λ base s from to stands. lies_nonempty filter.schema filter.filtered scope filter.list (place + 1) s base (one_there filter.schema filter.filtered scope filter.list (place + 1) s base stands.children))
-      below_there scope NodeKind.Neg k_is f = by_kind filter scope place found at NodeKind.Neg k_is (λ s t. place + 1 < s)
-          (λ base s from to stands. lies_nonempty filter.schema filter.filtered scope filter.list (place + 1) s base (one_there filter.schema filter.filtered scope filter.list (place + 1) s base stands.children))
-      below_there scope NodeKind.Not k_is f = by_kind filter scope place found at NodeKind.Not k_is (λ s t. place + 1 < s)
-          (λ base s from to stands. lies_nonempty filter.schema filter.filtered scope filter.list (place + 1) s base (one_there filter.schema filter.filtered scope filter.list (place + 1) s base stands.children))
-      below_there scope _ k_is f = absurd (cc)
+  -- the one child of a node lies from the next index on
+  pub one_child : (scope : Scope) (kind : NodeKind) → found.kind ≡ kind → form_of kind ≡ NodeForm.One → (stop : ℕ) (tree : Tree) → LiesIn filter scope place stop tree
+      → (base : Tree) × LiesIn filter scope (place + 1) stop base
+  one_child scope NodeKind.Count is_kind form = by_kind filter scope place found at NodeKind.Count is_kind (λ s t. (base : Tree) × LiesIn filter scope (place + 1) s base)
+      (λ base s from to stands. (base, one_there filter.schema filter.filtered scope filter.list (place + 1) s base stands.children))
+  one_child scope NodeKind.AnyItem is_kind form = by_kind filter scope place found at NodeKind.AnyItem is_kind (λ s t. (base : Tree) × LiesIn filter scope (place + 1) s base)
+      (λ base s from to stands. (base, one_there filter.schema filter.filtered scope filter.list (place + 1) s base stands.children))
+  one_child scope NodeKind.Neg is_kind form = by_kind filter scope place found at NodeKind.Neg is_kind (λ s t. (base : Tree) × LiesIn filter scope (place + 1) s base)
+      (λ base s from to stands. (base, one_there filter.schema filter.filtered scope filter.list (place + 1) s base stands.children))
+  one_child scope NodeKind.Not is_kind form = by_kind filter scope place found at NodeKind.Not is_kind (λ s t. (base : Tree) × LiesIn filter scope (place + 1) s base)
+      (λ base s from to stands. (base, one_there filter.schema filter.filtered scope filter.list (place + 1) s base stands.children))
+  one_child scope _ is_kind form = absurd (cc)
 
-  -- so do both children
-  abbrev pub BothBelow : ℕ → Type 0
-  BothBelow stop = (place + 1 < stop) × ((one : CheckedNode) → slice_get filter.list.nodes (place + 1) ≡ Some one → one.stop < stop)
+  -- two children lie side by side from there on, the second one perhaps with one more variable in scope
+  pub record TwoChildren (scope : Scope) (stop : ℕ) : Type 0 where
+    pub first : Tree
+    pub second : Tree
+    pub inner : Scope
+    pub middle : ℕ
+    pub left : LiesIn filter scope (place + 1) middle first
+    pub right : LiesIn filter inner middle stop second
 
-  sides_below : (scope inner : Scope) (s : ℕ) (l r : Tree) (middle : ℕ) → LiesIn filter scope (place + 1) middle l → LiesIn filter inner middle s r → BothBelow s
-  sides_below scope inner s l r middle left right =
-      let first = lies_nonempty filter.schema filter.filtered scope filter.list (place + 1) middle l left in
-      let second = lies_nonempty filter.schema filter.filtered inner filter.list middle s r right in
-      (omega (arith, first, second), λ one one_at. let same = stop_there filter scope (place + 1) one one_at middle l left in omega (arith, same, second))
+  two_sides : (scope : Scope) (s : ℕ) (l r : Tree) → SideBySide (λ middle. LiesIn filter scope (place + 1) middle l) (λ middle. LiesIn filter scope middle s r) → TwoChildren scope s
+  two_sides scope s l r two = record { first = l; second = r; inner = scope; middle = two.middle; left = two.left; right = two.right }
 
-  two_sides_below : (scope : Scope) (s : ℕ) (l r : Tree) → SideBySide (λ middle. LiesIn filter scope (place + 1) middle l) (λ middle. LiesIn filter scope middle s r) → BothBelow s
-  two_sides_below scope s l r two = sides_below scope scope s l r two.middle two.left two.right
-
-  both_there : (scope : Scope) (k : NodeKind) → found.kind ≡ k → form_of k ≡ NodeForm.Two → (stop : ℕ) (tree : Tree) → LiesIn filter scope place stop tree → BothBelow stop
-  both_there scope (NodeKind.Binary operator) k_is f = by_kind filter scope place found at (NodeKind.Binary operator) k_is (λ s t. BothBelow s)
-      (λ l r s from to stands. two_sides_below scope s l r (two_there filter.schema filter.filtered scope filter.list (place + 1) s l r stands.children))
-  both_there scope NodeKind.Has k_is f = by_kind filter scope place found at NodeKind.Has k_is (λ s t. BothBelow s)
-      (λ l r s from to stands. two_sides_below scope s l r (two_there filter.schema filter.filtered scope filter.list (place + 1) s l r stands.children))
-  both_there scope NodeKind.InPath k_is f = by_kind filter scope place found at NodeKind.InPath k_is (λ s t. BothBelow s)
-      (λ l r s from to stands. two_sides_below scope s l r (two_there filter.schema filter.filtered scope filter.list (place + 1) s l r stands.children))
-  both_there scope (NodeKind.Lambda quantifier) k_is f = by_kind filter scope place found at (NodeKind.Lambda quantifier) k_is (λ s t. BothBelow s)
+  pub two_children : (scope : Scope) (kind : NodeKind) → found.kind ≡ kind → form_of kind ≡ NodeForm.Two → (stop : ℕ) (tree : Tree) → LiesIn filter scope place stop tree → TwoChildren scope stop
+  two_children scope (NodeKind.Binary operator) is_kind form = by_kind filter scope place found at (NodeKind.Binary operator) is_kind (λ s t. TwoChildren scope s)
+      (λ l r s from to stands. two_sides scope s l r (two_there filter.schema filter.filtered scope filter.list (place + 1) s l r stands.children))
+  two_children scope NodeKind.Has is_kind form = by_kind filter scope place found at NodeKind.Has is_kind (λ s t. TwoChildren scope s)
+      (λ l r s from to stands. two_sides scope s l r (two_there filter.schema filter.filtered scope filter.list (place + 1) s l r stands.children))
+  two_children scope NodeKind.InPath is_kind form = by_kind filter scope place found at NodeKind.InPath is_kind (λ s t. TwoChildren scope s)
+      (λ l r s from to stands. two_sides scope s l r (two_there filter.schema filter.filtered scope filter.list (place + 1) s l r stands.children))
+  two_children scope (NodeKind.Lambda quantifier) is_kind form = by_kind filter scope place found at (NodeKind.Lambda quantifier) is_kind (λ s t. TwoChildren scope s)
       (λ base variable body s from to stands.
       let two = body_there filter.schema filter.filtered scope filter.list (place + 1) s base variable body stands.children in
-      sides_below scope _ s base body two.middle two.left two.right.body)
-  both_there scope _ k_is f = absurd (cc)
+      record { first = base; second = body; inner = _; middle = two.middle; left = two.left; right = two.right.body })
+  two_children scope _ is_kind form = absurd (cc)
 
-  pub two_below : (kind : NodeKind) → found.kind ≡ kind → form_of kind ≡ NodeForm.Two → BothBelow found.stop
-  two_below kind kind_is form =
+  -- children stand before the stop
+  pub one_below : form_of found.kind ≡ NodeForm.One → place + 1 < found.stop
+  one_below form =
       let there = numbered filter place found is at in
       let same = stop_there filter there.scope place found at there.stop there.part there.stands in
-      subst BothBelow (sym same) (both_there there.scope kind kind_is form there.stop there.part there.stands)
+      let child = one_child there.scope found.kind refl form there.stop there.part there.stands in
+      let below = lies_nonempty filter.schema filter.filtered there.scope filter.list (place + 1) there.stop child.0 child.1 in
+      omega (arith, same, below)
+
+  pub two_below : form_of found.kind ≡ NodeForm.Two → (place + 1 < found.stop) × ((one : CheckedNode) → slice_get filter.list.nodes (place + 1) ≡ Some one → one.stop < found.stop)
+  two_below form =
+      let there = numbered filter place found is at in
+      let same = stop_there filter there.scope place found at there.stop there.part there.stands in
+      let two = two_children there.scope found.kind refl form there.stop there.part there.stands in
+      let first = lies_nonempty filter.schema filter.filtered there.scope filter.list (place + 1) two.middle two.first two.left in
+      let second = lies_nonempty filter.schema filter.filtered two.inner filter.list two.middle there.stop two.second two.right in
+      (omega (arith, same, first, second), λ one one_at. let ends = stop_there filter there.scope (place + 1) one one_at two.middle two.first two.left in omega (arith, same, ends, second))

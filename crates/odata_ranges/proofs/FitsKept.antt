@@ -1,6 +1,6 @@
 -- A value that fits, and that the engines can keep, is kept as its type says.
-use Rattle.odata_ranges.proofs.Common.{◌≡◌, List, [], ◌∷◌, Bool, true, false, Option, Some, None, refl, sym, subst, AllByRecursion, Val, null, text, fields, items, FieldVal, absent, present, Vals, no_items, item, PrimitiveType, Byte, SByte, Int16, Int32, Int64, ExprType, null_type, single, collection, SingleType, primitive, enumeration, structured, Slots, PropertyModel, PropertyType, declared, opaque, navigation, expanded, slots_of, type_name_at, AreKept, IsKept, IsKeptProperty, IsNullOnlyIf, property_takes_null}
-use Rattle.serde_json.specs.Data.{Data, null as json_null, boolean as json_boolean, number, string, array, object, Items, no_items as no_json, item as json_item}
+use Rattle.odata_ranges.proofs.Common.{◌≡◌, List, [], ◌∷◌, Bool, true, false, Option, Some, None, refl, sym, subst, AllByRecursion, Val, null, text, fields, items, FieldVal, absent, present, Vals, no_items, item, PrimitiveType, ExprType, single, collection, SingleType, primitive, enumeration, structured, Slots, PropertyModel, PropertyType, declared, opaque, navigation, expanded, slots_of, type_name_at, AreKept, IsKept, IsKeptProperty, IsNullOnlyIf, property_takes_null}
+use Rattle.serde_json.specs.Data.{Data, boolean as json_boolean, number, string, array, object, Items, no_items as no_json, item as json_item}
 use Rattle.serde_json.specs.Find.{get}
 use Rattle.edm_values.specs.declared.primitive.PrimitiveType.TheVariants.{Bool as EdmBoolean, String as EdmString, Date as EdmDate, DateTimeOffset as EdmDateTimeOffset, Guid as EdmGuid}
 use Rattle.odata_expansion.specs.ExpansionView.{paths_in}
@@ -8,6 +8,7 @@ use Rattle.odata_expansion.specs.PathSet.{PathSet, below}
 use Rattle.edm_entities.specs.Fits.{takes_null, FitsFound, FitsNavigation, FitsType, FitsProperty, FitItems}
 use Rattle.edm_entities.specs.FitsPrimitive.{FitsPrimitive}
 use Rattle.edm_entities.specs.Row.{Row, IsEntity, value_of}
+use Rattle.odata_ranges.proofs.KeptPaths.{null_if_true}
 use Rattle.odata_ranges.specs.Storable.{AreStorable, IsStorable, IsStorableField}
 
 null_primitive : (type : PrimitiveType) (json : Data) → FitsPrimitive type json null → ⊥
@@ -41,15 +42,11 @@ found_kept slots held nullable type (Some (array ds)) takes v further fits = som
 found_kept slots held nullable type (Some (object ms)) takes v further fits = some_kept slots held nullable type takes (object ms) v fits (further (object ms) fits)
 found_kept slots held nullable type _ takes v further fits = subst (KeptIf slots type takes) (sym fits.1) (fits.0, tt)
 
-any_null : (v : Val) → IsNullOnlyIf true v
-any_null null = refl
-any_null _ = tt
-
 navigation_kept : (slots held : Slots) (type : ExprType) (needed : Bool) (found : Option Data) (takes : Bool) (v : Val)
     → ((json : Data) → FitsType held false type json v → IsKept slots type v) → FitsNavigation needed found takes v (λ json. FitsType held false type json v)
     → KeptIf slots type true v
 navigation_kept slots held type true None takes v further fits = absurd fits
-navigation_kept slots held type true (Some json) takes v further fits = (any_null v, (found_kept slots held false type (Some json) takes v further fits).1)
+navigation_kept slots held type true (Some json) takes v further fits = (null_if_true v, (found_kept slots held false type (Some json) takes v further fits).1)
 navigation_kept slots held type false found takes v further fits = subst (KeptIf slots type true) (sym fits) (refl, tt)
 
 each_by : (P Q : PropertyModel → Type 0) → ((p : PropertyModel) → P p → Q p) → (ps : List PropertyModel) → AllByRecursion P ps → AllByRecursion Q ps

@@ -1,40 +1,20 @@
 -- The tree that stands at an index, by the kind of the node there.
-use Rattle.odata_ranges.proofs.Common.{◌≡◌, ◌∙◌, ℕ, ◌<◌, List, [], ◌∷◌, Some, length, slice_get, sym, ap, subst, slice_get_within, Val, Shape, Tree, any_item, binary, call, count, has, in_list, in_path, it, lambda, literal, logical_not, member, name, negation, node, Slots, slots_of, type_name_at, HasType, expr_type, ExprType, Filter, HasOwnValue, InLine, IsKindOf, SideBySide, Stands, CheckedNode, NodeKind, Lies, stands_lie, same_found, Scope, Typed, IsOutcomeOf, TypedEndsOnce, scope_of, CasesOf, Outcome, gives, IsContextOf, MeansIn, CheckContext}
-
-pub by_case : (slots : Slots) (root : List ℕ) (scope : Scope) (P : Shape → Type 0) (shape : Shape) (kind : NodeKind)
-    → IsKindOf slots root scope shape kind → CasesOf kind P → P shape
-by_case slots root scope P (literal k spelling) (NodeKind.Literal kind value) is cases = cases k spelling
-by_case slots root scope P it kind is cases = subst (λ (k : NodeKind). CasesOf k P) is cases
-by_case slots root scope P (name asked) (NodeKind.Property slot) is cases = cases asked
-by_case slots root scope P (name asked) (NodeKind.Variable level) is cases = cases asked
-by_case slots root scope P (member base asked) (NodeKind.Member slot) is cases = cases base asked
-by_case slots root scope P (count base) kind is cases = subst (λ (k : NodeKind). CasesOf k P) is cases base
-by_case slots root scope P (negation operand) kind is cases = subst (λ (k : NodeKind). CasesOf k P) is cases operand
-by_case slots root scope P (logical_not operand) kind is cases = subst (λ (k : NodeKind). CasesOf k P) is cases operand
-by_case slots root scope P (binary operator left right) kind is cases = subst (λ (k : NodeKind). CasesOf k P) is cases left right
-by_case slots root scope P (has left right) kind is cases = subst (λ (k : NodeKind). CasesOf k P) is cases left right
-by_case slots root scope P (in_list left items) kind is cases = subst (λ (k : NodeKind). CasesOf k P) is cases left items
-by_case slots root scope P (in_path left path) kind is cases = subst (λ (k : NodeKind). CasesOf k P) is cases left path
-by_case slots root scope P (any_item base) kind is cases = subst (λ (k : NodeKind). CasesOf k P) is cases base
-by_case slots root scope P (lambda quantifier base asked body) kind is cases = subst (λ (k : NodeKind). CasesOf k P) is cases base asked body
-by_case slots root scope P (call asked arguments) (NodeKind.Call function) is cases = cases asked arguments is.0 is.1
-by_case slots root scope P (call asked arguments) NodeKind.Now is cases = cases asked arguments is
-by_case slots root scope P _ _ is cases = absurd is
+use Rattle.odata_ranges.proofs.Common.{◌≡◌, ◌∙◌, ℕ, ◌<◌, [], ◌∷◌, Some, length, slice_get, sym, ap, subst, Val, Shape, Tree, node, slots_of, type_name_at, HasType, expr_type, ExprType, Filter, HasOwnValue, InLine, IsKindOf, SideBySide, Stands, CheckedNode, NodeKind, Lies, stands_lie, same_found, Scope, IsOutcomeOf, TypedEndsOnce, scope_of, CasesOf, Outcome, gives, HoldsRange, IsContextOf, MeansIn, CheckContext, IsWithin, Range}
+use Rattle.odata_ranges.proofs.Layouts.{inside_there as inside_lies, kind_there as kind_lies, stop_there as stop_lies, type_there as type_lies}
+pub use Rattle.odata_ranges.proofs.Layouts.{TypedIn, by_case}
 
 -- the tree stands at the index, with these variables in scope
 abbrev pub StandsIn : Filter → Scope → ℕ → ℕ → Tree → Type 0
 StandsIn filter scope = Stands filter.schema filter.filtered scope filter.list
 
-abbrev pub TypedIn : Filter → Scope → Tree → ExprType → Type 0
-TypedIn filter = Typed (slots_of filter.schema) (type_name_at filter.schema filter.filtered)
+-- it lies there
+pub lies : (filter : Filter) (scope : Scope) (place stop : ℕ) (tree : Tree) → StandsIn filter scope place stop tree → Lies filter.schema filter.filtered scope filter.list place stop tree
+lies filter scope place stop tree = stands_lie filter.schema filter.filtered scope filter.list place stop tree
 
 module _ (filter : Filter) (scope : Scope) (place : ℕ) (found : CheckedNode) (at : slice_get filter.list.nodes place ≡ Some found) where
   pub kind_there : (kind : NodeKind) → found.kind ≡ kind → (stop from to : ℕ) (shape : Shape) → StandsIn filter scope place stop (node from to shape)
       → IsKindOf (slots_of filter.schema) (type_name_at filter.schema filter.filtered) scope shape kind
-  kind_there kind is stop from to shape stands =
-      let same : stands.top.found ≡ found = same_found (slice_get filter.list.nodes place) stands.top.found found stands.top.stands_at at in
-      subst (λ (k : NodeKind). IsKindOf (slots_of filter.schema) (type_name_at filter.schema filter.filtered) scope shape k)
-      (ap (λ (f : CheckedNode). f.kind) same ∙ is) stands.top.kind
+  kind_there kind is stop from to shape stands = kind_lies filter scope place found at kind is stop from to shape (lies filter scope place stop (node from to shape) stands)
 
   -- a literal's node has its value
   pub valued_there : (kind : NodeKind) → found.kind ≡ kind → (stop from to : ℕ) (shape : Shape) → StandsIn filter scope place stop (node from to shape)
@@ -54,26 +34,35 @@ module _ (filter : Filter) (scope : Scope) (place : ℕ) (found : CheckedNode) (
 
   -- and it has the type that the node there reports
   pub type_there : (stop : ℕ) (tree : Tree) → StandsIn filter scope place stop tree → TypedIn filter scope tree (expr_type filter.schema found.edm_type)
-  type_there stop (node from to shape) stands =
-      let same : stands.top.found ≡ found = same_found (slice_get filter.list.nodes place) stands.top.found found stands.top.stands_at at in
-      subst (λ (f : CheckedNode). TypedIn filter scope (node from to shape) (expr_type filter.schema f.edm_type)) same stands.top.typed
+  type_there stop tree stands = type_lies filter scope place found at stop tree (lies filter scope place stop tree stands)
 
   -- and stops where that reports
   pub stop_there : (stop : ℕ) (tree : Tree) → StandsIn filter scope place stop tree → found.stop ≡ stop
-  stop_there stop (node from to shape) stands =
-      let same : stands.top.found ≡ found = same_found (slice_get filter.list.nodes place) stands.top.found found stands.top.stands_at at in
-      ap (λ (f : CheckedNode). f.stop) (sym same) ∙ stands.top.last
+  stop_there stop tree stands = stop_lies filter scope place found at stop tree (lies filter scope place stop tree stands)
 
 pub top_node : (filter : Filter) (scope : Scope) (place stop : ℕ) (tree : Tree) → StandsIn filter scope place stop tree
     → (found : CheckedNode) × (slice_get filter.list.nodes place ≡ Some found)
 top_node filter scope place stop (node from to shape) stands = (stands.top.found, stands.top.stands_at)
 
 pub inside_there : (filter : Filter) (scope : Scope) (place stop : ℕ) (tree : Tree) → StandsIn filter scope place stop tree → place < length filter.list.nodes
-inside_there filter scope place stop (node from to shape) stands = slice_get_within filter.list.nodes place stands.top.found stands.top.stands_at
+inside_there filter scope place stop tree stands = inside_lies filter scope place stop tree (lies filter scope place stop tree stands)
 
--- it lies there
-pub lies : (filter : Filter) (scope : Scope) (place stop : ℕ) (tree : Tree) → StandsIn filter scope place stop tree → Lies filter.schema filter.filtered scope filter.list place stop tree
-lies filter scope place stop tree = stands_lie filter.schema filter.filtered scope filter.list place stop tree
+-- what a tree of the shape evaluates to at the index lies within the range
+abbrev pub HoldsShape : Filter → ℕ → Range → Shape → Type 0
+HoldsShape filter place result shape =
+    (context : CheckContext) → IsContextOf filter context → (stop from to : ℕ) (o : Outcome) → StandsIn filter (scope_of context.environment) place stop (node from to shape)
+    → MeansIn filter context (node from to shape) o → IsWithin result o
+
+-- so it does for a node of a kind, if it does for each shape of that kind
+pub holds_by : (filter : Filter) (place : ℕ) (found : CheckedNode) → slice_get filter.list.nodes place ≡ Some found → (result : Range) (kind : NodeKind) → found.kind ≡ kind
+    → CasesOf kind (HoldsShape filter place result) → HoldsRange filter place result
+holds_by filter place found at result kind kind_is cases = by
+  where
+    by : HoldsRange filter place result
+    by context (node from to shape) stop o is stands means =
+        let scope = scope_of context.environment in
+        by_case (slots_of filter.schema) (type_name_at filter.schema filter.filtered) scope (HoldsShape filter place result) shape kind
+        (kind_there filter scope place found at kind kind_is stop from to shape stands) cases context is stop from to o stands means
 
 -- two parts in line
 pub two_parts : (First Second : ℕ → ℕ → Type 0) (i j : ℕ) → InLine (First ∷ Second ∷ []) i j → SideBySide (λ middle. First i middle) (λ middle. Second middle j)

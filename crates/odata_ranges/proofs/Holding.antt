@@ -1,12 +1,12 @@
 -- What leaves and steps evaluate to lies within the ranges that are made for them.
-use Rattle.odata_ranges.proofs.Common.{◌≡◌, ◌∙◌, ℕ, ◌<◌, ◌≤◌, ◌+◌, List, [], ◌∷◌, Bool, true, Option, Some, length, position, slice_get, refl, sym, ap, subst, nat_eq, arith, MatchOption, position_or_len, pointwise, Val, null, text, fields, Value, Tree, Trees, call, literal, member, more_trees, name, no_trees, node, LiteralKind, ExprType, single, structured, PropertyModel, properties_at, slot_named, slots_of, type_name_at, IsNamed, row_of, expr_type, Function, OneLiteralValue, OneType, LiteralValue, AreTyped, PropertyTyped, StepTyped, named_type, property_named, Filter, IsValueOf, CheckedNode, NodeKind, TypedEndsOnce, scope_of, ArgumentsMean, FieldGives, FoundGives, StepGives, found_there, some_there, CallGives, After, Then, Outcome, GivesSome, gives, overflow, divides_by_zero, IsKept, IsNullOnlyIf, property_takes_null, IsOwnerAt, HoldsRange, IsContextOf, MeansIn, CheckContext, IsValueWithin, IsWithin, Range, HoldsValues}
+use Rattle.odata_ranges.proofs.Common.{◌≡◌, ◌∙◌, ℕ, ◌<◌, ◌≤◌, ◌+◌, List, [], ◌∷◌, Bool, true, Option, Some, length, position, slice_get, refl, sym, ap, subst, nat_eq, arith, MatchOption, position_or_len, pointwise, Val, null, fields, Value, Tree, Trees, call, literal, member, more_trees, name, no_trees, node, LiteralKind, ExprType, single, structured, PropertyModel, properties_at, slot_named, slots_of, type_name_at, IsNamed, row_of, expr_type, Function, OneLiteralValue, OneType, LiteralValue, AreTyped, PropertyTyped, StepTyped, named_type, property_named, Filter, IsValueOf, CheckedNode, NodeKind, TypedEndsOnce, scope_of, ArgumentsMean, FieldGives, FoundGives, StepGives, found_there, some_there, CallGives, After, Then, Outcome, GivesSome, gives, overflow, divides_by_zero, IsKept, IsNullOnlyIf, property_takes_null, IsOwnerAt, HoldsRange, IsContextOf, MeansIn, CheckContext, IsValueWithin, IsWithin, Range, HoldsValues}
 use Rattle.std.proofs.lemmas.Bool.Decides.{nat_tests}
 use Rattle.std.proofs.lemmas.List.Folds.{find_at}
 use Rattle.edm_values.specs.PlainVal.{plain_val}
 use Rattle.odata_eval.proofs.walking.Children.{one_there}
 use Rattle.odata_eval.proofs.walking.Variables.{unbound}
-use Rattle.odata_ranges.proofs.Forms.{StandsIn, TypedIn, by_kind, kind_there, type_there, value_has, valued_there}
-use Rattle.odata_ranges.proofs.KeptPaths.{field_kept, name_kept, tree_kept}
+use Rattle.odata_ranges.proofs.Forms.{TypedIn, holds_by, kind_there, type_there, value_has, valued_there}
+use Rattle.odata_ranges.proofs.KeptPaths.{field_kept, name_kept, null_if_true, tree_kept}
 
 -- ---- faults
 
@@ -28,10 +28,6 @@ after_within result Operand Goes o faults goes given = by given.0 given.1.0 give
     by overflow is then = subst (IsWithin result) (sym then) (faults overflow is)
     by divides_by_zero is then = subst (IsWithin result) (sym then) (faults divides_by_zero is)
 
-pub null_if_true : (v : Val) → IsNullOnlyIf true v
-null_if_true null = refl
-null_if_true _ = tt
-
 pub null_only : (takes wider : Bool) (v : Val) → (takes ≡ true → wider ≡ true) → IsNullOnlyIf takes v → IsNullOnlyIf wider v
 null_only takes wider null passes only = passes only
 null_only takes wider _ passes only = tt
@@ -52,9 +48,8 @@ same_owner a b is = cc
 
 module _ (ends : TypedEndsOnce) (filter : Filter) (place : ℕ) (found : CheckedNode) (at : slice_get filter.list.nodes place ≡ Some found) (result : Range) where
   pub it_holds : found.kind ≡ NodeKind.It → HoldsRange filter place result
-  it_holds kind_is = λ context tree stop o is stands means.
-      by_kind filter (scope_of context.environment) place found at NodeKind.It kind_is (λ s t. MeansIn filter context t o → IsWithin result o)
-      (λ s from to there given. subst (IsWithin result) (sym (given ∙ ap gives is.is_record)) tt) stop tree stands means
+  it_holds kind_is = holds_by filter place found at result NodeKind.It kind_is
+      (λ context is stop from to o stands given. subst (IsWithin result) (sym (given ∙ ap gives is.is_record)) tt)
 
   now_given : (context : CheckContext) (arguments : Trees) (types : List ExprType) (o : Outcome) → length types ≤ 0
       → AreTyped (slots_of filter.schema) (type_name_at filter.schema filter.filtered) (scope_of context.environment) arguments types
@@ -65,10 +60,8 @@ module _ (ends : TypedEndsOnce) (filter : Filter) (place : ℕ) (found : Checked
   now_given context _ _ o few typed given = absurd typed
 
   pub now_holds : ((f g : Function) (text : List ℕ) → IsNamed f text → IsNamed g text → f ≡ g) → found.kind ≡ NodeKind.Now → HoldsRange filter place result
-  now_holds one kind_is = λ context tree stop o is stands means.
-      by_kind filter (scope_of context.environment) place found at NodeKind.Now kind_is
-      (λ s t. StandsIn filter (scope_of context.environment) place s t → MeansIn filter context t o → IsWithin result o)
-      (λ asked arguments named s from to there stands_there given.
+  now_holds one kind_is = holds_by filter place found at result NodeKind.Now kind_is
+      (λ asked arguments named context is s from to o stands_there given.
       let typed = type_there filter (scope_of context.environment) place found at s (node from to (call asked arguments)) stands_there in
       let called = typed.call_typed in
       let is_now : called.function ≡ Function.Now = one called.function Function.Now asked called.named named in
@@ -77,18 +70,14 @@ module _ (ends : TypedEndsOnce) (filter : Filter) (place : ℕ) (found : Checked
       now_given context arguments typed.types o few typed.arguments_typed
       (subst (λ (f : Function). ArgumentsMean (slots_of filter.schema) (type_name_at filter.schema filter.filtered) context.now context.entity context.environment arguments (CallGives context.now f) o)
       same given.given))
-      stop tree stands stands means
 
   pub literal_holds : OneLiteralValue → (kind : LiteralKind) (value : ℕ) (stored : Value) → found.kind ≡ NodeKind.Literal kind value
       → slice_get filter.list.values value ≡ Some stored → ((v : Val) → plain_val stored ≡ Some v → IsValueWithin result v) → HoldsRange filter place result
-  literal_holds one kind value stored kind_is stored_at within = λ context tree stop o is stands means.
-      by_kind filter (scope_of context.environment) place found at (NodeKind.Literal kind value) kind_is
-      (λ s t. MeansIn filter context t o → IsWithin result o)
-      (λ k spelling s from to there given.
+  literal_holds one kind value stored kind_is stored_at within = holds_by filter place found at result (NodeKind.Literal kind value) kind_is
+      (λ k spelling context is s from to o there given.
       let valued = valued_there filter (scope_of context.environment) place found at (NodeKind.Literal kind value) kind_is s from to (literal k spelling) there in
       let value_is = found_there (IsValueOf (slots_of filter.schema) k spelling) (slice_get filter.list.values value) stored stored_at valued in
       literal_value k spelling o value_is.val value_is.value_of (within value_is.val value_is.plain) given)
-      stop tree stands means
     where
       literal_value : (k : LiteralKind) (spelling : List ℕ) (o : Outcome) (v : Val) → LiteralValue (slots_of filter.schema) k spelling v → IsValueWithin result v
           → GivesSome (LiteralValue (slots_of filter.schema) k spelling) o → IsWithin result o
@@ -105,23 +94,18 @@ module _ (ends : TypedEndsOnce) (filter : Filter) (place : ℕ) (found : Checked
       subst (IsWithin result) (sym comes) (holds filter.schema v has kept only)
 
   pub variable_holds : (level : ℕ) → found.kind ≡ NodeKind.Variable level → HoldsValues found.edm_type true result → HoldsRange filter place result
-  variable_holds level kind_is holds = λ context tree stop o is stands means.
-      by_kind filter (scope_of context.environment) place found at (NodeKind.Variable level) kind_is
-      (λ s t. StandsIn filter (scope_of context.environment) place s t → MeansIn filter context t o → IsWithin result o)
-      (λ asked s from to there stands_there given.
+  variable_holds level kind_is holds = holds_by filter place found at result (NodeKind.Variable level) kind_is
+      (λ asked context is s from to o stands_there given.
       let typed = type_there filter (scope_of context.environment) place found at s (node from to (name asked)) stands_there in
       let comes = name_kept (slots_of filter.schema) (type_name_at filter.schema filter.filtered) context.entity context.environment asked
       (expr_type filter.schema found.edm_type) o is.kept is.variables typed given in
       kept_within context is (node from to (name asked)) true o comes.0 typed given holds comes.1 (null_if_true comes.0) comes.2)
-      stop tree stands stands means
 
   pub property_holds : (slot : ℕ) (takes : Bool) → found.kind ≡ NodeKind.Property slot → HoldsValues found.edm_type takes result
       → ((p : PropertyModel) → slice_get (properties_at filter.schema filter.filtered) slot ≡ Some p → takes ≡ property_takes_null p.type_of p.nullable)
       → HoldsRange filter place result
-  property_holds slot takes kind_is holds takes_is = λ context tree stop o is stands means.
-      by_kind filter (scope_of context.environment) place found at (NodeKind.Property slot) kind_is
-      (λ s t. StandsIn filter (scope_of context.environment) place s t → MeansIn filter context t o → IsWithin result o)
-      (λ asked s from to there stands_there given.
+  property_holds slot takes kind_is holds takes_is = holds_by filter place found at result (NodeKind.Property slot) kind_is
+      (λ asked context is s from to o stands_there given.
       let slots = slots_of filter.schema in
       let properties : List PropertyModel = properties_at filter.schema filter.filtered in
       let type = expr_type filter.schema found.edm_type in
@@ -139,7 +123,6 @@ module _ (ends : TypedEndsOnce) (filter : Filter) (place : ℕ) (found : Checked
       let same : takes ≡ property_takes_null there.0.type_of there.0.nullable = takes_is there.0 (sym (property_at properties asked slot named.1) ∙ there.1.0) in
       kept_within context is (node from to (name asked)) takes o comes.0 typed given holds comes.1
       (subst (λ (b : Bool). IsNullOnlyIf b comes.0) (sym same) comes.2) comes.3)
-      stop tree stands stands means
 
   -- a step from such a base
   stepped : (context : CheckContext) → IsContextOf filter context → (takes : Bool) (slot owner : ℕ) (asked : List ℕ) (tree : Tree) (w : Val) (o : Outcome)
@@ -161,10 +144,8 @@ module _ (ends : TypedEndsOnce) (filter : Filter) (place : ℕ) (found : Checked
       → HoldsRange filter (place + 1) base_range → HoldsValues found.edm_type takes result → (base_range.may_be_null ≡ true → takes ≡ true)
       → ((p : PropertyModel) → slice_get (properties_at filter.schema owner) slot ≡ Some p → property_takes_null p.type_of p.nullable ≡ true → takes ≡ true)
       → HoldsRange filter place result
-  step_holds types slot owner takes base_range kind_is owned base_holds holds from_null takes_null = λ context tree stop o is stands means.
-      by_kind filter (scope_of context.environment) place found at (NodeKind.Member slot) kind_is
-      (λ s t. StandsIn filter (scope_of context.environment) place s t → MeansIn filter context t o → IsWithin result o)
-      (λ base asked s from to there stands_there given.
+  step_holds types slot owner takes base_range kind_is owned base_holds holds from_null takes_null = holds_by filter place found at result (NodeKind.Member slot) kind_is
+      (λ base asked context is s from to o stands_there given.
       let slots = slots_of filter.schema in
       let root = type_name_at filter.schema filter.filtered in
       let scope = scope_of context.environment in
@@ -183,4 +164,3 @@ module _ (ends : TypedEndsOnce) (filter : Filter) (place : ℕ) (found : Checked
       (subst (λ (n : List ℕ). slot_named (slots.properties n) asked ≡ Some slot) same_named named.2) takes_null
       (λ none. from_null (subst (λ (v : Val). IsValueWithin base_range v) none (subst (IsWithin base_range) first.1 base_within)))
       first.2 (subst (λ (x : Outcome). Then x (λ v. StepGives v asked) o) first.1 given.1.1))
-      stop tree stands stands means

@@ -2,7 +2,7 @@
 use Rattle.odata_ranges.proofs.Common.{◌≡◌, inl, inr, ℕ, zero, suc, ◌<◌, ◌≤◌, ◌+◌, List, [], ◌∷◌, Bool, true, false, Some, length, slice_get, IsUtf8, refl, sym, subst, arith, IsSomeAnd, IsFourDigitYear, IsMoment, MomentParts, Date, Val, null, whole, text, date, moment, PrimitiveType, Tree, Trees, call, in_list, more_trees, no_trees, node, Any, ExprType, single, primitive, Slots, slots_of, type_name_at, HasType, IsPrimitiveValue, ComparesTrue, Eq, IsNamed, Function, expr_type, Filter, AllStand, ChildrenStand, ItemsStand, AllLie, Lies, CheckedNode, NodeKind, stands_lie, lies_nonempty, Scope, TypedEndsOnce, scope_of, ArgumentsMean, ItemMeans, some_there, CallGives, UnlessNull, has_null, CompareGives, FunctionGives, ItemsGive, After, Then, Outcome, gives, overflow, divides_by_zero, AreWithin, CalledWithin, IsSpellable, AreRangesFrom, HoldsRange, IsContextOf, MeansIn, CheckContext, IsValueWithin, IsWithin, Range, AllPlaced, Covers, CoversLine}
 use Rattle.odata_syntax.specs.Spans.{list_of_trees}
 use Rattle.odata_eval.proofs.walking.Extents.{all_further_in, further_in}
-use Rattle.odata_ranges.proofs.Forms.{StandsIn, TypedIn, by_kind, lies, stop_there, top_node, type_there, value_has}
+use Rattle.odata_ranges.proofs.Forms.{StandsIn, TypedIn, holds_by, lies, stop_there, top_node, type_there, value_has}
 use Rattle.odata_ranges.proofs.Layouts.{stop_there as stop_lies}
 use Rattle.odata_ranges.proofs.Holding.{FaultsWithin, after_within, faults_pass}
 use Rattle.odata_ranges.proofs.HoldingTwo.{compare_faults, member_faults, quantified_within}
@@ -125,11 +125,8 @@ module _ (filter : Filter) (place : ℕ) (found : CheckedNode) (at : slice_get f
       given
 
   pub list_holds : found.kind ≡ NodeKind.InList → HoldsRange filter place result
-  list_holds kind_is = λ context tree stop o is stands means.
-      by_kind filter (scope_of context.environment) place found at NodeKind.InList kind_is
-      (λ s t. StandsIn filter (scope_of context.environment) place s t → MeansIn filter context t o → IsWithin result o)
-      (λ left listed s from to there stands_there given. list_given context is s from to left listed o stands_there given)
-      stop tree stands stands means
+  list_holds kind_is = holds_by filter place found at result NodeKind.InList kind_is
+      (λ left listed context is s from to o stands given. list_given context is s from to left listed o stands given)
 
 -- ---- calls
 
@@ -221,10 +218,8 @@ module _ (ends : TypedEndsOnce) (filter : Filter) (place : ℕ) (found : Checked
       → ((one : CheckedNode) → slice_get filter.list.nodes (place + 1) ≡ Some one → one.stop < found.stop → slice_get ranges one.stop ≡ Some second)
       → CalledWithin function first second base → ((o : Outcome) → IsWithin base o → IsWithin result o) → (flags.may_be_null ≡ true → result.may_be_null ≡ true)
       → HoldsRange filter place result
-  call_holds one function first second base kind_is first_at second_at called wider null_passes = λ context tree stop o is stands means.
-      by_kind filter (scope_of context.environment) place found at (NodeKind.Call function) kind_is
-      (λ s t. StandsIn filter (scope_of context.environment) place s t → MeansIn filter context t o → IsWithin result o)
-      (λ asked arguments named later s from to there stands_there given.
+  call_holds one function first second base kind_is first_at second_at called wider null_passes = holds_by filter place found at result (NodeKind.Call function) kind_is
+      (λ asked arguments named later context is s from to o stands_there given.
       let scope = scope_of context.environment in
       let stops : found.stop ≡ s = stop_there filter scope place found at s (node from to (call asked arguments)) stands_there in
       let all : AllStand filter.schema filter.filtered scope filter.list (place + 1) found.stop arguments =
@@ -237,4 +232,3 @@ module _ (ends : TypedEndsOnce) (filter : Filter) (place : ℕ) (found : Checked
       (λ values are goes. given_within context is function arguments values first second base o (has_null values) refl null_passes called (wider o) all placed are
       (values_within context is arguments values first second first_at second_at all are) goes)
       meant)
-      stop tree stands stands means

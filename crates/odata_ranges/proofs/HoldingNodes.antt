@@ -1,9 +1,9 @@
 -- The nodes with two operands, by their kinds.
-use Rattle.odata_ranges.proofs.Common.{◌≡◌, inl, inr, ℕ, ℤ, ◌+◌, List, true, Some, length, slice_get, refl, sym, subst, Val, null, items, Tree, binary, literal, node, LiteralKind, ComparisonOperator, BinaryOperator, Quantifier, ExprType, SingleType, single, collection, Slots, slots_of, type_name_at, IsEquality, expr_type, EdmType, OneType, with_variable, Filter, ResolvedStands, InBody, NumberStands, SideBySide, Stands, CheckedNode, NodeKind, Lies, TypedEndsOnce, bound_over, scope_of, Means, GivesMember, members_of, HasGives, InGives, LambdaGives, MemberGives, After, Then, Outcome, gives, overflow, divides_by_zero, IsKept, HoldsRange, IsContextOf, MeansIn, CheckContext, IsValueWithin, IsWithin, Range, CoversFaults, HoldsOperator}
+use Rattle.odata_ranges.proofs.Common.{◌≡◌, inl, inr, ℕ, ℤ, ◌+◌, List, true, Some, length, slice_get, refl, sym, subst, Val, null, items, Tree, binary, literal, node, LiteralKind, ComparisonOperator, BinaryOperator, Quantifier, ExprType, SingleType, single, collection, Slots, slots_of, type_name_at, IsEquality, expr_type, EdmType, OneType, with_variable, Filter, ResolvedStands, InBody, NumberStands, SideBySide, Stands, CheckedNode, NodeKind, Lies, TypedEndsOnce, bound_over, scope_of, Means, GivesMember, members_of, HasGives, InGives, LambdaGives, MemberGives, After, Then, Outcome, gives, IsKept, HoldsRange, IsContextOf, MeansIn, CheckContext, IsValueWithin, IsWithin, Range, CoversFaults, HoldsOperator}
 use Rattle.edm_values.specs.Val as val
 use Rattle.odata_signatures.specs.Reads.{OfEquality, ReadsNone}
 use Rattle.odata_meaning.specs.LiteralGives.{LiteralGives}
-use Rattle.odata_ranges.proofs.Forms.{StandsIn, TypedIn, by_kind, lies, stop_there, two_parts, type_there, value_has}
+use Rattle.odata_ranges.proofs.Forms.{StandsIn, TypedIn, holds_by, lies, stop_there, two_parts, type_there, value_has}
 use Rattle.odata_ranges.proofs.Layouts.{stop_there as stop_lies}
 use Rattle.odata_ranges.proofs.Holding.{FaultsWithin, after_within, faults_pass}
 use Rattle.odata_ranges.proofs.HoldingTwo.{equality_within, has_within, in_within, member_faults, member_has, member_kept, quantified_within, same_member, sides_within, some_faults}
@@ -102,19 +102,13 @@ module _ (types : OneType) (filter : Filter) (place : ℕ) (found first : Checke
       ]
 
   pub operator_holds : (operator : BinaryOperator) → found.kind ≡ NodeKind.Binary operator → HoldsOperator operator found.edm_type left right result → HoldsRange filter place result
-  operator_holds operator kind_is holds = λ context tree stop o is stands means.
-      by_kind filter (scope_of context.environment) place found at (NodeKind.Binary operator) kind_is
-      (λ s t. StandsIn filter (scope_of context.environment) place s t → MeansIn filter context t o → IsWithin result o)
-      (λ l r s from to there stands_there given.
-      operator_given context is operator s from to l r o kind_is holds stands_there given)
-      stop tree stands stands means
+  operator_holds operator kind_is holds = holds_by filter place found at result (NodeKind.Binary operator) kind_is
+      (λ l r context is s from to o stands given. operator_given context is operator s from to l r o kind_is holds stands given)
 
   pub has_holds : found.kind ≡ NodeKind.Has → CoversFaults result left right → (left.may_be_null ≡ true → result.may_be_null ≡ true) → (right.may_be_null ≡ true → result.may_be_null ≡ true)
       → HoldsRange filter place result
-  has_holds kind_is faults left_nulls right_nulls = λ context tree stop o is stands means.
-      by_kind filter (scope_of context.environment) place found at NodeKind.Has kind_is
-      (λ s t. StandsIn filter (scope_of context.environment) place s t → MeansIn filter context t o → IsWithin result o)
-      (λ l r s from to there stands_there given.
+  has_holds kind_is faults left_nulls right_nulls = holds_by filter place found at result NodeKind.Has kind_is
+      (λ l r context is s from to o stands_there given.
       let scope = scope_of context.environment in
       let two = two_parts (λ a b. StandsIn filter scope a b l)
       (ResolvedStands filter.schema filter.filtered scope filter.list (TypedIn filter scope l) r (λ a b. StandsIn filter scope a b r)) (place + 1) s stands_there.children in
@@ -135,13 +129,10 @@ module _ (types : OneType) (filter : Filter) (place : ℕ) (found first : Checke
             goes)
             unread.1
       ])
-      stop tree stands stands means
 
   pub in_path_holds : found.kind ≡ NodeKind.InPath → CoversFaults result left right → (right.may_be_null ≡ true → result.may_be_null ≡ true) → HoldsRange filter place result
-  in_path_holds kind_is faults nulls = λ context tree stop o is stands means.
-      by_kind filter (scope_of context.environment) place found at NodeKind.InPath kind_is
-      (λ s t. StandsIn filter (scope_of context.environment) place s t → MeansIn filter context t o → IsWithin result o)
-      (λ l r s from to there stands_there given.
+  in_path_holds kind_is faults nulls = holds_by filter place found at result NodeKind.InPath kind_is
+      (λ l r context is s from to o stands_there given.
       let scope = scope_of context.environment in
       let two = two_parts (λ a b. StandsIn filter scope a b l) (λ a b. StandsIn filter scope a b r) (place + 1) s stands_there.children in
       after_within result (MeansIn filter context l) _ o (λ x m. faults_pass left result x faults.first (on_left context is s l r two x m))
@@ -150,7 +141,6 @@ module _ (types : OneType) (filter : Filter) (place : ℕ) (found first : Checke
       (λ none_there. nulls (subst (λ (u : Val). IsValueWithin right u) none_there (on_right context is s l r two (gives w) k))) more)
       goes)
       given)
-      stop tree stands stands means
 
   -- the body at a member of the collection
   body_given : TypedEndsOnce → (context : CheckContext) → IsContextOf filter context → (quantifier : Quantifier) (s : ℕ) (base body : Tree) (variable : List ℕ) (member_type : SingleType)
@@ -190,10 +180,8 @@ module _ (types : OneType) (filter : Filter) (place : ℕ) (found first : Checke
 
   pub lambda_holds : TypedEndsOnce → (quantifier : Quantifier) → found.kind ≡ NodeKind.Lambda quantifier → (left.may_be_null ≡ true → result.may_be_null ≡ true)
       → (right.may_fault ≡ true → result.may_fault ≡ true) → HoldsRange filter place result
-  lambda_holds ends quantifier kind_is nulls faults = λ context tree stop o is stands means.
-      by_kind filter (scope_of context.environment) place found at (NodeKind.Lambda quantifier) kind_is
-      (λ s t. StandsIn filter (scope_of context.environment) place s t → MeansIn filter context t o → IsWithin result o)
-      (λ base variable body s from to there stands_there given.
+  lambda_holds ends quantifier kind_is nulls faults = holds_by filter place found at result (NodeKind.Lambda quantifier) kind_is
+      (λ base variable body context is s from to o stands_there given.
       let scope = scope_of context.environment in
       let two = two_parts (λ a b. StandsIn filter scope a b base)
       (λ a b. InBody scope variable (TypedIn filter scope base) (λ at. Stands filter.schema filter.filtered at filter.list a b body)) (place + 1) s stands_there.children in
@@ -207,4 +195,3 @@ module _ (types : OneType) (filter : Filter) (place : ℕ) (found first : Checke
       (subst (λ (x : Outcome). Then x (LambdaGives quantifier (TypedIn filter scope base)
       (λ t w. Means (slots_of filter.schema) (type_name_at filter.schema filter.filtered) context.now context.entity (bound_over context.environment variable t w) body)) o)
       collected.1 given.1.1))
-      stop tree stands stands means

@@ -1,25 +1,14 @@
 -- What nodes with one operand evaluate to lies within the ranges that are made for them.
-use Rattle.odata_ranges.proofs.Common.{◌≡◌, ℕ, ◌≤◌, ◌+◌, ℤ, pos, neg_ℤ, ◌-ℤ◌, ◌≤ℤ◌, true, false, Option, Some, None, Result, Ok, Err, length, slice_get, refl, sym, subst, arith, FitsSigned, w64, ints, IsNumberOf, Val, null, boolean, whole, items, Vals, no_items, item, PrimitiveType, any_item, count, negation, node, ExprType, single, collection, primitive, slots_of, type_name_at, ComesWithin, NumbersGive, ArithFault, Overflow, DivideByZero, ArithmeticOperator, IsCollection, NegationTyped, expr_type, OneType, OperandTyped, Filter, CheckedNode, NodeKind, scope_of, InType, CalculationGives, GivesNumber, NegatedGives, number_outcome, AnyItemGives, CountGives, members_of, Then, Outcome, gives, NotGives, IsKept, HoldsRange, MeansIn, HoldsNumber, IsValueWithin, IsWithin, Range, HoldsArithmetic}
+use Rattle.odata_ranges.proofs.Common.{◌≡◌, ℕ, ◌≤◌, ◌+◌, ℤ, pos, neg_ℤ, ◌-ℤ◌, ◌≤ℤ◌, true, false, Option, Some, Result, Err, length, slice_get, refl, sym, subst, arith, FitsSigned, w64, ints, Val, null, boolean, whole, items, Vals, no_items, item, PrimitiveType, any_item, count, negation, node, ExprType, single, collection, primitive, slots_of, type_name_at, ComesWithin, NumbersGive, ArithFault, Overflow, DivideByZero, ArithmeticOperator, IsCollection, NegationTyped, expr_type, OneType, OperandTyped, Filter, CheckedNode, NodeKind, scope_of, InType, CalculationGives, NegatedGives, AnyItemGives, CountGives, members_of, Then, Outcome, gives, NotGives, IsKept, HoldsRange, MeansIn, IsValueWithin, IsWithin, Range, HoldsArithmetic}
 use Rattle.odata_eval.proofs.walking.Children.{one_there}
-use Rattle.odata_ranges.proofs.Forms.{StandsIn, TypedIn, by_kind, type_there}
+use Rattle.odata_ranges.proofs.Counts.{number_within}
+use Rattle.odata_ranges.proofs.Forms.{TypedIn, holds_by, type_there}
 use Rattle.odata_ranges.proofs.Holding.{after_within, faults_pass}
 use Rattle.odata_ranges.proofs.KeptPaths.{IsPathType, tree_kept}
 
 pub collection_path : (type : ExprType) → IsCollection type → IsPathType type
 collection_path (collection member) is = tt
 collection_path _ is = absurd is
-
--- a number of the type within the range
-number_within : (result : Range) (p : PrimitiveType) (n : ℤ) (o : Outcome) → IsNumberOf p n → HoldsNumber result n → GivesNumber p n o → IsWithin result o
-number_within result p n o fits holds given = subst (IsWithin result) (sym given.2) (answered given.0 given.1)
-  where
-    answered : (answer : Result (Option ℤ) ArithFault) → ComesWithin p n answer → IsWithin result (number_outcome answer)
-    answered (Ok (Some m)) comes =
-        let number : Some m ≡ Some n = comes.0 in
-        let same : m ≡ n = cc in
-        subst (HoldsNumber result) (sym same) holds
-    answered (Ok None) comes = let none : None ≡ Some n = comes.0 in cc
-    answered (Err fault) comes = absurd (comes.1 fits)
 
 -- ---- collections
 
@@ -30,7 +19,7 @@ count_given result null o none few low high given = subst (IsWithin result) (sym
 count_given result (items vs) o none few low high given =
     let members = few vs refl in
     let fits : FitsSigned w64 (pos (length (members_of vs))) = omega (arith, ints, members) in
-    number_within result PrimitiveType.Int64 (pos (length (members_of vs))) o fits (omega (arith, ints, low), omega (arith, ints, high, members)) given
+    number_within PrimitiveType.Int64 result (pos (length (members_of vs))) o (λ of. (omega (arith, ints, low), omega (arith, ints, high, members))) (λ safe. fits) given
 count_given result _ o none few low high given = absurd given
 
 any_item_given : (result : Range) (v : Val) (o : Outcome) → (v ≡ null → result.may_be_null ≡ true) → AnyItemGives v o → IsWithin result o
@@ -68,10 +57,8 @@ module _ (types : OneType) (filter : Filter) (place : ℕ) (found : CheckedNode)
     (holds : HoldsRange filter (place + 1) operand) where
   pub count_holds : found.kind ≡ NodeKind.Count → (operand.may_be_null ≡ true → result.may_be_null ≡ true) → result.low ≤ℤ pos 0 → pos 4_294_967_296 ≤ℤ result.high
       → HoldsRange filter place result
-  count_holds kind_is nulls low high = λ context tree stop o is stands means.
-      by_kind filter (scope_of context.environment) place found at NodeKind.Count kind_is
-      (λ s t. StandsIn filter (scope_of context.environment) place s t → MeansIn filter context t o → IsWithin result o)
-      (λ base s from to there stands_there given.
+  count_holds kind_is nulls low high = holds_by filter place found at result NodeKind.Count kind_is
+      (λ base context is s from to o stands_there given.
       let typed = type_there filter (scope_of context.environment) place found at s (node from to (count base)) stands_there in
       let first = tree_kept filter context is base typed.operand given.0 (collection_path typed.operand typed.makes.0) typed.operand_typed given.1.0 in
       let within : IsWithin operand given.0 =
@@ -80,13 +67,10 @@ module _ (types : OneType) (filter : Filter) (place : ℕ) (found : CheckedNode)
       (λ none. nulls (subst (λ (v : Val). IsValueWithin operand v) none (subst (IsWithin operand) first.1 within)))
       (λ vs same. few_members typed.operand filter vs typed.makes.0 (subst (λ (v : Val). IsKept (slots_of filter.schema) typed.operand v) same first.2))
       low high (subst (λ (x : Outcome). Then x CountGives o) first.1 given.1.1))
-      stop tree stands stands means
 
   pub any_item_holds : found.kind ≡ NodeKind.AnyItem → (operand.may_be_null ≡ true → result.may_be_null ≡ true) → HoldsRange filter place result
-  any_item_holds kind_is nulls = λ context tree stop o is stands means.
-      by_kind filter (scope_of context.environment) place found at NodeKind.AnyItem kind_is
-      (λ s t. StandsIn filter (scope_of context.environment) place s t → MeansIn filter context t o → IsWithin result o)
-      (λ base s from to there stands_there given.
+  any_item_holds kind_is nulls = holds_by filter place found at result NodeKind.AnyItem kind_is
+      (λ base context is s from to o stands_there given.
       let typed = type_there filter (scope_of context.environment) place found at s (node from to (any_item base)) stands_there in
       let first = tree_kept filter context is base typed.operand given.0 (collection_path typed.operand typed.makes.0) typed.operand_typed given.1.0 in
       let within : IsWithin operand given.0 =
@@ -94,27 +78,21 @@ module _ (types : OneType) (filter : Filter) (place : ℕ) (found : CheckedNode)
       any_item_given result first.0 o
       (λ none. nulls (subst (λ (v : Val). IsValueWithin operand v) none (subst (IsWithin operand) first.1 within)))
       (subst (λ (x : Outcome). Then x AnyItemGives o) first.1 given.1.1))
-      stop tree stands stands means
 
   pub not_holds : found.kind ≡ NodeKind.Not → (operand.may_be_null ≡ true → result.may_be_null ≡ true) → (operand.may_fault ≡ true → result.may_fault ≡ true)
       → HoldsRange filter place result
-  not_holds kind_is nulls faults = λ context tree stop o is stands means.
-      by_kind filter (scope_of context.environment) place found at NodeKind.Not kind_is
-      (λ s t. StandsIn filter (scope_of context.environment) place s t → MeansIn filter context t o → IsWithin result o)
-      (λ inner s from to there stands_there given.
+  not_holds kind_is nulls faults = holds_by filter place found at result NodeKind.Not kind_is
+      (λ inner context is s from to o stands_there given.
       let below = one_there filter.schema filter.filtered (scope_of context.environment) filter.list (place + 1) s inner stands_there.children in
       after_within result (MeansIn filter context inner) NotGives o
       (λ x means_x. faults_pass operand result x faults (holds context inner s x is below means_x))
       (λ v means_v goes. not_given operand result v o nulls (holds context inner s (gives v) is below means_v) goes)
       given)
-      stop tree stands stands means
 
   pub negation_holds : (zero : Range) → found.kind ≡ NodeKind.Neg → IsValueWithin zero (whole (pos 0)) → HoldsArithmetic ArithmeticOperator.Sub found.edm_type zero operand result
       → HoldsRange filter place result
-  negation_holds zero kind_is holds_zero holds_difference = λ context tree stop o is stands means.
-      by_kind filter (scope_of context.environment) place found at NodeKind.Neg kind_is
-      (λ s t. StandsIn filter (scope_of context.environment) place s t → MeansIn filter context t o → IsWithin result o)
-      (λ inner s from to there stands_there given.
+  negation_holds zero kind_is holds_zero holds_difference = holds_by filter place found at result NodeKind.Neg kind_is
+      (λ inner context is s from to o stands_there given.
       let scope = scope_of context.environment in
       let type = expr_type filter.schema found.edm_type in
       let typed = type_there filter scope place found at s (node from to (negation inner)) stands_there in
@@ -127,4 +105,3 @@ module _ (types : OneType) (filter : Filter) (place : ℕ) (found : CheckedNode)
       holds_difference.values filter.schema (whole (pos 0)) v o holds_zero (holds context inner s (gives v) is below means_v)
       (minus_given type v o (subst (λ (t : ExprType). NegatedGives t v o) same goes.2)))
       given)
-      stop tree stands stands means

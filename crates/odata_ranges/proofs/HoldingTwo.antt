@@ -1,5 +1,5 @@
 -- What nodes with two operands evaluate to lies within the ranges that are made for them.
-use Rattle.odata_ranges.proofs.Common.{◌≡◌, inl, inr, ℕ, zero, suc, ℤ, Bool, true, false, Option, Some, None, length, slice_get, refl, sym, subst, IsSomeAnd, Val, null, boolean, items, Vals, no_items, item, BinaryOperator, Quantifier, Any, All, ExprType, SingleType, single, collection, Slots, AllHaveType, HasType, ComparesTrue, ComparisonOperator, Eq, IsEquality, expr_type, Filter, CheckedNode, OperatorGives, InType, SidesGive, GivesMember, CalculationGives, members_of, CompareGives, GivesTruth, HasGives, InGives, MemberGives, After, Outcome, gives, overflow, divides_by_zero, LogicalGives, JoinGives, joined, truth_val, AreKept, IsKept, IsValueWithin, IsWithin, Range, CoversFaults, CoversNulls, HoldsOperator}
+use Rattle.odata_ranges.proofs.Common.{◌≡◌, inl, inr, ℕ, zero, suc, ℤ, Bool, true, false, Option, Some, None, length, slice_get, refl, sym, subst, IsSomeAnd, Val, null, boolean, items, Vals, no_items, item, BinaryOperator, Quantifier, Any, All, ExprType, SingleType, single, collection, Slots, AllHaveType, HasType, ComparesTrue, ComparisonOperator, Eq, IsEquality, expr_type, Filter, CheckedNode, OperatorGives, InType, SidesGive, GivesMember, CalculationGives, members_of, CompareGives, GivesTruth, HasGives, InGives, MemberGives, After, Outcome, gives, LogicalGives, JoinGives, joined, truth_val, AreKept, IsKept, IsValueWithin, IsWithin, Range, CoversFaults, CoversNulls, HoldsOperator}
 use Rattle.edm_values.specs.Val as val
 use Rattle.odata_functions.specs.Bits.{HasBits}
 use Rattle.odata_syntax.specs.declared.binary_operator.LogicalOperator.{LogicalOperator}

@@ -1,9 +1,10 @@
 -- Where the children of a node stand, and that they do.
-use Rattle.odata_ranges.proofs.Common.{◌≡◌, ◌⊎◌, inl, inr, ℕ, ℤ, ◌<◌, ◌≤◌, ◌+◌, List, [], ◌∷◌, Some, length, slice_get, refl, sym, subst, arith, slice_get_within, Value, Tree, Trees, call, count, in_list, literal, more_trees, no_trees, node, BinaryOperator, LiteralKind, Quantifier, ExprType, slots_of, type_name_at, IsNamed, row_of, Function, AreTyped, Scope, Filter, IsFilter, AllLie, NumberStands, SideBySide, CheckedNode, NodeKind, body_there, one_there, two_there, numbered, lies_nonempty, one_kind, inside, there_found, NodeForm, form_of, LieBetween}
+use Rattle.odata_ranges.proofs.Common.{◌≡◌, ◌⊎◌, inl, inr, ℕ, ℤ, ◌<◌, ◌≤◌, ◌+◌, List, [], ◌∷◌, Some, length, slice_get, refl, sym, ap, subst, arith, slice_get_within, Value, Tree, Trees, call, in_list, literal, more_trees, no_trees, node, BinaryOperator, LiteralKind, Quantifier, ExprType, slots_of, type_name_at, IsNamed, row_of, Function, AreTyped, Scope, Filter, IsFilter, AllLie, NumberStands, CheckedNode, NodeKind, numbered, lies_nonempty, one_kind, inside, there_found, NodeForm, HasForm, form_of, LieBetween}
 use Rattle.odata_eval.proofs.walking.Spines.{some_taken}
+use Rattle.odata_ranges.proofs.Ends.{one_child, two_children}
 use Rattle.odata_ranges.proofs.Forms.{StandsIn, by_kind as there_by_kind, valued_there}
 use Rattle.odata_ranges.proofs.TreesAt.{number_there, something_there}
-use Rattle.odata_ranges.proofs.Layouts.{LiesIn, by_kind, inside_there, stop_there, type_there}
+use Rattle.odata_ranges.proofs.Layouts.{by_node, inside_there, stop_there, type_there}
 
 -- ---- kinds by their forms
 
@@ -16,17 +17,13 @@ leaf_rest (NodeKind.Property slot) form a b c = absurd (b slot refl)
 leaf_rest (NodeKind.Variable level) form a b c = absurd (c level refl)
 leaf_rest _ form a b c = absurd (cc)
 
-pub step_kind : (kind : NodeKind) → form_of kind ≡ NodeForm.Step → ((slot : ℕ) → kind ≡ NodeKind.Member slot → ⊥) → ⊥
-step_kind (NodeKind.Member slot) form other = other slot refl
-step_kind _ form other = absurd (cc)
+pub step_kind : (kind : NodeKind) (slot : ℕ) → form_of kind ≡ NodeForm.Step slot → kind ≡ NodeKind.Member slot
+step_kind (NodeKind.Member own) slot form = let same : own ≡ slot = cc in ap (λ (n : ℕ). NodeKind.Member n) same
+step_kind _ slot form = absurd (cc)
 
-pub call_kind : (kind : NodeKind) → form_of kind ≡ NodeForm.Call → ((function : Function) → kind ≡ NodeKind.Call function → ⊥) → ⊥
-call_kind (NodeKind.Call function) form other = other function refl
-call_kind _ form other = absurd (cc)
-
-pub call_form : (kind : NodeKind) → form_of kind ≡ NodeForm.Call → (function : Function) × (kind ≡ NodeKind.Call function)
-call_form (NodeKind.Call function) form = (function, refl)
-call_form _ form = absurd (cc)
+pub call_kind : (kind : NodeKind) (function : Function) → form_of kind ≡ NodeForm.Call function → kind ≡ NodeKind.Call function
+call_kind (NodeKind.Call own) function form = let same : own ≡ function = cc in ap (λ (f : Function). NodeKind.Call f) same
+call_kind _ function form = absurd (cc)
 
 pub not_kind : (kind : NodeKind) → form_of kind ≡ NodeForm.One → (kind ≡ NodeKind.Count → ⊥) → (kind ≡ NodeKind.AnyItem → ⊥) → (kind ≡ NodeKind.Neg → ⊥) → kind ≡ NodeKind.Not
 not_kind NodeKind.Not form a b c = refl
@@ -35,13 +32,13 @@ not_kind NodeKind.AnyItem form a b c = absurd (b refl)
 not_kind NodeKind.Neg form a b c = absurd (c refl)
 not_kind _ form a b c = absurd (cc)
 
-pub two_kind : (kind : NodeKind) → form_of kind ≡ NodeForm.Two → ((operator : BinaryOperator) → kind ≡ NodeKind.Binary operator → ⊥) → (kind ≡ NodeKind.Has → ⊥)
-    → (kind ≡ NodeKind.InPath → ⊥) → ((quantifier : Quantifier) → kind ≡ NodeKind.Lambda quantifier → ⊥) → ⊥
-two_kind (NodeKind.Binary operator) form a b c d = a operator refl
-two_kind NodeKind.Has form a b c d = b refl
-two_kind NodeKind.InPath form a b c d = c refl
-two_kind (NodeKind.Lambda quantifier) form a b c d = d quantifier refl
-two_kind _ form a b c d = absurd (cc)
+pub lambda_kind : (kind : NodeKind) → form_of kind ≡ NodeForm.Two → ((operator : BinaryOperator) → kind ≡ NodeKind.Binary operator → ⊥) → (kind ≡ NodeKind.Has → ⊥)
+    → (kind ≡ NodeKind.InPath → ⊥) → (quantifier : Quantifier) × (kind ≡ NodeKind.Lambda quantifier)
+lambda_kind (NodeKind.Lambda quantifier) form a b c = (quantifier, refl)
+lambda_kind (NodeKind.Binary operator) form a b c = absurd (a operator refl)
+lambda_kind NodeKind.Has form a b c = absurd (b refl)
+lambda_kind NodeKind.InPath form a b c = absurd (c refl)
+lambda_kind _ form a b c = absurd (cc)
 
 pub list_kind : (kind : NodeKind) → form_of kind ≡ NodeForm.List → kind ≡ NodeKind.InList
 list_kind NodeKind.InList form = refl
@@ -73,79 +70,33 @@ module _ (filter : Filter) (is : IsFilter filter) (place : ℕ) (found : Checked
           (one_kind (slice_get filter.list.nodes place) (NodeKind.Literal k value) (NodeKind.Literal LiteralKind.Str it.value) here it.here) in
           subst (λ (n : ℕ). n < length filter.list.values) (sym same) (slice_get_within filter.list.values it.value (Value.Enum number) it.at)
 
-  pub one_inside : (kind : NodeKind) → found.kind ≡ kind → form_of kind ≡ NodeForm.One → place + 1 < length filter.list.nodes
-  one_inside NodeKind.Count kind_is form =
+  pub one_inside : form_of found.kind ≡ NodeForm.One → place + 1 < length filter.list.nodes
+  one_inside form =
       let there = numbered filter place found is at in
-      by_kind filter there.scope place found at NodeKind.Count kind_is (λ s t. place + 1 < length filter.list.nodes)
-      (λ base s from to stands. inside_there filter there.scope (place + 1) s base (one_there filter.schema filter.filtered there.scope filter.list (place + 1) s base stands.children))
-      there.stop there.part there.stands
-  one_inside NodeKind.AnyItem kind_is form =
-      let there = numbered filter place found is at in
-      by_kind filter there.scope place found at NodeKind.AnyItem kind_is (λ s t. place + 1 < length filter.list.nodes)
-      (λ base s from to stands. inside_there filter there.scope (place + 1) s base (one_there filter.schema filter.filtered there.scope filter.list (place + 1) s base stands.children))
-      there.stop there.part there.stands
-  one_inside NodeKind.Neg kind_is form =
-      let there = numbered filter place found is at in
-      by_kind filter there.scope place found at NodeKind.Neg kind_is (λ s t. place + 1 < length filter.list.nodes)
-      (λ base s from to stands. inside_there filter there.scope (place + 1) s base (one_there filter.schema filter.filtered there.scope filter.list (place + 1) s base stands.children))
-      there.stop there.part there.stands
-  one_inside NodeKind.Not kind_is form =
-      let there = numbered filter place found is at in
-      by_kind filter there.scope place found at NodeKind.Not kind_is (λ s t. place + 1 < length filter.list.nodes)
-      (λ base s from to stands. inside_there filter there.scope (place + 1) s base (one_there filter.schema filter.filtered there.scope filter.list (place + 1) s base stands.children))
-      there.stop there.part there.stands
-  one_inside _ kind_is form = absurd (cc)
+      let child = one_child filter is place found at there.scope found.kind refl form there.stop there.part there.stands in
+      inside_there filter there.scope (place + 1) there.stop child.0 child.1
 
   -- the first child stands after the node, and the second one where that stops
   abbrev pub BothInside : Type 0
   BothInside = (place + 1 < length filter.list.nodes) × ((one : CheckedNode) → slice_get filter.list.nodes (place + 1) ≡ Some one → (one.stop < length filter.list.nodes) × (place + 1 ≤ one.stop))
 
-  sides_inside : (scope inner : Scope) (s : ℕ) (l r : Tree) (middle : ℕ) → LiesIn filter scope (place + 1) middle l → LiesIn filter inner middle s r → BothInside
-  sides_inside scope inner s l r middle left right = (
-    inside_there filter scope (place + 1) middle l left,
-    λ one one_at.
-        let same = stop_there filter scope (place + 1) one one_at middle l left in
-        let further = lies_nonempty filter.schema filter.filtered scope filter.list (place + 1) middle l left in
-        (subst (λ (m : ℕ). m < length filter.list.nodes) (sym same) (inside_there filter inner middle s r right), omega (arith, same, further)),
-  )
-
-  two_sides : (scope : Scope) (s : ℕ) (l r : Tree) → SideBySide (λ middle. LiesIn filter scope (place + 1) middle l) (λ middle. LiesIn filter scope middle s r) → BothInside
-  two_sides scope s l r two = sides_inside scope scope s l r two.middle two.left two.right
-
   pub two_inside : (kind : NodeKind) → found.kind ≡ kind → form_of kind ≡ NodeForm.Two → BothInside
-  two_inside (NodeKind.Binary operator) kind_is form =
+  two_inside kind kind_is form =
       let there = numbered filter place found is at in
-      by_kind filter there.scope place found at (NodeKind.Binary operator) kind_is (λ s t. BothInside)
-      (λ l r s from to stands. two_sides there.scope s l r (two_there filter.schema filter.filtered there.scope filter.list (place + 1) s l r stands.children)) there.stop there.part there.stands
-  two_inside NodeKind.Has kind_is form =
-      let there = numbered filter place found is at in
-      by_kind filter there.scope place found at NodeKind.Has kind_is (λ s t. BothInside)
-      (λ l r s from to stands. two_sides there.scope s l r (two_there filter.schema filter.filtered there.scope filter.list (place + 1) s l r stands.children)) there.stop there.part there.stands
-  two_inside NodeKind.InPath kind_is form =
-      let there = numbered filter place found is at in
-      by_kind filter there.scope place found at NodeKind.InPath kind_is (λ s t. BothInside)
-      (λ l r s from to stands. two_sides there.scope s l r (two_there filter.schema filter.filtered there.scope filter.list (place + 1) s l r stands.children)) there.stop there.part there.stands
-  two_inside (NodeKind.Lambda quantifier) kind_is form =
-      let there = numbered filter place found is at in
-      by_kind filter there.scope place found at (NodeKind.Lambda quantifier) kind_is (λ s t. BothInside)
-      (λ base variable body s from to stands.
-      let two = body_there filter.schema filter.filtered there.scope filter.list (place + 1) s base variable body stands.children in
-      sides_inside there.scope _ s base body two.middle two.left two.right.body)
-      there.stop there.part there.stands
-  two_inside _ kind_is form = absurd (cc)
+      let two = two_children filter is place found at there.scope kind kind_is form there.stop there.part there.stands in (
+        inside_there filter there.scope (place + 1) two.middle two.first two.left,
+        λ one one_at.
+            let same = stop_there filter there.scope (place + 1) one one_at two.middle two.first two.left in
+            let further = lies_nonempty filter.schema filter.filtered there.scope filter.list (place + 1) two.middle two.first two.left in
+            (subst (λ (m : ℕ). m < length filter.list.nodes) (sym same) (inside_there filter two.inner two.middle there.stop two.second two.right), omega (arith, same, further)),
+      )
 
   -- trees in line stand after a node of `in` before a list
-  list_between : (s from to : ℕ) (scope : Scope) (left : Tree) (listed : Trees) → LiesIn filter scope place s (node from to (in_list left listed)) → LieBetween filter (place + 1) found.stop
-  list_between s from to scope left listed stands =
+  pub list_stands : found.kind ≡ NodeKind.InList → LieBetween filter (place + 1) found.stop
+  list_stands kind_is = by_node filter is place found at NodeKind.InList kind_is (LieBetween filter (place + 1) found.stop)
+      (λ scope left listed s from to stands.
       let same : found.stop ≡ s = stop_there filter scope place found at s (node from to (in_list left listed)) stands in
-      (scope, more_trees left listed, subst (λ (m : ℕ). AllLie filter.schema filter.filtered scope filter.list (place + 1) m (more_trees left listed)) (sym same) stands.children)
-
-  pub list_stands : (kind : NodeKind) → found.kind ≡ kind → form_of kind ≡ NodeForm.List → LieBetween filter (place + 1) found.stop
-  list_stands NodeKind.InList kind_is form =
-      let there = numbered filter place found is at in
-      by_kind filter there.scope place found at NodeKind.InList kind_is (λ s t. LieBetween filter (place + 1) found.stop)
-      (λ left listed s from to stands. list_between s from to there.scope left listed stands) there.stop there.part there.stands
-  list_stands _ kind_is form = absurd (cc)
+      (scope, more_trees left listed, subst (λ (m : ℕ). AllLie filter.schema filter.filtered scope filter.list (place + 1) m (more_trees left listed)) (sym same) stands.children))
 
   -- arguments in line stand after a call, one at least
   pub record ArgumentsStand : Type 0 where
@@ -161,18 +112,15 @@ module _ (filter : Filter) (is : IsFilter filter) (place : ℕ) (found : Checked
   some_argument scope no_trees (t ∷ ts) typed some stand = absurd typed
 
   pub arguments_stand : ((f g : Function) (name : List ℕ) → IsNamed f name → IsNamed g name → f ≡ g) → (function : Function) → found.kind ≡ NodeKind.Call function → ArgumentsStand
-  arguments_stand one function kind_is =
-      let there = numbered filter place found is at in
-      by_kind filter there.scope place found at (NodeKind.Call function) kind_is (λ s t. LiesIn filter there.scope place s t → ArgumentsStand)
-      (λ asked arguments named later s from to stands stands_there.
-      let typed = type_there filter there.scope place found at s (node from to (call asked arguments)) stands_there in
+  arguments_stand one function kind_is = by_node filter is place found at (NodeKind.Call function) kind_is ArgumentsStand
+      (λ scope asked arguments named later s from to stands.
+      let typed = type_there filter scope place found at s (node from to (call asked arguments)) stands in
       let called = typed.call_typed in
       let same : called.function ≡ function = one called.function function asked called.named named in
       let least : 1 ≤ (row_of called.function).least = subst (λ (f : Function). 1 ≤ (row_of f).least) (sym same) (some_taken function later) in
-      let stops : found.stop ≡ s = stop_there filter there.scope place found at s (node from to (call asked arguments)) stands_there in
-      some_argument there.scope arguments typed.types typed.arguments_typed (omega (arith, least, called.typed.count.least))
-      (subst (λ (m : ℕ). AllLie filter.schema filter.filtered there.scope filter.list (place + 1) m arguments) (sym stops) stands_there.children))
-      there.stop there.part there.stands there.stands
+      let stops : found.stop ≡ s = stop_there filter scope place found at s (node from to (call asked arguments)) stands in
+      some_argument scope arguments typed.types typed.arguments_typed (omega (arith, least, called.typed.count.least))
+      (subst (λ (m : ℕ). AllLie filter.schema filter.filtered scope filter.list (place + 1) m arguments) (sym stops) stands.children))
 
   pub argument_inside : ArgumentsStand → place + 1 < length filter.list.nodes
   argument_inside there = inside_there filter there.scope (place + 1) there.stand.middle there.first there.stand.left
@@ -192,3 +140,9 @@ module _ (filter : Filter) (is : IsFilter filter) (place : ℕ) (found : Checked
       let same : one.stop ≡ there.stand.middle = stop_there filter there.scope (place + 1) one one_at there.stand.middle there.first there.stand.left in
       let further = lies_nonempty filter.schema filter.filtered there.scope filter.list (place + 1) there.stand.middle there.first there.stand.left in
       omega (arith, same, further)
+
+-- the arguments of a node that is a call
+pub arguments_here : {filter : Filter} {place : ℕ} {found : CheckedNode} {function : Function} → ((f g : Function) (name : List ℕ) → IsNamed f name → IsNamed g name → f ≡ g)
+    → (form : HasForm filter place found (NodeForm.Call function)) → ArgumentsStand filter form.right place found form.at
+arguments_here {filter = filter} {place = place} {found = found} {function = function} one form =
+    arguments_stand filter form.right place found form.at one function (call_kind found.kind function form.is)

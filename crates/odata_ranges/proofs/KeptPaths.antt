@@ -1,11 +1,15 @@
 -- What names and paths evaluate to: values as a row keeps them.
-use Rattle.odata_ranges.proofs.Common.{◌≡◌, ◌⊎◌, ℕ, List, [], ◌∷◌, Bool, true, false, cond, find, Option, Some, None, inl, inr, refl, sym, subst, nat_eq, MatchOption, AllByRecursion, pointwise, Val, null, fields, FieldVal, absent, present, PrimitiveType, Tree, any_item, binary, call, count, has, in_list, in_path, it, lambda, literal, logical_not, member, name, negation, node, LiteralKind, ExprType, single, collection, primitive, structured, PropertyModel, PropertyType, Slots, declared, navigation, opaque, slots_of, type_name_at, number_or_null, OperatorByTypes, BinaryOperator, Logical, Comparison, Arithmetic, LiteralTyped, PropertyTyped, StepTyped, Typed, named_type, property_named, variable_type, Filter, Environment, scope_of, variable_value, FieldGives, FoundGives, NameGives, StepGives, some_there, Then, Outcome, gives, AreKeptVariables, IsKept, IsKeptProperty, IsNullOnlyIf, property_takes_null, IsContextOf, MeansIn, CheckContext}
+use Rattle.odata_ranges.proofs.Common.{◌≡◌, ◌⊎◌, ℕ, List, [], ◌∷◌, Bool, true, false, cond, find, Option, Some, None, inl, inr, refl, sym, subst, nat_eq, MatchOption, AllByRecursion, pointwise, Val, null, fields, FieldVal, absent, present, PrimitiveType, Tree, binary, call, in_list, it, lambda, literal, member, name, negation, node, LiteralKind, ExprType, single, collection, primitive, structured, PropertyModel, PropertyType, Slots, declared, navigation, slots_of, type_name_at, number_or_null, OperatorByTypes, BinaryOperator, Logical, Comparison, Arithmetic, LiteralTyped, PropertyTyped, StepTyped, Typed, named_type, property_named, variable_type, Filter, Environment, scope_of, variable_value, FieldGives, FoundGives, NameGives, StepGives, some_there, Then, Outcome, gives, AreKeptVariables, IsKept, IsKeptProperty, IsNullOnlyIf, property_takes_null, IsContextOf, MeansIn, CheckContext}
 use Rattle.std.specs.Option.{option_map}
 use Rattle.std.proofs.lemmas.Slice.Eq.{bytes_eq-Decides}
 
 -- a value that a row may keep at the type
 abbrev pub ComesKept : Slots → ExprType → Outcome → Type 0
 ComesKept slots type o = (v : Val) × (o ≡ gives v) × IsKept slots type v
+
+pub null_if_true : (v : Val) → IsNullOnlyIf true v
+null_if_true null = refl
+null_if_true _ = tt
 
 -- ---- properties
 

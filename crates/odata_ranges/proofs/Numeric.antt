@@ -1,6 +1,6 @@
 -- Arithmetic is in a number type, or in that of null.
-use Rattle.odata_ranges.proofs.Common.{◌≡◌, inl, inr, ℕ, Bool, true, false, cond, ◌||◌, Option, Some, None, slice_get, sym, subst, IfSome, IsNumberType, PrimitiveType, Int16, Int32, Int64, ExprType, single, primitive, SchemaModel, is_int32, is_int64, negation_type, promotion, wider_type, number_or_null, OperatorByTypes, IsEquality, expr_type, EdmType, ValueType, BinaryOperator, Logical, Comparison, Arithmetic, ComparisonOperator, binary, negation, node, Filter, IsFilter, CheckedNode, NodeKind, numbered, IsNumericIn, IsNumeric}
-use Rattle.odata_ranges.proofs.Layouts.{LiesIn, by_kind, type_there}
+use Rattle.odata_ranges.proofs.Common.{◌≡◌, inl, inr, ℕ, Bool, true, false, cond, ◌||◌, Option, Some, None, slice_get, sym, subst, IfSome, IsNumberType, PrimitiveType, Int16, Int32, Int64, ExprType, single, primitive, SchemaModel, is_int32, is_int64, negation_type, promotion, wider_type, number_or_null, OperatorByTypes, IsEquality, expr_type, EdmType, ValueType, BinaryOperator, Arithmetic, ComparisonOperator, binary, negation, node, Filter, IsFilter, CheckedNode, NodeKind, IsNumericIn, IsNumeric}
+use Rattle.odata_ranges.proofs.Layouts.{by_node, type_there}
 
 chosen : (a b : Bool) → IsNumberType (cond a Int64 (cond b Int32 Int16))
 chosen true b = tt
@@ -41,22 +41,16 @@ equality_numeric type _ is = absurd is
 
 module _ (filter : Filter) (is : IsFilter filter) (place : ℕ) (found : CheckedNode) (at : slice_get filter.list.nodes place ≡ Some found) where
   pub negation_numeric : found.kind ≡ NodeKind.Neg → IsNumeric found.edm_type
-  negation_numeric kind_is =
-      let there = numbered filter place found is at in
-      by_kind filter there.scope place found at NodeKind.Neg kind_is (λ s t. LiesIn filter there.scope place s t → IsNumeric found.edm_type)
-      (λ operand s from to stands stands_there.
-      let typed = type_there filter there.scope place found at s (node from to (negation operand)) stands_there in
+  negation_numeric kind_is = by_node filter is place found at NodeKind.Neg kind_is (IsNumeric found.edm_type)
+      (λ scope operand s from to stands.
+      let typed = type_there filter scope place found at s (node from to (negation operand)) stands in
       numeric filter.schema found.edm_type _ (negated typed.makes.number) typed.makes.type_is)
-      there.stop there.part there.stands there.stands
 
   pub operator_numeric : (operator : BinaryOperator) → found.kind ≡ NodeKind.Binary operator → IsNumericIn operator found.edm_type
-  operator_numeric operator kind_is =
-      let there = numbered filter place found is at in
-      by_kind filter there.scope place found at (NodeKind.Binary operator) kind_is (λ s t. LiesIn filter there.scope place s t → IsNumericIn operator found.edm_type)
-      (λ left right s from to stands stands_there.
-      let typed = type_there filter there.scope place found at s (node from to (binary operator left right)) stands_there in
+  operator_numeric operator kind_is = by_node filter is place found at (NodeKind.Binary operator) kind_is (IsNumericIn operator found.edm_type)
+      (λ scope left right s from to stands.
+      let typed = type_there filter scope place found at s (node from to (binary operator left right)) stands in
       elim typed.makes [
         | inl by_class ↦ class_numeric filter.schema found.edm_type operator _ _ by_class
         | inr one ↦ equality_numeric found.edm_type operator one.0.0
       ])
-      there.stop there.part there.stands there.stands

@@ -1,13 +1,13 @@
 -- Properties of the code, and the types that own them.
-use Rattle.odata_ranges.proofs.Common.{◌≡◌, ◌∙◌, inl, inr, ℕ, ◌<◌, ◌+◌, List, Option, Some, length, slice_get, refl, sym, ap, subst, IfSome, single, structured, PropertyModel, SchemaModel, properties_at, slots_of, type_name_at, Tree, name, EdmType, ValueType, OneType, Scope, Typed, Filter, IsFilter, CheckedNode, NodeKind, numbered, same_found, BelongsTo, IsOwnerAt, NamesSlotOf}
+use Rattle.odata_ranges.proofs.Common.{◌≡◌, ◌∙◌, inl, inr, ℕ, ◌<◌, ◌+◌, List, Option, Some, None, length, slice_get, refl, sym, ap, subst, IfSome, single, structured, PropertyModel, SchemaModel, properties_at, slots_of, type_name_at, Tree, EdmType, ValueType, OneType, Scope, Typed, Filter, IsFilter, CheckedNode, NodeKind, numbered, same_found, BelongsTo, IsOwnerAt, NamesSlotOf}
 use Rattle.csdl_schema.specs.PropertyView.{IsReadAs}
 use Rattle.csdl_schema.specs.declared.property.Property.{Property}
-use Rattle.csdl_schema.specs.declared.property.PropertyKind.TheVariants as kind
 use Rattle.odata_checked_filter.proofs.needed.Kinds.{IsStepThere, property_there, step_there}
 use Rattle.odata_checked_filter.proofs.needed.Paths.{IsOwner, owner_there}
 use Rattle.odata_checked_filter.proofs.needed.Steps.{slot_below}
 use Rattle.odata_ranges.proofs.Forms.{lies}
 use Rattle.odata_ranges.proofs.Layouts.{inside_there}
+use Rattle.std.specs.Prelude.{IfNone}
 
 pub read_there : (schema other : SchemaModel) (id same_id slot : ℕ) (p : PropertyModel) (property : Property) → schema ≡ other → id ≡ same_id
     → IfSome (slice_get (properties_at schema id) slot) (λ q. IsReadAs schema q property) → slice_get (properties_at other same_id) slot ≡ Some p → IsReadAs other p property
@@ -101,3 +101,8 @@ named_property kind slot (inr is) other = absurd (other slot is)
 pub named_member : (kind : NodeKind) (slot held : ℕ) → NamesSlotOf kind slot → kind ≡ NodeKind.Member held → kind ≡ NodeKind.Member slot
 named_member kind slot held (inl is) member_is = let apart : NodeKind.Property slot ≡ NodeKind.Member held = sym is ∙ member_is in absurd (cc)
 named_member kind slot held (inr is) member_is = is
+
+-- what is said of none holds where there is nothing
+pub if_none : (o : Option ℕ) (P : Type 0) → ((x : ℕ) → o ≡ Some x → ⊥) → IfNone o P → P
+if_none None P nothing none = none
+if_none (Some x) P nothing none = absurd (nothing x refl)

@@ -1,23 +1,21 @@
 -- Ranges put one before another.
-use Rattle.odata_ranges.proofs.Common.{◌≡◌, ◌⊎◌, ◌<◌, ◌≤◌, ◌+◌, ◌++◌, inl, inr, ℕ, zero, suc, List, [], ◌∷◌, Some, length, slice_get, slice_set, refl, sym, subst, arith, slice_get_within, Filter, CheckedNode, AreQuiet, AreReportedFrom, ReportsFaults, AreRangesFrom, IsRangeAt, Range}
+use Rattle.odata_ranges.proofs.Common.{◌≡◌, ◌∙◌, ◌⊎◌, ◌<◌, ◌≤◌, ◌+◌, inl, inr, ℕ, zero, suc, List, [], ◌∷◌, Some, length, slice_get, slice_set, refl, sym, subst, arith, slice_get_within, Filter, CheckedNode, AreQuiet, AreReportedFrom, ReportsFaults, AreRangesFrom, IsRangeAt, Range}
+use Rattle.odata_ranges.proofs.Values.{before_or_past}
 
 put_there : (xs : List Range) (k : ℕ) (x y : Range) → slice_get (slice_set xs k x) k ≡ Some y → x ≡ y
 put_there [] k x y is = absurd (cc)
 put_there (z ∷ xs) zero x y is = cc
 put_there (z ∷ xs) (suc k) x y is = put_there xs k x y is
 
-put_beside : (xs : List Range) (k j : ℕ) (x y : Range) → k < j → slice_get (slice_set xs k x) j ≡ Some y → slice_get xs j ≡ Some y
-put_beside [] k j x y less is = is
-put_beside (z ∷ xs) zero zero x y less is = absurd (omega (arith, less))
-put_beside (z ∷ xs) zero (suc j) x y less is = is
-put_beside (z ∷ xs) (suc k) zero x y less is = absurd (omega (arith, less))
-put_beside (z ∷ xs) (suc k) (suc j) x y less is = put_beside xs k j x y (omega arith) is
+get_beside : (xs : List Range) (k j : ℕ) (x : Range) → k < j → slice_get (slice_set xs k x) j ≡ slice_get xs j
+get_beside [] k j x less = refl
+get_beside (z ∷ xs) zero zero x less = absurd (omega (arith, less))
+get_beside (z ∷ xs) zero (suc j) x less = refl
+get_beside (z ∷ xs) (suc k) zero x less = absurd (omega (arith, less))
+get_beside (z ∷ xs) (suc k) (suc j) x less = get_beside xs k j x (omega arith)
 
 pub at_or_after : (k j : ℕ) → k ≤ j → (j ≡ k) ⊎ (k < j)
-at_or_after zero zero most = inl refl
-at_or_after zero (suc j) most = inr (omega arith)
-at_or_after (suc k) zero most = absurd (omega arith)
-at_or_after (suc k) (suc j) most = elim (at_or_after k j (omega arith)) [ inl same ↦ inl (omega arith) | inr less ↦ inr (omega arith) ]
+at_or_after k j most = before_or_past k j (λ less. inr less) (λ past. inl (omega (arith, most, past)))
 
 pub put_range : (filter : Filter) (ranges : List Range) (place : ℕ) (range : Range) → AreRangesFrom filter (place + 1) ranges → IsRangeAt filter place range
     → AreRangesFrom filter place (slice_set ranges place range)
@@ -27,35 +25,19 @@ put_range filter ranges place range after is = λ k other from found.
           let is_other : range ≡ other = put_there ranges place range other (subst (λ (n : ℕ). slice_get (slice_set ranges place range) n ≡ Some other) same found) in
           subst (λ (n : ℕ). IsRangeAt filter n other) (sym same) (subst (IsRangeAt filter place) is_other is)
           )
-      | inr less ↦ after k other (omega (arith, less)) (put_beside ranges place k range other less found)
+      | inr less ↦ after k other (omega (arith, less)) (sym (get_beside ranges place k range less) ∙ found)
     ]
 
 pub none_after : (filter : Filter) (ranges : List Range) (place : ℕ) → length ranges ≤ place → AreRangesFrom filter place ranges
 none_after filter ranges place past = λ k range from found. let within = slice_get_within ranges k range found in absurd (omega (arith, past, from, within))
 
-pub as_long : (xs : List Range) (k : ℕ) (x : Range) → length (slice_set xs k x) ≡ length xs
-as_long [] k x = refl
-as_long (z ∷ xs) zero x = refl
-as_long (z ∷ xs) (suc k) x = let same = as_long xs k x in omega (arith, same)
-
-pub long_push : (xs : List Range) (x : Range) → length (xs ++ x ∷ []) ≡ length xs + 1
-long_push [] x = refl
-long_push (z ∷ xs) x = let same = long_push xs x in omega (arith, same)
-
 -- ---- what they report of faults
 
-put_still : (xs : List Range) (k j : ℕ) (x y : Range) → k < j → slice_get xs j ≡ Some y → slice_get (slice_set xs k x) j ≡ Some y
-put_still [] k j x y less is = is
-put_still (z ∷ xs) zero zero x y less is = absurd (omega (arith, less))
-put_still (z ∷ xs) zero (suc j) x y less is = is
-put_still (z ∷ xs) (suc k) zero x y less is = absurd (omega (arith, less))
-put_still (z ∷ xs) (suc k) (suc j) x y less is = put_still xs k j x y (omega arith) is
-
 quiet_beside : (xs : List Range) (k : ℕ) (x : Range) (from stop : ℕ) → k < from → AreQuiet xs from stop → AreQuiet (slice_set xs k x) from stop
-quiet_beside xs k x from stop before quiet = λ place range after within found. quiet place range after within (put_beside xs k place x range (omega (arith, before, after)) found)
+quiet_beside xs k x from stop before quiet = λ place range after within found. quiet place range after within (sym (get_beside xs k place x (omega (arith, before, after))) ∙ found)
 
 quiet_still : (xs : List Range) (k : ℕ) (x : Range) (from stop : ℕ) → k < from → AreQuiet (slice_set xs k x) from stop → AreQuiet xs from stop
-quiet_still xs k x from stop before quiet = λ place range after within found. quiet place range after within (put_still xs k place x range (omega (arith, before, after)) found)
+quiet_still xs k x from stop before quiet = λ place range after within found. quiet place range after within (get_beside xs k place x (omega (arith, before, after)) ∙ found)
 
 reported_beside : (xs : List Range) (k : ℕ) (x : Range) (place : ℕ) (node : CheckedNode) (range : Range) → k ≤ place → ReportsFaults xs place node range
     → ReportsFaults (slice_set xs k x) place node range
@@ -75,7 +57,7 @@ put_reported filter ranges place range after is = λ k node other from at found.
           reported_beside ranges place range k node other from
           (subst (λ (n : ℕ). ReportsFaults ranges n node other) (sym same) (subst (ReportsFaults ranges place node) is_other reported))
           )
-      | inr less ↦ reported_beside ranges place range k node other from (after k node other (omega (arith, less)) at (put_beside ranges place k range other less found))
+      | inr less ↦ reported_beside ranges place range k node other from (after k node other (omega (arith, less)) at (sym (get_beside ranges place k range less) ∙ found))
     ]
 
 pub none_reported : (filter : Filter) (ranges : List Range) (place : ℕ) → length ranges ≤ place → AreReportedFrom filter place ranges

@@ -1,6 +1,7 @@
 -- Places between which no node evaluates to a fault.
-use Rattle.odata_ranges.proofs.Common.{◌≡◌, ◌∙◌, inl, inr, ℕ, ◌≤◌, ◌+◌, List, Some, false, slice_get, refl, sym, ap, subst, arith, Filter, IsFilter, CheckedNode, NodeKind, same_found, AreQuiet, MakesNone, NodeForm, Range, IsOwnRange, form_of}
+use Rattle.odata_ranges.proofs.Common.{◌≡◌, ◌∙◌, inl, inr, ℕ, ◌+◌, List, Some, false, slice_get, refl, sym, ap, subst, arith, Filter, CheckedNode, NodeKind, same_found, AreQuiet, MakesNone, IsRangeAt, NodeForm, Range, AreKnownAfter, HasForm, IsOwnRange, form_of}
 use Rattle.odata_ranges.proofs.Ends.{one_below, two_below}
+use Rattle.odata_ranges.proofs.Inside.{two_inside}
 use Rattle.odata_ranges.proofs.Put.{at_or_after}
 use Rattle.odata_ranges.proofs.Values.{before_or_past}
 
@@ -24,44 +25,48 @@ abbrev IsNoLeaf : NodeForm → Type 0
 IsNoLeaf NodeForm.Leaf = ⊥
 IsNoLeaf form = Unit {0}
 
--- `$it` is a leaf
-no_entity : (kind : NodeKind) (form : NodeForm) → form_of kind ≡ form → IsNoLeaf form → kind ≡ NodeKind.It → ⊥
-no_entity kind form is above it = subst IsNoLeaf (sym is ∙ ap form_of it) above
-
 abbrev IsNoEntity : NodeKind → Type 0
 IsNoEntity NodeKind.It = ⊥
 IsNoEntity kind = Unit {0}
 
 -- a node of another kind is not `$it`
-pub no_other : (filter : Filter) (place : ℕ) (found other : CheckedNode) → slice_get filter.list.nodes place ≡ Some found → slice_get filter.list.nodes place ≡ Some other → (kind : NodeKind)
-    → found.kind ≡ kind → IsNoEntity kind → other.kind ≡ NodeKind.It → ⊥
-no_other filter place found other at other_at kind kind_is apart it =
-    let same : found ≡ other = same_found (slice_get filter.list.nodes place) found other at other_at in
-    subst IsNoEntity (sym kind_is ∙ ap (λ (n : CheckedNode). n.kind) same ∙ it) apart
+pub no_entity : {kind other : NodeKind} → kind ≡ other → IsNoEntity other → kind ≡ NodeKind.It → ⊥
+no_entity is apart it = subst IsNoEntity (sym is ∙ it) apart
 
-module _ (filter : Filter) (ranges : List Range) (place : ℕ) (found : CheckedNode) (at : slice_get filter.list.nodes place ≡ Some found) (range : Range) where
-  pub own_of : (MakesNone found.kind found.edm_type → AreQuiet ranges (place + 1) found.stop → range.may_fault ≡ false)
-      → (found.kind ≡ NodeKind.It → range.may_be_null ≡ false) → IsOwnRange filter ranges place range
-  own_of quiet entity = record {
-    quiet = λ other other_at. subst (λ (n : CheckedNode). MakesNone n.kind n.edm_type → AreQuiet ranges (place + 1) n.stop → range.may_fault ≡ false)
-        (same_found (slice_get filter.list.nodes place) found other at other_at) quiet;
-    entity = λ other other_at. subst (λ (n : CheckedNode). n.kind ≡ NodeKind.It → range.may_be_null ≡ false)
-        (same_found (slice_get filter.list.nodes place) found other at other_at) entity;
-  }
+-- the range of a node that has children
+pub own_above : {filter : Filter} {ranges : List Range} {place : ℕ} {node : CheckedNode} {form : NodeForm} {range : Range} → HasForm filter place node form → IsNoLeaf form
+    → IsRangeAt filter place range → (MakesNone node.kind node.edm_type → AreQuiet ranges (place + 1) node.stop → range.may_fault ≡ false) → IsOwnRange filter ranges place node range
+own_above has above right quiet = record { right = right; quiet = quiet; entity = λ it. absurd (subst IsNoLeaf (sym has.is ∙ ap form_of it) above) }
 
-  -- the same of a node that has children
-  pub own_above : (form : NodeForm) → form_of found.kind ≡ form → IsNoLeaf form
-      → (MakesNone found.kind found.edm_type → AreQuiet ranges (place + 1) found.stop → range.may_fault ≡ false) → IsOwnRange filter ranges place range
-  own_above form is above quiet = own_of quiet (λ it. absurd (no_entity found.kind form is above it))
+-- ---- the ranges of a node's children
 
--- the ranges of the children of a node below which it is quiet
-module _ (filter : Filter) (is : IsFilter filter) (ranges : List Range) (place : ℕ) (found : CheckedNode) (at : slice_get filter.list.nodes place ≡ Some found)
-    (quiet : AreQuiet ranges (place + 1) found.stop) where
-  pub one_quiet : form_of found.kind ≡ NodeForm.One → (operand : Range) → slice_get ranges (place + 1) ≡ Some operand → operand.may_fault ≡ false
-  one_quiet form operand operand_at = quiet (place + 1) operand (omega arith) (one_below filter is place found at found.kind refl form) operand_at
+-- what the range of one child holds, and that it is quiet where all is below the node
+pub record OneKnown (filter : Filter) (ranges : List Range) (place : ℕ) (node : CheckedNode) (operand : Range) : Type 0 where
+  pub right : IsRangeAt filter (place + 1) operand
+  pub quiet : AreQuiet ranges (place + 1) node.stop → operand.may_fault ≡ false
 
-  pub both_quiet : form_of found.kind ≡ NodeForm.Two → (next : CheckedNode) → slice_get filter.list.nodes (place + 1) ≡ Some next → place + 1 ≤ next.stop → (left right : Range)
-      → slice_get ranges (place + 1) ≡ Some left → slice_get ranges next.stop ≡ Some right → (left.may_fault ≡ false) × (right.may_fault ≡ false)
-  both_quiet form next next_at onward left right left_at right_at =
-      let below = two_below filter is place found at found.kind refl form in
-      (quiet (place + 1) left (omega arith) below.0 left_at, quiet next.stop right onward (below.1 next next_at) right_at)
+pub one_known : {filter : Filter} {ranges : List Range} {place : ℕ} {node : CheckedNode} {operand : Range} → HasForm filter place node NodeForm.One → AreKnownAfter filter place ranges
+    → slice_get ranges (place + 1) ≡ Some operand → OneKnown filter ranges place node operand
+one_known {filter = filter} {place = place} {node = node} {operand = operand} has known operand_at = record {
+  right = known.after (place + 1) operand (omega arith) operand_at;
+  quiet = λ quiet. quiet (place + 1) operand (omega arith) (one_below filter has.right place node has.at has.is) operand_at;
+}
+
+-- the same of two
+pub record TwoKnown (filter : Filter) (ranges : List Range) (place : ℕ) (node next : CheckedNode) (left right : Range) : Type 0 where
+  pub first : IsRangeAt filter (place + 1) left
+  pub second : IsRangeAt filter next.stop right
+  pub quiet : AreQuiet ranges (place + 1) node.stop → (left.may_fault ≡ false) × (right.may_fault ≡ false)
+
+pub two_known : {filter : Filter} {ranges : List Range} {place : ℕ} {node next : CheckedNode} {left right : Range} → HasForm filter place node NodeForm.Two → AreKnownAfter filter place ranges
+    → slice_get filter.list.nodes (place + 1) ≡ Some next → slice_get ranges (place + 1) ≡ Some left → slice_get ranges next.stop ≡ Some right
+    → TwoKnown filter ranges place node next left right
+two_known {filter = filter} {place = place} {node = node} {next = next} {left = left} {right = right} has known next_at left_at right_at =
+    let inside = two_inside filter has.right place node has.at node.kind refl has.is in
+    let below = two_below filter has.right place node has.at has.is in
+    let onward = (inside.1 next next_at).1 in
+    record {
+      first = known.after (place + 1) left (omega arith) left_at;
+      second = known.after next.stop right onward right_at;
+      quiet = λ quiet. (quiet (place + 1) left (omega arith) below.0 left_at, quiet next.stop right onward (below.1 next next_at) right_at);
+    }

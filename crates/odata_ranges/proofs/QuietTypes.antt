@@ -1,12 +1,12 @@
 -- Types and kinds whose nodes evaluate to no fault.
-use Rattle.odata_ranges.proofs.Common.{◌≡◌, ◌⊎◌, ◌∙◌, inl, inr, ℕ, ◌+◌, List, [], ◌∷◌, Option, Some, None, slice_get, refl, sym, ap, subst, arith, IfSome, IsNumberType, PrimitiveType, Tree, Trees, any_item, binary, call, count, has, in_list, in_path, it, lambda, literal, logical_not, member, more_trees, name, negation, no_trees, node, BinaryOperator, LiteralKind, ExprType, null_type, single, collection, primitive, enumeration, structured, PropertyModel, SchemaModel, Slots, slots_of, type_name_at, negation_type, promotion, IsCollection, IsNumberOrNull, number_or_null, IsNamed, row_of, expr_type, EdmType, ValueType, Function, OneType, AreTyped, Scope, StepTyped, Typed, Filter, IsFilter, AllLie, IsCallNode, IsLiteralNode, IsMemberNode, IsNameNode, variable_names, CheckedNode, NodeKind, one_there, two_there, numbered, lies_nonempty, AreQuiet, AreQuietThere, AreReportedFrom, IsQuietKind, IsQuietType, MakesNone, Range}
+use Rattle.odata_ranges.proofs.Common.{◌≡◌, ◌⊎◌, ◌∙◌, inl, inr, ℕ, ◌+◌, List, [], ◌∷◌, Option, Some, None, slice_get, refl, sym, ap, subst, arith, IfSome, IsNumberType, PrimitiveType, Tree, Trees, any_item, binary, call, count, has, in_list, it, lambda, literal, member, more_trees, name, negation, no_trees, node, BinaryOperator, LiteralKind, ExprType, null_type, single, collection, primitive, enumeration, structured, PropertyModel, SchemaModel, Slots, slots_of, type_name_at, negation_type, promotion, IsCollection, IsNumberOrNull, number_or_null, IsNamed, row_of, expr_type, EdmType, ValueType, Function, OneType, AreTyped, Scope, StepTyped, Typed, Filter, IsFilter, AllLie, IsCallNode, IsLiteralNode, IsMemberNode, IsNameNode, variable_names, CheckedNode, NodeKind, one_there, two_there, numbered, same_found, lies_nonempty, AreQuiet, AreQuietThere, AreReportedFrom, IsQuietKind, IsQuietType, MakesNone, Range}
 use Rattle.odata_signatures.specs.ArgumentTypes.{AreArgumentTypes, IsArgumentType}
 use Rattle.odata_signatures.specs.HasTyped.{AreFlags}
 use Rattle.odata_signatures.specs.QuotedNumber.{HasNumber}
 use Rattle.odata_signatures.specs.declared.argument_kind.ArgumentKind.{ArgumentKind}
 use Rattle.odata_signatures.specs.Sides.{quoted_text}
 use Rattle.odata_ranges.proofs.Forms.{TypedIn}
-use Rattle.odata_ranges.proofs.Layouts.{LiesIn, by_kind, stop_there, type_there}
+use Rattle.odata_ranges.proofs.Layouts.{LiesIn, stop_there, type_there}
 use Rattle.odata_ranges.proofs.Numeric.{negated, promoted}
 use Rattle.odata_ranges.proofs.Put.{at_or_after}
 use Rattle.odata_ranges.proofs.Values.{before_or_past}
@@ -104,10 +104,6 @@ member_makes : (slots : Slots) (Base : ExprType → Type 0) (asked : List ℕ) (
 member_makes slots Base asked (NodeKind.Member slot) type is = tt
 member_makes slots Base asked _ type is = absurd is
 
-binary_makes : (operator : BinaryOperator) (type : EdmType) → type ≡ EdmType.Null → MakesNone (NodeKind.Binary operator) type
-binary_makes (BinaryOperator.Arithmetic arithmetic) type is = is
-binary_makes _ type is = tt
-
 abbrev OneName : Type 0
 OneName = (f g : Function) (asked : List ℕ) → IsNamed f asked → IsNamed g asked → f ≡ g
 
@@ -181,7 +177,18 @@ module _ (filter : Filter) (types : OneType) (named : OneName) (ranges : List Ra
   quoted_quiet scope i j (node s e (literal kind own)) spelling is stands = literal_quiet scope i j s e kind own stands
   quoted_quiet scope i j _ spelling is stands = absurd (cc)
 
-  quiet_there : (scope : Scope) (i j : ℕ) (tree : Tree) (type : ExprType) → LiesIn filter scope i j tree → TypedIn filter scope tree type → IsQuietExpr type → AreQuiet ranges i j
+  -- the type is quiet, unless the kind of the node there is
+  abbrev IsQuietHere : ℕ → ExprType → Type 0
+  IsQuietHere place type =
+      (found : CheckedNode) → slice_get filter.list.nodes place ≡ Some found → (IsQuietKind found.kind → ⊥) → IsQuietExpr type
+
+  quiet_call : (asked : List ℕ) (function : Function) → IsNamed function asked → (kind : NodeKind) → IsCallNode asked kind
+      → ((IsQuietKind kind → ⊥) → IsQuietExpr (single (primitive (row_of function).gives))) → (function ≡ Function.Date) ⊎ (function ≡ Function.Now)
+  quiet_call asked function is_named NodeKind.Now given quiet = inr (named function Function.Now asked is_named given)
+  quiet_call asked function is_named (NodeKind.Call called) given quiet = quiet_function function (quiet (λ no. no))
+  quiet_call asked function is_named _ given quiet = absurd given
+
+  quiet_there : (scope : Scope) (i j : ℕ) (tree : Tree) (type : ExprType) → LiesIn filter scope i j tree → TypedIn filter scope tree type → IsQuietHere i type → AreQuiet ranges i j
   quiet_there scope i j (node s e (literal kind spelling)) type stands typed quiet = literal_quiet scope i j s e kind spelling stands
   quiet_there scope i j (node s e it) type stands typed quiet =
       top_quiet scope i j (node s e it) stands.top.found stands.top.stands_at stands
@@ -193,10 +200,34 @@ module _ (filter : Filter) (types : OneType) (named : OneName) (ranges : List Ra
       top_quiet scope i j (node s e (member base asked)) stands.top.found stands.top.stands_at stands
       (member_makes (slots_of filter.schema) (TypedIn filter scope base) asked stands.top.found.kind stands.top.found.edm_type stands.top.kind)
       (quiet_there scope (i + 1) j base typed.operand (one_there filter.schema filter.filtered scope filter.list (i + 1) j base stands.children) typed.operand_typed
-      (step_quiet (slots_of filter.schema) asked typed.operand type typed.makes))
+      (λ own own_at loud. step_quiet (slots_of filter.schema) asked typed.operand type typed.makes))
+  quiet_there scope i j (node s e (count base)) type stands typed quiet =
+      top_quiet scope i j (node s e (count base)) stands.top.found stands.top.stands_at stands (subst (λ (k : NodeKind). MakesNone k stands.top.found.edm_type) (sym stands.top.kind) tt)
+      (quiet_there scope (i + 1) j base typed.operand (one_there filter.schema filter.filtered scope filter.list (i + 1) j base stands.children) typed.operand_typed
+      (λ own own_at loud. collection_quiet typed.operand typed.makes.0))
+  quiet_there scope i j (node s e (any_item base)) type stands typed quiet =
+      top_quiet scope i j (node s e (any_item base)) stands.top.found stands.top.stands_at stands (subst (λ (k : NodeKind). MakesNone k stands.top.found.edm_type) (sym stands.top.kind) tt)
+      (quiet_there scope (i + 1) j base typed.operand (one_there filter.schema filter.filtered scope filter.list (i + 1) j base stands.children) typed.operand_typed
+      (λ own own_at loud. collection_quiet typed.operand typed.makes.0))
+  quiet_there scope i j (node s e (has left right)) type stands typed quiet =
+      let two = two_there filter.schema filter.filtered scope filter.list (i + 1) j left right stands.children in
+      top_quiet scope i j (node s e (has left right)) stands.top.found stands.top.stands_at stands (subst (λ (k : NodeKind). MakesNone k stands.top.found.edm_type) (sym stands.top.kind) tt)
+      (elim typed.makes.0 [
+        | inl flags ↦ (
+            let both = flags_quiet typed.left typed.right flags in
+            side_by_side (i + 1) two.middle j (quiet_there scope (i + 1) two.middle left typed.left two.left typed.left_typed (λ own own_at loud. both.0))
+            (quiet_there scope two.middle j right typed.right two.right typed.right_typed (λ own own_at loud. both.1))
+            )
+        | inr number ↦ (
+            let read = resolved_number (slots_of filter.schema) typed.left (quoted_text right) number in
+            side_by_side (i + 1) two.middle j (quiet_there scope (i + 1) two.middle left typed.left two.left typed.left_typed (λ own own_at loud. read.0))
+            (quoted_quiet scope two.middle j right read.1.0 read.1.1 two.right)
+            )
+      ])
   quiet_there scope i j (node s e (negation operand)) type stands typed quiet =
       let number = typed.makes.number in
-      let computed : negation_type number ≡ None = quiet_number (negation_type number) (negated number) (subst IsQuietExpr typed.makes.type_is quiet) in
+      let is_quiet : IsQuietExpr type = quiet stands.top.found stands.top.stands_at (subst IsQuietKind stands.top.kind) in
+      let computed : negation_type number ≡ None = quiet_number (negation_type number) (negated number) (subst IsQuietExpr typed.makes.type_is is_quiet) in
       let none : number ≡ None = negation_none number computed in
       let null : typed.operand ≡ null_type = operand_null typed.operand number typed.makes.operand_is none in
       let own : expr_type filter.schema stands.top.found.edm_type ≡ type =
@@ -205,16 +236,17 @@ module _ (filter : Filter) (types : OneType) (named : OneName) (ranges : List Ra
       top_quiet scope i j (node s e (negation operand)) stands.top.found stands.top.stands_at stands
       (subst (λ (k : NodeKind). MakesNone k stands.top.found.edm_type) (sym stands.top.kind) edm)
       (quiet_there scope (i + 1) j operand typed.operand (one_there filter.schema filter.filtered scope filter.list (i + 1) j operand stands.children) typed.operand_typed
-      (subst IsQuietExpr (sym null) tt))
+      (λ own own_at loud. subst IsQuietExpr (sym null) tt))
   quiet_there scope i j (node s e (binary (BinaryOperator.Logical logical) left right)) type stands typed quiet =
-      elim typed.makes [ inl by ↦ absurd (subst IsQuietExpr by.2 quiet) | inr one ↦ absurd (subst IsQuietExpr one.1 quiet) ]
+      elim typed.makes [ inl by ↦ absurd (subst IsQuietExpr by.2 (quiet stands.top.found stands.top.stands_at (subst IsQuietKind stands.top.kind))) | inr one ↦ absurd (subst IsQuietExpr one.1 (quiet stands.top.found stands.top.stands_at (subst IsQuietKind stands.top.kind))) ]
   quiet_there scope i j (node s e (binary (BinaryOperator.Comparison comparison) left right)) type stands typed quiet =
-      elim typed.makes [ inl by ↦ absurd (subst IsQuietExpr by.1 quiet) | inr one ↦ absurd (subst IsQuietExpr one.1 quiet) ]
+      elim typed.makes [ inl by ↦ absurd (subst IsQuietExpr by.1 (quiet stands.top.found stands.top.stands_at (subst IsQuietKind stands.top.kind))) | inr one ↦ absurd (subst IsQuietExpr one.1 (quiet stands.top.found stands.top.stands_at (subst IsQuietKind stands.top.kind))) ]
   quiet_there scope i j (node s e (binary (BinaryOperator.Arithmetic arithmetic) left right)) type stands typed quiet =
+      let is_quiet : IsQuietExpr type = quiet stands.top.found stands.top.stands_at (subst IsQuietKind stands.top.kind) in
       elim typed.makes [
         | inl by ↦ (
             let computed : promotion by.left_number by.right_number ≡ None =
-            quiet_number (promotion by.left_number by.right_number) (promoted by.left_number by.right_number) (subst IsQuietExpr by.type_is quiet) in
+            quiet_number (promotion by.left_number by.right_number) (promoted by.left_number by.right_number) (subst IsQuietExpr by.type_is is_quiet) in
             let none = promotion_none by.left_number by.right_number computed in
             let left_null : typed.left ≡ null_type = operand_null typed.left by.left_number by.left_is none.0 in
             let right_null : typed.right ≡ null_type = operand_null typed.right by.right_number by.right_is none.1 in
@@ -223,24 +255,25 @@ module _ (filter : Filter) (types : OneType) (named : OneName) (ranges : List Ra
             types (slots_of filter.schema) (type_name_at filter.schema filter.filtered) scope whole (expr_type filter.schema stands.top.found.edm_type) type stands.top.typed typed in
             let edm : stands.top.found.edm_type ≡ EdmType.Null = edm_null filter.schema stands.top.found.edm_type (own ∙ by.type_is ∙ ap number_or_null computed) in
             let two = two_there filter.schema filter.filtered scope filter.list (i + 1) j left right stands.children in
-            top_quiet scope i j whole stands.top.found stands.top.stands_at stands
-            (subst (λ (k : NodeKind). MakesNone k stands.top.found.edm_type) (sym stands.top.kind) (binary_makes (BinaryOperator.Arithmetic arithmetic) stands.top.found.edm_type edm))
+            top_quiet scope i j whole stands.top.found stands.top.stands_at stands (subst (λ (k : NodeKind). MakesNone k stands.top.found.edm_type) (sym stands.top.kind) edm)
             (side_by_side (i + 1) two.middle j
-            (quiet_there scope (i + 1) two.middle left typed.left two.left typed.left_typed (subst IsQuietExpr (sym left_null) tt))
-            (quiet_there scope two.middle j right typed.right two.right typed.right_typed (subst IsQuietExpr (sym right_null) tt)))
+            (quiet_there scope (i + 1) two.middle left typed.left two.left typed.left_typed (λ own own_at loud. subst IsQuietExpr (sym left_null) tt))
+            (quiet_there scope two.middle j right typed.right two.right typed.right_typed (λ own own_at loud. subst IsQuietExpr (sym right_null) tt)))
             )
-        | inr one ↦ absurd (subst IsQuietExpr one.1 quiet)
+        | inr one ↦ absurd (subst IsQuietExpr one.1 is_quiet)
       ]
-  quiet_there scope i j (node s e (in_list left items)) type stands typed quiet = absurd (subst IsQuietExpr typed.makes.2 quiet)
-  quiet_there scope i j (node s e (lambda quantifier base variable body)) type stands typed quiet = absurd (subst IsQuietExpr typed.makes quiet)
+  quiet_there scope i j (node s e (in_list left items)) type stands typed quiet = absurd (subst IsQuietExpr typed.makes.2 (quiet stands.top.found stands.top.stands_at (subst IsQuietKind stands.top.kind)))
+  quiet_there scope i j (node s e (lambda quantifier base variable body)) type stands typed quiet = absurd (subst IsQuietExpr typed.makes (quiet stands.top.found stands.top.stands_at (subst IsQuietKind stands.top.kind)))
   quiet_there scope i j (node s e (call asked no_trees)) type stands typed quiet =
       let called = typed.call_typed in
-      let function = quiet_function called.function (subst IsQuietExpr called.typed.gives quiet) in
+      let function = quiet_call asked called.function called.named stands.top.found.kind stands.top.kind
+      (λ loud. subst IsQuietExpr called.typed.gives (quiet stands.top.found stands.top.stands_at loud)) in
       top_quiet scope i j (node s e (call asked no_trees)) stands.top.found stands.top.stands_at stands
       (call_makes named asked called.function called.named function stands.top.found.kind stands.top.found.edm_type stands.top.kind) (nothing (i + 1) j stands.children)
   quiet_there scope i j (node s e (call asked (more_trees tree more))) type stands typed quiet =
       let called = typed.call_typed in
-      let function = quiet_function called.function (subst IsQuietExpr called.typed.gives quiet) in
+      let function = quiet_call asked called.function called.named stands.top.found.kind stands.top.kind
+      (λ loud. subst IsQuietExpr called.typed.gives (quiet stands.top.found stands.top.stands_at loud)) in
       let first = first_typed (slots_of filter.schema) (type_name_at filter.schema filter.filtered) scope tree more typed.types typed.arguments_typed in
       let alone = moment_alone called.function function first.type_of first.others
       (subst (λ (ts : List ExprType). AreArgumentTypes (row_of called.function).arguments ts) first.are called.typed.arguments) in
@@ -248,94 +281,18 @@ module _ (filter : Filter) (types : OneType) (named : OneName) (ranges : List Ra
       (subst (λ (ts : List ExprType). AreTyped (slots_of filter.schema) (type_name_at filter.schema filter.filtered) scope more ts) alone.1 first.more_typed) stands.children.right in
       top_quiet scope i j (node s e (call asked (more_trees tree more))) stands.top.found stands.top.stands_at stands
       (call_makes named asked called.function called.named function stands.top.found.kind stands.top.found.edm_type stands.top.kind)
-      (subst (λ (n : ℕ). AreQuiet ranges (i + 1) n) ends (quiet_there scope (i + 1) stands.children.middle tree first.type_of stands.children.left first.typed alone.0))
-  quiet_there scope i j (node s e _) type stands typed quiet = absurd (subst IsQuietExpr typed.makes.1 quiet)
-
-  module _ (scope : Scope) (place : ℕ) (found : CheckedNode) (at : slice_get filter.list.nodes place ≡ Some found) where
-    -- what stands at the index has no children, or such a one
-    leaf_kind : (kind : NodeKind) → found.kind ≡ kind → MakesNone kind found.edm_type → (stop : ℕ) (tree : Tree) → LiesIn filter scope place stop tree → place + 1 ≡ stop
-        → AreQuiet ranges place stop
-    leaf_kind kind kind_is makes stop tree stands none =
-        top_quiet scope place stop tree found at stands (subst (λ (k : NodeKind). MakesNone k found.edm_type) (sym kind_is) makes) (nothing (place + 1) stop none)
-
-    base_kind : (kind : NodeKind) → found.kind ≡ kind → MakesNone kind found.edm_type → (stop : ℕ) (tree base : Tree) (type : ExprType) → LiesIn filter scope place stop tree
-        → LiesIn filter scope (place + 1) stop base → TypedIn filter scope base type → IsQuietExpr type → AreQuiet ranges place stop
-    base_kind kind kind_is makes stop tree base type stands base_stands typed quiet =
-        top_quiet scope place stop tree found at stands (subst (λ (k : NodeKind). MakesNone k found.edm_type) (sym kind_is) makes)
-        (quiet_there scope (place + 1) stop base type base_stands typed quiet)
-
-    flags_kind : (kind : NodeKind) → found.kind ≡ kind → MakesNone kind found.edm_type → (stop s e : ℕ) (left right : Tree) → LiesIn filter scope place stop (node s e (has left right))
-        → AreQuiet ranges place stop
-    flags_kind kind kind_is makes stop s e left right stands =
-        let typed = type_there filter scope place found at stop (node s e (has left right)) stands in
-        let two = two_there filter.schema filter.filtered scope filter.list (place + 1) stop left right stands.children in
-        top_quiet scope place stop (node s e (has left right)) found at stands (subst (λ (k : NodeKind). MakesNone k found.edm_type) (sym kind_is) makes)
-        (elim typed.makes.0 [
-          | inl flags ↦ (
-              let both = flags_quiet typed.left typed.right flags in
-              side_by_side (place + 1) two.middle stop (quiet_there scope (place + 1) two.middle left typed.left two.left typed.left_typed both.0)
-              (quiet_there scope two.middle stop right typed.right two.right typed.right_typed both.1)
-              )
-          | inr number ↦ (
-              let read = resolved_number (slots_of filter.schema) typed.left (quoted_text right) number in
-              side_by_side (place + 1) two.middle stop (quiet_there scope (place + 1) two.middle left typed.left two.left typed.left_typed read.0)
-              (quoted_quiet scope two.middle stop right read.1.0 read.1.1 two.right)
-              )
-        ])
-
-    kind_quiet : (kind : NodeKind) → found.kind ≡ kind → IsQuietKind kind → (stop : ℕ) (tree : Tree) → LiesIn filter scope place stop tree → LiesIn filter scope place stop tree
-        → AreQuiet ranges place stop
-    kind_quiet (NodeKind.Literal own value) kind_is is =
-        by_kind filter scope place found at (NodeKind.Literal own value) kind_is (λ s t. LiesIn filter scope place s t → AreQuiet ranges place s)
-        (λ kind spelling s from to stands again. leaf_kind (NodeKind.Literal own value) kind_is tt s (node from to (literal kind spelling)) stands stands.children)
-    kind_quiet NodeKind.It kind_is is =
-        by_kind filter scope place found at NodeKind.It kind_is (λ s t. LiesIn filter scope place s t → AreQuiet ranges place s)
-        (λ s from to stands again. leaf_kind NodeKind.It kind_is tt s (node from to it) stands stands.children)
-    kind_quiet (NodeKind.Property slot) kind_is is =
-        by_kind filter scope place found at (NodeKind.Property slot) kind_is (λ s t. LiesIn filter scope place s t → AreQuiet ranges place s)
-        (λ asked s from to stands again. leaf_kind (NodeKind.Property slot) kind_is tt s (node from to (name asked)) stands stands.children)
-    kind_quiet (NodeKind.Variable level) kind_is is =
-        by_kind filter scope place found at (NodeKind.Variable level) kind_is (λ s t. LiesIn filter scope place s t → AreQuiet ranges place s)
-        (λ asked s from to stands again. leaf_kind (NodeKind.Variable level) kind_is tt s (node from to (name asked)) stands stands.children)
-    kind_quiet (NodeKind.Member slot) kind_is is =
-        by_kind filter scope place found at (NodeKind.Member slot) kind_is (λ s t. LiesIn filter scope place s t → AreQuiet ranges place s)
-        (λ base asked s from to stands again.
-        let typed = type_there filter scope place found at s (node from to (member base asked)) stands in
-        base_kind (NodeKind.Member slot) kind_is tt s (node from to (member base asked)) base typed.operand stands
-        (one_there filter.schema filter.filtered scope filter.list (place + 1) s base stands.children) typed.operand_typed
-        (step_quiet (slots_of filter.schema) asked typed.operand (expr_type filter.schema found.edm_type) typed.makes))
-    kind_quiet NodeKind.Count kind_is is =
-        by_kind filter scope place found at NodeKind.Count kind_is (λ s t. LiesIn filter scope place s t → AreQuiet ranges place s)
-        (λ base s from to stands again.
-        let typed = type_there filter scope place found at s (node from to (count base)) stands in
-        base_kind NodeKind.Count kind_is tt s (node from to (count base)) base typed.operand stands
-        (one_there filter.schema filter.filtered scope filter.list (place + 1) s base stands.children) typed.operand_typed (collection_quiet typed.operand typed.makes.0))
-    kind_quiet NodeKind.AnyItem kind_is is =
-        by_kind filter scope place found at NodeKind.AnyItem kind_is (λ s t. LiesIn filter scope place s t → AreQuiet ranges place s)
-        (λ base s from to stands again.
-        let typed = type_there filter scope place found at s (node from to (any_item base)) stands in
-        base_kind NodeKind.AnyItem kind_is tt s (node from to (any_item base)) base typed.operand stands
-        (one_there filter.schema filter.filtered scope filter.list (place + 1) s base stands.children) typed.operand_typed (collection_quiet typed.operand typed.makes.0))
-    kind_quiet NodeKind.Has kind_is is =
-        by_kind filter scope place found at NodeKind.Has kind_is (λ s t. LiesIn filter scope place s t → AreQuiet ranges place s)
-        (λ left right s from to stands again. flags_kind NodeKind.Has kind_is tt s from to left right stands)
-    kind_quiet NodeKind.Now kind_is is =
-        by_kind filter scope place found at NodeKind.Now kind_is (λ s t. LiesIn filter scope place s t → AreQuiet ranges place s)
-        (λ asked arguments now s from to stands again.
-        let typed = type_there filter scope place found at s (node from to (call asked arguments)) stands in
-        let called = typed.call_typed in
-        let same : Function.Now ≡ called.function = named Function.Now called.function asked now called.named in
-        let quiet : IsQuietExpr (single (primitive (row_of called.function).gives)) = subst (λ (f : Function). IsQuietExpr (single (primitive (row_of f).gives))) same tt in
-        quiet_there scope place s (node from to (call asked arguments)) (expr_type filter.schema found.edm_type) stands typed (subst IsQuietExpr (sym called.typed.gives) quiet))
-    kind_quiet _ kind_is is = absurd is
+      (subst (λ (n : ℕ). AreQuiet ranges (i + 1) n) ends
+      (quiet_there scope (i + 1) stands.children.middle tree first.type_of stands.children.left first.typed (λ own own_at loud. alone.0)))
+  quiet_there scope i j (node s e _) type stands typed quiet = absurd (subst IsQuietExpr typed.makes.1 (quiet stands.top.found stands.top.stands_at (subst IsQuietKind stands.top.kind)))
 
   -- so do the ranges of a filter's nodes
   pub all_quiet : IsFilter filter → AreQuietThere filter ranges
   all_quiet is = λ place found range at range_at.
       let there = numbered filter place found is at in
       let onward = lies_nonempty filter.schema filter.filtered there.scope filter.list place there.stop there.part there.stands in
-      let typed = type_there filter there.scope place found at there.stop there.part there.stands in (
-        (λ quiet. quiet_there there.scope place there.stop there.part (expr_type filter.schema found.edm_type) there.stands typed (expr_quiet filter.schema found.edm_type quiet)
-            place range (omega arith) onward range_at),
-        (λ quiet. kind_quiet there.scope place found at found.kind refl quiet there.stop there.part there.stands there.stands place range (omega arith) onward range_at),
+      let typed = type_there filter there.scope place found at there.stop there.part there.stands in
+      let quiet_by = λ (quiet : IsQuietHere place (expr_type filter.schema found.edm_type)).
+      quiet_there there.scope place there.stop there.part (expr_type filter.schema found.edm_type) there.stands typed quiet place range (omega arith) onward range_at in (
+        (λ is_type. quiet_by (λ own own_at loud. expr_quiet filter.schema found.edm_type is_type)),
+        (λ is_kind. quiet_by (λ own own_at loud. absurd (loud (subst (λ (n : CheckedNode). IsQuietKind n.kind) (same_found (slice_get filter.list.nodes place) found own at own_at) is_kind)))),
       )

@@ -1,7 +1,8 @@
 -- What stands at an index of a filter's list: a tree, or a text that is read as the number of an enumeration.
-use Rattle.odata_ranges.proofs.Common.{◌≡◌, ◌∙◌, ◌⊎◌, inl, inr, ap, subst, ℕ, zero, suc, ℤ, ◌<◌, ◌≤◌, ◌+◌, List, [], Some, length, slice_get, arith, slice_get_within, Value, ExprType, single, SchemaModel, slots_of, type_name_at, Shape, Tree, Trees, any_item, binary, call, count, has, in_list, in_path, it, lambda, literal, logical_not, member, more_trees, name, negation, no_trees, node, LiteralKind, Scope, Typed, with_variable, Filter, IsFilter, tree_of_filter, FlatTree, AllStand, ResolvedStands, ChildrenStand, HasValue, IsLiteralNode, ItemsStand, NumberStands, Stands, CheckedNode, NodeKind, body_stands, IsOther, one_kind, some_there, there_found}
+use Rattle.odata_ranges.proofs.Common.{◌≡◌, ◌∙◌, ◌⊎◌, inl, inr, ap, subst, ℕ, ℤ, ◌<◌, ◌≤◌, ◌+◌, List, [], Some, length, slice_get, arith, slice_get_within, Value, ExprType, single, SchemaModel, slots_of, type_name_at, Shape, Tree, Trees, any_item, binary, call, count, has, in_list, in_path, lambda, literal, logical_not, member, more_trees, negation, no_trees, node, LiteralKind, Scope, Typed, with_variable, Filter, IsFilter, tree_of_filter, FlatTree, AllStand, ResolvedStands, ChildrenStand, HasValue, IsLiteralNode, ItemsStand, NumberStands, Stands, CheckedNode, NodeKind, body_stands, IsOther, one_kind, some_there, there_found}
 use Rattle.odata_eval.specs.private.Place.{HasKind}
 use Rattle.odata_eval.proofs.walking.Children.{one_there}
+use Rattle.odata_ranges.proofs.Values.{before_or_past}
 
 -- ---- a text that is read
 
@@ -50,23 +51,7 @@ pub record SomethingAt (schema : SchemaModel) (n : ℕ) (list : FlatTree) (place
   pub part : Tree
   pub stands : Stands schema n scope list place stop part ⊎ ((number : ℤ) × NumberStands schema n scope list number place stop part)
 
-below_or_not : (m n : ℕ) → (m < n) ⊎ (n ≤ m)
-below_or_not m zero = inr (omega arith)
-below_or_not zero (suc n) = inl (omega arith)
-below_or_not (suc m) (suc n) =
-    elim (below_or_not m n) [
-      | inl below ↦ inl (omega (arith, below))
-      | inr above ↦ inr (omega (arith, above))
-    ]
-
 module _ (schema : SchemaModel) (n : ℕ) (list : FlatTree) (p : ℕ) where
-  -- of two parts side by side it is in one
-  in_two : (m : ℕ) → (p < m → SomethingAt schema n list p) → (m ≤ p → SomethingAt schema n list p) → SomethingAt schema n list p
-  in_two m first second = elim (below_or_not p m) [
-    | inl before ↦ first before
-    | inr after ↦ second after
-  ]
-
   in_number : (scope : Scope) (i j : ℕ) (tree : Tree) (number : ℤ) → NumberStands schema n scope list number i j tree → i ≤ p → p < j → SomethingAt schema n list p
   in_number scope i j tree number stands low high =
       let there = number_there schema n scope list number i j tree stands in
@@ -90,10 +75,8 @@ module _ (schema : SchemaModel) (n : ℕ) (list : FlatTree) (p : ℕ) where
   mutual
     pub something_at : (scope : Scope) (i j : ℕ) (tree : Tree) → Stands schema n scope list i j tree → i ≤ p → p < j → SomethingAt schema n list p
     something_at scope i j (node from to shape) stands low high =
-        elim (below_or_not i p) [
-          | inl after ↦ in_children scope (i + 1) j shape stands.children (omega (arith, after)) high
-          | inr before ↦ at_top scope i j (node from to shape) stands low before
-        ]
+        before_or_past i p (λ after. in_children scope (i + 1) j shape stands.children (omega (arith, after)) high)
+        (λ before. at_top scope i j (node from to shape) stands low before)
 
     in_children : (scope : Scope) (i j : ℕ) (shape : Shape) → ChildrenStand schema n scope list i j shape → i ≤ p → p < j → SomethingAt schema n list p
     in_children scope i j (member base asked) stand low high = something_at scope i j base (one_there schema n scope list i j base stand) low high
@@ -106,28 +89,28 @@ module _ (schema : SchemaModel) (n : ℕ) (list : FlatTree) (p : ℕ) where
         let k : ℕ = stand.right.middle in
         let ends : k ≡ j = stand.right.right in
         let within : p < k = omega (arith, ends, high) in
-        in_two m (λ before. in_side scope i m left _ (λ (s : Stands schema n scope list i m left). something_at scope i m left s low before) stand.left low before)
+        before_or_past p m (λ before. in_side scope i m left _ (λ (s : Stands schema n scope list i m left). something_at scope i m left s low before) stand.left low before)
         (λ after. in_side scope m k right _ (λ (s : Stands schema n scope list m k right). something_at scope m k right s after within) stand.right.left after within)
     in_children scope i j (has left right) stand low high =
         let m : ℕ = stand.middle in
         let k : ℕ = stand.right.middle in
         let ends : k ≡ j = stand.right.right in
         let within : p < k = omega (arith, ends, high) in
-        in_two m (λ before. something_at scope i m left stand.left low before)
+        before_or_past p m (λ before. something_at scope i m left stand.left low before)
         (λ after. in_side scope m k right _ (λ (s : Stands schema n scope list m k right). something_at scope m k right s after within) stand.right.left after within)
     in_children scope i j (in_list left items) stand low high =
         let m : ℕ = stand.middle in
-        in_two m (λ before. something_at scope i m left stand.left low before)
+        before_or_past p m (λ before. something_at scope i m left stand.left low before)
         (λ after. in_items scope left m j items stand.right after high)
     in_children scope i j (in_path left path) stand low high =
         let m : ℕ = stand.middle in
-        in_two m (λ before. something_at scope i m left stand.left low before)
+        before_or_past p m (λ before. something_at scope i m left stand.left low before)
         (λ after. something_at scope m j path (one_there schema n scope list m j path stand.right) after high)
     in_children scope i j (call asked arguments) stand low high = in_trees scope i j arguments stand low high
     in_children scope i j (lambda quantifier base variable body) stand low high =
         let m : ℕ = stand.middle in
         let inner = body_stands schema n scope list m j base variable body stand.right in
-        in_two m (λ before. something_at scope i m base stand.left low before)
+        before_or_past p m (λ before. something_at scope i m base stand.left low before)
         (λ after. something_at (with_variable scope variable (single inner.member_type)) m j body inner.body after high)
     in_children scope i j _ stand low high = nothing i j stand low high
 
@@ -135,7 +118,7 @@ module _ (schema : SchemaModel) (n : ℕ) (list : FlatTree) (p : ℕ) where
     in_trees scope i j no_trees stand low high = nothing i j stand low high
     in_trees scope i j (more_trees tree trees) stand low high =
         let m : ℕ = stand.middle in
-        in_two m (λ before. something_at scope i m tree stand.left low before) (λ after. in_trees scope m j trees stand.right after high)
+        before_or_past p m (λ before. something_at scope i m tree stand.left low before) (λ after. in_trees scope m j trees stand.right after high)
 
     -- beside the tree on the left
     in_items : (scope : Scope) (left : Tree) (i j : ℕ) (items : Trees) → ItemsStand schema n scope list (Typed (slots_of schema) (type_name_at schema n) scope left) i j items → i ≤ p → p < j
@@ -143,7 +126,7 @@ module _ (schema : SchemaModel) (n : ℕ) (list : FlatTree) (p : ℕ) where
     in_items scope left i j no_trees stand low high = nothing i j stand low high
     in_items scope left i j (more_trees tree trees) stand low high =
         let m : ℕ = stand.middle in
-        in_two m (λ before. in_side scope i m tree (Typed (slots_of schema) (type_name_at schema n) scope left) (λ (s : Stands schema n scope list i m tree). something_at scope i m tree s low before) stand.left low before)
+        before_or_past p m (λ before. in_side scope i m tree (Typed (slots_of schema) (type_name_at schema n) scope left) (λ (s : Stands schema n scope list i m tree). something_at scope i m tree s low before) stand.left low before)
         (λ after. in_items scope left m j trees stand.right after high)
 
 pub something_there : (filter : Filter) → IsFilter filter → (place : ℕ) → place < length filter.list.nodes → SomethingAt filter.schema filter.filtered filter.list place

@@ -1,5 +1,5 @@
 -- The values that a type has lie within its range.
-use Rattle.odata_ranges.proofs.Common.{◌≡◌, ◌↔◌, ◌∙◌, ℕ, zero, suc, ◌<◌, ◌≤◌, ℤ, arith, Bool, List, refl, IsNumberOf, IsNumberType, Val, null, whole, text, PrimitiveType, SchemaModel, slots_of, HasType, IsPrimitiveValue, expr_type, EdmType, ValueType, IsKept, IsNullOnlyIf, HoldsNumber, IsBounded, HoldsCount, IsValueWithin, Range, HoldsValues, IsNumeric}
+use Rattle.odata_ranges.proofs.Common.{◌≡◌, ◌↔◌, ◌∙◌, ℕ, zero, suc, ◌<◌, ◌≤◌, ℤ, arith, Bool, List, refl, IsNumberOf, IsNumberType, Val, null, whole, text, PrimitiveType, SchemaModel, slots_of, HasType, IsPrimitiveValue, expr_type, EdmType, ValueType, IsKept, IsNullOnlyIf, HoldsNumber, IsBounded, HoldsCount, IsValueWithin, Range, HoldsValues}
 
 number_type_of : (p : PrimitiveType) (n : ℤ) → IsNumberOf p n → IsNumberType p
 number_type_of PrimitiveType.Byte n is = tt

@@ -1,12 +1,9 @@
 ghost use Rattle.std.specs.Prelude.{◌↔◌, ℕ, ◌+◌, ℤ, pos, negsuc, ◌<ℤ◌, ◌≤ℤ◌, IsFalse, IsTrue};
-ghost use Rattle.odata_checked_filter.specs.declared.checked_node.NodeKind.TheVariants.{Call};
 ghost use Rattle.odata_filter_operations.specs.FunctionGives.{GivesCount};
 ghost use Rattle.odata_filter_operations.specs.Outcome.{Outcome};
-ghost use Rattle.odata_ranges.specs.Calls.{CalledWithin};
-ghost use Rattle.odata_ranges.specs.Faults.{MakesNone};
 ghost use Rattle.odata_ranges.specs.Reach.{IsBounded, IsSmall};
 ghost use Rattle.odata_ranges.specs.Within.{HoldsCount, IsUpTo, IsWithin, unbounded};
-ghost use Rattle.odata_signatures.specs.declared.edm_type.EdmType.{EdmType};
+ghost use Rattle.odata_ranges.specs.private.Called.{IsCalledRange};
 
 use super::arithmetic::{greatest, least};
 use super::bounds::UNBOUNDED;
@@ -89,8 +86,7 @@ pub(crate) fn called(function: Function, first: Range, second: Range) -> Range
     requires first { IsBounded first }
     requires second { IsBounded second }
     ensures bounded { IsBounded result }
-    ensures within { CalledWithin function first second result }
-    ensures quiet { (type : EdmType) → MakesNone (Call function) type → IsFalse result.may_fault }
+    ensures called { IsCalledRange function first second result }
 {
     day_numbers_have_one_date();
     match function {

@@ -1,7 +1,6 @@
 //! The ranges of nodes before lists: `in`, and calls of functions.
 ghost use Rattle.std.specs.Prelude.{◌≡◌, ◌<◌, ◌≤◌, ◌||◌, IsFalse, Some, length, slice_get};
 ghost use Rattle.odata_ranges.specs.Faults.{AreQuiet};
-ghost use Rattle.odata_ranges.specs.Ranges.{IsRangeAt};
 ghost use Rattle.odata_ranges.specs.declared.node_form.NodeForm.{NodeForm};
 ghost use Rattle.odata_ranges.specs.private.NodeForm.{AreKnownAfter, HasForm, IsOwnRange};
 ghost use Rattle.odata_ranges.specs.private.Values.{Covers, CoversLine, LieBetween};
@@ -9,9 +8,9 @@ ghost use Rattle.odata_ranges.specs.private.Values.{Covers, CoversLine, LieBetwe
 use super::calls::called;
 use super::places::{node_at, range_in};
 use super::range::Range;
-use odata_checked_filter::{Checked, NodeKind};
+use odata_checked_filter::{Checked, CheckedNode};
 use odata_meaning::typed_trees_end_once;
-use odata_signatures::calls_have_one_type;
+use odata_signatures::{Function, calls_have_one_type};
 
 /// A fault and null where one of the trees between two indices has them.
 fn flags_between(checked: &Checked<'_>, ranges: &[Range], from: usize, stop: usize) -> Range
@@ -44,38 +43,40 @@ fn joined(flags: Range, range: Range) -> Range
 }
 
 /// The range of `in` before a list: true or false, or the first fault.
-pub(crate) fn of_list(checked: &Checked<'_>, ranges: &[Range], place: usize) -> Range
-    requires form { HasForm checked.now place NodeForm.List }
+pub(crate) fn of_list(
+    checked: &Checked<'_>,
+    ranges: &[Range],
+    place: usize,
+    node: CheckedNode,
+) -> Range
+    requires form { HasForm checked.now place node NodeForm.List }
     requires known { AreKnownAfter checked.now place ranges.now }
-    ensures right { IsRangeAt checked.now place result }
-    ensures own { IsOwnRange checked.now ranges.now place result }
+    ensures { IsOwnRange checked.now ranges.now place node result }
 {
-    let node = node_at(checked, place);
     let flags = flags_between(checked, ranges, place + 1, node.stop);
     Range::plain(false).with_faults(flags.may_fault)
 }
 
 /// The range of a call: null where an argument is, and the fault of an argument.
-pub(crate) fn of_call(checked: &Checked<'_>, ranges: &[Range], place: usize) -> Range
-    requires form { HasForm checked.now place NodeForm.Call }
+pub(crate) fn of_call(
+    checked: &Checked<'_>,
+    ranges: &[Range],
+    place: usize,
+    node: CheckedNode,
+    function: Function,
+) -> Range
+    requires form { HasForm checked.now place node (NodeForm.Call function) }
     requires known { AreKnownAfter checked.now place ranges.now }
-    ensures right { IsRangeAt checked.now place result }
-    ensures own { IsOwnRange checked.now ranges.now place result }
+    ensures { IsOwnRange checked.now ranges.now place node result }
 {
     typed_trees_end_once();
     calls_have_one_type();
-    let node = node_at(checked, place);
     let next = node_at(checked, place + 1);
     let first = range_in(ranges, place + 1);
     let second = second_or(ranges, next.stop, node.stop, first);
     let flags = flags_between(checked, ranges, place + 1, node.stop);
-    match node.kind {
-        NodeKind::Call { function } => {
-            let plain = called(function, first, second);
-            joined(plain, flags)
-        }
-        _ => unreachable!(),
-    }
+    let plain = called(function, first, second);
+    joined(plain, flags)
 }
 
 /// The range at an index before the stop, else another one.

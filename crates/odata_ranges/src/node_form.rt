@@ -3,16 +3,17 @@ ghost use Rattle.std.specs.Prelude.{◌≡◌};
 ghost use Rattle.odata_ranges.specs.private.NodeForm.{form_of};
 
 use odata_checked_filter::NodeKind;
+use odata_signatures::Function;
 
 /// A node without children, a step of a path, a node with one operand or with two, `in` before a list, and a call.
 #[derive(Clone, Copy)]
 pub(crate) enum NodeForm {
     Leaf,
-    Step,
+    Step { slot: usize },
     One,
     Two,
     List,
-    Call,
+    Call { function: Function },
 }
 
 pub(crate) fn form_of(kind: NodeKind) -> NodeForm
@@ -24,7 +25,7 @@ pub(crate) fn form_of(kind: NodeKind) -> NodeForm
         NodeKind::Property { .. } => NodeForm::Leaf,
         NodeKind::Variable { .. } => NodeForm::Leaf,
         NodeKind::Now => NodeForm::Leaf,
-        NodeKind::Member { .. } => NodeForm::Step,
+        NodeKind::Member { slot } => NodeForm::Step { slot },
         NodeKind::Count => NodeForm::One,
         NodeKind::AnyItem => NodeForm::One,
         NodeKind::Neg => NodeForm::One,
@@ -34,6 +35,6 @@ pub(crate) fn form_of(kind: NodeKind) -> NodeForm
         NodeKind::InPath => NodeForm::Two,
         NodeKind::Lambda { .. } => NodeForm::Two,
         NodeKind::InList => NodeForm::List,
-        NodeKind::Call { .. } => NodeForm::Call,
+        NodeKind::Call { function } => NodeForm::Call { function },
     }
 }

@@ -3,7 +3,6 @@ ghost use Rattle.std.specs.Prelude.{◌≡◌, IfNone, IfSome, IsFalse};
 ghost use Rattle.edm_values.specs.NumberTypes.{IsNumberType};
 ghost use Rattle.odata_checked_filter.specs.declared.checked_node.NodeKind.TheVariants.{Binary};
 ghost use Rattle.odata_ranges.specs.Faults.{MakesNone};
-ghost use Rattle.odata_ranges.specs.Ranges.{IsRangeAt};
 ghost use Rattle.odata_ranges.specs.Reach.{IsBounded};
 ghost use Rattle.odata_ranges.specs.declared.node_form.NodeForm.{NodeForm};
 ghost use Rattle.odata_ranges.specs.private.NodeForm.{AreKnownAfter, HasForm, IsOwnRange};
@@ -17,21 +16,24 @@ use super::bounds::MOST_MEMBERS;
 use super::places::{node_at, range_in};
 use super::range::Range;
 use edm_values::Prim;
-use odata_checked_filter::{Checked, NodeKind};
+use odata_checked_filter::{Checked, CheckedNode, NodeKind};
 use odata_meaning::typed_trees_end_once;
 use odata_signatures::{EdmType, ValueType, trees_have_one_type};
 use odata_syntax::{ArithmeticOperator, BinaryOperator};
 
 /// The range of a node with one operand.
-pub(crate) fn of_one(checked: &Checked<'_>, ranges: &[Range], place: usize) -> Range
-    requires form { HasForm checked.now place NodeForm.One }
+pub(crate) fn of_one(
+    checked: &Checked<'_>,
+    ranges: &[Range],
+    place: usize,
+    node: CheckedNode,
+) -> Range
+    requires form { HasForm checked.now place node NodeForm.One }
     requires known { AreKnownAfter checked.now place ranges.now }
-    ensures right { IsRangeAt checked.now place result }
-    ensures own { IsOwnRange checked.now ranges.now place result }
+    ensures { IsOwnRange checked.now ranges.now place node result }
 {
     typed_trees_end_once();
     trees_have_one_type();
-    let node = node_at(checked, place);
     let operand = range_in(ranges, place + 1);
     match node.kind {
         NodeKind::Count => Range::between(0, MOST_MEMBERS, operand.may_be_null),
@@ -45,15 +47,18 @@ pub(crate) fn of_one(checked: &Checked<'_>, ranges: &[Range], place: usize) -> R
 }
 
 /// The range of a node with two operands.
-pub(crate) fn of_two(checked: &Checked<'_>, ranges: &[Range], place: usize) -> Range
-    requires form { HasForm checked.now place NodeForm.Two }
+pub(crate) fn of_two(
+    checked: &Checked<'_>,
+    ranges: &[Range],
+    place: usize,
+    node: CheckedNode,
+) -> Range
+    requires form { HasForm checked.now place node NodeForm.Two }
     requires known { AreKnownAfter checked.now place ranges.now }
-    ensures right { IsRangeAt checked.now place result }
-    ensures own { IsOwnRange checked.now ranges.now place result }
+    ensures { IsOwnRange checked.now ranges.now place node result }
 {
     typed_trees_end_once();
     trees_have_one_type();
-    let node = node_at(checked, place);
     let next = node_at(checked, place + 1);
     let left = range_in(ranges, place + 1);
     let right = range_in(ranges, next.stop);
@@ -63,8 +68,8 @@ pub(crate) fn of_two(checked: &Checked<'_>, ranges: &[Range], place: usize) -> R
         NodeKind::Binary { operator } => of_operator(operator, node.edm_type, left, right),
         NodeKind::Has => truth(nulls, faults),
         NodeKind::InPath => truth(right.may_be_null, faults),
-        NodeKind::Lambda { .. } => truth(left.may_be_null, faults),
-        _ => unreachable!(),
+        // `any` and `all`.
+        _ => truth(left.may_be_null, faults),
     }
 }
 
@@ -131,11 +136,7 @@ fn number_type(edm_type: EdmType) -> Option<Prim>
     ensures none { IfNone result (edm_type ≡ EdmType.Null) }
 {
     match edm_type {
-        EdmType::Single(value_type) => match value_type {
-            ValueType::Prim(prim) => Some(prim),
-            _ => unreachable!(),
-        },
-        EdmType::Null => None,
-        EdmType::Collection(_) => unreachable!(),
+        EdmType::Single(ValueType::Prim(prim)) => Some(prim),
+        _ => None,
     }
 }

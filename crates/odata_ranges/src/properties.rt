@@ -20,17 +20,14 @@ pub fn owner_of(checked: &Checked<'_>, place: usize) -> TypeId
     trees_have_one_type();
     let count = checked.nodes().len();
     let node = node_at(checked, place);
-    match node.kind {
-        NodeKind::Member { .. } => {
-            prove!(place + 1 < count);
-            let base = node_at(checked, place + 1);
-            match structured_type(&base.edm_type) {
-                Some(id) => id,
-                None => unreachable!(),
-            }
+    if let NodeKind::Member { .. } = node.kind {
+        prove!(place + 1 < count);
+        let base = node_at(checked, place + 1);
+        if let Some(owner) = structured_type(&base.edm_type) {
+            return owner;
         }
-        _ => checked.filtered_type(),
     }
+    checked.filtered_type()
 }
 
 /// The type of one entity or complex value.

@@ -1,5 +1,6 @@
 //! The range of each node, from the last node to the first: the children of a node stand after it.
 ghost use Rattle.std.specs.Prelude.{◌≡◌, ◌<◌, ◌≤◌, IfOk, Some, false, length, slice_get};
+ghost use Rattle.odata_checked_filter.specs.Filter.{IsFilter};
 ghost use Rattle.odata_checked_filter.specs.declared.checked_node.CheckedNode.{CheckedNode};
 ghost use Rattle.odata_ranges.specs.Faults.{AreQuiet, AreReportedFrom, ReportsFaults};
 ghost use Rattle.odata_ranges.specs.Ranges.{AreRangesOf, IsRangeAt};
@@ -12,7 +13,7 @@ use super::node_form::{NodeForm, form_of};
 use super::operators::{of_one, of_two};
 use super::places::{node_at, range_in};
 use super::range::Range;
-use odata_checked_filter::Checked;
+use odata_checked_filter::{Checked, CheckedNode};
 use odata_signatures::{calls_have_one_type, trees_have_one_type};
 use std::alloc::{AllocError, Global};
 
@@ -57,7 +58,7 @@ fn range_at(checked: &Checked<'_>, ranges: &[Range], place: usize) -> Range
 {
     let node = node_at(checked, place);
     let faults = any_fault(checked, ranges, place + 1, node.stop);
-    own_range(checked, ranges, place).with_faults(faults)
+    own_range(checked, ranges, place, node).with_faults(faults)
 }
 
 /// Whether a node between two indices evaluates to a fault. What stands there is trees, one after another.
@@ -79,20 +80,19 @@ fn any_fault(checked: &Checked<'_>, ranges: &[Range], from: usize, stop: usize) 
     found
 }
 
-/// The range of a node, of those of its children.
-fn own_range(checked: &Checked<'_>, ranges: &[Range], place: usize) -> Range
-    requires inside { place < length checked.now.list.nodes }
+/// The range of the node at an index, of those of its children.
+fn own_range(checked: &Checked<'_>, ranges: &[Range], place: usize, node: CheckedNode) -> Range
+    requires filter { IsFilter checked.now }
+    requires there { slice_get checked.now.list.nodes place ≡ Some node }
     requires known { AreKnownAfter checked.now place ranges.now }
-    ensures right { IsRangeAt checked.now place result }
-    ensures own { IsOwnRange checked.now ranges.now place result }
+    ensures { IsOwnRange checked.now ranges.now place node result }
 {
-    let node = node_at(checked, place);
     match form_of(node.kind) {
-        NodeForm::Leaf => of_leaf(checked, place),
-        NodeForm::Step => of_step(checked, ranges, place),
-        NodeForm::One => of_one(checked, ranges, place),
-        NodeForm::Two => of_two(checked, ranges, place),
-        NodeForm::List => of_list(checked, ranges, place),
-        NodeForm::Call => of_call(checked, ranges, place),
+        NodeForm::Leaf => of_leaf(checked, place, node),
+        NodeForm::Step { slot } => of_step(checked, ranges, place, node, slot),
+        NodeForm::One => of_one(checked, ranges, place, node),
+        NodeForm::Two => of_two(checked, ranges, place, node),
+        NodeForm::List => of_list(checked, ranges, place, node),
+        NodeForm::Call { function } => of_call(checked, ranges, place, node, function),
     }
 }

@@ -5,6 +5,7 @@ use Rattle.odata_signatures.specs.declared.edm_type.EdmType.{EdmType}
 use Rattle.odata_signatures.specs.declared.edm_type.ValueType.{ValueType}
 use Rattle.sql_draft.specs.declared.sql_context.Kind.{Kind}
 use Rattle.sql_meaning.specs.SqlTypeHolds.{IsOfType, type_of_primitive}
+use Rattle.sql_tree.specs.declared.node.FieldType.{FieldType}
 use Rattle.sql_tree.specs.declared.node.SqlType.{SqlType}
 
 abbrev pub kind_of_single : ValueType → Kind
@@ -16,6 +17,11 @@ abbrev pub kind_of_type : EdmType → Kind
 kind_of_type EdmType.Null = Kind.Null
 kind_of_type (EdmType.Single type) = kind_of_single type
 kind_of_type (EdmType.Collection type) = Kind.Structured
+
+-- the type of one value that has that type in JSON
+abbrev pub single_of : FieldType → ValueType
+single_of (FieldType.Prim p) = ValueType.Prim p
+single_of (FieldType.Enum id) = ValueType.Enum id
 
 -- a record, a list or null
 abbrev pub IsStructured : Val → Type 0

@@ -10,9 +10,12 @@ use Rattle.odata_checked_filter.specs.declared.checked_node.NodeKind.{NodeKind}
 use Rattle.odata_ranges.specs.Faults.{IsQuietKind}
 use Rattle.odata_ranges.specs.Reach.{IsBounded}
 use Rattle.odata_filter_operations.specs.Outcome.{Outcome}
+use Rattle.odata_signatures.specs.declared.edm_type.EdmType.{EdmType}
 use Rattle.odata_ranges.specs.Within.{IsWithin}
 use Rattle.odata_ranges.specs.declared.range.Range.{Range}
 use Rattle.sql_meaning.specs.ParameterGives.{HoldsNul}
+use Rattle.sql_meaning.specs.SqlTypeHolds.{type_of_field}
+use Rattle.sql_tree.specs.declared.node.FieldType.{FieldType}
 use Rattle.sql_tree.specs.declared.node.SqlType.{SqlType}
 use Rattle.sql_draft.specs.declared.sql_context.Kind.{Kind}
 use Rattle.sql_draft.specs.declared.sql_context.SqlContext.{SqlContext}
@@ -84,6 +87,10 @@ IsSpelled filter place =
 abbrev pub IsKindAt : Filter → ℕ → NodeKind → Type 0
 IsKindAt filter place kind = IsSomeAnd (slice_get filter.list.nodes place) (λ node. node.kind ≡ kind)
 
+-- the node there is of that type
+abbrev pub IsOfTypeAt : Filter → ℕ → EdmType → Type 0
+IsOfTypeAt filter place type = IsSomeAnd (slice_get filter.list.nodes place) (λ node. node.edm_type ≡ type)
+
 -- a property, a member of what stands after it, or a range variable
 abbrev pub IsStep : NodeKind → Type 0
 IsStep (NodeKind.Property slot) = Unit {0}
@@ -129,8 +136,8 @@ abbrev pub IsValuedAt : Filter → ℕ → Type 0
 IsValuedAt filter place =
     IsSomeAnd (slice_get filter.list.nodes place) (λ node. kind_of_type node.edm_type ≢ Kind.Structured)
 
--- a node of a type that SQL has values of
-abbrev pub HasValueKind : Filter → ℕ → Type 0
-HasValueKind filter place =
+-- a node of the kind of values that have that type in JSON
+abbrev pub HasFieldType : Filter → ℕ → FieldType → Type 0
+HasFieldType filter place type =
     IsSomeAnd (slice_get filter.list.nodes place)
-    (λ node. (type : SqlType) × (kind_of_type node.edm_type ≡ Kind.Value type))
+    (λ node. kind_of_type node.edm_type ≡ Kind.Value (type_of_field type))

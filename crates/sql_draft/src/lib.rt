@@ -10,4 +10,4 @@ mod sql_context;
 pub use draft::Draft;
 pub use operand::{Operand, Source};
 pub use paths::{put_member_path, put_path};
-pub use sql_context::{Kind, SqlContext, kind_of, kind_of_value};
+pub use sql_context::{Kind, SqlContext, kind_of, type_of_field};

@@ -141,7 +141,9 @@ impl Operand {
     }
 
     /// The type of its value in SQL; of null any.
-    pub fn wanted(&self) -> SqlType {
+    pub fn wanted(&self) -> SqlType
+        ensures { (type : SqlType) → self.now.kind ≡ Kind.Value type → result ≡ type }
+    {
         match self.kind {
             Kind::Value(value_type) => value_type,
             _ => SqlType::Whole,

@@ -1,5 +1,5 @@
 //! Properties, members and range variables as columns and positions in JSON.
-ghost use Rattle.std.specs.Prelude.{◌≡◌, ◌<◌, ◌≤◌, ◌+◌, [], ℕ, List, IfOk, IsSomeAnd, slice_get};
+ghost use Rattle.std.specs.Prelude.{◌<◌, ◌≤◌, ◌+◌, [], ℕ, List, IfNone, IfOk, IfSome};
 ghost use Rattle.odata_ranges.specs.Owners.{NamesProperty, NamesSlotOf};
 ghost use Rattle.sql_draft.specs.Paths.{IsBottomOf, IsFirstStep, PutsMemberPath, PutsPath, StepsLead};
 ghost use Rattle.sql_draft.specs.Translated.{IsPathAt, IsTranslated, question_of};
@@ -25,15 +25,15 @@ fn lowest_of(context: &SqlContext<'_, '_>, place: usize) -> usize
     at
 }
 
-/// The slot in its owner that the node at an index names.
-fn slot_of(context: &SqlContext<'_, '_>, place: usize) -> usize
-    requires { NamesProperty context.now.checked.now place }
-    ensures { IsSomeAnd (slice_get context.now.checked.now.list.nodes place) (λ node. NamesSlotOf node.kind result) }
+/// The slot in its owner that a node of such a kind names, if it names one.
+fn slot_of(kind: NodeKind) -> Option<usize>
+    ensures some { IfSome result (NamesSlotOf kind) }
+    ensures none { IfNone result ((slot : ℕ) → ¬ NamesSlotOf kind slot) }
 {
-    match context.node(place).kind {
-        NodeKind::Property { slot } => slot,
-        NodeKind::Member { slot } => slot,
-        _ => unreachable!(),
+    match kind {
+        NodeKind::Property { slot } => Some(slot),
+        NodeKind::Member { slot } => Some(slot),
+        _ => None,
     }
 }
 
@@ -82,15 +82,12 @@ fn base_of_row(
     ensures leads { (levels : List ℕ) → StepsLead (question_of context.now) levels result.0 [] lowest result.1 }
 {
     trees_have_one_type();
-    match context.storage {
-        Storage::Document(_) => (Base::Document, first + 1),
-        Storage::Columns(_) => (
-            Base::Column {
-                slot: slot_of(context, first),
-            },
-            first,
-        ),
+    if let Storage::Columns(_) = context.storage {
+        if let Some(slot) = slot_of(context.node(first).kind) {
+            return (Base::Column { slot }, first);
+        }
     }
+    (Base::Document, first + 1)
 }
 
 /// Adds the path that stops with the node at an index, and returns its number.
@@ -110,10 +107,12 @@ pub fn put_path(
     let mut at = after;
     while place < at {
         at -= 1;
-        steps.push(Step {
-            owner: owner_of(context.checked, at),
-            slot: slot_of(context, at),
-        })?;
+        if let Some(slot) = slot_of(context.node(at).kind) {
+            steps.push(Step {
+                owner: owner_of(context.checked, at),
+                slot,
+            })?;
+        }
     }
     draft.add_path(Path { base, steps })
 }

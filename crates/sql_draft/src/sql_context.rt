@@ -1,7 +1,11 @@
 ghost use Rattle.std.specs.Prelude.{◌≡◌, ◌↔◌, ◌<◌, ◌+◌, ℤ, IfNone, IfSome, IsTrue, Some, IsSomeAnd, length, slice_get};
 ghost use Rattle.edm_values.specs.declared.value.Value.{Value};
-ghost use Rattle.sql_draft.specs.Kinds.{kind_of_single, kind_of_type};
-ghost use Rattle.sql_meaning.specs.SqlTypeHolds.{type_of_primitive};
+ghost use Rattle.odata_signatures.specs.declared.edm_type.EdmType.{EdmType};
+ghost use Rattle.sql_tree.specs.declared.node.FieldType.{FieldType};
+ghost use Rattle.sql_draft.specs.declared.sql_context.Kind.{Kind};
+ghost use Rattle.sql_draft.specs.Kinds.{kind_of_single, kind_of_type, single_of};
+ghost use Rattle.sql_draft.specs.Translated.{IsOfTypeAt};
+ghost use Rattle.sql_meaning.specs.SqlTypeHolds.{type_of_field, type_of_primitive};
 ghost use Rattle.sql_draft.specs.OperandHas.{IsReadAt, IsUnread};
 
 use edm_values::{Moment, Prim, Value};
@@ -9,7 +13,7 @@ use odata_checked_filter::{Checked, CheckedNode, NodeKind};
 use odata_ranges::Range;
 use odata_signatures::{EdmType, ValueType};
 use odata_syntax::LiteralKind;
-use sql_tree::{SqlType, Storage};
+use sql_tree::{FieldType, SqlType, Storage};
 
 /// What does not change while a filter is translated.
 #[derive(Clone, Copy)]
@@ -68,6 +72,33 @@ impl<'f, 's> SqlContext<'f, 's> {
         kind_of(self.node(place).edm_type)
     }
 
+    /// The type in JSON of the value of the node at an index. None of null, an entity, a complex value or a collection.
+    pub fn value_type(&self, place: usize) -> Option<FieldType>
+        requires { place < length self.now.checked.now.list.nodes }
+        ensures some { IfSome result (λ type. IsOfTypeAt self.now.checked.now place (EdmType.Single (single_of type))) }
+        ensures none { IfNone result ((type : FieldType) →
+            ¬ IsOfTypeAt self.now.checked.now place (EdmType.Single (single_of type))) }
+    {
+        match self.node(place).edm_type {
+            EdmType::Single(value_type) => field_type(value_type),
+            _ => None,
+        }
+    }
+
+    /// The same of a member of the collection at an index.
+    pub fn member_type(&self, place: usize) -> Option<FieldType>
+        requires { place < length self.now.checked.now.list.nodes }
+        ensures some { IfSome result (λ type. IsOfTypeAt self.now.checked.now place
+            (EdmType.Collection (single_of type))) }
+        ensures none { IfNone result ((type : FieldType) →
+            ¬ IsOfTypeAt self.now.checked.now place (EdmType.Collection (single_of type))) }
+    {
+        match self.node(place).edm_type {
+            EdmType::Collection(value_type) => field_type(value_type),
+            _ => None,
+        }
+    }
+
     /// Where among the filter's values the number is that the text at an index is read as, if it is.
     pub fn number_at(&self, place: usize) -> Option<usize>
         requires { place < length self.now.checked.now.list.nodes }
@@ -118,13 +149,34 @@ pub fn kind_of(edm_type: EdmType) -> Kind
 }
 
 /// The same of the type of one value.
-pub fn kind_of_value(value_type: ValueType) -> Kind
+fn kind_of_value(value_type: ValueType) -> Kind
     ensures { result ≡ kind_of_single value_type }
 {
+    match field_type(value_type) {
+        Some(field_type) => Kind::Value(type_of_field(field_type)),
+        None => Kind::Structured,
+    }
+}
+
+/// The type in JSON of such a value; none of an entity or a complex value.
+fn field_type(value_type: ValueType) -> Option<FieldType>
+    ensures some { IfSome result (λ type. value_type ≡ single_of type) }
+    ensures none { IfNone result (kind_of_single value_type ≡ Kind.Structured) }
+{
     match value_type {
-        ValueType::Prim(prim) => Kind::Value(sql_type(prim)),
-        ValueType::Enum(_) => Kind::Value(SqlType::Member),
-        ValueType::Structured(_) => Kind::Structured,
+        ValueType::Prim(prim) => Some(FieldType::Prim(prim)),
+        ValueType::Enum(id) => Some(FieldType::Enum(id)),
+        ValueType::Structured(_) => None,
+    }
+}
+
+/// The type of SQL of a value in JSON.
+pub fn type_of_field(field_type: FieldType) -> SqlType
+    ensures { result ≡ type_of_field field_type }
+{
+    match field_type {
+        FieldType::Prim(prim) => sql_type(prim),
+        FieldType::Enum(_) => SqlType::Member,
     }
 }
 

@@ -102,11 +102,11 @@ pub use Rattle.sql_draft.proofs.PathKinds.{IsOnWay, tree_on_way}
 pub use Rattle.sql_draft.proofs.PathLeads.{path_later, path_on, path_says}
 pub use Rattle.sql_draft.proofs.Places.{by_kind, found_is, stop_is}
 pub use Rattle.sql_draft.specs.Growth.{Grows, GrowsBy, GrowsByText, IsDeeper, IsFront}
-pub use Rattle.sql_draft.specs.Kinds.{AreAlike, AreCompared, IsOfKind, kind_of_single, kind_of_type}
+pub use Rattle.sql_draft.specs.Kinds.{AreAlike, AreCompared, IsOfKind, kind_of_single, kind_of_type, single_of}
 pub use Rattle.sql_draft.specs.OperandHas.{ComparedHas, Fits, HasLoosely, HasNumber, HasValue, IsInside, IsLiteralAt, IsNodeAt, IsNodeOperand, IsNumberOperand, IsPut, IsReadAt, IsSideAt, IsSourceOf, IsTestable, IsTested, IsUnread, NullHas, OperandHas, SomeNull, SourceHas, as_compared, bound_source, carrier_of}
 pub use Rattle.sql_draft.specs.Paths.{IsPathTo, PutsMemberPath, PutsPath}
 pub use Rattle.sql_draft.specs.Rows.{IsFault}
-pub use Rattle.sql_draft.specs.Translated.{AreRanges, HasValueKind, IsBooleanAt, IsCarriedKind, IsFaultless, IsKindAt, IsOtherKind, IsPathAt, IsPlainAt, IsStep, IsTruthAt, IsTruthKind, IsValuedAt, question_of}
+pub use Rattle.sql_draft.specs.Translated.{AreRanges, HasFieldType, IsBooleanAt, IsCarriedKind, IsFaultless, IsKindAt, IsOfTypeAt, IsOtherKind, IsPathAt, IsPlainAt, IsStep, IsTruthAt, IsTruthKind, IsValuedAt, question_of}
 pub use Rattle.sql_draft.specs.World.{Has, IsAskedOf, IsWorldOf, OfPlace, Puts, PutsAll, Question, Says, StandsAt, World, extended}
 pub use Rattle.sql_draft.specs.declared.draft.Draft.{Draft}
 pub use Rattle.sql_draft.specs.declared.operand.Operand.{Operand}

@@ -1,6 +1,5 @@
 -- What functions return, by what they call.
 pub mod AlongAnswers
-pub mod AskedAnswers
 pub mod CallAnswers
 pub mod CodedAnswers
 pub mod ConstantAnswers

@@ -1,7 +1,9 @@
 -- What stands at the indices of a filter's list: the forms of nodes, their types, ranges and outcomes.
+pub mod Along
 pub mod ArithmeticNodes
 pub mod BelowNodes
 pub mod BinaryPlaces
+pub mod ByNode
 pub mod Binding
 pub mod CallKinds
 pub mod CallNodes

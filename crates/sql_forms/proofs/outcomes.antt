@@ -13,6 +13,7 @@ pub mod ComparisonAnswers
 pub mod Comparisons
 pub mod ComparisonsReported
 pub mod Deciding
+pub mod Elements
 pub mod FaultConditions
 pub mod FaultFronts
 pub mod FaultWalk

@@ -13,6 +13,7 @@ pub mod ComparisonsPut
 pub mod DecidedPut
 pub mod EqualCodesPut
 pub mod EqualPut
+pub mod ExistsOver
 pub mod ExistsPut
 pub mod FaultyComparisonsPut
 pub mod FlagsPut

@@ -18,24 +18,24 @@ use super::operand::put_operand;
 use edm_values::Prim;
 use odata_functions::{ArithFault, divisions_are_unique};
 use odata_ranges::{Range, is_safe};
-use odata_signatures::{EdmType, ValueType};
 use odata_syntax::{ArithmeticOperator, ComparisonOperator};
 use sql_draft::{Draft, Operand, SqlContext};
-use sql_tree::{Carrier, Digit, SqlNode, SqlType};
+use sql_tree::{Carrier, Digit, FieldType, SqlNode, SqlType};
 use std::alloc::AllocError;
 
-/// The type of the node at an index, in which its numbers are computed.
+/// The type in which the numbers of the node at an index are computed; Int64, which has them all, of a node that is of
+/// no primitive type.
 fn number_type(context: &SqlContext<'_, '_>, place: usize) -> Prim
     requires there { place < length context.now.checked.now.list.nodes }
     requires number { (type : PrimitiveType) × IsComputedIn context.now.checked.now place type }
     ensures { IsComputedIn context.now.checked.now place result }
 {
-    match context.node(place).edm_type {
-        EdmType::Single(value_type) => match value_type {
-            ValueType::Prim(prim) => prim,
-            _ => unreachable!(),
-        },
-        _ => unreachable!(),
+    let Some(value_type) = context.value_type(place) else {
+        return Prim::Int64;
+    };
+    match value_type {
+        FieldType::Prim(prim) => prim,
+        FieldType::Enum(_) => Prim::Int64,
     }
 }
 

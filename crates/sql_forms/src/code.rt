@@ -16,6 +16,7 @@ use super::in_path::put_in_path_code;
 use super::lambda::put_lambda_code;
 use super::lift::bind_operands;
 use super::list::put_list_code;
+use super::operand::put_operand;
 use super::terms::{Form, connective_at, put_joined, terms_of};
 use super::truth::{compared_at, put_truth};
 use odata_checked_filter::NodeKind;
@@ -24,7 +25,7 @@ use odata_signatures::trees_have_one_type;
 use odata_syntax::{ComparisonOperator, LogicalOperator};
 use sql_draft::{Draft, Operand, Source, SqlContext};
 use sql_meaning::{tables_are_comparisons, tables_are_connectives, tables_beside_null};
-use sql_tree::{LookUp, SqlNode};
+use sql_tree::{LookUp, SqlNode, SqlType};
 use std::alloc::AllocError;
 
 /// The table of a comparison of truth values.
@@ -100,7 +101,11 @@ pub fn put_code(
         NodeKind::InPath => put_in_path_code(context, draft, place),
         NodeKind::Lambda { quantifier } => put_lambda_code(context, draft, place, quantifier),
         NodeKind::Call { function } => put_call_code(context, draft, place, function),
-        _ => unreachable!(),
+        // Any other node evaluates to no fault.
+        _ => {
+            draft.put(SqlNode::TruthCode)?;
+            put_truth(context, draft, place)
+        }
     }
 }
 
@@ -119,7 +124,11 @@ fn put_operand_code(
     match operand.source {
         Source::Node { place } => put_code(context, draft, place),
         Source::Bound { level } => draft.put(SqlNode::Bound { level }),
-        _ => unreachable!(),
+        // Any other operand is no fault.
+        _ => {
+            draft.put(SqlNode::TruthCode)?;
+            put_operand(context, draft, operand, SqlType::Truth)
+        }
     }
 }
 

@@ -19,7 +19,7 @@ use super::lift::bind_operands;
 use super::operand::{put_compared, put_is_null};
 use odata_functions::comparisons_are_decided;
 use odata_syntax::ComparisonOperator;
-use sql_draft::{Draft, Kind, Operand, SqlContext};
+use sql_draft::{Draft, Operand, SqlContext};
 use sql_tree::{SqlNode, SqlType};
 use std::alloc::AllocError;
 
@@ -38,10 +38,7 @@ pub(crate) fn compared_type(operand: &Operand) -> SqlType
     requires { (type : SqlType) × (operand.now.kind ≡ Kind.Value type) }
     ensures { IsComparedIn operand.now.kind result }
 {
-    match operand.kind {
-        Kind::Value(value_type) => compared_in(value_type),
-        _ => unreachable!(),
-    }
+    compared_in(operand.wanted())
 }
 
 /// Puts the comparison of SQL, null where a side is null.

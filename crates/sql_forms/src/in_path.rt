@@ -1,5 +1,7 @@
 //! `in` before a path.
-ghost use Rattle.std.specs.Prelude.{◌≡◌, ◌+◌, ◌∷◌, [], OnOk, false};
+ghost use Rattle.std.specs.Prelude.{◌≡◌, ◌+◌, ◌∷◌, [], IsSomeAnd, OnOk, false, slice_get};
+ghost use Rattle.odata_signatures.specs.declared.edm_type.EdmType.{EdmType};
+ghost use Rattle.odata_signatures.specs.declared.edm_type.ValueType.{ValueType};
 ghost use Rattle.sql_tree.specs.declared.node.SqlNode.{SqlNode};
 ghost use Rattle.sql_tree.specs.declared.node.SqlType.{SqlType};
 ghost use Rattle.odata_checked_filter.specs.declared.checked_node.NodeKind.{NodeKind};
@@ -7,10 +9,10 @@ ghost use Rattle.sql_forms.specs.declared.terms.Form.{Form};
 ghost use Rattle.sql_forms.specs.Forms.{IsInForm};
 ghost use Rattle.sql_forms.specs.private.AskedForms.{Itself, OrTruth};
 ghost use Rattle.sql_draft.specs.Growth.{GrowsBy};
-ghost use Rattle.sql_draft.specs.Kinds.{kind_of_single};
 ghost use Rattle.sql_forms.specs.private.Lists.{AreMembersBeside, HasMemberHas, MemberHas};
 ghost use Rattle.sql_forms.specs.private.Lists.{IsAtPath, IsCollectionAt, IsMemberOperand};
 ghost use Rattle.sql_forms.specs.private.Members.{IsStopAt};
+ghost use Rattle.sql_draft.specs.Kinds.{kind_of_single};
 ghost use Rattle.sql_draft.specs.OperandHas.{IsInside, IsTested};
 ghost use Rattle.sql_draft.specs.Paths.{IsPathTo};
 ghost use Rattle.sql_draft.specs.Translated.{IsBooleanAt, IsFaultless, IsKindAt, IsTranslated, question_of};
@@ -24,10 +26,12 @@ use super::operand::put_operand;
 use odata_functions::comparisons_are_decided;
 use odata_meaning::typed_trees_end_once_on_entities;
 use odata_ranges::Range;
-use odata_signatures::{EdmType, ValueType, trees_have_one_type};
+use odata_signatures::trees_have_one_type;
 use odata_syntax::ComparisonOperator;
-use sql_draft::{Draft, Operand, Source, SqlContext, kind_of_value, put_member_path, put_path};
-use sql_tree::{Digit, FieldType, SqlNode, SqlType};
+use sql_draft::{
+    Draft, Kind, Operand, Source, SqlContext, put_member_path, put_path, type_of_field,
+};
+use sql_tree::{Digit, SqlNode, SqlType};
 use std::alloc::AllocError;
 
 /// A member of the collection at an index, at such a path.
@@ -36,35 +40,34 @@ fn member_of(context: &SqlContext<'_, '_>, collection: usize, path: usize) -> Op
     requires collection { IsCollectionAt context.now.checked.now collection }
     ensures { IsMemberOperand context.now.checked.now collection path result }
 {
-    let source = match context.node(collection).edm_type {
-        EdmType::Collection(value_type) => source_at(value_type, path),
-        _ => unreachable!(),
-    };
-    let kind = match context.node(collection).edm_type {
-        EdmType::Collection(value_type) => kind_of_value(value_type),
-        _ => unreachable!(),
-    };
     Operand {
-        source,
-        kind,
+        source: source_of_member(context, collection, path),
+        kind: kind_of_member(context, collection),
         range: Range::plain(true),
     }
 }
 
-/// What stands at a path, which is of such a type.
-fn source_at(value_type: ValueType, path: usize) -> Source
-    ensures { IsAtPath path (kind_of_single value_type) result }
+/// Where the value of a member stands that is at such a path.
+fn source_of_member(context: &SqlContext<'_, '_>, collection: usize, path: usize) -> Source
+    requires { IsCollectionAt context.now.checked.now collection }
+    ensures { IsSomeAnd (slice_get context.now.checked.now.list.nodes collection) (λ node. (type : ValueType)
+        × (node.edm_type ≡ EdmType.Collection type) × IsAtPath path (kind_of_single type) result) }
 {
-    match value_type {
-        ValueType::Prim(prim) => Source::Field {
-            path,
-            value_type: FieldType::Prim(prim),
-        },
-        ValueType::Enum(id) => Source::Field {
-            path,
-            value_type: FieldType::Enum(id),
-        },
-        ValueType::Structured(_) => Source::Place { path },
+    match context.member_type(collection) {
+        Some(value_type) => Source::Field { path, value_type },
+        None => Source::Place { path },
+    }
+}
+
+/// What kind of values the members have.
+fn kind_of_member(context: &SqlContext<'_, '_>, collection: usize) -> Kind
+    requires { IsCollectionAt context.now.checked.now collection }
+    ensures { IsSomeAnd (slice_get context.now.checked.now.list.nodes collection) (λ node. (type : ValueType)
+        × (node.edm_type ≡ EdmType.Collection type) × (result ≡ kind_of_single type)) }
+{
+    match context.member_type(collection) {
+        Some(value_type) => Kind::Value(type_of_field(value_type)),
+        None => Kind::Structured,
     }
 }
 

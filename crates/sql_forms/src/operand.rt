@@ -36,7 +36,8 @@ pub(crate) fn put_operand(
             draft.put(SqlNode::Bound { level })
         }
         Source::Field { path, value_type } => draft.put(SqlNode::Field { path, value_type }),
-        Source::Place { .. } => unreachable!(),
+        // SQL has no value that is an entity or a complex value.
+        Source::Place { .. } => draft.put(SqlNode::Null { value_type: wanted }),
         Source::Number { value } => put_enumeration_number(context, draft, value),
         Source::Zero => draft.put_number(Digit::Zero),
     }
@@ -55,15 +56,11 @@ pub(crate) fn put_compared(
     ensures { OnOk result (Puts (question_of context.now) draft.old draft.new
         (ComparedHas context.now.checked.now operand.now) Itself) }
 {
-    match operand.kind {
-        Kind::Value(value_type) => {
-            if value_type == SqlType::Moment {
-                put_instant(context, draft, operand)
-            } else {
-                put_operand(context, draft, operand, value_type)
-            }
-        }
-        _ => unreachable!(),
+    let value_type = operand.wanted();
+    if value_type == SqlType::Moment {
+        put_instant(context, draft, operand)
+    } else {
+        put_operand(context, draft, operand, value_type)
     }
 }
 
@@ -129,7 +126,8 @@ pub(crate) fn put_is_null(
                 let path = put_path(context, draft, place)?;
                 draft.put(SqlNode::IsMissing { path })
             }
-            _ => unreachable!(),
+            // What has neither a value nor a position is null.
+            _ => draft.put(SqlNode::Truth { value: true }),
         },
     }
 }

@@ -20,6 +20,7 @@ use super::operand::put_operand;
 use super::path_value::put_path_value;
 use super::terms::{Form, connective_at, put_joined, terms_of};
 use super::value::put_literal;
+use edm_values::Prim;
 use odata_checked_filter::NodeKind;
 use odata_meaning::typed_trees_end_once_on_entities;
 use odata_signatures::{
@@ -27,7 +28,7 @@ use odata_signatures::{
 };
 use odata_syntax::{BinaryOperator, ComparisonOperator, LogicalOperator};
 use sql_draft::{Draft, Kind, Operand, SqlContext, put_path};
-use sql_tree::{Digit, SqlNode, SqlType};
+use sql_tree::{Digit, FieldType, SqlNode, SqlType};
 use std::alloc::AllocError;
 
 /// The node that joins two truth values.
@@ -140,7 +141,7 @@ fn put_other_truth(
         NodeKind::InList => put_list(context, draft, place),
         NodeKind::InPath => put_in_path(context, draft, place),
         NodeKind::Lambda { quantifier } => put_lambda(context, draft, place, quantifier),
-        _ => put_path_value(context, draft, place),
+        _ => put_path_value(context, draft, place, FieldType::Prim(Prim::Bool)),
     }
 }
 

@@ -3,6 +3,7 @@ ghost use Rattle.std.specs.Prelude.{◌≡◌, ◌<◌, OnOk, length, string_byt
 ghost use Rattle.edm_values.specs.MomentLiteral.{MomentValue};
 ghost use Rattle.edm_values.specs.declared.primitive.PrimitiveType.{PrimitiveType};
 ghost use Rattle.odata_checked_filter.specs.declared.checked_node.NodeKind.{NodeKind};
+ghost use Rattle.odata_syntax.specs.declared.binary_operator.BinaryOperator.{BinaryOperator};
 ghost use Rattle.sql_tree.specs.declared.node.SqlType.{SqlType};
 ghost use Rattle.sql_forms.specs.private.Calculated.{IsComputedIn};
 ghost use Rattle.sql_forms.specs.private.AskedForms.{Itself};
@@ -47,15 +48,13 @@ pub(crate) fn put_value(
     typed_trees_end_once_on_entities();
     trees_have_one_type();
     literals_have_one_value();
-    let node = context.node(place);
-    let kind = context.kind(place);
-    if is_kind(kind, Kind::Null) {
+    let Some(value_type) = context.value_type(place) else {
         return draft.put(SqlNode::Null { value_type: wanted });
-    }
-    if is_kind(kind, Kind::Value(SqlType::Truth)) {
+    };
+    if is_kind(context.kind(place), Kind::Value(SqlType::Truth)) {
         return put_truth(context, draft, place);
     }
-    match node.kind {
+    match context.node(place).kind {
         NodeKind::Literal { value, .. } => put_literal(context, draft, value),
         NodeKind::Now => put_moment(draft, context.moment),
         NodeKind::Count => {
@@ -73,9 +72,15 @@ pub(crate) fn put_value(
                 &operand,
             )
         }
-        NodeKind::Binary { operator } => put_arithmetic(context, draft, place, operator),
+        NodeKind::Binary { operator } => match operator {
+            BinaryOperator::Arithmetic(arithmetic) => {
+                put_arithmetic(context, draft, place, arithmetic)
+            }
+            // Comparisons and connectives give truth values.
+            _ => put_truth(context, draft, place),
+        },
         NodeKind::Call { function } => put_call(context, draft, place, function),
-        _ => put_path_value(context, draft, place),
+        _ => put_path_value(context, draft, place, value_type),
     }
 }
 
@@ -85,10 +90,10 @@ fn put_arithmetic(
     context: &SqlContext<'_, '_>,
     draft: &mut Draft,
     place: usize,
-    operator: BinaryOperator,
+    operator: ArithmeticOperator,
 ) -> Result<(), AllocError>
     requires translated { IsTranslated context.now }
-    requires kind { IsKindAt context.now.checked.now place (NodeKind.Binary operator) }
+    requires kind { IsKindAt context.now.checked.now place (NodeKind.Binary (BinaryOperator.Arithmetic operator)) }
     requires number { (type : PrimitiveType) × IsComputedIn context.now.checked.now place type }
     ensures { OnOk result (Puts (question_of context.now) draft.old draft.new
         (OfPlace context.now.checked.now place) Itself) }
@@ -97,12 +102,7 @@ fn put_arithmetic(
     trees_have_one_type();
     let left = Operand::at(context, place + 1);
     let right = Operand::at(context, context.second(place));
-    match operator {
-        BinaryOperator::Arithmetic(arithmetic) => {
-            put_calculated(context, draft, place, arithmetic, &left, &right)
-        }
-        _ => unreachable!(),
-    }
+    put_calculated(context, draft, place, operator, &left, &right)
 }
 
 /// Puts a literal by the index of its value: true, false and null as words, every other one as a parameter.

@@ -1,10 +1,10 @@
 -- For private clauses: nodes by how the range of each is made.
 use Rattle.std.specs.Prelude.{◌≡◌, ◌+◌, ℕ, List, Some, false, length, slice_get}
-use Rattle.odata_checked_filter.specs.Filter.{Filter}
+use Rattle.odata_checked_filter.specs.Filter.{Filter, IsFilter}
 use Rattle.odata_checked_filter.specs.declared.checked_node.CheckedNode.{CheckedNode}
 use Rattle.odata_checked_filter.specs.declared.checked_node.NodeKind.{NodeKind}
 use Rattle.odata_ranges.specs.Faults.{AreQuiet, AreReportedFrom, MakesNone}
-use Rattle.odata_ranges.specs.Ranges.{AreRangesFrom}
+use Rattle.odata_ranges.specs.Ranges.{AreRangesFrom, IsRangeAt}
 use Rattle.odata_ranges.specs.declared.node_form.NodeForm.{NodeForm}
 use Rattle.odata_ranges.specs.declared.range.Range.{Range}
 
@@ -14,20 +14,20 @@ form_of NodeKind.It = NodeForm.Leaf
 form_of (NodeKind.Property slot) = NodeForm.Leaf
 form_of (NodeKind.Variable level) = NodeForm.Leaf
 form_of NodeKind.Now = NodeForm.Leaf
-form_of (NodeKind.Member slot) = NodeForm.Step
+form_of (NodeKind.Member slot) = NodeForm.Step slot
 form_of NodeKind.Count = NodeForm.One
 form_of NodeKind.AnyItem = NodeForm.One
 form_of NodeKind.Neg = NodeForm.One
 form_of NodeKind.Not = NodeForm.One
 form_of NodeKind.InList = NodeForm.List
-form_of (NodeKind.Call function) = NodeForm.Call
+form_of (NodeKind.Call function) = NodeForm.Call function
 form_of _ = NodeForm.Two
 
--- a node of the form stands at the index
-pub record HasForm (filter : Filter) (place : ℕ) (form : NodeForm) : Type 0 where
-  pub found : CheckedNode
-  pub at : slice_get filter.list.nodes place ≡ Some found
-  pub is : form_of found.kind ≡ form
+-- the node stands at the index of a filter's list, and is of the form
+pub record HasForm (filter : Filter) (place : ℕ) (node : CheckedNode) (form : NodeForm) : Type 0 where
+  pub right : IsFilter filter
+  pub at : slice_get filter.list.nodes place ≡ Some node
+  pub is : form_of node.kind ≡ form
 
 -- there are as many ranges as nodes, and those after the index are right
 pub record AreKnownAfter (filter : Filter) (place : ℕ) (ranges : List Range) : Type 0 where
@@ -35,11 +35,9 @@ pub record AreKnownAfter (filter : Filter) (place : ℕ) (ranges : List Range) :
   pub after : AreRangesFrom filter (place + 1) ranges
   pub reported : AreReportedFrom filter (place + 1) ranges
 
--- where no node below evaluates to a fault, the node of this range does only if it makes one; `$it` is not null
-pub record IsOwnRange (filter : Filter) (ranges : List Range) (place : ℕ) (range : Range) : Type 0 where
-  pub quiet :
-      (node : CheckedNode) → slice_get filter.list.nodes place ≡ Some node → MakesNone node.kind node.edm_type
-      → AreQuiet ranges (place + 1) node.stop → range.may_fault ≡ false
-  pub entity :
-      (node : CheckedNode) → slice_get filter.list.nodes place ≡ Some node → node.kind ≡ NodeKind.It
-      → range.may_be_null ≡ false
+-- the range holds what comes of the node there; where no node below evaluates to a fault, this one does only if it
+-- makes one; `$it` is not null
+pub record IsOwnRange (filter : Filter) (ranges : List Range) (place : ℕ) (node : CheckedNode) (range : Range) : Type 0 where
+  pub right : IsRangeAt filter place range
+  pub quiet : MakesNone node.kind node.edm_type → AreQuiet ranges (place + 1) node.stop → range.may_fault ≡ false
+  pub entity : node.kind ≡ NodeKind.It → range.may_be_null ≡ false

@@ -1,9 +1,9 @@
-use Rattle.sql_forms.proofs.Common.{Value, CheckedNode, NodeKind, found_there, inside, some_there, there_found, HasKind, ArithFault, IsQuietKind, TakesCount, Form, CheckedHas, AreArgumentsOf, CalledHas, IsChain, IsJoin, IsOfValues, ComparesNothing, ComparisonHas, IsFaulty, AllHave, faults_front, AmongHas, AreConstants, AreItemsOf, AreMembersBeside, AsCode, EqualCodesOrNull, EqualsHas, kept_form, body_form, missing_front, ArithmeticOperator, BinaryOperator, ComparisonOperator, LogicalOperator, Quantifier, by_node, on_ok, literal_spelled, literal_within, path_on, Grows, GrowsBy, AreCompared, kind_of_type, IsInside, IsPut, IsSourceOf, IsTested, IsFaultless, IsKindAt, IsStep, IsTruthAt, IsTruthKind, question_of, OfPlace, Puts, PutsAll, Draft, Operand, Source, Kind, Carrier, Digit, SqlNode, SqlType, All, List, None, OnOk, Result, [], ap, arith, false, get_or, inl, inr, length, pos, refl, rules, subst, suc, sym, true, ℕ, ◌++◌, ◌+◌, ◌-◌, ◌/◌, ◌<ℤ◌, ◌<◌, ◌∙◌, ◌∷◌, ◌≡◌, ◌≢◌, ◌≤◌, nil_from_length, slice_get-get_or, slice_get_read, slice_get_within, AllByRecursion, slice_get}
+use Rattle.sql_forms.proofs.Common.{Value, CheckedNode, NodeKind, found_there, inside, some_there, there_found, ArithFault, IsQuietKind, TakesCount, Form, CheckedHas, AreArgumentsOf, CalledHas, IsChain, IsJoin, IsOfValues, ComparesNothing, ComparisonHas, IsFaulty, AllHave, faults_front, AmongHas, AreConstants, AreItemsOf, AreMembersBeside, AsCode, EqualCodesOrNull, EqualsHas, kept_form, body_form, missing_front, ArithmeticOperator, BinaryOperator, ComparisonOperator, LogicalOperator, Quantifier, by_node, on_ok, literal_spelled, literal_within, path_on, Grows, GrowsBy, AreCompared, kind_of_type, IsInside, IsPut, IsSourceOf, IsTested, IsFaultless, IsKindAt, IsStep, IsTruthAt, IsTruthKind, question_of, OfPlace, Puts, PutsAll, Draft, Operand, Source, Kind, Carrier, Digit, SqlNode, SqlType, All, List, None, OnOk, Result, [], ap, arith, false, get_or, inl, inr, length, pos, refl, rules, subst, suc, sym, true, ℕ, ◌++◌, ◌+◌, ◌-◌, ◌/◌, ◌<ℤ◌, ◌<◌, ◌∙◌, ◌∷◌, ◌≡◌, ◌≢◌, ◌≤◌, nil_from_length, slice_get-get_or, slice_get_read, slice_get_within, AllByRecursion, slice_get, Range}
 use Rattle.sql_forms.specs.Forms.{IsInForm}
 use Rattle.sql_forms.specs.private.AskedForms.{Itself, OrTruth}
 use Rattle.sql_forms.proofs.answers.AlongAnswers.{kind_inside, node_is_at}
 use Rattle.sql_forms.proofs.answers.CallAnswers.{ok_call, ok_call_code, ok_called, ok_counted, small_of}
-use Rattle.sql_forms.proofs.answers.CodedAnswers.{faulty_coded, null_after_truth, null_before_truth, ok_after_null, ok_before_null, ok_compared_code, ok_flags, ok_only_code, ok_truths}
+use Rattle.sql_forms.proofs.answers.CodedAnswers.{faulty_coded, not_coded, null_after_truth, null_before_truth, ok_after_null, ok_before_null, ok_compared_code, ok_flags, ok_only_code, ok_truths}
 use Rattle.sql_forms.proofs.answers.ConstantAnswers.{item_put, item_value, left_put}
 use Rattle.sql_forms.proofs.answers.DecidedAnswers.{asked_not_both, front_faultless, only_front, only_rest, two_parts}
 use Rattle.sql_forms.proofs.answers.EqualAnswers.{ok_one_code, ok_one_equal, ok_over_left}
@@ -24,7 +24,7 @@ use Rattle.sql_forms.proofs.nodes.ChildPlaces.{first_child, flags_inside, has_ra
 use Rattle.sql_forms.proofs.nodes.ComparisonPlaces.{side_faulty}
 use Rattle.sql_forms.proofs.nodes.ComparisonsAt.{node_operand}
 use Rattle.sql_forms.proofs.nodes.FlagSides.{flag_sides}
-use Rattle.sql_forms.proofs.nodes.Given.{all_inside, asked_no_truth, boolean_valued, chain_faultless, code_values, faultless_plain, faulty_inside, first_put, kind_path, negated_put, put_inside, second_put, terms_ranged, value_kind}
+use Rattle.sql_forms.proofs.nodes.Given.{all_inside, asked_no_truth, chain_faultless, code_values, faultless_plain, faulty_inside, first_put, kind_path, negated_put, not_null, null_there, of_field, put_inside, second_put, terms_ranged}
 use Rattle.sql_forms.proofs.nodes.InPathNodes.{at_place}
 use Rattle.sql_forms.proofs.nodes.InPathPlaces.{beside_collection, members_truth}
 use Rattle.sql_forms.proofs.nodes.ListPlaces.{items_few}
@@ -32,8 +32,8 @@ use Rattle.sql_forms.proofs.nodes.Measures.{down_to, left_among, left_by, left_f
 use Rattle.sql_forms.proofs.nodes.MeasuresLess.{arguments_left, lifted_bound_left, lifted_inner_left, lifted_one_left, lifted_two_left, one_left, sides_left, term_left, terms_left, two_left}
 use Rattle.sql_forms.proofs.nodes.MeasuresSteps.{at_on, bound_beside_left, bound_left_left, front_left, front_terms, further_on, item_left, items_on, lifted_left_left, member_left, next_on, node_left, nothing_on, parts_length, rest_left, rest_terms, second_after, side_on, swap_left, two_on}
 use Rattle.sql_forms.proofs.nodes.Contexts.{paths_by_laws}
-use Rattle.sql_forms.proofs.nodes.StructuredNodes.{node_tested, nullable_path}
-use Rattle.sql_forms.proofs.nodes.TruthKinds.{faulting_boolean, faulting_kind, no_other_fault, other_kind}
+use Rattle.sql_forms.proofs.nodes.StructuredNodes.{node_tested, not_testable, nullable_path}
+use Rattle.sql_forms.proofs.nodes.TruthKinds.{no_other_truth, other_kind}
 use Rattle.sql_forms.proofs.nodes.ValueNodes.{computed_by, counted_path, negation_computed, operator_computed, path_here}
 use Rattle.sql_forms.proofs.outcomes.ArithmeticAnswers.{ok_divided, ok_is_zero, ok_undivided, ok_wide, ok_wide_zero}
 use Rattle.sql_forms.proofs.outcomes.ChainAnswers.{ok_all_joined, ok_alone, ok_chain, ok_form, ok_joined, ok_same_terms, ok_undecided}
@@ -370,12 +370,11 @@ code::put_code-returns-in_ok-put-in-Not t c =
     let under = not_below c.args.context.now.checked.now c.requires.translated.right c.trees_have_one_type.ensures c.args.place c.node.result c.node.ensures c.in-Not.is in
     ok_not_code (question_of c.args.context.now) c.args.context.now.ranges.now c.requires.translated.ranges c.typed_trees_end_once_on_entities.ensures c.requires.translated.moment c.args.place c.put_code.result (kind_here c.args.context.now.checked.now c.args.place c.node.result c.node.ensures NodeKind.Not c.in-Not.is) under.truth c.tables_are_connectives.ensures.not c.args.draft.now c.put-in-Not.new.self c.put_code.new.draft c.in_ok-put-in-Not.ensures.ok c.put_code.ensures
 
-pub code::put_code-unreachable-requires : goal.code::put_code-unreachable-requires
-code::put_code-unreachable-requires t c =
+pub code::put_code-returns-in_ok-put-in_default-kind : goal.code::put_code-returns-in_ok-put-in_default-kind
+code::put_code-returns-in_ok-put-in_default-kind t c =
     let f = fault_there c.args.context.now.ranges.now c.args.place c.may_fault.result c.may_fault.ensures c.if-not-may_fault.false in
-    let truth = found_there (λ (n : CheckedNode). IsTruthKind (kind_of_type n.edm_type)) (slice_get c.args.context.now.checked.now.list.nodes c.args.place) c.node.result c.node.ensures c.requires.truth in
-    no_other_fault c.args.context.now.checked.now c.requires.translated.right c.args.place c.node.result c.node.ensures (faulting_boolean (question_of c.args.context.now) c.args.context.now.ranges.now c.requires.translated.ranges c.args.place c.node.result f.range c.node.ensures f.at f.faults truth) c.node.result.kind refl (faulting_kind (question_of c.args.context.now) c.args.context.now.ranges.now c.requires.translated.ranges c.args.place c.node.result f.range c.node.ensures f.at f.faults)
-    (found_there (λ (n : CheckedNode). ComparesNothing n.kind) (slice_get c.args.context.now.checked.now.list.nodes c.args.place) c.node.result c.node.ensures c.in_default.ensures.none) (λ connective is. c.in_default-connective_at.ensures.none connective (connective_here c.args.context.now.checked.now c.args.place c.node.result c.node.ensures connective is)) c.in_default-kind.not-Not c.in_default-kind.not-InList c.in_default-kind.not-InPath (λ q is. c.in_default-kind.not-Lambda q is) (λ function is. c.in_default-kind.not-Call function is)
+    absurd (no_other_truth (question_of c.args.context.now) c.args.context.now.ranges.now c.requires.translated.ranges c.requires.translated.right c.args.place c.node.result c.node.ensures (there_found (λ (r : Range). r.may_fault ≡ true) (slice_get c.args.context.now.ranges.now c.args.place) f.range f.at f.faults) c.requires.truth c.in_default.ensures.none
+    (λ connective is. c.in_default-connective_at.ensures.none connective (connective_here c.args.context.now.checked.now c.args.place c.node.result c.node.ensures connective is)) c.in_default-kind.not-Not c.in_default-kind.not-InList c.in_default-kind.not-InPath (λ q is. c.in_default-kind.not-Lambda q is) (λ function is. c.in_default-kind.not-Call function is))
 
 pub code::put_code-overflow_add-place : goal.code::put_code-overflow_add-place
 code::put_code-overflow_add-place t c =
@@ -417,6 +416,12 @@ code::put_code-put_lambda_code-requires t c =
 pub code::put_code-put_call_code-requires : goal.code::put_code-put_call_code-requires
 code::put_code-put_call_code-requires t c =
     (omega arith, (c.requires.translated, (kind_here c.args.context.now.checked.now c.args.place c.node.result c.node.ensures (NodeKind.Call c.in-Call.function) c.in-Call.is, c.requires.truth)))
+
+pub code::put_code-put_truth-requires-in_default-kind : goal.code::put_code-put_truth-requires-in_default-kind
+code::put_code-put_truth-requires-in_default-kind t c =
+    let f = fault_there c.args.context.now.ranges.now c.args.place c.may_fault.result c.may_fault.ensures c.if-not-may_fault.false in
+    absurd (no_other_truth (question_of c.args.context.now) c.args.context.now.ranges.now c.requires.translated.ranges c.requires.translated.right c.args.place c.node.result c.node.ensures (there_found (λ (r : Range). r.may_fault ≡ true) (slice_get c.args.context.now.ranges.now c.args.place) f.range f.at f.faults) c.requires.truth c.in_default.ensures.none
+    (λ connective is. c.in_default-connective_at.ensures.none connective (connective_here c.args.context.now.checked.now c.args.place c.node.result c.node.ensures connective is)) c.in_default-kind.not-Not c.in_default-kind.not-InList c.in_default-kind.not-InPath (λ q is. c.in_default-kind.not-Lambda q is) (λ function is. c.in_default-kind.not-Call function is))
 
 -- ---- code::put_compared_code
 
@@ -502,11 +507,19 @@ pub code::put_operand_code-returns-in-Bound : goal.code::put_operand_code-return
 code::put_operand_code-returns-in-Bound t c =
     ok_code_bound (question_of c.args.context.now) c.args.draft.now c.put.new.self c.put.result c.args.operand.now.source c.in-Bound.level c.in-Bound.is c.put.ensures.ok
 
+pub code::put_operand_code-returns-in_ok-put-in_default : goal.code::put_operand_code-returns-in_ok-put-in_default
+code::put_operand_code-returns-in_ok-put-in_default t c =
+    absurd (not_coded c.args.context.now.checked.now c.args.operand.now.source c.requires.coded (λ place is. c.in_default.not-Node place is) (λ level is. c.in_default.not-Bound level is))
+
 pub code::put_operand_code-put_code-requires : goal.code::put_operand_code-put_code-requires
 code::put_operand_code-put_code-requires t c = (
   omega (arith, down_to c.args.context.now.checked.now (left_from c.args.context.now.checked.now c.in-Node.place) (left_of c.args.context.now.checked.now c.args.operand.now) 6 10 (node_left c.args.context.now.checked.now c.args.operand.now.source c.in-Node.place c.in-Node.is) (omega arith)),
   (c.requires.translated, subst (IsCoded c.args.context.now.checked.now) c.in-Node.is c.requires.coded),
 )
+
+pub code::put_operand_code-put_operand-requires : goal.code::put_operand_code-put_operand-requires
+code::put_operand_code-put_operand-requires t c =
+    absurd (not_coded c.args.context.now.checked.now c.args.operand.now.source c.requires.coded (λ place is. c.in_default.not-Node place is) (λ level is. c.in_default.not-Bound level is))
 
 -- ---- comparison::put_beside_null
 
@@ -1904,19 +1917,16 @@ operand::put_compared-returns-then-eq t c = c.put_instant.ensures
 
 pub operand::put_compared-returns-else-eq : goal.operand::put_compared-returns-else-eq
 operand::put_compared-returns-else-eq t c =
-    ok_compared (question_of c.args.context.now) c.args.operand.now c.args.draft.now c.put_operand.new.draft c.put_operand.result c.in-Value.value_type c.in-Value.is
+    ok_compared (question_of c.args.context.now) c.args.operand.now c.args.draft.now c.put_operand.new.draft c.put_operand.result c.wanted-value_type.result (c.requires.value.1 ∙ ap (λ (t : SqlType). Kind.Value t) (sym (c.wanted-value_type.ensures c.requires.value.0 c.requires.value.1)))
     (λ moment.
-    let reported : c.eq.result ≡ true = c.eq.ensures ∙ true_same of_sql_type_the_type c.in-Value.value_type SqlType.Moment moment in
+    let reported : c.eq.result ≡ true = c.eq.ensures ∙ true_same of_sql_type_the_type c.wanted-value_type.result SqlType.Moment moment in
     let clash : false ≡ true = sym c.if-eq.false ∙ reported in
     absurd (cc))
     c.put_operand.ensures
 
-pub operand::put_compared-unreachable-unreachable : goal.operand::put_compared-unreachable-unreachable
-operand::put_compared-unreachable-unreachable t c = c.in_default.not-Value c.requires.value.0 c.requires.value.1
-
 pub operand::put_compared-put_instant-requires : goal.operand::put_compared-put_instant-requires
 operand::put_compared-put_instant-requires t c =
-    (omega arith, (c.requires.translated, (c.requires.put, (let moment = same_true of_sql_type_the_type tt c.in-Value.value_type SqlType.Moment (sym c.eq.ensures ∙ c.if-eq.true) in c.in-Value.is ∙ ap (λ (t : SqlType). Kind.Value t) moment))))
+    (omega arith, (c.requires.translated, (c.requires.put, (let moment = same_true of_sql_type_the_type tt c.wanted-value_type.result SqlType.Moment (sym c.eq.ensures ∙ c.if-eq.true) in (c.requires.value.1 ∙ ap (λ (t : SqlType). Kind.Value t) (sym (c.wanted-value_type.ensures c.requires.value.0 c.requires.value.1))) ∙ ap (λ (t : SqlType). Kind.Value t) moment))))
 
 pub operand::put_compared-put_operand-requires : goal.operand::put_compared-put_operand-requires
 operand::put_compared-put_operand-requires t c = (omega arith, (c.requires.translated, c.requires.put))
@@ -2002,6 +2012,10 @@ operand::put_is_null-returns-in_ok-path-in-Node t c =
     ok_path (question_of c.args.context.now) c.args.operand.now c.args.draft.now c.put-in-Node.new.self c.put-in-Node.result c.put_path.new.draft c.in-Node.place c.in_ok-path-in-Node.path c.in-Node.is
     c.in_ok-path-in-Node.ensures c.put-in-Node.ensures.ok
 
+pub operand::put_is_null-returns-in_default-source : goal.operand::put_is_null-returns-in_default-source
+operand::put_is_null-returns-in_default-source t c =
+    absurd (not_testable c.args.context.now.checked.now c.args.context.now.ranges.now c.args.operand.now c.in-Structured.is c.requires.tested (λ path is. c.in_default.not-Place path is) (λ place is. c.in_default-source.not-Node place is))
+
 pub operand::put_is_null-put_operand-requires : goal.operand::put_is_null-put_operand-requires
 operand::put_is_null-put_operand-requires t c =
     (omega arith, (c.requires.translated, tested_put c.args.context.now.checked.now c.args.context.now.ranges.now c.args.operand.now c.in-Value.value_type c.in-Value.is c.requires.tested))
@@ -2034,8 +2048,9 @@ operand::put_operand-returns-in-Zero t c = ok_zero (question_of c.args.context.n
 pub operand::put_operand-put_enumeration_number-requires : goal.operand::put_operand-put_enumeration_number-requires
 operand::put_operand-put_enumeration_number-requires t c = subst (IsSourceOf c.args.context.now.checked.now c.args.context.now.ranges.now c.args.operand.now) c.in-Number.is c.requires.put.source
 
-pub operand::put_operand-unreachable-requires : goal.operand::put_operand-unreachable-requires
-operand::put_operand-unreachable-requires t c = no_place c.args.context.now.checked.now c.args.context.now.ranges.now c.args.operand.now c.in-Place.path c.in-Place.is c.requires.put
+pub operand::put_operand-returns-in-Place : goal.operand::put_operand-returns-in-Place
+operand::put_operand-returns-in-Place t c =
+    absurd (no_place c.args.context.now.checked.now c.args.context.now.ranges.now c.args.operand.now c.in-Place.path c.in-Place.is c.requires.put)
 
 pub operand::put_operand-put_value-requires : goal.operand::put_operand-put_value-requires
 operand::put_operand-put_value-requires t c = (
@@ -2157,7 +2172,7 @@ truth::put_other_truth-put_path_value-requires-clause-path t c =
     kind_path c.args.context.now.checked.now c.args.place c.args.kind c.requires.kind (other_step c.args.kind c.requires.other c.in_default.not-AnyItem c.in_default.not-Has c.in_default.not-InList c.in_default.not-InPath (λ q is. c.in_default.not-Lambda q is))
 
 pub truth::put_other_truth-put_path_value-requires-clause-value : goal.truth::put_other_truth-put_path_value-requires-clause-value
-truth::put_other_truth-put_path_value-requires-clause-value t c = boolean_valued c.args.context.now.checked.now c.args.place c.requires.boolean
+truth::put_other_truth-put_path_value-requires-clause-value t c = c.requires.boolean
 
 pub truth::put_other_truth-put_has-requires : goal.truth::put_other_truth-put_has-requires
 truth::put_other_truth-put_has-requires t c = (
@@ -2263,110 +2278,111 @@ truth::put_truth-put_other_truth-requires t c =
 
 pub value::put_arithmetic-at-left-requires-clause-there : goal.value::put_arithmetic-at-left-requires-clause-there
 value::put_arithmetic-at-left-requires-clause-there t c =
-    first_child c.args.context.now.checked.now c.requires.translated.right c.args.place (NodeKind.Binary c.args.operator) (operator_inside c.args.context.now.checked.now c.requires.translated.right c.args.place c.args.operator) c.requires.kind
+    first_child c.args.context.now.checked.now c.requires.translated.right c.args.place (NodeKind.Binary (BinaryOperator.Arithmetic c.args.operator)) (operator_inside c.args.context.now.checked.now c.requires.translated.right c.args.place (BinaryOperator.Arithmetic c.args.operator)) c.requires.kind
 
 pub value::put_arithmetic-at-left-requires-clause-ranged : goal.value::put_arithmetic-at-left-requires-clause-ranged
 value::put_arithmetic-at-left-requires-clause-ranged t c =
-    has_range (question_of c.args.context.now) c.args.context.now.ranges.now c.requires.translated.ranges (c.args.place + 1) (first_child c.args.context.now.checked.now c.requires.translated.right c.args.place (NodeKind.Binary c.args.operator) (operator_inside c.args.context.now.checked.now c.requires.translated.right c.args.place c.args.operator) c.requires.kind)
+    has_range (question_of c.args.context.now) c.args.context.now.ranges.now c.requires.translated.ranges (c.args.place + 1) (first_child c.args.context.now.checked.now c.requires.translated.right c.args.place (NodeKind.Binary (BinaryOperator.Arithmetic c.args.operator)) (operator_inside c.args.context.now.checked.now c.requires.translated.right c.args.place (BinaryOperator.Arithmetic c.args.operator)) c.requires.kind)
 
 pub value::put_arithmetic-second-requires : goal.value::put_arithmetic-second-requires
 value::put_arithmetic-second-requires t c =
-    first_child c.args.context.now.checked.now c.requires.translated.right c.args.place (NodeKind.Binary c.args.operator) (operator_inside c.args.context.now.checked.now c.requires.translated.right c.args.place c.args.operator) c.requires.kind
+    first_child c.args.context.now.checked.now c.requires.translated.right c.args.place (NodeKind.Binary (BinaryOperator.Arithmetic c.args.operator)) (operator_inside c.args.context.now.checked.now c.requires.translated.right c.args.place (BinaryOperator.Arithmetic c.args.operator)) c.requires.kind
 
 pub value::put_arithmetic-at-right-requires-clause-there : goal.value::put_arithmetic-at-right-requires-clause-there
 value::put_arithmetic-at-right-requires-clause-there t c =
-    second_child c.args.context.now.checked.now c.requires.translated.right c.args.place (NodeKind.Binary c.args.operator) (operator_inside c.args.context.now.checked.now c.requires.translated.right c.args.place c.args.operator) c.requires.kind c.second.result c.second.ensures
+    second_child c.args.context.now.checked.now c.requires.translated.right c.args.place (NodeKind.Binary (BinaryOperator.Arithmetic c.args.operator)) (operator_inside c.args.context.now.checked.now c.requires.translated.right c.args.place (BinaryOperator.Arithmetic c.args.operator)) c.requires.kind c.second.result c.second.ensures
 
 pub value::put_arithmetic-at-right-requires-clause-ranged : goal.value::put_arithmetic-at-right-requires-clause-ranged
 value::put_arithmetic-at-right-requires-clause-ranged t c =
-    has_range (question_of c.args.context.now) c.args.context.now.ranges.now c.requires.translated.ranges c.second.result (second_child c.args.context.now.checked.now c.requires.translated.right c.args.place (NodeKind.Binary c.args.operator) (operator_inside c.args.context.now.checked.now c.requires.translated.right c.args.place c.args.operator) c.requires.kind c.second.result c.second.ensures)
+    has_range (question_of c.args.context.now) c.args.context.now.ranges.now c.requires.translated.ranges c.second.result (second_child c.args.context.now.checked.now c.requires.translated.right c.args.place (NodeKind.Binary (BinaryOperator.Arithmetic c.args.operator)) (operator_inside c.args.context.now.checked.now c.requires.translated.right c.args.place (BinaryOperator.Arithmetic c.args.operator)) c.requires.kind c.second.result c.second.ensures)
 
 pub value::put_arithmetic-returns : goal.value::put_arithmetic-returns
 value::put_arithmetic-returns t c =
-    let n = some_there (λ (found : CheckedNode). found.kind ≡ NodeKind.Binary (BinaryOperator.Arithmetic c.in-Arithmetic.arithmetic)) (slice_get c.args.context.now.checked.now.list.nodes c.args.place) (subst (λ (o : BinaryOperator). HasKind c.args.context.now.checked.now.list c.args.place (NodeKind.Binary o)) c.in-Arithmetic.is c.requires.kind) in
+    let n = some_there (λ (found : CheckedNode). found.kind ≡ NodeKind.Binary (BinaryOperator.Arithmetic c.args.operator)) (slice_get c.args.context.now.checked.now.list.nodes c.args.place) c.requires.kind in
     let left_at = node_is_at c.args.context.now.checked.now c.args.context.now.ranges.now (c.args.place + 1) c.at-left.result c.at-left.ensures.source c.at-left.ensures.kind c.at-left.ensures.range in
     let right_at = node_is_at c.args.context.now.checked.now c.args.context.now.ranges.now c.second.result c.at-right.result c.at-right.ensures.source c.at-right.ensures.kind c.at-right.ensures.range in
-    ok_calculated_value (question_of c.args.context.now) c.args.context.now.ranges.now c.requires.translated.ranges c.typed_trees_end_once_on_entities.ensures c.requires.translated.moment c.args.place c.put_calculated.result c.args.draft.now c.in-Arithmetic.arithmetic c.at-left.result c.at-right.result
-    (calculated_node (question_of c.args.context.now) c.args.context.now.ranges.now c.requires.translated.ranges c.requires.translated.right c.typed_trees_end_once_on_entities.ensures c.requires.translated.moment c.trees_have_one_type.ensures c.args.place (inside (λ (found : CheckedNode). found.kind ≡ NodeKind.Binary c.args.operator) c.args.context.now.checked.now.list.nodes c.args.place c.requires.kind) c.requires.number.0 c.requires.number.1 c.in-Arithmetic.arithmetic c.second.result (subst (λ (o : BinaryOperator). HasKind c.args.context.now.checked.now.list c.args.place (NodeKind.Binary o)) c.in-Arithmetic.is c.requires.kind) c.at-left.result c.at-right.result left_at.is right_at.is (found_there (λ (found : CheckedNode). found.stop ≡ c.second.result) (slice_get c.args.context.now.checked.now.list.nodes (c.args.place + 1)) left_at.is.node left_at.is.at c.second.ensures) c.at-left.ensures.source c.at-right.ensures.source) c.put_calculated.new.draft c.put_calculated.ensures
-
-pub value::put_arithmetic-unreachable-requires : goal.value::put_arithmetic-unreachable-requires
-value::put_arithmetic-unreachable-requires t c =
-    let n = some_there (λ (found : CheckedNode). found.kind ≡ NodeKind.Binary c.args.operator) (slice_get c.args.context.now.checked.now.list.nodes c.args.place) c.requires.kind in
-    computed_by c.args.context.now.checked.now c.requires.translated.right c.args.place n.0 n.1.0 c.args.operator c.requires.number.0 n.1.1 c.requires.number.1 (λ arithmetic is. c.in_default.not-Arithmetic arithmetic is)
+    ok_calculated_value (question_of c.args.context.now) c.args.context.now.ranges.now c.requires.translated.ranges c.typed_trees_end_once_on_entities.ensures c.requires.translated.moment c.args.place c.put_calculated.result c.args.draft.now c.args.operator c.at-left.result c.at-right.result
+    (calculated_node (question_of c.args.context.now) c.args.context.now.ranges.now c.requires.translated.ranges c.requires.translated.right c.typed_trees_end_once_on_entities.ensures c.requires.translated.moment c.trees_have_one_type.ensures c.args.place (inside (λ (found : CheckedNode). found.kind ≡ NodeKind.Binary (BinaryOperator.Arithmetic c.args.operator)) c.args.context.now.checked.now.list.nodes c.args.place c.requires.kind) c.requires.number.0 c.requires.number.1 c.args.operator c.second.result c.requires.kind c.at-left.result c.at-right.result left_at.is right_at.is (found_there (λ (found : CheckedNode). found.stop ≡ c.second.result) (slice_get c.args.context.now.checked.now.list.nodes (c.args.place + 1)) left_at.is.node left_at.is.at c.second.ensures) c.at-left.ensures.source c.at-right.ensures.source) c.put_calculated.new.draft c.put_calculated.ensures
 
 pub value::put_arithmetic-put_calculated-requires : goal.value::put_arithmetic-put_calculated-requires
 value::put_arithmetic-put_calculated-requires t c = (
-  omega (arith, on_from c.args.context.now.checked.now (left_in c.args.context.now.checked.now (c.at-left.result ∷ c.at-right.result ∷ [])) (left_from c.args.context.now.checked.now c.args.place) 14 3 (two_on c.args.context.now.checked.now c.args.place (kind_inside c.args.context.now.checked.now c.args.place (NodeKind.Binary c.args.operator) c.requires.kind) c.at-left.result c.at-right.result (at_on c.args.context.now.checked.now c.args.place (kind_inside c.args.context.now.checked.now c.args.place (NodeKind.Binary c.args.operator) c.requires.kind) c.at-left.result (c.args.place + 1) c.at-left.ensures.source (omega arith)) (at_on c.args.context.now.checked.now c.args.place (kind_inside c.args.context.now.checked.now c.args.place (NodeKind.Binary c.args.operator) c.requires.kind) c.at-right.result c.second.result c.at-right.ensures.source (second_after c.args.context.now.checked.now c.requires.translated.right c.args.place c.second.result c.second.ensures))) (omega arith)),
-  (c.requires.translated, ((let n = some_there (λ (found : CheckedNode). found.kind ≡ NodeKind.Binary (BinaryOperator.Arithmetic c.in-Arithmetic.arithmetic)) (slice_get c.args.context.now.checked.now.list.nodes c.args.place) (subst (λ (o : BinaryOperator). HasKind c.args.context.now.checked.now.list c.args.place (NodeKind.Binary o)) c.in-Arithmetic.is c.requires.kind) in let left_at = node_is_at c.args.context.now.checked.now c.args.context.now.ranges.now (c.args.place + 1) c.at-left.result c.at-left.ensures.source c.at-left.ensures.kind c.at-left.ensures.range in first_put c.args.context.now.checked.now c.requires.translated.right c.trees_have_one_type.ensures c.args.context.now.ranges.now c.args.place n.0 n.1.0 c.in-Arithmetic.arithmetic n.1.1 c.at-left.result left_at), ((let n = some_there (λ (found : CheckedNode). found.kind ≡ NodeKind.Binary (BinaryOperator.Arithmetic c.in-Arithmetic.arithmetic)) (slice_get c.args.context.now.checked.now.list.nodes c.args.place) (subst (λ (o : BinaryOperator). HasKind c.args.context.now.checked.now.list c.args.place (NodeKind.Binary o)) c.in-Arithmetic.is c.requires.kind) in let left_at = node_is_at c.args.context.now.checked.now c.args.context.now.ranges.now (c.args.place + 1) c.at-left.result c.at-left.ensures.source c.at-left.ensures.kind c.at-left.ensures.range in second_put c.args.context.now.checked.now c.requires.translated.right c.trees_have_one_type.ensures c.args.context.now.ranges.now c.args.place n.0 n.1.0 c.in-Arithmetic.arithmetic n.1.1 c.at-left.result left_at c.second.result c.at-right.result (found_there (λ (found : CheckedNode). found.stop ≡ c.second.result) (slice_get c.args.context.now.checked.now.list.nodes (c.args.place + 1)) left_at.is.node left_at.is.at c.second.ensures) (node_is_at c.args.context.now.checked.now c.args.context.now.ranges.now c.second.result c.at-right.result c.at-right.ensures.source c.at-right.ensures.kind c.at-right.ensures.range)), (inside (λ (found : CheckedNode). found.kind ≡ NodeKind.Binary c.args.operator) c.args.context.now.checked.now.list.nodes c.args.place c.requires.kind, (c.requires.number, (c.requires.translated.ranges.bounded (c.args.place + 1) c.at-left.result.range c.at-left.ensures.range, c.requires.translated.ranges.bounded c.second.result c.at-right.result.range c.at-right.ensures.range)))))),
+  omega (arith, on_from c.args.context.now.checked.now (left_in c.args.context.now.checked.now (c.at-left.result ∷ c.at-right.result ∷ [])) (left_from c.args.context.now.checked.now c.args.place) 14 3 (two_on c.args.context.now.checked.now c.args.place (kind_inside c.args.context.now.checked.now c.args.place (NodeKind.Binary (BinaryOperator.Arithmetic c.args.operator)) c.requires.kind) c.at-left.result c.at-right.result (at_on c.args.context.now.checked.now c.args.place (kind_inside c.args.context.now.checked.now c.args.place (NodeKind.Binary (BinaryOperator.Arithmetic c.args.operator)) c.requires.kind) c.at-left.result (c.args.place + 1) c.at-left.ensures.source (omega arith)) (at_on c.args.context.now.checked.now c.args.place (kind_inside c.args.context.now.checked.now c.args.place (NodeKind.Binary (BinaryOperator.Arithmetic c.args.operator)) c.requires.kind) c.at-right.result c.second.result c.at-right.ensures.source (second_after c.args.context.now.checked.now c.requires.translated.right c.args.place c.second.result c.second.ensures))) (omega arith)),
+  (c.requires.translated, ((let n = some_there (λ (found : CheckedNode). found.kind ≡ NodeKind.Binary (BinaryOperator.Arithmetic c.args.operator)) (slice_get c.args.context.now.checked.now.list.nodes c.args.place) c.requires.kind in let left_at = node_is_at c.args.context.now.checked.now c.args.context.now.ranges.now (c.args.place + 1) c.at-left.result c.at-left.ensures.source c.at-left.ensures.kind c.at-left.ensures.range in first_put c.args.context.now.checked.now c.requires.translated.right c.trees_have_one_type.ensures c.args.context.now.ranges.now c.args.place n.0 n.1.0 c.args.operator n.1.1 c.at-left.result left_at), ((let n = some_there (λ (found : CheckedNode). found.kind ≡ NodeKind.Binary (BinaryOperator.Arithmetic c.args.operator)) (slice_get c.args.context.now.checked.now.list.nodes c.args.place) c.requires.kind in let left_at = node_is_at c.args.context.now.checked.now c.args.context.now.ranges.now (c.args.place + 1) c.at-left.result c.at-left.ensures.source c.at-left.ensures.kind c.at-left.ensures.range in second_put c.args.context.now.checked.now c.requires.translated.right c.trees_have_one_type.ensures c.args.context.now.ranges.now c.args.place n.0 n.1.0 c.args.operator n.1.1 c.at-left.result left_at c.second.result c.at-right.result (found_there (λ (found : CheckedNode). found.stop ≡ c.second.result) (slice_get c.args.context.now.checked.now.list.nodes (c.args.place + 1)) left_at.is.node left_at.is.at c.second.ensures) (node_is_at c.args.context.now.checked.now c.args.context.now.ranges.now c.second.result c.at-right.result c.at-right.ensures.source c.at-right.ensures.kind c.at-right.ensures.range)), (inside (λ (found : CheckedNode). found.kind ≡ NodeKind.Binary (BinaryOperator.Arithmetic c.args.operator)) c.args.context.now.checked.now.list.nodes c.args.place c.requires.kind, (c.requires.number, (c.requires.translated.ranges.bounded (c.args.place + 1) c.at-left.result.range c.at-left.ensures.range, c.requires.translated.ranges.bounded c.second.result c.at-right.result.range c.at-right.ensures.range)))))),
 )
 
 -- ---- value::put_value
 
-pub value::put_value-returns-then-is_kind : goal.value::put_value-returns-then-is_kind
-value::put_value-returns-then-is_kind t c =
-    ok_null_value (question_of c.args.context.now) c.args.context.now.ranges.now c.requires.translated.ranges c.typed_trees_end_once_on_entities.ensures c.requires.translated.moment c.args.place c.put.result c.args.draft.now (kind_there c.args.context.now.checked.now c.args.place c.kind-kind.result Kind.Null c.kind-kind.ensures (c.is_kind.ensures.0 c.if-is_kind.true)) (truth_at c.args.context.now.checked.now c.args.place c.kind-kind.result c.kind-kind.ensures (subst IsTruthKind (sym (c.is_kind.ensures.0 c.if-is_kind.true)) tt)) c.args.wanted c.put.new.self c.put.ensures.ok
+pub value::put_value-returns-in_default : goal.value::put_value-returns-in_default
+value::put_value-returns-in_default t c =
+    let null = null_there c.args.context.now.checked.now c.args.place c.requires.valued c.in_default.ensures.none in
+    ok_null_value (question_of c.args.context.now) c.args.context.now.ranges.now c.requires.translated.ranges c.typed_trees_end_once_on_entities.ensures c.requires.translated.moment c.args.place c.put.result c.args.draft.now null.0 null.1 c.args.wanted c.put.new.self c.put.ensures.ok
 
 pub value::put_value-put_literal-requires-clause-there : goal.value::put_value-put_literal-requires-clause-there
 value::put_value-put_literal-requires-clause-there t c =
-    literal_within c.args.context.now.checked.now c.args.place c.in-Literal.kind c.in-Literal.value (kind_here c.args.context.now.checked.now c.args.place c.node-node.result c.node-node.ensures (NodeKind.Literal c.in-Literal.kind c.in-Literal.value) c.in-Literal.is) c.requires.translated.right
+    literal_within c.args.context.now.checked.now c.args.place c.in-Literal.kind c.in-Literal.value (kind_here c.args.context.now.checked.now c.args.place c.node.result c.node.ensures (NodeKind.Literal c.in-Literal.kind c.in-Literal.value) c.in-Literal.is) c.requires.translated.right
 
 pub value::put_value-put_literal-requires-clause-nul_free : goal.value::put_value-put_literal-requires-clause-nul_free
 value::put_value-put_literal-requires-clause-nul_free t c = c.requires.translated.nul_free c.in-Literal.value
 
 pub value::put_value-put_literal-requires-clause-spelled : goal.value::put_value-put_literal-requires-clause-spelled
 value::put_value-put_literal-requires-clause-spelled t c =
-    literal_spelled c.args.context.now.checked.now c.args.place c.in-Literal.kind c.in-Literal.value (kind_here c.args.context.now.checked.now c.args.place c.node-node.result c.node-node.ensures (NodeKind.Literal c.in-Literal.kind c.in-Literal.value) c.in-Literal.is) c.requires.translated.right
+    literal_spelled c.args.context.now.checked.now c.args.place c.in-Literal.kind c.in-Literal.value (kind_here c.args.context.now.checked.now c.args.place c.node.result c.node.ensures (NodeKind.Literal c.in-Literal.kind c.in-Literal.value) c.in-Literal.is) c.requires.translated.right
 
 pub value::put_value-returns-in-Literal : goal.value::put_value-returns-in-Literal
 value::put_value-returns-in-Literal t c =
-    ok_literal (question_of c.args.context.now) c.args.context.now.ranges.now c.requires.translated.ranges c.typed_trees_end_once_on_entities.ensures c.requires.translated.moment c.args.place c.put_literal.result c.literals_have_one_value.ensures c.in-Literal.kind c.in-Literal.value (kind_here c.args.context.now.checked.now c.args.place c.node-node.result c.node-node.ensures (NodeKind.Literal c.in-Literal.kind c.in-Literal.value) c.in-Literal.is) c.args.draft.now c.put_literal.new.draft c.put_literal.ensures
+    ok_literal (question_of c.args.context.now) c.args.context.now.ranges.now c.requires.translated.ranges c.typed_trees_end_once_on_entities.ensures c.requires.translated.moment c.args.place c.put_literal.result c.literals_have_one_value.ensures c.in-Literal.kind c.in-Literal.value (kind_here c.args.context.now.checked.now c.args.place c.node.result c.node.ensures (NodeKind.Literal c.in-Literal.kind c.in-Literal.value) c.in-Literal.is) c.args.draft.now c.put_literal.new.draft c.put_literal.ensures
 
 pub value::put_value-returns-in-Now : goal.value::put_value-returns-in-Now
 value::put_value-returns-in-Now t c =
-    ok_now_value (question_of c.args.context.now) c.args.context.now.ranges.now c.requires.translated.ranges c.typed_trees_end_once_on_entities.ensures c.requires.translated.moment c.args.place c.put_moment.result c.args.draft.now (kind_here c.args.context.now.checked.now c.args.place c.node-node.result c.node-node.ensures NodeKind.Now c.in-Now.is) c.put_moment.new.draft c.put_moment.ensures
+    ok_now_value (question_of c.args.context.now) c.args.context.now.ranges.now c.requires.translated.ranges c.typed_trees_end_once_on_entities.ensures c.requires.translated.moment c.args.place c.put_moment.result c.args.draft.now (kind_here c.args.context.now.checked.now c.args.place c.node.result c.node.ensures NodeKind.Now c.in-Now.is) c.put_moment.new.draft c.put_moment.ensures
 
 pub value::put_value-put_path-requires-clause-path : goal.value::put_value-put_path-requires-clause-path
-value::put_value-put_path-requires-clause-path t c = counted_path c.args.context.now.checked.now c.requires.translated.right c.args.place c.node-node.result c.node-node.ensures c.in-Count.is
+value::put_value-put_path-requires-clause-path t c = counted_path c.args.context.now.checked.now c.requires.translated.right c.args.place c.node.result c.node.ensures c.in-Count.is
 
 pub value::put_value-returns-in_ok-path-in-Count : goal.value::put_value-returns-in_ok-path-in-Count
 value::put_value-returns-in_ok-path-in-Count t c =
-    ok_counted_value (question_of c.args.context.now) c.args.context.now.ranges.now c.requires.translated.ranges c.typed_trees_end_once_on_entities.ensures c.requires.translated.moment c.args.place c.put-in-Count.result c.args.draft.now (kind_here c.args.context.now.checked.now c.args.place c.node-node.result c.node-node.ensures NodeKind.Count c.in-Count.is) (quiet_faultless (question_of c.args.context.now) c.args.context.now.ranges.now c.requires.translated.ranges c.args.place c.node-node.result c.node-node.ensures (subst IsQuietKind (sym c.in-Count.is) tt)) c.put_path.new.draft c.put-in-Count.new.self c.in_ok-path-in-Count.path c.in_ok-path-in-Count.ensures c.put-in-Count.ensures.ok
+    ok_counted_value (question_of c.args.context.now) c.args.context.now.ranges.now c.requires.translated.ranges c.typed_trees_end_once_on_entities.ensures c.requires.translated.moment c.args.place c.put-in-Count.result c.args.draft.now (kind_here c.args.context.now.checked.now c.args.place c.node.result c.node.ensures NodeKind.Count c.in-Count.is) (quiet_faultless (question_of c.args.context.now) c.args.context.now.ranges.now c.requires.translated.ranges c.args.place c.node.result c.node.ensures (subst IsQuietKind (sym c.in-Count.is) tt)) c.put_path.new.draft c.put-in-Count.new.self c.in_ok-path-in-Count.path c.in_ok-path-in-Count.ensures c.put-in-Count.ensures.ok
 
 pub value::put_value-returns-in-Neg : goal.value::put_value-returns-in-Neg
 value::put_value-returns-in-Neg t c =
-    let number = negation_computed c.args.context.now.checked.now c.requires.translated.right c.args.place c.node-node.result c.node-node.ensures c.in-Neg.is (λ null. not_so c.is_kind.result c.is_kind.ensures.1 c.if-is_kind.false (kind_found c.args.context.now.checked.now c.args.place c.node-node.result c.node-node.ensures c.kind-kind.result c.kind-kind.ensures ∙ null)) in
+    let number = negation_computed c.args.context.now.checked.now c.requires.translated.right c.args.place c.node.result c.node.ensures c.in-Neg.is (not_null c.args.context.now.checked.now c.args.place c.node.result c.node.ensures c.in-Some.value_type c.in-Some.ensures.some) in
     ok_calculated_value (question_of c.args.context.now) c.args.context.now.ranges.now c.requires.translated.ranges c.typed_trees_end_once_on_entities.ensures c.requires.translated.moment c.args.place c.put_calculated.result c.args.draft.now ArithmeticOperator.Sub c.zero.result c.at-operand.result
-    (negated_node (question_of c.args.context.now) c.args.context.now.ranges.now c.requires.translated.ranges c.requires.translated.right c.typed_trees_end_once_on_entities.ensures c.requires.translated.moment c.trees_have_one_type.ensures c.args.place c.requires.there number.0 number.1 (kind_here c.args.context.now.checked.now c.args.place c.node-node.result c.node-node.ensures NodeKind.Neg c.in-Neg.is) c.zero.result c.at-operand.result (node_is_at c.args.context.now.checked.now c.args.context.now.ranges.now (c.args.place + 1) c.at-operand.result c.at-operand.ensures.source c.at-operand.ensures.kind c.at-operand.ensures.range).is c.at-operand.ensures.source c.zero.ensures.source (zero_low c.zero.result.range c.zero.ensures.range) (zero_high c.zero.result.range c.zero.ensures.range)) c.put_calculated.new.draft c.put_calculated.ensures
+    (negated_node (question_of c.args.context.now) c.args.context.now.ranges.now c.requires.translated.ranges c.requires.translated.right c.typed_trees_end_once_on_entities.ensures c.requires.translated.moment c.trees_have_one_type.ensures c.args.place c.requires.there number.0 number.1 (kind_here c.args.context.now.checked.now c.args.place c.node.result c.node.ensures NodeKind.Neg c.in-Neg.is) c.zero.result c.at-operand.result (node_is_at c.args.context.now.checked.now c.args.context.now.ranges.now (c.args.place + 1) c.at-operand.result c.at-operand.ensures.source c.at-operand.ensures.kind c.at-operand.ensures.range).is c.at-operand.ensures.source c.zero.ensures.source (zero_low c.zero.result.range c.zero.ensures.range) (zero_high c.zero.result.range c.zero.ensures.range)) c.put_calculated.new.draft c.put_calculated.ensures
 
 pub value::put_value-put_path_value-requires-clause-path : goal.value::put_value-put_path_value-requires-clause-path
 value::put_value-put_path_value-requires-clause-path t c =
-    path_here c.args.context.now.checked.now c.requires.translated.right c.args.place c.node-node.result c.node-node.ensures (λ truth. not_so c.is_kind-2.result c.is_kind-2.ensures.1 c.if-is_kind-2.false (kind_found c.args.context.now.checked.now c.args.place c.node-node.result c.node-node.ensures c.kind-kind.result c.kind-kind.ensures ∙ truth)) (found_there (λ (n : CheckedNode). kind_of_type n.edm_type ≢ Kind.Structured) (slice_get c.args.context.now.checked.now.list.nodes c.args.place) c.node-node.result c.node-node.ensures c.requires.valued) (record { no_literal = λ k value is. c.in_default.not-Literal k value is; no_now = c.in_default.not-Now; no_count = c.in_default.not-Count; no_neg = c.in_default.not-Neg; no_binary = λ operator is. c.in_default.not-Binary operator is; no_call = λ function is. c.in_default.not-Call function is })
+    path_here c.args.context.now.checked.now c.requires.translated.right c.args.place c.node.result c.node.ensures (λ truth. not_so c.is_kind.result c.is_kind.ensures.1 c.if-is_kind.false (kind_found c.args.context.now.checked.now c.args.place c.node.result c.node.ensures c.kind.result c.kind.ensures ∙ truth)) (found_there (λ (n : CheckedNode). kind_of_type n.edm_type ≢ Kind.Structured) (slice_get c.args.context.now.checked.now.list.nodes c.args.place) c.node.result c.node.ensures c.requires.valued) (record { no_literal = λ k value is. c.in_default-kind.not-Literal k value is; no_now = c.in_default-kind.not-Now; no_count = c.in_default-kind.not-Count; no_neg = c.in_default-kind.not-Neg; no_binary = λ operator is. c.in_default-kind.not-Binary operator is; no_call = λ function is. c.in_default-kind.not-Call function is })
 
 pub value::put_value-put_path_value-requires-clause-value : goal.value::put_value-put_path_value-requires-clause-value
-value::put_value-put_path_value-requires-clause-value t c =
-    value_kind c.args.context.now.checked.now c.args.place c.node-node.result c.node-node.ensures (λ null. not_so c.is_kind.result c.is_kind.ensures.1 c.if-is_kind.false (kind_found c.args.context.now.checked.now c.args.place c.node-node.result c.node-node.ensures c.kind-kind.result c.kind-kind.ensures ∙ null)) (found_there (λ (n : CheckedNode). kind_of_type n.edm_type ≢ Kind.Structured) (slice_get c.args.context.now.checked.now.list.nodes c.args.place) c.node-node.result c.node-node.ensures c.requires.valued)
+value::put_value-put_path_value-requires-clause-value t c = of_field c.args.context.now.checked.now c.args.place c.in-Some.value_type c.in-Some.ensures.some
 
 pub value::put_value-at-operand-requires-clause-there : goal.value::put_value-at-operand-requires-clause-there
-value::put_value-at-operand-requires-clause-there t c = negated_child c.args.context.now.checked.now c.requires.translated.right c.args.place c.node-node.result c.node-node.ensures c.in-Neg.is
+value::put_value-at-operand-requires-clause-there t c = negated_child c.args.context.now.checked.now c.requires.translated.right c.args.place c.node.result c.node.ensures c.in-Neg.is
 
 pub value::put_value-at-operand-requires-clause-ranged : goal.value::put_value-at-operand-requires-clause-ranged
 value::put_value-at-operand-requires-clause-ranged t c =
-    has_range (question_of c.args.context.now) c.args.context.now.ranges.now c.requires.translated.ranges (c.args.place + 1) (negated_child c.args.context.now.checked.now c.requires.translated.right c.args.place c.node-node.result c.node-node.ensures c.in-Neg.is)
+    has_range (question_of c.args.context.now) c.args.context.now.ranges.now c.requires.translated.ranges (c.args.place + 1) (negated_child c.args.context.now.checked.now c.requires.translated.right c.args.place c.node.result c.node.ensures c.in-Neg.is)
 
 pub value::put_value-put_truth-requires : goal.value::put_value-put_truth-requires
 value::put_value-put_truth-requires t c =
-    (omega arith, (c.requires.translated, (truth_at c.args.context.now.checked.now c.args.place c.kind-kind.result c.kind-kind.ensures (subst IsTruthKind (sym (c.is_kind-2.ensures.0 c.if-is_kind-2.true)) tt), plain_faultless (question_of c.args.context.now) c.args.context.now.ranges.now c.requires.translated.ranges c.args.place c.node-node.result c.node-node.ensures c.requires.plain (sym (kind_found c.args.context.now.checked.now c.args.place c.node-node.result c.node-node.ensures c.kind-kind.result c.kind-kind.ensures) ∙ (c.is_kind-2.ensures.0 c.if-is_kind-2.true)))))
+    let s = some_there (λ (n : CheckedNode). kind_of_type n.edm_type ≢ Kind.Structured) (slice_get c.args.context.now.checked.now.list.nodes c.args.place) c.requires.valued in
+    (omega arith, (c.requires.translated, (truth_at c.args.context.now.checked.now c.args.place c.kind.result c.kind.ensures (subst IsTruthKind (sym (c.is_kind.ensures.0 c.if-is_kind.true)) tt), plain_faultless (question_of c.args.context.now) c.args.context.now.ranges.now c.requires.translated.ranges c.args.place s.0 s.1.0 c.requires.plain (sym (kind_found c.args.context.now.checked.now c.args.place s.0 s.1.0 c.kind.result c.kind.ensures) ∙ (c.is_kind.ensures.0 c.if-is_kind.true)))))
 
 pub value::put_value-put_calculated-requires : goal.value::put_value-put_calculated-requires
 value::put_value-put_calculated-requires t c = (
   omega (arith, on_from c.args.context.now.checked.now (left_in c.args.context.now.checked.now (c.zero.result ∷ c.at-operand.result ∷ [])) (left_from c.args.context.now.checked.now c.args.place) 14 5 (two_on c.args.context.now.checked.now c.args.place c.requires.there c.zero.result c.at-operand.result (subst (λ (s : Source). left_by c.args.context.now.checked.now s < left_from c.args.context.now.checked.now c.args.place) (sym c.zero.ensures.source) (nothing_on c.args.context.now.checked.now c.args.place c.requires.there)) (at_on c.args.context.now.checked.now c.args.place c.requires.there c.at-operand.result (c.args.place + 1) c.at-operand.ensures.source (omega arith))) (omega arith)),
-  (c.requires.translated, (zero_may_be_put c.args.context.now.checked.now c.args.context.now.ranges.now c.zero.result c.zero.ensures.source c.zero.ensures.kind, (negated_put c.args.context.now.checked.now c.requires.translated.right c.trees_have_one_type.ensures c.args.context.now.ranges.now c.args.place c.node-node.result c.node-node.ensures c.in-Neg.is c.at-operand.result (node_is_at c.args.context.now.checked.now c.args.context.now.ranges.now (c.args.place + 1) c.at-operand.result c.at-operand.ensures.source c.at-operand.ensures.kind c.at-operand.ensures.range), (c.requires.there, (negation_computed c.args.context.now.checked.now c.requires.translated.right c.args.place c.node-node.result c.node-node.ensures c.in-Neg.is (λ null. not_so c.is_kind.result c.is_kind.ensures.1 c.if-is_kind.false (kind_found c.args.context.now.checked.now c.args.place c.node-node.result c.node-node.ensures c.kind-kind.result c.kind-kind.ensures ∙ null)), (zero_bounded c.zero.result.range c.zero.ensures.range, c.requires.translated.ranges.bounded (c.args.place + 1) c.at-operand.result.range c.at-operand.ensures.range)))))),
+  (c.requires.translated, (zero_may_be_put c.args.context.now.checked.now c.args.context.now.ranges.now c.zero.result c.zero.ensures.source c.zero.ensures.kind, (negated_put c.args.context.now.checked.now c.requires.translated.right c.trees_have_one_type.ensures c.args.context.now.ranges.now c.args.place c.node.result c.node.ensures c.in-Neg.is c.at-operand.result (node_is_at c.args.context.now.checked.now c.args.context.now.ranges.now (c.args.place + 1) c.at-operand.result c.at-operand.ensures.source c.at-operand.ensures.kind c.at-operand.ensures.range), (c.requires.there, (negation_computed c.args.context.now.checked.now c.requires.translated.right c.args.place c.node.result c.node.ensures c.in-Neg.is (not_null c.args.context.now.checked.now c.args.place c.node.result c.node.ensures c.in-Some.value_type c.in-Some.ensures.some), (zero_bounded c.zero.result.range c.zero.ensures.range, c.requires.translated.ranges.bounded (c.args.place + 1) c.at-operand.result.range c.at-operand.ensures.range)))))),
 )
 
 pub value::put_value-put_arithmetic-requires : goal.value::put_value-put_arithmetic-requires
 value::put_value-put_arithmetic-requires t c =
-    (omega arith, (c.requires.translated, (kind_here c.args.context.now.checked.now c.args.place c.node-node.result c.node-node.ensures (NodeKind.Binary c.in-Binary.operator) c.in-Binary.is, operator_computed c.args.context.now.checked.now c.requires.translated.right c.args.place c.node-node.result c.node-node.ensures c.in-Binary.operator c.in-Binary.is (λ null. not_so c.is_kind.result c.is_kind.ensures.1 c.if-is_kind.false (kind_found c.args.context.now.checked.now c.args.place c.node-node.result c.node-node.ensures c.kind-kind.result c.kind-kind.ensures ∙ null)) (λ truth. not_so c.is_kind-2.result c.is_kind-2.ensures.1 c.if-is_kind-2.false (kind_found c.args.context.now.checked.now c.args.place c.node-node.result c.node-node.ensures c.kind-kind.result c.kind-kind.ensures ∙ truth)))))
+    (omega arith, (c.requires.translated, (kind_here c.args.context.now.checked.now c.args.place c.node.result c.node.ensures (NodeKind.Binary (BinaryOperator.Arithmetic c.in-Arithmetic.arithmetic)) (c.in-Binary.is ∙ ap NodeKind.Binary c.in-Arithmetic.is), operator_computed c.args.context.now.checked.now c.requires.translated.right c.args.place c.node.result c.node.ensures c.in-Binary.operator c.in-Binary.is (not_null c.args.context.now.checked.now c.args.place c.node.result c.node.ensures c.in-Some.value_type c.in-Some.ensures.some) (λ truth. not_so c.is_kind.result c.is_kind.ensures.1 c.if-is_kind.false (kind_found c.args.context.now.checked.now c.args.place c.node.result c.node.ensures c.kind.result c.kind.ensures ∙ truth)))))
+
+pub value::put_value-put_truth-requires-in_default-operator : goal.value::put_value-put_truth-requires-in_default-operator
+value::put_value-put_truth-requires-in_default-operator t c =
+    let number = operator_computed c.args.context.now.checked.now c.requires.translated.right c.args.place c.node.result c.node.ensures c.in-Binary.operator c.in-Binary.is (not_null c.args.context.now.checked.now c.args.place c.node.result c.node.ensures c.in-Some.value_type c.in-Some.ensures.some) (λ truth. not_so c.is_kind.result c.is_kind.ensures.1 c.if-is_kind.false (kind_found c.args.context.now.checked.now c.args.place c.node.result c.node.ensures c.kind.result c.kind.ensures ∙ truth)) in
+    absurd (computed_by c.args.context.now.checked.now c.requires.translated.right c.args.place c.node.result c.node.ensures c.in-Binary.operator number.0 c.in-Binary.is number.1 (λ arithmetic is. c.in_default-operator.not-Arithmetic arithmetic is))
 
 pub value::put_value-put_call-requires : goal.value::put_value-put_call-requires
 value::put_value-put_call-requires t c =
-    (omega arith, (c.requires.translated, (kind_here c.args.context.now.checked.now c.args.place c.node-node.result c.node-node.ensures (NodeKind.Call c.in-Call.function) c.in-Call.is, c.requires.plain)))
+    (omega arith, (c.requires.translated, (kind_here c.args.context.now.checked.now c.args.place c.node.result c.node.ensures (NodeKind.Call c.in-Call.function) c.in-Call.is, c.requires.plain)))

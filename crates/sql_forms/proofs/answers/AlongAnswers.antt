@@ -1,8 +1,8 @@
 -- What the loops over the arguments of a call and over the items of a list have read so far.
-use Rattle.sql_forms.proofs.Common.{◌≡◌, ◌<◌, ◌≤◌, ◌+◌, ◌++◌, ◌∷◌, ◌∙◌, inl, inr, [], ℕ, pos, Bool, false, List, Some, length, refl, sym, ap, subst, arith, IsSomeAnd, slice_get, slice_get_within, ExprType, slots_of, type_name_at, Trees, call, in_list, more_trees, no_trees, node, Function, Scope, Typed, Filter, IsFilter, AllLie, CheckedNode, NodeKind, lie_onward, lies_nonempty, found_there, some_there, there_found, Range, StandsIn, stop_there, tree_found, all_lie, items_lie, Operand, Source, Kind, SqlType, IsNodeAt, IsReadAt, IsSideAt, IsUnread, AreAlong, AreArgumentsOf, AreItemsOf, kind_of_type}
-use Rattle.odata_ranges.proofs.Forms.{by_kind}
+use Rattle.sql_forms.proofs.Common.{◌≡◌, ◌<◌, ◌≤◌, ◌+◌, ◌++◌, ◌∷◌, ◌∙◌, inl, inr, [], ℕ, pos, Bool, false, List, Some, length, refl, sym, ap, subst, arith, IsSomeAnd, slice_get, slice_get_within, ExprType, slots_of, type_name_at, Trees, call, in_list, more_trees, no_trees, node, Function, Scope, Typed, Filter, IsFilter, AllLie, CheckedNode, NodeKind, lie_onward, lies_nonempty, found_there, some_there, there_found, Range, stop_there, all_lie, items_lie, Operand, Source, Kind, SqlType, IsNodeAt, IsReadAt, IsSideAt, IsUnread, AreAlong, AreArgumentsOf, AreItemsOf, kind_of_type}
 use Rattle.sql_forms.proofs.nodes.BinaryPlaces.{top_node}
 use Rattle.sql_forms.proofs.nodes.ComparisonsAt.{node_operand, same_node}
+use Rattle.sql_forms.proofs.nodes.ByNode.{by_node}
 
 -- ---- one operand after others
 
@@ -65,21 +65,19 @@ module _ (filter : Filter) (ranges : List Range) (place : ℕ) where
   pub arguments_start : IsFilter filter → (found : CheckedNode) → slice_get filter.list.nodes place ≡ Some found → (function : Function) → found.kind ≡ NodeKind.Call function
       → ArgumentsSoFar filter ranges place (place + 1) found.stop []
   arguments_start right found at function is =
-      let there = tree_found filter right place found at (NodeKind.Call function) tt is in
-      by_kind filter there.scope place found at (NodeKind.Call function) is (λ s t. StandsIn filter there.scope place s t → ArgumentsSoFar filter ranges place (place + 1) found.stop [])
-      (λ asked trees named later s from to stands again.
-      let ends : found.stop ≡ s = stop_there filter there.scope place found at s (node from to (call asked trees)) stands in
+      by_node filter right place found at (NodeKind.Call function) tt is (ArgumentsSoFar filter ranges place (place + 1) found.stop [])
+      (λ scope asked trees named later s from to stands.
+      let ends : found.stop ≡ s = stop_there filter scope place found at s (node from to (call asked trees)) stands in
       record {
         on = record {
-          scope = there.scope;
+          scope = scope;
           trees = trees;
           lie =
-              subst (λ (k : ℕ). AllLie filter.schema filter.filtered there.scope filter.list (place + 1) k trees) (sym ends)
-              (all_lie filter.schema filter.filtered there.scope filter.list (place + 1) s trees stands.children);
+              subst (λ (k : ℕ). AllLie filter.schema filter.filtered scope filter.list (place + 1) k trees) (sym ends)
+              (all_lie filter.schema filter.filtered scope filter.list (place + 1) s trees stands.children);
         };
         along = refl;
       })
-      there.stop there.part there.stands there.stands
 
   pub arguments_more : (at stop : ℕ) (operands : List Operand) (x : Operand) (found : CheckedNode) → slice_get filter.list.nodes at ≡ Some found → at < stop → IsNodeAt filter ranges at x
       → ArgumentsSoFar filter ranges place at stop operands → ArgumentsSoFar filter ranges place found.stop stop (operands ++ x ∷ [])
@@ -110,29 +108,27 @@ module _ (filter : Filter) (ranges : List Range) (place : ℕ) where
   pub items_start : IsFilter filter → (found : CheckedNode) → slice_get filter.list.nodes place ≡ Some found → found.kind ≡ NodeKind.InList → (begin : ℕ)
       → IsSomeAnd (slice_get filter.list.nodes (place + 1)) (λ n. n.stop ≡ begin) → ItemsSoFar filter ranges place begin found.stop []
   items_start right found at is begin reported =
-      let there = tree_found filter right place found at NodeKind.InList tt is in
-      by_kind filter there.scope place found at NodeKind.InList is (λ s t. StandsIn filter there.scope place s t → ItemsSoFar filter ranges place begin found.stop [])
-      (λ left trees s from to stands again.
+      by_node filter right place found at NodeKind.InList tt is (ItemsSoFar filter ranges place begin found.stop [])
+      (λ scope left trees s from to stands.
       let schema = filter.schema in
-      let top = top_node filter there.scope (place + 1) stands.children.middle left stands.children.left in
+      let top = top_node filter scope (place + 1) stands.children.middle left stands.children.left in
       let own = found_there (λ (n : CheckedNode). n.stop ≡ begin) (slice_get filter.list.nodes (place + 1)) top.found top.at reported in
       let first : stands.children.middle ≡ begin = sym top.stops ∙ own in
-      let ends : found.stop ≡ s = stop_there filter there.scope place found at s (node from to (in_list left trees)) stands in
-      let OtherSide : ExprType → Type 0 = Typed (slots_of schema) (type_name_at schema filter.filtered) there.scope left in
+      let ends : found.stop ≡ s = stop_there filter scope place found at s (node from to (in_list left trees)) stands in
+      let OtherSide : ExprType → Type 0 = Typed (slots_of schema) (type_name_at schema filter.filtered) scope left in
       record {
         on = record {
-          scope = there.scope;
+          scope = scope;
           trees = trees;
           lie =
-              subst (λ (k : ℕ). AllLie schema filter.filtered there.scope filter.list k found.stop trees) first
-              (subst (λ (k : ℕ). AllLie schema filter.filtered there.scope filter.list stands.children.middle k trees) (sym ends)
-              (items_lie schema filter.filtered there.scope filter.list OtherSide stands.children.middle s trees stands.children.right));
+              subst (λ (k : ℕ). AllLie schema filter.filtered scope filter.list k found.stop trees) first
+              (subst (λ (k : ℕ). AllLie schema filter.filtered scope filter.list stands.children.middle k trees) (sym ends)
+              (items_lie schema filter.filtered scope filter.list OtherSide stands.children.middle s trees stands.children.right));
         };
         begins = begin;
         begins_at = reported;
         along = refl;
       })
-      there.stop there.part there.stands there.stands
 
   pub items_more : (at stop : ℕ) (items : List Operand) (x : Operand) (found : CheckedNode) → slice_get filter.list.nodes at ≡ Some found → at < stop → IsSideAt filter ranges at x
       → ItemsSoFar filter ranges place at stop items → ItemsSoFar filter ranges place found.stop stop (items ++ x ∷ [])
@@ -192,6 +188,3 @@ pub kind_inside : (filter : Filter) (place : ℕ) (kind : NodeKind) → IsSomeAn
 kind_inside filter place kind is =
     let there = some_there (λ (n : CheckedNode). n.kind ≡ kind) (slice_get filter.list.nodes place) is in
     slice_get_within filter.list.nodes place there.0 there.1.0
-
-pub call_inside : (filter : Filter) (place : ℕ) → ((function : Function) × IsSomeAnd (slice_get filter.list.nodes place) (λ n. n.kind ≡ NodeKind.Call function)) → place < length filter.list.nodes
-call_inside filter place is = kind_inside filter place (NodeKind.Call is.0) is.1

@@ -33,8 +33,7 @@ IsSmall function operands = (IsCounting function → ⊥) ⊎ ((range : Range) �
 pub small_of : (function : Function) (operands : List Operand) (first : Operand) → slice_get operands 0 ≡ Some first → (pos 2_147_483_647 <ℤ first.range.high → ⊥) → IsSmall function operands
 small_of function [] first at small = (let none : None ≡ Some first = at in absurd (cc))
 small_of function (operand ∷ operands) first at small =
-    let found : Some operand ≡ Some first = at in
-    let same : operand ≡ first = cc in
+    let same : operand ≡ first = cc at in
     inr (first.range, ap (λ (o : Operand). o.range) same, small)
 
 module _ (question : Question) (function : Function) (operands : List Operand) (small : IsSmall function operands) where
@@ -108,16 +107,16 @@ module _ (question : Question) (types : OneType) (ends : EndsOnceOnEntities) (is
 
   -- where nothing carries a fault, there is none
   no_faults : (IsCarriedFunction function → ⊥) → IsPlainAt question.filter ranges place → (world : World) (o : Outcome) (seen : IsAskedOf question world) → OfPlace question.filter place world o
-      → (come : CallComes question types ends is_moment world seen ranges are function operands o) → faults_of come.os come.inner ≡ come.inner
+      → (come : CallComes question types ends is_moment world seen ranges are function operands o) → faults_of come.all.os come.inner ≡ come.inner
   no_faults none plain world o seen has come = by (uncarried function none)
     where
-      by : IsTruthFunction function ⊎ IsTimeFunction function → faults_of come.os come.inner ≡ come.inner
+      by : IsTruthFunction function ⊎ IsTimeFunction function → faults_of come.all.os come.inner ≡ come.inner
       by (inl is_truth) =
           let n = some_there (λ (found : CheckedNode). found.kind ≡ NodeKind.Call function) (slice_get question.filter.list.nodes place) here in
           let range = range_there question ranges are place n.0 n.1.0 in
           let v = value_in range.0 o (are.within place range.0 world o range.1 seen has) (plain n.0 range.0 n.1.0 range.1 (node_kind n.0 n.1.0 ∙ gives_truth function is_truth)) in
-          no_fault_first come.os come.inner o v.0 come.is v.1
-      by (inr is_time) = plain_first operands come.os come.inner (times_uncarried function operands is_time come.suit) come.plain (as_many question.filter world operands come.os come.have)
+          no_fault_first come.all.os come.inner o v.0 come.is v.1
+      by (inr is_time) = plain_first operands come.all.os come.inner (times_uncarried function operands is_time come.all.suit) come.all.plain (as_many question.filter world operands come.all.os come.all.have)
 
   is_truth_function : IsTruthAt question.filter place → IsTruthFunction function
   is_truth_function truth_at =

@@ -1,5 +1,5 @@
 -- What the functions return that put comparisons by their codes, and flags.
-use Rattle.sql_forms.proofs.Common.{◌≡◌, ◌≢◌, ◌+◌, ◌∷◌, [], ℕ, List, None, Some, Result, OnOk, length, refl, sym, ap, subst, slice_get, Filter, NodeKind, HasKind, Range, ComparisonOperator, IsTableBesideNull, IsTableOfComparison, LookUp, Digit, SqlNode, SqlType, Draft, Operand, Kind, Lifted, Form, FlagsHave, CodeHas, ComparisonHas, FaultyHave, IsFaulty, IsFaultyKind, NoTruth, Grows, GrowsBy, AllHave, IsLifted, IsOpened, faults_front, AsCode, FaultyOrNull, IsPlainValue, AreCompared, OperandHas, PutsPath, AreRanges, OfPlace, Puts, PutsAll, Question, by_node, on_both, on_ok}
+use Rattle.sql_forms.proofs.Common.{◌≡◌, ◌≢◌, ◌+◌, ◌∷◌, [], ℕ, List, None, Some, Result, OnOk, length, refl, sym, ap, subst, slice_get, Filter, NodeKind, HasKind, Range, ComparisonOperator, IsTableBesideNull, IsTableOfComparison, LookUp, Digit, SqlNode, SqlType, Draft, Operand, Kind, Lifted, Form, FlagsHave, CodeHas, ComparisonHas, FaultyHave, IsFaulty, IsFaultyKind, NoTruth, Grows, GrowsBy, AllHave, IsLifted, IsOpened, faults_front, AsCode, FaultyOrNull, IsPlainValue, AreCompared, OperandHas, PutsPath, AreRanges, OfPlace, Puts, PutsAll, Question, by_node, on_both, on_ok, Source}
 use Rattle.sql_forms.specs.Forms.{IsInForm}
 use Rattle.sql_forms.specs.private.AskedForms.{Itself, OrTruth}
 use Rattle.sql_forms.specs.private.Compared.{IsCoded}
@@ -23,6 +23,12 @@ no_null _ is plain = plain
 -- a truth value that may be a fault has a code
 pub faulty_coded : (filter : Filter) (ranges : List Range) (operand : Operand) → operand.kind ≡ Kind.Value SqlType.Truth → IsFaulty filter ranges operand → IsCoded filter operand.source
 faulty_coded filter ranges operand truth faulty = subst (λ (k : Kind). IsFaultyKind filter ranges operand k) truth faulty
+
+-- what has a code is a node, or is bound
+pub not_coded : (filter : Filter) (source : Source) → IsCoded filter source → ((place : ℕ) → source ≢ Source.Node place) → ((level : ℕ) → source ≢ Source.Bound level) → ⊥
+not_coded filter (Source.Node place) coded no_node no_bound = no_node place refl
+not_coded filter (Source.Bound level) coded no_node no_bound = no_bound level refl
+not_coded filter source coded no_node no_bound = coded
 
 -- what is compared with a truth value and is none is null
 pub null_after_truth : (left right : Kind) → AreCompared left right → left ≡ Kind.Value SqlType.Truth → right ≢ Kind.Value SqlType.Truth → right ≡ Kind.Null

@@ -2,7 +2,7 @@
 use Rattle.sql_forms.proofs.Common.{◌≡◌, ◌≢◌, ◌<◌, ◌+◌, ◌==◌, [], ◌∷◌, ℕ, List, Bool, true, false, not, Some, length, take, refl, sym, ap, subst, ◌∙◌, arith, slice_get, AllByRecursion, take-length, slice_get_within, LiteralKind, Filter, CheckedNode, NodeKind, there_found, Range, SqlType, Operand, Source, Kind, IsSide, IsSideBy, AreBeside, AreConstants, IsNeverNull, AreCompared, IsPut, IsTested}
 use Rattle.sql_forms.proofs.answers.LoopAnswers.{take_none}
 use Rattle.sql_forms.proofs.nodes.Constants.{literal_given, number_given, one_of_all}
-use Rattle.sql_forms.proofs.outcomes.LiftedOperands.{got}
+use Rattle.sql_forms.proofs.outcomes.Elements.{at_all}
 use Rattle.sql_forms.proofs.outcomes.TestedBoth.{tested_put}
 
 -- where the answer is still true: the left side is a value that is no truth value, and no item before the index is null
@@ -50,7 +50,7 @@ module _ (filter : Filter) (ranges : List Range) (place : ℕ) (items : List Ope
   pub constant_literal : (node_place : ℕ) (found : CheckedNode) (kind : LiteralKind) (value : ℕ) → x.source ≡ Source.Node node_place → slice_get filter.list.nodes node_place ≡ Some found
       → found.kind ≡ NodeKind.Literal kind value → x.kind ≢ Kind.Null → IsNeverNull filter x
   constant_literal node_place found kind value source found_at is other =
-      let side : IsSideBy filter ranges place x (Source.Node node_place) = subst (IsSideBy filter ranges place x) source (got (IsSide filter ranges place) items n x sides at) in
+      let side : IsSideBy filter ranges place x (Source.Node node_place) = subst (IsSideBy filter ranges place x) source (at_all (IsSide filter ranges place) items n x sides at) in
       literal_given filter ranges x node_place kind value source side.0
       (there_found (λ (f : CheckedNode). f.kind ≡ NodeKind.Literal kind value) (slice_get filter.list.nodes node_place) found found_at is) other
 
@@ -72,11 +72,11 @@ module _ (filter : Filter) (ranges : List Range) (left : Operand) (items : List 
     pub item_value : x.kind ≡ Kind.Value constants.type_of
     item_value =
         compared_value constants.type_of x.kind
-        (subst (λ (k : Kind). AreCompared k x.kind) constants.left_is (got (λ (item : Operand). AreCompared left.kind item.kind) items n x beside.compared at))
-        (got (λ (item : Operand). item.kind ≢ Kind.Null) items n x constants.kinds at)
+        (subst (λ (k : Kind). AreCompared k x.kind) constants.left_is (at_all (λ (item : Operand). AreCompared left.kind item.kind) items n x beside.compared at))
+        (at_all (λ (item : Operand). item.kind ≢ Kind.Null) items n x constants.kinds at)
 
     pub item_put : IsPut filter ranges x
-    item_put = value_put x item_value (got (IsTested filter ranges) items n x beside.tested at)
+    item_put = value_put x item_value (at_all (IsTested filter ranges) items n x beside.tested at)
 
 -- ---- what was asked of one item
 
@@ -90,5 +90,5 @@ some_items (item ∷ items) empty reported other = omega arith
 pub constant_inside : (filter : Filter) (ranges : List Range) (place : ℕ) (items : List Operand) → AllByRecursion (IsSide filter ranges place) items → (n : ℕ) (x : Operand) → slice_get items n ≡ Some x
     → (node_place : ℕ) → x.source ≡ Source.Node node_place → node_place < length filter.list.nodes
 constant_inside filter ranges place items sides n x at node_place source =
-    let side : IsSideBy filter ranges place x (Source.Node node_place) = subst (IsSideBy filter ranges place x) source (got (IsSide filter ranges place) items n x sides at) in
+    let side : IsSideBy filter ranges place x (Source.Node node_place) = subst (IsSideBy filter ranges place x) source (at_all (IsSide filter ranges place) items n x sides at) in
     slice_get_within filter.list.nodes node_place side.0.node side.0.at

@@ -3,7 +3,8 @@ use Rattle.sql_forms.proofs.Common.{◌≡◌, ◌<◌, ◌≤◌, ◌++◌, ◌
 use Rattle.sql_forms.specs.private.AskedForms.{IsAskedCode}
 use Rattle.sql_forms.proofs.answers.HalfAnswers.{both_parts}
 use Rattle.sql_forms.proofs.outcomes.ChainAnswers.{Parts}
-use Rattle.sql_forms.proofs.puts.DecidedPut.{all_by_index, get_front, without_front, without_rest}
+use Rattle.sql_forms.proofs.puts.DecidedPut.{all_by_index, without_front, without_rest}
+use Rattle.odata_checked_filter.proofs.flat.Places.{get_front}
 
 pub asked_not_both : (form : Form) → IsAskedCode form → IsOfBoth form → ⊥
 asked_not_both Form.Truth asked both = asked
@@ -32,4 +33,4 @@ module _ (terms front rest : List ℕ) (mid : ℕ) (front_is : front ≡ take mi
   front_faultless within ranges each =
       all_by_index (IsFaultless ranges) front (λ k term below at.
       let many : length front ≡ mid = ap length front_is ∙ length-take-le mid terms (omega (arith, within)) in
-      each k term (omega (arith, below, many)) (subst (λ (xs : List ℕ). slice_get xs k ≡ Some term) (sym parts_are) (get_front front rest k term below at)))
+      each k term (omega (arith, below, many)) (subst (λ (xs : List ℕ). slice_get xs k ≡ Some term) (sym parts_are) (get_front front rest k term at)))

@@ -1,5 +1,5 @@
 -- Which functions are left where others are asked first.
-use Rattle.sql_forms.proofs.Common.{◌≡◌, ◌<◌, ◌∷◌, [], Bool, List, arith, false, length, refl, true, ℕ, ◌≤◌, ◌∙◌, subst, sym, MomentParts, Val, UnlessNull, has_null, FunctionGives, Outcome, Function, OfGiven, SqlFunction, Operand, IsSqlFunctionOf, IsTimeFunction, TakesCount, row_of, arity_of_function}
+use Rattle.sql_forms.proofs.Common.{◌≡◌, ◌<◌, ◌∷◌, [], Bool, List, arith, false, length, refl, true, ℕ, ◌≤◌, ◌∙◌, sym, MomentParts, Val, UnlessNull, has_null, FunctionGives, Outcome, Function, OfGiven, SqlFunction, Operand, IsSqlFunctionOf, IsTimeFunction, TakesCount, row_of, arity_of_function}
 use Rattle.sql_forms.proofs.outcomes.FunctionsMade.{is_time}
 
 pub time_left : (function : Function) → (function ≡ Function.Contains → ⊥) → (function ≡ Function.StartsWith → ⊥) → (function ≡ Function.EndsWith → ⊥) → (function ≡ Function.Concat → ⊥) → (function ≡ Function.Length → ⊥) → (function ≡ Function.IndexOf → ⊥) → (function ≡ Function.Substring → ⊥) → (function ≡ Function.Trim → ⊥) → (function ≡ Function.ToLower → ⊥) → (function ≡ Function.ToUpper → ⊥) → IsTimeFunction function
@@ -39,15 +39,11 @@ date_left _ operands time some a b c d e f g = absurd time
 
 -- ---- how many operands they take
 
-pub takes_alone : (function f : Function) (n k : ℕ) → function ≡ f → (row_of f).least ≡ k → length (row_of f).arguments ≡ k → TakesCount function n → n ≡ k
-takes_alone function f n k is few many takes =
-    let own : TakesCount f n = subst (λ (g : Function). TakesCount g n) is takes in
-    let least : (row_of f).least ≤ n = own.least in
-    let most : n ≤ length (row_of f).arguments = own.most in
-    omega (arith, few, many, least, most)
-
 one_taken : (f : Function) (n : ℕ) → (row_of f).least ≡ 1 → length (row_of f).arguments ≡ 1 → TakesCount f n → n ≡ 1
-one_taken f n few many takes = takes_alone f f n 1 refl few many takes
+one_taken f n few many takes =
+    let least : (row_of f).least ≤ n = takes.least in
+    let most : n ≤ length (row_of f).arguments = takes.most in
+    omega (arith, few, many, least, most)
 
 pub time_takes : (function : Function) (sql : SqlFunction) (n : ℕ) → IsTimeFunction function → 0 < n → TakesCount function n → arity_of_function sql ≡ 1 → n ≡ arity_of_function sql
 time_takes function sql n time some takes one = by function time takes ∙ sym one

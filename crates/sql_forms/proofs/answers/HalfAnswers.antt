@@ -1,13 +1,6 @@
 -- The two parts in which `split_at` leaves a list.
-use Rattle.sql_forms.proofs.Common.{◌≡◌, ◌<◌, ◌-◌, ◌++◌, ◌∷◌, ◌∙◌, [], ℕ, List, drop, length, length-drop, length-take-le, take, take-append-drop, sym, ap, subst, arith, AllByRecursion, Filter, Range, Operand, AreCompared, IsTested, AreBeside}
-
-front_all : {T : Type 0} (P : T → Type 0) (xs ys : List T) → AllByRecursion P (xs ++ ys) → AllByRecursion P xs
-front_all P [] ys all = tt
-front_all P (x ∷ xs) ys all = (all.0, front_all P xs ys all.1)
-
-rest_all : {T : Type 0} (P : T → Type 0) (xs ys : List T) → AllByRecursion P (xs ++ ys) → AllByRecursion P ys
-rest_all P [] ys all = all
-rest_all P (x ∷ xs) ys all = rest_all P xs ys all.1
+use Rattle.sql_forms.proofs.Common.{◌≡◌, ◌<◌, ◌-◌, ◌++◌, ◌∙◌, [], ℕ, List, drop, length, length-drop, length-take-le, take, take-append-drop, sym, ap, subst, arith, AllByRecursion, Filter, Range, Operand, AreCompared, IsTested, AreBeside}
+use Rattle.sql_forms.proofs.outcomes.Elements.{front_all, rest_all}
 
 module _ {T : Type 0} (whole front rest : List T) (mid : ℕ) (front_is : front ≡ take mid whole) (rest_is : rest ≡ drop mid whole) where
   pub both_parts : whole ≡ front ++ rest

@@ -5,7 +5,7 @@ use Rattle.sql_forms.specs.private.AskedForms.{Itself, OrTruth}
 use Rattle.sql_forms.proofs.answers.ListAnswers.{uncarried_kind}
 use Rattle.sql_forms.proofs.answers.MemberAnswers.{after_nothing}
 use Rattle.sql_forms.proofs.nodes.BelowNodes.{collection_at_path, in_path_left}
-use Rattle.sql_forms.proofs.nodes.ComparisonPlaces.{side_faultless, side_tested}
+use Rattle.sql_forms.proofs.nodes.ComparisonPlaces.{form_of_value, side_faultless, side_tested}
 use Rattle.sql_forms.proofs.nodes.InPathNodes.{InPathComes, at_place, in_path_comes}
 use Rattle.sql_forms.proofs.nodes.ChildPlaces.{first_child, has_range, path_inside}
 use Rattle.sql_forms.proofs.nodes.InPathPlaces.{beside_collection, in_path_beside}
@@ -16,12 +16,8 @@ use Rattle.sql_forms.proofs.puts.LiftedPut.{closed}
 use Rattle.sql_forms.proofs.puts.OverMembersPut.{over_members_put}
 use Rattle.sql_forms.proofs.puts.PlainLeftPut.{in_path_code_plain_put}
 use Rattle.sql_forms.proofs.outcomes.UnlessMissing.{WholeHas, form_unless_missing, truth_unless_missing}
-use Rattle.sql_forms.proofs.puts.TruthInPathPut.{codes_put}
-use Rattle.sql_forms.proofs.puts.TruthInPathWhole.{CodesHave, chosen_put, code_parts, truth_in_path_put}
-
--- a form of what is a value
-of_given : (o x : Outcome) (v : Val) → o ≡ gives v → OrTruth Itself o x → x ≡ o
-of_given o x v same form = subst (λ (p : Outcome). x ≡ p) (sym same) (subst (λ (p : Outcome). OrTruth Itself p x) same form)
+use Rattle.sql_forms.proofs.puts.TruthInPathPut.{CodesHave, codes_put}
+use Rattle.sql_forms.proofs.puts.TruthInPathWhole.{chosen_put, code_parts, truth_in_path_put}
 
 -- a path leads on where a `Let` is begun
 pub path_opened : (question : Question) (lifted : Lifted) (old opened : Draft) (base path : ℕ) → IsOpened lifted old opened → IsPathTo question old base path → IsPathTo question opened base path
@@ -35,7 +31,7 @@ module _ (question : Question) (base : ℕ) (left : Operand) {T E : Type 0} (r :
   ok_over_plain put =
       on_ok r (Puts question old new (HasMemberHas question.filter left base) (OrTruth Itself)) (Puts question old new (MemberHas question.filter left base) Itself)
       (λ p. puts_as question old new (HasMemberHas question.filter left base) (MemberHas question.filter left base) (OrTruth Itself) Itself p
-      (λ world o is has. (o, inl has, λ x form. of_given o x (boolean (some_of has.3)) has.5 form))) put
+      (λ world o is has. (o, inl has, λ x form. form_of_value Itself o x (boolean (some_of has.3)) has.5 form))) put
 
   -- bound
   pub ok_over_members : (first : Operand) (lifted : Lifted) → IsLifted (left ∷ []) old.depth lifted → slice_get lifted.inner.items 0 ≡ Some first → (opened body : Draft)
@@ -94,12 +90,9 @@ module _ (question : Question) (ranges : List Range) (are : AreRanges question r
     value : (world : World) (o : Outcome) → IsAskedOf question world → OfPlace question.filter (place + 1) world o → (v : Val) × (o ≡ gives v)
     value world o seen has = by o (are.within (place + 1) left.range world o left_is.range seen has)
       where
-        never : left.range.may_fault ≡ true → ⊥
-        never faults = let clash : true ≡ false = sym faults ∙ left_faultless in cc
-
         by : (p : Outcome) → IsWithin left.range p → (v : Val) × (p ≡ gives v)
         by (gives v) is = (v, refl)
-        by _ is = absurd (never is)
+        by _ is = let clash : true ≡ false = sym is ∙ left_faultless in absurd (cc)
 
     module _ (path : ℕ) {T E : Type 0} (r : Result T E) (d0 d1 new : Draft) (leads : PutsPath question d0 d1 base path) where
       pub ok_in_path : (range : Range) → slice_get ranges base ≡ Some range → (d2 : Draft) → Grows d1 d2 (missing_front range.may_be_null path) → OnOk r (Puts question d2 new (MemberHas question.filter left base) Itself)
@@ -223,9 +216,6 @@ module _ (question : Question) (ranges : List Range) (are : AreRanges question r
       (path_on question opened base path leads_opened c1 (SqlNode.Case ∷ []) case_grows) c2 (SqlNode.Compare ComparisonOperator.Ge SqlType.Whole ∷ []) above_grows) c3 (SqlNode.Bound old.depth ∷ []) code_grows)
       c4 (SqlNode.Number Digit.Three ∷ []) three_grows) c5 (SqlNode.Bound old.depth ∷ []) fault_grows) c6 (SqlNode.TruthCode ∷ []) truth_grows
 
-  leads_u : IsPathTo question u base path
-  leads_u = path_on question c6 base path leads_within u (missing_front range.may_be_null path) steps.front
-
   member_path : PutsMemberPath u m1 u.depth number
   member_path = subst (λ (n : ℕ). PutsMemberPath u m1 n number) (sym u_depth) steps.member_path
 
@@ -233,9 +223,9 @@ module _ (question : Question) (ranges : List Range) (are : AreRanges question r
   exists_grows = subst (λ (n : ℕ). Grows m1 m2 (SqlNode.Exists path n ∷ [])) (sym u_depth) (by_node m1 m2 (SqlNode.Exists path (old.depth + 1)) refl steps.exists_grows)
 
   -- whether some member has the code
-  inner : body.depth + 1 ≡ m7.depth → Puts question u body (CodesHave question old.depth base path) Itself
+  inner : body.depth + 1 ≡ m7.depth → Puts question u body (CodesHave question old.depth base) Itself
   inner depth_is =
-      codes_put question member old.depth base path number u m1 m2 m3 m4 m5 m6 m7 body u_depth is_truth leads_u member_path steps.member_is exists_grows steps.more_deeper
+      codes_put question member old.depth base path number u m1 m2 m3 m4 m5 m6 m7 body u_depth is_truth (path_on question c6 base path leads_within u (missing_front range.may_be_null path) steps.front) member_path steps.member_is exists_grows steps.more_deeper
       (by_node m3 m4 (SqlNode.Compare ComparisonOperator.Eq SqlType.Whole) refl steps.equal_grows) (by_node m4 m5 SqlNode.TruthCode refl steps.member_code) steps.value
       (by_node m6 m7 (SqlNode.Bound old.depth) refl steps.bound_grows) refl refl depth_is
 
@@ -252,5 +242,5 @@ module _ (question : Question) (ranges : List Range) (are : AreRanges question r
       (ap (λ (t : SqlTree). t.paths.items) steps.deeper.tree ∙ steps.let_grows.paths_are ∙ append-nil old.tree.paths.items)
       (ap (λ (t : SqlTree). t.parameters.items) steps.deeper.tree ∙ steps.let_grows.parameters_are ∙ append-nil old.tree.parameters.items) (steps.deeper.members ∙ steps.let_grows.members) opened_depth
       (chosen_put question old.depth base path opened c1 c2 c3 c4 c5 c6 body case_grows above_grows code_grows three_grows fault_grows truth_grows
-      (truth_unless_missing question base path (CodesHave question old.depth base path) (code_parts question old.depth base path) ranges are range at c6 u body leads_within steps.front codes))
+      (truth_unless_missing question base path (CodesHave question old.depth base) (code_parts question old.depth base path) ranges are range at c6 u body leads_within steps.front codes))
       tree_is members_are shut_depth p) put

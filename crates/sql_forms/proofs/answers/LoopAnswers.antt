@@ -1,5 +1,5 @@
 -- What loops that put one operand after another have put so far.
-use Rattle.sql_forms.proofs.Common.{IsComparedIn, ◌≡◌, ◌<◌, ◌+◌, ◌∷◌, ◌∙◌, ◌⊎◌, inl, inr, [], ℕ, zero, suc, List, Some, None, length, take, refl, sym, ap, subst, arith, slice_get, AllByRecursion, take-length, Range, Function, SqlFunction, SqlNode, SqlType, Draft, Operand, Kind, FunctionHas, IsSqlFunctionOf, Grows, AreCompared, AllHave, AllCompare, AmongHas, ComparedHas, OperandHas, IsFaultless, Puts, PutsAll, Question, arity_of_function}
+use Rattle.sql_forms.proofs.Common.{IsComparedIn, ◌≡◌, ◌<◌, ◌+◌, ◌∷◌, ◌∙◌, ◌⊎◌, inl, inr, [], ℕ, zero, suc, List, Some, length, take, refl, sym, ap, subst, arith, slice_get, AllByRecursion, take-length, Range, Function, SqlFunction, SqlNode, SqlType, Draft, Operand, Kind, FunctionHas, IsSqlFunctionOf, Grows, AreCompared, AllHave, AllCompare, AmongHas, ComparedHas, OperandHas, IsFaultless, Puts, PutsAll, Question, arity_of_function}
 use Rattle.sql_forms.specs.private.AskedForms.{Itself}
 use Rattle.sql_forms.proofs.outcomes.ValueWalk.{no_value_put, one_value_put}
 use Rattle.sql_forms.proofs.puts.AmongPut.{among_put, none_compared_put, one_compared_put}
@@ -116,11 +116,3 @@ faultless_on ranges terms count last at faultless before k term below there =
           let is : last ≡ term = cc in
           subst (IsFaultless ranges) is faultless)
     ]
-
-pub ranged_at : (bound : ℕ) (terms : List ℕ) (k term : ℕ) → AllByRecursion (λ (t : ℕ). t < bound) terms → slice_get terms k ≡ Some term → term < bound
-ranged_at bound [] k term all at = let none : None ≡ Some term = at in absurd (cc)
-ranged_at bound (first ∷ terms) zero term all at =
-    let there : Some first ≡ Some term = at in
-    let same : first ≡ term = cc in
-    subst (λ (t : ℕ). t < bound) same all.0
-ranged_at bound (first ∷ terms) (suc k) term all at = ranged_at bound terms k term all.1 at

@@ -1,5 +1,5 @@
 -- What `put_calculated` and `put_arithmetic` return.
-use Rattle.sql_forms.proofs.Common.{◌≡◌, ◌∷◌, ◌∙◌, [], ℕ, Result, OnOk, Some, length, subst, sym, refl, slice_get, PrimitiveType, EdmType, ValueType, Filter, CheckedNode, found_there, NeverFaults, ArithmeticOperator, Carrier, SqlNode, Draft, Operand, Lifted, CalculatedHas, CheckedHas, IsComputedIn, PlainHas, Grows, GrowsBy, AllHave, IsLifted, IsOpened, faults_front, OperandHas, Puts, PutsAll, Question, by_node, on_both}
+use Rattle.sql_forms.proofs.Common.{◌≡◌, ◌∷◌, ◌∙◌, [], ℕ, Result, OnOk, Some, length, subst, sym, refl, slice_get, PrimitiveType, EdmType, ValueType, Filter, CheckedNode, found_there, some_there, FieldType, IsOfTypeAt, single_of, NeverFaults, ArithmeticOperator, Carrier, SqlNode, Draft, Operand, Lifted, CalculatedHas, CheckedHas, IsComputedIn, PlainHas, Grows, GrowsBy, AllHave, IsLifted, IsOpened, faults_front, OperandHas, Puts, PutsAll, Question, by_node, on_both}
 use Rattle.sql_forms.specs.private.AskedForms.{Itself}
 use Rattle.sql_forms.proofs.outcomes.CalculatedFaults.{calculated_put}
 use Rattle.sql_forms.proofs.puts.LiftedPut.{closed}
@@ -29,17 +29,25 @@ module _ (question : Question) (operator : ArithmeticOperator) (place : ℕ) (ty
 
 -- ---- the type in which a node is computed
 
-same_held : (a b : ValueType) → EdmType.Single a ≡ EdmType.Single b → a ≡ b
-same_held a b same = cc
-
-same_primitive : (a b : PrimitiveType) → ValueType.Prim a ≡ ValueType.Prim b → a ≡ b
+same_primitive : (a b : PrimitiveType) → EdmType.Single (ValueType.Prim a) ≡ EdmType.Single (ValueType.Prim b) → a ≡ b
 same_primitive a b same = cc
 
-module _ (filter : Filter) (place : ℕ) (found : CheckedNode) (at : slice_get filter.list.nodes place ≡ Some found) (number : (type : PrimitiveType) × IsComputedIn filter place type) where
-  held_is : (held : ValueType) → found.edm_type ≡ EdmType.Single held → held ≡ ValueType.Prim number.0
-  held_is held single =
-      let is = found_there (λ (n : CheckedNode). n.edm_type ≡ EdmType.Single (ValueType.Prim number.0)) (slice_get filter.list.nodes place) found at number.1.1 in
-      same_held held (ValueType.Prim number.0) (sym single ∙ is)
+no_member : (a : PrimitiveType) (id : ℕ) → EdmType.Single (ValueType.Prim a) ≡ EdmType.Single (ValueType.Enum id) → ⊥
+no_member a id same = cc
 
-  pub computed_in : (held : ValueType) (type : PrimitiveType) → found.edm_type ≡ EdmType.Single held → held ≡ ValueType.Prim type → IsComputedIn filter place type
-  computed_in held type single primitive = subst (IsComputedIn filter place) (same_primitive number.0 type (sym (held_is held single) ∙ primitive)) number.1
+module _ (filter : Filter) (place : ℕ) (number : (type : PrimitiveType) × IsComputedIn filter place type) where
+  is_number : (type : EdmType) → IsOfTypeAt filter place type → EdmType.Single (ValueType.Prim number.0) ≡ type
+  is_number type is =
+      let s = some_there (λ (n : CheckedNode). n.edm_type ≡ type) (slice_get filter.list.nodes place) is in
+      let own = found_there (λ (n : CheckedNode). n.edm_type ≡ EdmType.Single (ValueType.Prim number.0)) (slice_get filter.list.nodes place) s.0 s.1.0 number.1.1 in
+      sym own ∙ s.1.1
+
+  pub computed_in : (field : FieldType) → IsOfTypeAt filter place (EdmType.Single (single_of field)) → (type : PrimitiveType) → field ≡ FieldType.Prim type → IsComputedIn filter place type
+  computed_in field is type primitive =
+      let there = subst (λ (f : FieldType). IsOfTypeAt filter place (EdmType.Single (single_of f))) primitive is in
+      subst (IsComputedIn filter place) (same_primitive number.0 type (is_number (EdmType.Single (ValueType.Prim type)) there)) number.1
+
+  pub computed_in_no_enumeration : (field : FieldType) → IsOfTypeAt filter place (EdmType.Single (single_of field)) → (id : ℕ) → field ≡ FieldType.Enum id → ⊥
+  computed_in_no_enumeration field is id enumeration =
+      let there = subst (λ (f : FieldType). IsOfTypeAt filter place (EdmType.Single (single_of f))) enumeration is in
+      no_member number.0 id (is_number (EdmType.Single (ValueType.Enum id)) there)

@@ -1,5 +1,5 @@
 -- What `put_path_value` returns.
-use Rattle.sql_forms.proofs.Common.{type_of_field, ◌≡◌, ◌++◌, ◌∷◌, ◌∙◌, [], ℕ, zero, suc, List, Some, None, Result, OnOk, sym, ap, ◌==◌, Bool, length, true, refl, arith, Decides-eqb, slice_get, IsSomeAnd, IsMoment, EndsOnceOnEntities, Range, FieldType, SqlNode, Base, Path, Draft, Grows, GrowsBy, PutsPath, AreRanges, HasValueKind, IsPathAt, IsWorldOf, OfPlace, Puts, Question, World, by_node, grows_then, on_ok, world_before, EdmType, ValueType, SqlType, Kind, named_by, kind_of_type}
+use Rattle.sql_forms.proofs.Common.{◌≡◌, ◌++◌, ◌∷◌, ◌∙◌, [], ℕ, zero, suc, List, Some, None, Result, OnOk, sym, ap, ◌==◌, Bool, length, true, refl, arith, Decides-eqb, slice_get, IsMoment, EndsOnceOnEntities, Range, FieldType, SqlNode, Base, Path, Draft, Grows, GrowsBy, PutsPath, AreRanges, HasFieldType, IsPathAt, IsWorldOf, OfPlace, Puts, Question, World, by_node, grows_then, on_ok, world_before, named_by}
 use Rattle.sql_forms.specs.private.AskedForms.{Itself}
 use Rattle.sql_forms.proofs.puts.PathValuePut.{column_put, field_put}
 
@@ -9,20 +9,20 @@ stays_there (first ∷ rest) more zero x is = is
 stays_there (first ∷ rest) more (suc k) x is = stays_there rest more k x is
 
 module _ (question : Question) (ends : EndsOnceOnEntities) (is_moment : IsMoment question.now.civil question.now.offset_minutes) (ranges : List Range) (are : AreRanges question ranges) (place number : ℕ)
-    (is_path : IsPathAt question.filter place) (has_value : HasValueKind question.filter place) (old middle new : Draft) (path : PutsPath question old middle place number) {T E : Type 0} (r : Result T E) where
+    (is_path : IsPathAt question.filter place) (type : FieldType) (has_value : HasFieldType question.filter place type) (old middle new : Draft) (path : PutsPath question old middle place number) {T E : Type 0} (r : Result T E) where
   after_path : (node : SqlNode) → named_by node ≡ [] → GrowsBy middle new (node ∷ []) [] [] → Grows old new (node ∷ [])
   after_path node plain grows = grows_then old middle new [] (node ∷ []) path.grows (by_node middle new node plain grows)
 
-  pub ok_field_value : (type : FieldType) → IsSomeAnd (slice_get question.filter.list.nodes place) (λ node. kind_of_type node.edm_type ≡ Kind.Value (type_of_field type)) → OnOk r (GrowsBy middle new (SqlNode.Field number type ∷ []) [] []) → OnOk r (Puts question old new (OfPlace question.filter place) Itself)
-  ok_field_value type is_kind put =
+  pub ok_field_value : OnOk r (GrowsBy middle new (SqlNode.Field number type ∷ []) [] []) → OnOk r (Puts question old new (OfPlace question.filter place) Itself)
+  ok_field_value put =
       on_ok r (GrowsBy middle new (SqlNode.Field number type ∷ []) [] []) (Puts question old new (OfPlace question.filter place) Itself)
-      (λ g. field_put question ends is_moment ranges are place number is_path has_value old middle new path type is_kind (by_node middle new (SqlNode.Field number type) refl g) (after_path (SqlNode.Field number type) refl g)) put
+      (λ g. field_put question ends is_moment ranges are place number is_path type has_value old middle new path (by_node middle new (SqlNode.Field number type) refl g) (after_path (SqlNode.Field number type) refl g)) put
 
   pub ok_column_value : (slot : ℕ) (found : Path) → slice_get middle.tree.paths.items number ≡ Some found → found.base ≡ Base.Column slot → found.steps.items ≡ []
       → OnOk r (GrowsBy middle new (SqlNode.Column slot ∷ []) [] []) → OnOk r (Puts question old new (OfPlace question.filter place) Itself)
   ok_column_value slot found at base_is none put =
       on_ok r (GrowsBy middle new (SqlNode.Column slot ∷ []) [] []) (Puts question old new (OfPlace question.filter place) Itself)
-      (λ g. column_put question ends is_moment ranges are place number is_path has_value old middle new path slot found at base_is none (by_node middle new (SqlNode.Column slot) refl g) (after_path (SqlNode.Column slot) refl g) (there g)) put
+      (λ g. column_put question ends is_moment ranges are place number is_path type has_value old middle new path slot found at base_is none (by_node middle new (SqlNode.Column slot) refl g) (after_path (SqlNode.Column slot) refl g) (there g)) put
     where
       there : GrowsBy middle new (SqlNode.Column slot ∷ []) [] [] → (world : World) → IsWorldOf question new world → slice_get world.asked.paths number ≡ Some found
       there g world is =
@@ -33,9 +33,3 @@ module _ (question : Question) (ends : EndsOnceOnEntities) (is_moment : IsMoment
 pub no_items : {A : Type 0} (xs ys : List A) (empty : Bool) → ys ≡ xs → empty ≡ (length ys == 0) → empty ≡ true → xs ≡ []
 no_items xs [] empty same reported is = sym same
 no_items xs (y ∷ ys) empty same reported is = let none : length (y ∷ ys) ≡ 0 = (Decides-eqb (length (y ∷ ys)) 0).0 (sym reported ∙ is) in absurd (omega (arith, none))
-
--- a type that SQL has values of is that of one value
-pub single_value : (type : EdmType) → ((own : SqlType) × (kind_of_type type ≡ Kind.Value own)) → ((held : ValueType) → type ≡ EdmType.Single held → ⊥) → ⊥
-single_value EdmType.Null is other = let clash : Kind.Null ≡ Kind.Value is.0 = is.1 in absurd (cc)
-single_value (EdmType.Single held) is other = other held refl
-single_value (EdmType.Collection held) is other = let clash : Kind.Structured ≡ Kind.Value is.0 = is.1 in absurd (cc)

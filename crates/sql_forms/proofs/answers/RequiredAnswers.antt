@@ -1,16 +1,8 @@
 -- What calls within the group that puts nodes require, by what their callers require.
-use Rattle.sql_forms.proofs.Common.{◌≡◌, ◌≢◌, ◌<◌, ◌+◌, ◌∷◌, ◌∙◌, ◌==◌, ◌⊎◌, inl, inr, [], ℕ, zero, suc, Bool, List, Option, Some, None, true, false, length, sym, ap, subst, arith, IfSome, IsTrue, slice_get, AllByRecursion, Decides-eqb, slice_get_within, null, ComparesTrue, Function, ComparisonOperator, Filter, IsFilter, CheckedNode, NodeKind, one_there, there_found, Range, inside_there, tree_found, Carrier, SqlType, Operand, Source, Kind, kind_of_type, IsNodeOperand, IsPut, IsSourceOf, IsPlainAt, IsValuedAt, IsCarriedFunction}
-use Rattle.odata_ranges.proofs.Forms.{by_kind}
+use Rattle.sql_forms.proofs.Common.{◌≡◌, ◌≢◌, ◌<◌, ◌+◌, ◌∷◌, ◌∙◌, ◌==◌, ◌⊎◌, inl, inr, [], ℕ, Bool, List, Option, Some, None, true, false, length, sym, ap, subst, arith, IfSome, IsTrue, slice_get, Decides-eqb, slice_get_within, null, ComparesTrue, Function, ComparisonOperator, Filter, IsFilter, CheckedNode, NodeKind, one_there, there_found, Range, inside_there, Carrier, SqlType, Operand, Source, Kind, kind_of_type, IsNodeOperand, IsPut, IsSourceOf, IsPlainAt, IsValuedAt, IsCarriedFunction}
 use Rattle.sql_forms.proofs.outcomes.ComparisonAnswers.{is_none}
-
--- what holds of all holds of one of them
-pub at_all : {T : Type 0} (P : T → Type 0) (xs : List T) (n : ℕ) (x : T) → AllByRecursion P xs → slice_get xs n ≡ Some x → P x
-at_all P [] n x all at = let none : None ≡ Some x = at in absurd (cc)
-at_all P (first ∷ xs) zero x all at =
-    let there : Some first ≡ Some x = at in
-    let same : first ≡ x = cc in
-    subst P same all.0
-at_all P (first ∷ xs) (suc n) x all at = at_all P xs n x all.1 at
+use Rattle.sql_forms.proofs.nodes.ByNode.{by_node}
+pub use Rattle.sql_forms.proofs.outcomes.Elements.{at_all}
 
 -- what `is_empty` says of a list
 pub empty_length : {T : Type 0} (xs : List T) (empty : Bool) → empty ≡ (length xs == 0) → empty ≡ true → length xs ≡ 0
@@ -35,11 +27,9 @@ module _ (filter : Filter) (ranges : List Range) (operand : Operand) (place : �
 
   pub node_plain : IsPlainAt filter ranges place
   node_plain found range at ranged truth =
-      let same_node : Some node_of.node ≡ Some found = sym node_of.at ∙ at in
-      let node_is : node_of.node ≡ found = cc in
+      let node_is : node_of.node ≡ found = cc (node_of.at, at) in
       let kind : operand.kind ≡ Kind.Value SqlType.Truth = node_of.kind ∙ ap (λ (n : CheckedNode). kind_of_type n.edm_type) node_is ∙ truth in
-      let same_range : Some operand.range ≡ Some range = sym node_of.range ∙ ranged in
-      let range_is : operand.range ≡ range = cc in
+      let range_is : operand.range ≡ range = cc (node_of.range, ranged) in
       subst (λ (r : Range). r.may_fault ≡ false) range_is (put.plain kind)
 
 -- ---- operands that are something else
@@ -73,9 +63,7 @@ not_so {B} b reports is so = is_none (subst (λ (k : Bool). B → IsTrue k) is r
 -- the operand of a negation is a node
 pub negated_child : (filter : Filter) → IsFilter filter → (place : ℕ) (found : CheckedNode) → slice_get filter.list.nodes place ≡ Some found → found.kind ≡ NodeKind.Neg → place + 1 < length filter.list.nodes
 negated_child filter right place found at is =
-    let there = tree_found filter right place found at NodeKind.Neg tt is in
-    by_kind filter there.scope place found at NodeKind.Neg is (λ s t. place + 1 < length filter.list.nodes)
-    (λ below s from to stands.
-    let inner = one_there filter.schema filter.filtered there.scope filter.list (place + 1) s below stands.children in
-    inside_there filter there.scope (place + 1) s below inner)
-    there.stop there.part there.stands
+    by_node filter right place found at NodeKind.Neg tt is (place + 1 < length filter.list.nodes)
+    (λ scope below s from to stands.
+    let inner = one_there filter.schema filter.filtered scope filter.list (place + 1) s below stands.children in
+    inside_there filter scope (place + 1) s below inner)

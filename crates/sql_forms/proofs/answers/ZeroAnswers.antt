@@ -5,17 +5,11 @@ use Rattle.sql_forms.proofs.Common.{◌≡◌, pos, List, false, sym, ap, subst,
 abbrev pub zero_range : Range
 zero_range = record { may_fault = false; may_be_null = false; low = pos 0; high = pos 0 }
 
-no_structure : Kind.Value SqlType.Whole ≡ Kind.Structured → ⊥
-no_structure is = cc
-
-no_truth : Kind.Value SqlType.Whole ≡ Kind.Value SqlType.Truth → ⊥
-no_truth is = cc
-
 pub zero_may_be_put : (filter : Filter) (ranges : List Range) (zero : Operand) → zero.source ≡ Source.Zero → zero.kind ≡ Kind.Value SqlType.Whole → IsPut filter ranges zero
 zero_may_be_put filter ranges zero source kind = record {
   source = subst (IsSourceOf filter ranges zero) (sym source) tt;
-  valued = λ structured. no_structure (sym kind ∙ structured);
-  plain = λ truth. absurd (no_truth (sym kind ∙ truth));
+  valued = λ structured. cc (sym kind ∙ structured);
+  plain = λ truth. absurd (cc (sym kind ∙ truth));
 }
 
 small_bounds : IsBounded zero_range

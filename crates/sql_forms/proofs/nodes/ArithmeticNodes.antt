@@ -1,5 +1,5 @@
 -- What a node of arithmetic evaluates to, by what its sides do; `-` is a difference from 0.
-use Rattle.sql_forms.proofs.Common.{◌≡◌, ◌≢◌, ◌<◌, ◌+◌, ◌∙◌, ℕ, pos, List, Some, Option, FitsSigned, length, refl, sym, ap, subst, arith, ints, w64, slice_get, IsMoment, Val, null, whole, PrimitiveType, ExprType, primitive, single, SchemaModel, Slots, slots_of, type_name_at, IsFilter, Stands, CheckedNode, NodeKind, one_there, found_there, EndsOnceOnEntities, IsOutcomeOf, scope_of, InType, HasKind, OneType, Typed, CalculationGives, NegatedGives, After, Then, Outcome, gives, overflow, divides_by_zero, IsWithin, Range, IsNumberOrNull, expr_type, EdmType, ValueType, Tree, binary, negation, node, ArithmeticOperator, BinaryOperator, SqlType, Operand, Source, Kind, CalculatedHas, IsComputedIn, IsOfNumbers, MadeOf, NoTruth, kind_of_type, IsNodeOperand, OperandHas, SourceHas, AreRanges, IsAskedOf, OfPlace, Question, World, MeansOf, binary_comes, means_in, means_of, by_kind}
+use Rattle.sql_forms.proofs.Common.{◌≡◌, ◌≢◌, ◌<◌, ◌+◌, ◌∙◌, ℕ, pos, List, Some, Option, FitsSigned, length, refl, sym, ap, subst, arith, ints, w64, slice_get, IsMoment, Val, null, whole, PrimitiveType, ExprType, primitive, single, SchemaModel, Slots, slots_of, type_name_at, IsFilter, Stands, CheckedNode, NodeKind, one_there, found_there, EndsOnceOnEntities, IsOutcomeOf, scope_of, InType, HasKind, OneType, Typed, CalculationGives, NegatedGives, After, Then, Outcome, gives, overflow, divides_by_zero, Range, IsNumberOrNull, expr_type, EdmType, ValueType, Tree, binary, negation, node, ArithmeticOperator, BinaryOperator, SqlType, Operand, Source, Kind, CalculatedHas, IsComputedIn, IsOfNumbers, MadeOf, NoTruth, kind_of_type, IsNodeOperand, OperandHas, SourceHas, AreRanges, IsAskedOf, OfPlace, Question, World, MeansOf, binary_comes, means_in, means_of, by_kind}
 use Rattle.odata_ranges.proofs.HoldingOne.{minus_given}
 use Rattle.sql_forms.proofs.nodes.BinaryPlaces.{top_node, two_below}
 use Rattle.sql_forms.proofs.nodes.ComparisonsAt.{same_node}
@@ -141,9 +141,6 @@ module _ (question : Question) (ranges : List Range) (are : AreRanges question r
 
   module _ (here : HasKind question.filter.list place NodeKind.Neg) (zero operand : Operand) (operand_is : IsNodeOperand question.filter ranges operand (place + 1))
       (operand_source : operand.source ≡ Source.Node (place + 1)) (zero_source : zero.source ≡ Source.Zero) (zero_low : zero.range.low ≡ pos 0) (zero_high : zero.range.high ≡ pos 0) where
-    zero_within : IsWithin zero.range (gives (whole (pos 0)))
-    zero_within = (omega (arith, ints, zero_low), omega (arith, ints, zero_high))
-
     zero_number : FitsSigned w64 (pos 0)
     zero_number = omega (arith, ints)
 
@@ -195,7 +192,7 @@ module _ (question : Question) (ranges : List Range) (are : AreRanges question r
           left_plain = λ none. (whole (pos 0), refl);
           right_plain = node_plain question ends is_moment world seen ranges are operand (place + 1) operand_is
               (no_truth operand (place + 1) operand_is operand_source n.number n.numeric world seen n.second n.has) n.second n.has;
-          left_within = zero_within;
+          left_within = (omega (arith, ints, zero_low), omega (arith, ints, zero_high));
           right_within = are.within (place + 1) operand.range world n.second operand_is.range seen n.has;
           left_number = zero_number;
           right_number = operand_number operand (place + 1) operand_is operand_source n.number n.numeric world seen n.second n.has;

@@ -7,6 +7,7 @@ use Rattle.sql_forms.proofs.nodes.InPathNodes.{at_place}
 use Rattle.sql_forms.proofs.nodes.StructuredNodes.{structured_path}
 use Rattle.sql_forms.proofs.nodes.ValueNodes.{collection_path}
 use Rattle.sql_forms.proofs.outcomes.ChainWalk.{truth_kind}
+use Rattle.sql_forms.proofs.nodes.ByNode.{by_node}
 
 -- ---- faults
 
@@ -59,74 +60,62 @@ module _ (filter : Filter) (right : IsFilter filter) (types : OneType) (place : 
 
   pub not_below : found.kind ≡ NodeKind.Not → TruthBelow filter place (place + 1)
   not_below is =
-      let there = tree_found filter right place found at NodeKind.Not tt is in
-      by_kind filter there.scope place found at NodeKind.Not is (λ s t. StandsIn filter there.scope place s t → TruthBelow filter place (place + 1))
-      (λ operand s from to stands again.
-      let typed = type_there filter there.scope place found at s (node from to (logical_not operand)) stands in
-      let inner = one_there filter.schema filter.filtered there.scope filter.list (place + 1) s operand stands.children in
-      let further : place + 1 < s = further_in filter.schema filter.filtered filter.list there.scope (place + 1) s operand inner in
-      let stops : found.stop ≡ s = stop_there filter there.scope place found at s (node from to (logical_not operand)) stands in
+      by_node filter right place found at NodeKind.Not tt is (TruthBelow filter place (place + 1))
+      (λ scope operand s from to stands.
+      let typed = type_there filter scope place found at s (node from to (logical_not operand)) stands in
+      let inner = one_there filter.schema filter.filtered scope filter.list (place + 1) s operand stands.children in
+      let further : place + 1 < s = further_in filter.schema filter.filtered filter.list scope (place + 1) s operand inner in
+      let stops : found.stop ≡ s = stop_there filter scope place found at s (node from to (logical_not operand)) stands in
       record {
-        truth = truth_there there.scope (place + 1) s operand typed.operand inner typed.operand_typed typed.makes.0;
+        truth = truth_there scope (place + 1) s operand typed.operand inner typed.operand_typed typed.makes.0;
         below = (omega arith, there_found (λ (n : CheckedNode). place + 1 < n.stop) (slice_get filter.list.nodes place) found at (omega (arith, further, stops)));
-        inside = inside_there filter there.scope (place + 1) s operand inner;
+        inside = inside_there filter scope (place + 1) s operand inner;
       })
-      there.stop there.part there.stands there.stands
 
   -- the collection and the body of a lambda operator
   module _ (quantifier : Quantifier) (is : found.kind ≡ NodeKind.Lambda quantifier) where
     pub lambda_path : IsPathAt filter (place + 1)
     lambda_path =
-        let there = tree_found filter right place found at (NodeKind.Lambda quantifier) tt is in
-        by_kind filter there.scope place found at (NodeKind.Lambda quantifier) is (λ s t. StandsIn filter there.scope place s t → IsPathAt filter (place + 1))
-        (λ base asked body s from to stands again.
-        let typed = type_there filter there.scope place found at s (node from to (lambda quantifier base asked body)) stands in
-        collection_path filter right place found at there.scope stands.children.middle base (collection typed.member_type) stands.children.left typed.binds.over tt)
-        there.stop there.part there.stands there.stands
-
-    same_member : (s t : SingleType) → collection s ≡ collection t → s ≡ t
-    same_member s t same = cc
+        by_node filter right place found at (NodeKind.Lambda quantifier) tt is (IsPathAt filter (place + 1))
+        (λ scope base asked body s from to stands.
+        let typed = type_there filter scope place found at s (node from to (lambda quantifier base asked body)) stands in
+        collection_path filter right place found at scope stands.children.middle base (collection typed.member_type) stands.children.left typed.binds.over tt)
 
     pub lambda_body : (second : ℕ) → IsStopAt filter (place + 1) second → TruthBelow filter place second
     lambda_body second stops =
-        let there = tree_found filter right place found at (NodeKind.Lambda quantifier) tt is in
-        by_kind filter there.scope place found at (NodeKind.Lambda quantifier) is (λ s t. StandsIn filter there.scope place s t → TruthBelow filter place second)
-        (λ base asked body s from to stands again.
+        by_node filter right place found at (NodeKind.Lambda quantifier) tt is (TruthBelow filter place second)
+        (λ scope base asked body s from to stands.
         let middle : ℕ = stands.children.middle in
         let slots = slots_of filter.schema in
         let root = type_name_at filter.schema filter.filtered in
-        let typed = type_there filter there.scope place found at s (node from to (lambda quantifier base asked body)) stands in
-        let within = body_stands filter.schema filter.filtered there.scope filter.list middle s base asked body stands.children.right in
-        let here_type : within.member_type ≡ typed.member_type = same_member within.member_type typed.member_type
-        (types slots root there.scope base (collection within.member_type) (collection typed.member_type) within.binds.over typed.binds.over) in
-        let standing : Stands filter.schema filter.filtered (record { name = asked; type_of = single typed.member_type } ∷ there.scope) filter.list middle s body =
-        subst (λ (t : SingleType). Stands filter.schema filter.filtered (record { name = asked; type_of = single t } ∷ there.scope) filter.list middle s body) here_type within.body in
-        let top = top_node filter there.scope (place + 1) middle base stands.children.left in
+        let typed = type_there filter scope place found at s (node from to (lambda quantifier base asked body)) stands in
+        let within = body_stands filter.schema filter.filtered scope filter.list middle s base asked body stands.children.right in
+        let here_type : within.member_type ≡ typed.member_type = cc (types slots root scope base (collection within.member_type) (collection typed.member_type) within.binds.over typed.binds.over) in
+        let standing : Stands filter.schema filter.filtered (record { name = asked; type_of = single typed.member_type } ∷ scope) filter.list middle s body =
+        subst (λ (t : SingleType). Stands filter.schema filter.filtered (record { name = asked; type_of = single t } ∷ scope) filter.list middle s body) here_type within.body in
+        let top = top_node filter scope (place + 1) middle base stands.children.left in
         let reported : top.found.stop ≡ second = found_there (λ (n : CheckedNode). n.stop ≡ second) (slice_get filter.list.nodes (place + 1)) top.found top.at stops in
         let is_second : middle ≡ second = sym top.stops ∙ reported in
-        let first_further : place + 1 < middle = further_in filter.schema filter.filtered filter.list there.scope (place + 1) middle base stands.children.left in
-        let further : middle < s = further_in filter.schema filter.filtered filter.list (record { name = asked; type_of = single typed.member_type } ∷ there.scope) middle s body standing in
-        let ends : found.stop ≡ s = stop_there filter there.scope place found at s (node from to (lambda quantifier base asked body)) stands in
+        let first_further : place + 1 < middle = further_in filter.schema filter.filtered filter.list scope (place + 1) middle base stands.children.left in
+        let further : middle < s = further_in filter.schema filter.filtered filter.list (record { name = asked; type_of = single typed.member_type } ∷ scope) middle s body standing in
+        let ends : found.stop ≡ s = stop_there filter scope place found at s (node from to (lambda quantifier base asked body)) stands in
         subst (TruthBelow filter place) is_second (record {
-          truth = truth_there (record { name = asked; type_of = single typed.member_type } ∷ there.scope) middle s body typed.body standing typed.body_typed typed.truth;
+          truth = truth_there (record { name = asked; type_of = single typed.member_type } ∷ scope) middle s body typed.body standing typed.body_typed typed.truth;
           below = (omega (arith, first_further), there_found (λ (n : CheckedNode). middle < n.stop) (slice_get filter.list.nodes place) found at (omega (arith, further, ends)));
-          inside = inside_there filter (record { name = asked; type_of = single typed.member_type } ∷ there.scope) middle s body standing;
+          inside = inside_there filter (record { name = asked; type_of = single typed.member_type } ∷ scope) middle s body standing;
         }))
-        there.stop there.part there.stands there.stands
 
   -- the left side of `in` before a path
   pub in_path_left : found.kind ≡ NodeKind.InPath → IsBelow filter place (place + 1)
   in_path_left is =
-      let there = tree_found filter right place found at NodeKind.InPath tt is in
-      by_kind filter there.scope place found at NodeKind.InPath is (λ s t. StandsIn filter there.scope place s t → IsBelow filter place (place + 1))
-      (λ a b s from to stands again.
+      by_node filter right place found at NodeKind.InPath tt is (IsBelow filter place (place + 1))
+      (λ scope a b s from to stands.
       let middle : ℕ = stands.children.middle in
-      let second_stands = one_there filter.schema filter.filtered there.scope filter.list middle s b stands.children.right in
-      let first_further : place + 1 < middle = further_in filter.schema filter.filtered filter.list there.scope (place + 1) middle a stands.children.left in
-      let further : middle < s = further_in filter.schema filter.filtered filter.list there.scope middle s b second_stands in
-      let ends : found.stop ≡ s = stop_there filter there.scope place found at s (node from to (in_path a b)) stands in
+      let second_stands = one_there filter.schema filter.filtered scope filter.list middle s b stands.children.right in
+      let first_further : place + 1 < middle = further_in filter.schema filter.filtered filter.list scope (place + 1) middle a stands.children.left in
+      let further : middle < s = further_in filter.schema filter.filtered filter.list scope middle s b second_stands in
+      let ends : found.stop ≡ s = stop_there filter scope place found at s (node from to (in_path a b)) stands in
       (omega arith, there_found (λ (n : CheckedNode). place + 1 < n.stop) (slice_get filter.list.nodes place) found at (omega (arith, first_further, further, ends))))
-      there.stop there.part there.stands there.stands
 
 -- the body of a lambda operator that evaluates to no fault
 pub record BodyThere (filter : Filter) (ranges : List Range) (place : ℕ) : Type 0 where

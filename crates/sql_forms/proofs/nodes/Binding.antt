@@ -1,12 +1,12 @@
 -- Terms over bound values, and over members.
-use Rattle.sql_forms.proofs.Common.{Grows, ◌≡◌, ◌++◌, ◌∷◌, [], ◌+◌, ℕ, zero, suc, List, Option, Some, None, map, length, refl, sym, ap, subst, ◌∙◌, append_assoc, append-nil, length-append, IsSomeAnd, slice_get, Outcome, gives, AllMean, SqlMeans, Bound, BoundValue, bound_value, term, no_terms, more_terms, nodes_of, nodes_of_all, SqlNode, Parameter, Path, SqlTree, Draft, IsFront, Has, IsWorldOf, Puts, PutsAll, Question, StandsAt, World, extended, AreNumbered, parameters_of, front_of_front, grows_then, world_before, numbered_both}
+use Rattle.sql_forms.proofs.Common.{Grows, ◌≡◌, ◌++◌, ◌∷◌, [], ◌+◌, ℕ, List, Option, Some, None, map, length, refl, sym, ap, subst, ◌∙◌, append_assoc, append-nil, length-append, IsSomeAnd, slice_get, Outcome, gives, AllMean, SqlMeans, Bound, BoundValue, bound_value, term, no_terms, more_terms, nodes_of, nodes_of_all, SqlNode, Parameter, Path, SqlTree, Draft, IsFront, Has, IsWorldOf, Puts, PutsAll, Question, StandsAt, World, extended, AreNumbered, parameters_of, front_of_front, grows_then, world_before, numbered_both}
 use Rattle.odata_meaning.specs.Environment.{Bound as Variable}
+use Rattle.odata_checked_filter.proofs.flat.Places.{get_front}
+use Rattle.std.proofs.lemmas.List.{length-map}
 
 -- what is bound stays where it is
 pub stays : (bound more : Bound) (level : ℕ) (b : BoundValue) → slice_get bound level ≡ Some b → slice_get (bound ++ more) level ≡ Some b
-stays [] more level b is = let none : None ≡ Some b = is in cc
-stays (first ∷ rest) more zero b is = is
-stays (first ∷ rest) more (suc level) b is = stays rest more level b is
+stays bound more level b is = get_front bound more level b is
 
 pub at_last : {A : Type 0} (xs : List A) (x : A) → slice_get (xs ++ x ∷ []) (length xs) ≡ Some x
 at_last [] x = refl
@@ -106,8 +106,8 @@ module _ (question : Question) where
           ∙ ap (λ (ns : List SqlNode). ns ++ nodes_of_all values.terms) (ap (λ (tree : SqlTree). tree.nodes.items) tree_is ∙ inner.grows.nodes_are ∙ ap (λ (ns : List SqlNode). ns ++ nodes_of inner.t) nodes)
           ∙ ap (λ (ns : List SqlNode). ns ++ nodes_of_all values.terms) (append_assoc old.tree.nodes.items (SqlNode.Let level count ∷ []) (nodes_of inner.t))
           ∙ append_assoc old.tree.nodes.items (SqlNode.Let level count ∷ nodes_of inner.t) (nodes_of_all values.terms);
-      paths = front_of_front old.tree.paths.items shut.tree.paths.items new.tree.paths.items body_paths values.grows.paths;
-      parameters = front_of_front old.tree.parameters.items shut.tree.parameters.items new.tree.parameters.items body_parameters values.grows.parameters;
+      paths = front_of_front old.tree.paths.items shut.tree.paths.items new.tree.paths.items (subst (λ (ps : List Path). IsFront ps shut.tree.paths.items) paths (subst (IsFront opened.tree.paths.items) (sym tree_paths) inner.grows.paths)) values.grows.paths;
+      parameters = front_of_front old.tree.parameters.items shut.tree.parameters.items new.tree.parameters.items (subst (λ (ps : List Parameter). IsFront ps shut.tree.parameters.items) parameters (subst (IsFront opened.tree.parameters.items) (sym tree_parameters) inner.grows.parameters)) values.grows.parameters;
       numbered = numbered_both (length old.tree.parameters.items) (length shut.tree.parameters.items) (length new.tree.parameters.items) (nodes_of inner.t) (nodes_of_all values.terms)
           (subst (λ (ps : List Parameter). AreNumbered (length ps) (parameters_of (nodes_of inner.t)) (length shut.tree.parameters.items)) parameters
           (subst (λ (ps : List Parameter). AreNumbered (length opened.tree.parameters.items) (parameters_of (nodes_of inner.t)) (length ps)) (sym tree_parameters) inner.grows.numbered))
@@ -118,25 +118,15 @@ module _ (question : Question) where
     says = λ world o is has.
         let g = goes world o is has in
         let before = world_before question shut new (nodes_of_all values.terms) world values.grows is in
-        let counted : length (map bound_value g.0) ≡ count = length_bound g.0 ∙ g.2 in
+        let counted : length (map bound_value g.0) ≡ count = length-map g.0 bound_value ∙ g.2 in
         let inside = world_within question shut body world (map bound_value g.0) (same_front tree_paths) (same_front tree_parameters)
         (sym shut_members) (inner.grows.depth ∙ depth ∙ ap (λ (n : ℕ). n + count) (sym shut_depth) ∙ ap (λ (n : ℕ). shut.depth + n) (sym counted)) before in
         let m = inner.says (extended world (map bound_value g.0)) g.3 inside g.4 in
         (m.0, (g.0, values.says world g.0 is g.1, g.2, level_is ∙ sym (is.depth ∙ values.grows.depth ∙ shut_depth), m.1), g.5 m.0 m.2);
   }
     where
-      length_bound : (os : List Outcome) → length (map bound_value os) ≡ length os
-      length_bound [] = refl
-      length_bound (o ∷ os) = ap suc (length_bound os)
-
       tree_paths : shut.tree.paths.items ≡ body.tree.paths.items
       tree_paths = ap (λ (tree : SqlTree). tree.paths.items) tree_is
 
       tree_parameters : shut.tree.parameters.items ≡ body.tree.parameters.items
       tree_parameters = ap (λ (tree : SqlTree). tree.parameters.items) tree_is
-
-      body_paths : IsFront old.tree.paths.items shut.tree.paths.items
-      body_paths = subst (λ (ps : List Path). IsFront ps shut.tree.paths.items) paths (subst (IsFront opened.tree.paths.items) (sym tree_paths) inner.grows.paths)
-
-      body_parameters : IsFront old.tree.parameters.items shut.tree.parameters.items
-      body_parameters = subst (λ (ps : List Parameter). IsFront ps shut.tree.parameters.items) parameters (subst (IsFront opened.tree.parameters.items) (sym tree_parameters) inner.grows.parameters)

@@ -1,7 +1,8 @@
 -- What a call evaluates to, by what its arguments do: the first fault, or what the function makes of their values.
-use Rattle.sql_forms.proofs.Common.{◌≡◌, ◌≢◌, ◌⊎◌, inl, inr, ◌<◌, ◌≤◌, ◌+◌, ◌∷◌, [], ℕ, List, Bool, true, false, Some, map, refl, sym, ap, subst, ◌∙◌, arith, slice_get, IsMoment, IsNumberType, Val, null, PrimitiveType, ExprType, SchemaModel, Slots, slots_of, type_name_at, value_of, Tree, Trees, more_trees, no_trees, node, AreArgumentTypes, IsArgumentPrimitive, IsArgumentType, FunctionTyped, IsNamed, row_of, expr_type, ArgumentKind, EdmType, ValueType, Function, OneType, AreTyped, Scope, Typed, AllStand, Stands, CheckedNode, NodeKind, lie_onward, further_in, EndsOnceOnEntities, scope_of, ArgumentsMean, HasKind, found_there, CallGives, UnlessNull, has_null, FunctionGives, Then, Outcome, gives, overflow, divides_by_zero, IsValueWithin, Range, without_fault, SqlType, Operand, Source, Kind, AreAlong, AreArgumentsOf, AreOfKinds, IsFirstWithin, IsLooselyWithin, NoTruth, kind_of_type, type_of_primitive, AllHave, ArePlain, fault_else, faults_of, Fits, IsNodeAt, OperandHas, SourceHas, AreRanges, IsAskedOf, OfPlace, Question, World, MeansOf, means_in, means_of, by_kind, stop_is, all_lie}
+use Rattle.sql_forms.proofs.Common.{◌≡◌, ◌≢◌, ◌⊎◌, inl, inr, ◌+◌, ◌∷◌, [], ℕ, List, Bool, true, false, map, refl, sym, ap, subst, ◌∙◌, slice_get, IsMoment, IsNumberType, Val, null, PrimitiveType, ExprType, SchemaModel, Slots, slots_of, type_name_at, value_of, Tree, Trees, more_trees, no_trees, node, AreArgumentTypes, IsArgumentPrimitive, IsArgumentType, FunctionTyped, IsNamed, row_of, expr_type, ArgumentKind, EdmType, ValueType, Function, OneType, AreTyped, Scope, Typed, AllStand, Stands, CheckedNode, NodeKind, EndsOnceOnEntities, scope_of, ArgumentsMean, HasKind, found_there, CallGives, UnlessNull, has_null, FunctionGives, Then, Outcome, gives, overflow, divides_by_zero, IsValueWithin, Range, without_fault, SqlType, Operand, Source, Kind, AreAlong, AreArgumentsOf, AreOfKinds, IsFirstWithin, IsLooselyWithin, NoTruth, kind_of_type, type_of_primitive, AllHave, ArePlain, fault_else, faults_of, Fits, IsNodeAt, OperandHas, SourceHas, AreRanges, IsAskedOf, OfPlace, Question, World, MeansOf, means_in, means_of, by_kind, stop_is}
 use Rattle.sql_forms.proofs.outcomes.Apart.{null_kind}
 use Rattle.sql_forms.proofs.nodes.WorldNodes.{comes, node_fits, node_plain}
+use Rattle.sql_forms.proofs.nodes.Along.{too_few, too_many}
 
 -- ---- the kinds of arguments
 
@@ -112,13 +113,17 @@ AllGive os Goes o = ((values : List Val) × (os ≡ map gives values) × Goes va
 
 module _ (question : Question) (types : OneType) (ends : EndsOnceOnEntities) (is_moment : IsMoment question.now.civil question.now.offset_minutes) (world : World) (seen : IsAskedOf question world)
     (ranges : List Range) (are : AreRanges question ranges) where
+  -- all of them evaluate to something
+  pub record AllCome (kinds : List ArgumentKind) (operands : List Operand) : Type 0 where
+    pub os : List Outcome
+    pub suit : AllSuit kinds operands
+    pub have : AllHave question.filter operands world os
+    pub plain : ArePlain operands os
+    pub fit : AllFit operands os
+
   record ArgumentsCome (kinds : List ArgumentKind) (operands : List Operand) (Goes : List Val → Outcome → Type 0) (o : Outcome) : Type 0 where
-    os : List Outcome
-    suit : AllSuit kinds operands
-    have : AllHave question.filter operands world os
-    plain : ArePlain operands os
-    fit : AllFit operands os
-    given : AllGive os Goes o
+    all : AllCome kinds operands
+    given : AllGive all.os Goes o
 
   abbrev slots : Slots
   slots = slots_of question.filter.schema
@@ -132,15 +137,8 @@ module _ (question : Question) (types : OneType) (ends : EndsOnceOnEntities) (is
   abbrev At : ℕ → Operand → Type 0
   At = IsNodeAt question.filter ranges
 
-  onward_along : (at stop : ℕ) (operands : List Operand) → AreAlong question.filter At at stop operands → at ≤ stop
-  onward_along at stop [] along = omega (arith, along)
-  onward_along at stop (operand ∷ operands) along =
-      let next : along.0.stop ≤ stop = onward_along along.0.stop stop operands along.4 in
-      let here : at < along.0.stop = along.2 in
-      omega (arith, next, here)
-
   -- one argument, whatever it evaluates to
-  module _ (kinds : List ArgumentKind) (kind : ArgumentKind) (operand : Operand) (suits : SuitsKind kind operand.kind) (operands : List Operand) (Goes : List Val → Outcome → Type 0) (o : Outcome) (at : ℕ) (is : IsNodeAt question.filter ranges at operand) (no_truth : NoTruth operand) where
+  module _ (kinds : List ArgumentKind) (kind : ArgumentKind) (operand : Operand) (suits : SuitsKind kind operand.kind) (operands : List Operand) (at : ℕ) (is : IsNodeAt question.filter ranges at operand) (no_truth : NoTruth operand) where
     has_it : (p : Outcome) → OfPlace question.filter at world p → OperandHas question.filter operand world p
     has_it p has = subst (λ (s : Source). SourceHas question.filter s world p) (sym is.source) has
 
@@ -149,14 +147,20 @@ module _ (question : Question) (types : OneType) (ends : EndsOnceOnEntities) (is
         let has_v : OfPlace question.filter at world (gives v) = subst (OfPlace question.filter at world) same has in
         (node_fits question ends is_moment world seen ranges are operand at is.is v has_v, are.within at operand.range world (gives v) is.is.range seen has_v)
 
-    -- a value, and the others
-    of_value : (v : Val) → OfPlace question.filter at world (gives v) → ArgumentsCome kinds operands (λ values. Goes (v ∷ values)) o → ArgumentsCome (kind ∷ kinds) (operand ∷ operands) Goes o
-    of_value v has rest = record {
-      os = gives v ∷ rest.os;
+    -- before the others
+    abbrev with_one : (p : Outcome) → OfPlace question.filter at world p → AllCome kinds operands → AllCome (kind ∷ kinds) (operand ∷ operands)
+    with_one p has rest = record {
+      os = p ∷ rest.os;
       suit = (suits, rest.suit);
-      have = (has_it (gives v) has, rest.have);
-      plain = (node_plain question ends is_moment world seen ranges are operand at is.is no_truth (gives v) has, rest.plain);
-      fit = (fits_it (gives v) has, rest.fit);
+      have = (has_it p has, rest.have);
+      plain = (node_plain question ends is_moment world seen ranges are operand at is.is no_truth p has, rest.plain);
+      fit = (fits_it p has, rest.fit);
+    }
+
+    -- a value, and the others
+    of_value : (Goes : List Val → Outcome → Type 0) (o : Outcome) (v : Val) → OfPlace question.filter at world (gives v) → ArgumentsCome kinds operands (λ values. Goes (v ∷ values)) o → ArgumentsCome (kind ∷ kinds) (operand ∷ operands) Goes o
+    of_value Goes o v has rest = record {
+      all = with_one (gives v) has rest.all;
       given = elim rest.given [
         | inl all ↦ inl (v ∷ all.0, ap (λ (xs : List Outcome). gives v ∷ xs) all.1, all.2)
         | inr some ↦ inr some
@@ -164,18 +168,13 @@ module _ (question : Question) (types : OneType) (ends : EndsOnceOnEntities) (is
     }
 
     -- a fault, whatever the others evaluate to
-    of_fault : (f : Outcome) → SomeFault (f ∷ []) → ((rest : Outcome) → o ≡ fault_else f rest) → OfPlace question.filter at world f
-        → (os : List Outcome) → AllSuit kinds operands → AllHave question.filter operands world os → ArePlain operands os → AllFit operands os → ArgumentsCome (kind ∷ kinds) (operand ∷ operands) Goes o
-    of_fault f fault stays has os others have plain fit = record {
-      os = f ∷ os;
-      suit = (suits, others);
-      have = (has_it f has, have);
-      plain = (node_plain question ends is_moment world seen ranges are operand at is.is no_truth f has, plain);
-      fit = (fits_it f has, fit);
-      given = inr (first_fault f fault, λ rest. stays (faults_of os rest));
+    of_fault : (Goes : List Val → Outcome → Type 0) (o f : Outcome) → SomeFault (f ∷ []) → ((rest : Outcome) → o ≡ fault_else f rest) → OfPlace question.filter at world f → AllCome kinds operands → ArgumentsCome (kind ∷ kinds) (operand ∷ operands) Goes o
+    of_fault Goes o f fault stays has others = record {
+      all = with_one f has others;
+      given = inr (first_fault f fault, λ rest. stays (faults_of others.os rest));
     }
       where
-        first_fault : (p : Outcome) → SomeFault (p ∷ []) → SomeFault (p ∷ os)
+        first_fault : (p : Outcome) → SomeFault (p ∷ []) → SomeFault (p ∷ others.os)
         first_fault (gives v) is_it = absurd is_it
         first_fault _ is_it = tt
 
@@ -184,34 +183,17 @@ module _ (question : Question) (types : OneType) (ends : EndsOnceOnEntities) (is
   suits_it kind type at stop (node from to shape) operand is stands typed argument =
       let top_type : expr_type question.filter.schema stands.top.found.edm_type ≡ type =
       types slots root scope (node from to shape) (expr_type question.filter.schema stands.top.found.edm_type) type stands.top.typed typed in
-      let found : Some stands.top.found ≡ Some is.is.node = sym stands.top.stands_at ∙ is.is.at in
-      let same_node : stands.top.found ≡ is.is.node = cc in
+      let same_node : stands.top.found ≡ is.is.node = cc (stands.top.stands_at, is.is.at) in
       subst (SuitsKind kind) (sym is.is.kind)
       (argument_suits question.filter.schema kind is.is.node.edm_type
       (subst (λ (n : CheckedNode). IsArgumentType kind (expr_type question.filter.schema n.edm_type)) same_node (subst (IsArgumentType kind) (sym top_type) argument)))
-
-  -- all of them evaluate to something
-  record AllCome (kinds : List ArgumentKind) (operands : List Operand) : Type 0 where
-    os : List Outcome
-    suit : AllSuit kinds operands
-    have : AllHave question.filter operands world os
-    plain : ArePlain operands os
-    fit : AllFit operands os
 
   all_come : (kinds : List ArgumentKind) (at stop : ℕ) (trees : Trees) (given_types : List ExprType) (operands : List Operand)
       → AllStand question.filter.schema question.filter.filtered scope question.filter.list at stop trees → AreTyped slots root scope trees given_types → AreArgumentTypes kinds given_types
       → AreAlong question.filter At at stop operands → AllCome kinds operands
   all_come kinds at stop no_trees given_types [] stand typed arguments along = record { os = []; suit = tt; have = refl; plain = tt; fit = tt }
-  all_come kinds at stop no_trees given_types (operand ∷ operands) stand typed arguments along =
-      let here : at < along.0.stop = along.2 in
-      let next : along.0.stop ≤ stop = onward_along along.0.stop stop operands along.4 in
-      let same : at ≡ stop = stand in
-      absurd (omega (arith, here, next, same))
-  all_come kinds at stop (more_trees tree more) given_types [] stand typed arguments along =
-      let here : at < stand.middle = further_in question.filter.schema question.filter.filtered question.filter.list scope at stand.middle tree stand.left in
-      let next : stand.middle ≤ stop = lie_onward question.filter.schema question.filter.filtered scope question.filter.list stand.middle stop more (all_lie question.filter.schema question.filter.filtered scope question.filter.list stand.middle stop more stand.right) in
-      let same : at ≡ stop = along in
-      absurd (omega (arith, here, next, same))
+  all_come kinds at stop no_trees given_types (operand ∷ operands) stand typed arguments along = absurd (too_many question.filter At at stop operand operands along stand)
+  all_come kinds at stop (more_trees tree more) given_types [] stand typed arguments along = absurd (too_few question.filter scope at stop tree more stand along)
   all_come kinds at stop (more_trees tree more) [] (operand ∷ operands) stand typed arguments along = absurd typed
   all_come [] at stop (more_trees tree more) (type ∷ given_types) (operand ∷ operands) stand typed arguments along = absurd arguments
   all_come (kind ∷ kinds) at stop (more_trees tree more) (type ∷ given_types) (operand ∷ operands) stand typed arguments along =
@@ -221,30 +203,16 @@ module _ (question : Question) (types : OneType) (ends : EndsOnceOnEntities) (is
       let stops : along.0.stop ≡ stand.middle = stop_is question.filter.schema question.filter.filtered scope question.filter.list at along.0 along.1 stand.middle tree stand.left in
       let rest = all_come kinds stand.middle stop more given_types operands stand.right typed.1 arguments.1 (subst (λ (k : ℕ). AreAlong question.filter At k stop operands) stops along.4) in
       let p = comes question ends is_moment world seen at is.is.node is.is.at stand.middle tree stand.left in
-      record {
-        os = p.0 ∷ rest.os;
-        suit = (suits, rest.suit);
-        have = (has_it [] kind operand suits operands (λ values o. ⊥) p.0 at is no_truth p.0 p.1, rest.have);
-        plain = (node_plain question ends is_moment world seen ranges are operand at is.is no_truth p.0 p.1, rest.plain);
-        fit = (fits_it [] kind operand suits operands (λ values o. ⊥) p.0 at is no_truth p.0 p.1, rest.fit);
-      }
+      with_one kinds kind operand suits operands at is no_truth p.0 p.1 rest
 
   -- one after another, up to the first fault
   arguments_come : (kinds : List ArgumentKind) (at stop : ℕ) (trees : Trees) (given_types : List ExprType) (operands : List Operand) (Goes : List Val → Outcome → Type 0) (o : Outcome)
       → AllStand question.filter.schema question.filter.filtered scope question.filter.list at stop trees → AreTyped slots root scope trees given_types → AreArgumentTypes kinds given_types
       → AreAlong question.filter At at stop operands
       → ArgumentsMean slots root world.now (value_of world.row) world.environment trees Goes o → ArgumentsCome kinds operands Goes o
-  arguments_come kinds at stop no_trees given_types [] Goes o stand typed arguments along given = record { os = []; suit = tt; have = refl; plain = tt; fit = tt; given = inl ([], refl, given) }
-  arguments_come kinds at stop no_trees given_types (operand ∷ operands) Goes o stand typed arguments along given =
-      let here : at < along.0.stop = along.2 in
-      let next : along.0.stop ≤ stop = onward_along along.0.stop stop operands along.4 in
-      let same : at ≡ stop = stand in
-      absurd (omega (arith, here, next, same))
-  arguments_come kinds at stop (more_trees tree more) given_types [] Goes o stand typed arguments along given =
-      let here : at < stand.middle = further_in question.filter.schema question.filter.filtered question.filter.list scope at stand.middle tree stand.left in
-      let next : stand.middle ≤ stop = lie_onward question.filter.schema question.filter.filtered scope question.filter.list stand.middle stop more (all_lie question.filter.schema question.filter.filtered scope question.filter.list stand.middle stop more stand.right) in
-      let same : at ≡ stop = along in
-      absurd (omega (arith, here, next, same))
+  arguments_come kinds at stop no_trees given_types [] Goes o stand typed arguments along given = record { all = record { os = []; suit = tt; have = refl; plain = tt; fit = tt }; given = inl ([], refl, given) }
+  arguments_come kinds at stop no_trees given_types (operand ∷ operands) Goes o stand typed arguments along given = absurd (too_many question.filter At at stop operand operands along stand)
+  arguments_come kinds at stop (more_trees tree more) given_types [] Goes o stand typed arguments along given = absurd (too_few question.filter scope at stop tree more stand along)
   arguments_come kinds at stop (more_trees tree more) [] (operand ∷ operands) Goes o stand typed arguments along given = absurd typed
   arguments_come [] at stop (more_trees tree more) (type ∷ given_types) (operand ∷ operands) Goes o stand typed arguments along given = absurd arguments
   arguments_come (kind ∷ kinds) at stop (more_trees tree more) (type ∷ given_types) (operand ∷ operands) Goes o stand typed arguments along given =
@@ -272,44 +240,31 @@ module _ (question : Question) (types : OneType) (ends : EndsOnceOnEntities) (is
 
       by : ((v : Val) → ArgumentsMean slots root world.now (value_of world.row) world.environment more (λ values. Goes (v ∷ values)) o → ArgumentsCome kinds operands (λ values. Goes (v ∷ values)) o) → (p : Outcome) → MeansOf question world seen tree p
           → Then p (λ v. ArgumentsMean slots root world.now (value_of world.row) world.environment more (λ values. Goes (v ∷ values))) o → ArgumentsCome (kind ∷ kinds) (operand ∷ operands) Goes o
-      by next (gives v) means goes = of_value kinds kind operand suits operands Goes o at is no_truth v (of_place (gives v) means) (next v goes)
-      by next overflow means same = of_fault kinds kind operand suits operands Goes o at is no_truth overflow tt (λ rest. same) (of_place overflow means) others.os others.suit others.have others.plain others.fit
-      by next divides_by_zero means same =
-          of_fault kinds kind operand suits operands Goes o at is no_truth divides_by_zero tt (λ rest. same) (of_place divides_by_zero means) others.os others.suit others.have others.plain others.fit
+      by next (gives v) means goes = of_value kinds kind operand suits operands at is no_truth Goes o v (of_place (gives v) means) (next v goes)
+      by next overflow means same = of_fault kinds kind operand suits operands at is no_truth Goes o overflow tt (λ rest. same) (of_place overflow means) others
+      by next divides_by_zero means same = of_fault kinds kind operand suits operands at is no_truth Goes o divides_by_zero tt (λ rest. same) (of_place divides_by_zero means) others
 
   -- ---- the call
 
   -- its arguments evaluate to these, and it to the first fault of them, or what the function makes of their values
   pub record CallComes (function : Function) (operands : List Operand) (o : Outcome) : Type 0 where
-    pub os : List Outcome
-    pub suit : AllSuit (row_of function).arguments operands
-    pub have : AllHave question.filter operands world os
-    pub plain : ArePlain operands os
-    pub fit : AllFit operands os
+    pub all : AllCome (row_of function).arguments operands
     pub inner : Outcome
-    pub given : CallGives world.now function (map value_or_null os) inner
-    pub is : o ≡ faults_of os inner
+    pub given : CallGives world.now function (map value_or_null all.os) inner
+    pub is : o ≡ faults_of all.os inner
 
   of_arguments : (function : Function) (operands : List Operand) (o : Outcome) → ArgumentsCome (row_of function).arguments operands (CallGives world.now function) o → CallComes function operands o
   of_arguments function operands o come = elim come.given [
     | inl all ↦ record {
-      os = come.os;
-      suit = come.suit;
-      have = come.have;
-      plain = come.plain;
-      fit = come.fit;
+      all = come.all;
       inner = o;
       given = subst (λ (vs : List Val). CallGives world.now function vs o) (sym (ap (λ (xs : List Outcome). map value_or_null xs) all.1 ∙ values_again all.0)) all.2;
       is = no_faults all.0 o ∙ ap (λ (xs : List Outcome). faults_of xs o) (sym all.1);
     }
     | inr some ↦ record {
-      os = come.os;
-      suit = come.suit;
-      have = come.have;
-      plain = come.plain;
-      fit = come.fit;
+      all = come.all;
       inner = gives null;
-      given = null_given (map value_or_null come.os) (fault_is_null come.os some.0);
+      given = null_given (map value_or_null come.all.os) (fault_is_null come.all.os some.0);
       is = some.1 (gives null);
     }
   ]

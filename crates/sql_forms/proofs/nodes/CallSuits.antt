@@ -1,9 +1,10 @@
 -- The arguments of a call may be put as values.
-use Rattle.sql_forms.proofs.Common.{◌≡◌, ◌≢◌, ◌<◌, ◌≤◌, ◌+◌, ◌∷◌, [], ℕ, List, Some, length, refl, sym, subst, arith, slice_get, AllByRecursion, ExprType, slots_of, type_name_at, Tree, Trees, call, more_trees, no_trees, node, AreArgumentTypes, IsArgumentType, FunctionTyped, TakesCount, IsNamed, row_of, expr_type, ArgumentKind, Function, OneType, AreTyped, Scope, Filter, IsFilter, AllStand, CheckedNode, NodeKind, lie_onward, further_in, found_there, Range, StandsIn, TypedIn, stop_there, type_there, tree_found, all_lie, Operand, Kind, AreAlong, AreArgumentsOf, IsNodeAt, IsPut, IsSourceOf, stop_is}
-use Rattle.odata_ranges.proofs.Forms.{by_kind}
+use Rattle.sql_forms.proofs.Common.{◌≡◌, ◌≢◌, ◌<◌, ◌≤◌, ◌+◌, ◌∷◌, [], ℕ, List, Some, length, refl, sym, subst, arith, slice_get, AllByRecursion, ExprType, slots_of, type_name_at, Tree, Trees, call, more_trees, no_trees, node, AreArgumentTypes, IsArgumentType, FunctionTyped, TakesCount, IsNamed, row_of, expr_type, ArgumentKind, Function, OneType, AreTyped, Scope, Filter, IsFilter, AllStand, CheckedNode, NodeKind, found_there, Range, StandsIn, TypedIn, stop_there, type_there, Operand, Kind, AreAlong, AreArgumentsOf, IsNodeAt, IsPut, IsSourceOf, stop_is}
 use Rattle.sql_forms.proofs.nodes.BinaryPlaces.{top_node}
 use Rattle.sql_forms.proofs.nodes.CallNodes.{AllSuit, SuitsKind, argument_suits, suits_no_truth}
 use Rattle.sql_forms.proofs.nodes.ComparisonsAt.{same_node}
+use Rattle.sql_forms.proofs.nodes.Along.{too_few, too_many}
+use Rattle.sql_forms.proofs.nodes.ByNode.{by_node}
 
 suits_no_structure : (kind : ArgumentKind) (k : Kind) → SuitsKind kind k → k ≢ Kind.Structured
 suits_no_structure ArgumentKind.Text k suits is = subst (SuitsKind ArgumentKind.Text) is suits
@@ -51,28 +52,13 @@ module _ (filter : Filter) (types : OneType) (ranges : List Range) (scope : Scop
     put : AllByRecursion (IsPut filter ranges) operands
     many : length given_types ≤ length operands
 
-  onward_along : (at stop : ℕ) (operands : List Operand) → AreAlong filter At at stop operands → at ≤ stop
-  onward_along at stop [] along = omega (arith, along)
-  onward_along at stop (operand ∷ operands) along =
-      let next : along.0.stop ≤ stop = onward_along along.0.stop stop operands along.4 in
-      let here : at < along.0.stop = along.2 in
-      omega (arith, next, here)
-
   all_given : (kinds : List ArgumentKind) (at stop : ℕ) (trees : Trees) (given_types : List ExprType) (operands : List Operand)
       → AllStand filter.schema filter.filtered scope filter.list at stop trees → AreTyped (slots_of filter.schema) (type_name_at filter.schema filter.filtered) scope trees given_types → AreArgumentTypes kinds given_types
       → AreAlong filter At at stop operands → AllGiven kinds operands given_types
   all_given kinds at stop no_trees [] [] stand typed arguments along = record { suit = tt; put = tt; many = omega arith }
   all_given kinds at stop no_trees (type ∷ given_types) operands stand typed arguments along = absurd typed
-  all_given kinds at stop no_trees [] (operand ∷ operands) stand typed arguments along =
-      let here : at < along.0.stop = along.2 in
-      let next : along.0.stop ≤ stop = onward_along along.0.stop stop operands along.4 in
-      let same : at ≡ stop = stand in
-      absurd (omega (arith, here, next, same))
-  all_given kinds at stop (more_trees tree more) given_types [] stand typed arguments along =
-      let here : at < stand.middle = further_in filter.schema filter.filtered filter.list scope at stand.middle tree stand.left in
-      let next : stand.middle ≤ stop = lie_onward filter.schema filter.filtered scope filter.list stand.middle stop more (all_lie filter.schema filter.filtered scope filter.list stand.middle stop more stand.right) in
-      let same : at ≡ stop = along in
-      absurd (omega (arith, here, next, same))
+  all_given kinds at stop no_trees [] (operand ∷ operands) stand typed arguments along = absurd (too_many filter At at stop operand operands along stand)
+  all_given kinds at stop (more_trees tree more) given_types [] stand typed arguments along = absurd (too_few filter scope at stop tree more stand along)
   all_given kinds at stop (more_trees tree more) [] (operand ∷ operands) stand typed arguments along = absurd typed
   all_given [] at stop (more_trees tree more) (type ∷ given_types) (operand ∷ operands) stand typed arguments along = absurd arguments
   all_given (kind ∷ kinds) at stop (more_trees tree more) (type ∷ given_types) (operand ∷ operands) stand typed arguments along =
@@ -91,19 +77,17 @@ pub arguments_given : (filter : Filter) (right : IsFilter filter) (types : OneTy
     (found : CheckedNode) (at : slice_get filter.list.nodes place ≡ Some found) (function : Function) → found.kind ≡ NodeKind.Call function → (operands : List Operand)
     → AreArgumentsOf filter ranges place operands → ArgumentsGiven filter ranges function operands
 arguments_given filter right types one_name ranges place found at function is operands arguments =
-    let there = tree_found filter right place found at (NodeKind.Call function) tt is in
-    by_kind filter there.scope place found at (NodeKind.Call function) is (λ s t. StandsIn filter there.scope place s t → ArgumentsGiven filter ranges function operands)
-    (λ asked trees named later s from to stands again.
-    let typed = type_there filter there.scope place found at s (node from to (call asked trees)) stands in
+    by_node filter right place found at (NodeKind.Call function) tt is (ArgumentsGiven filter ranges function operands)
+    (λ scope asked trees named later s from to stands.
+    let typed = type_there filter scope place found at s (node from to (call asked trees)) stands in
     let called : FunctionTyped function typed.types (expr_type filter.schema found.edm_type) =
     subst (λ (f : Function). FunctionTyped f typed.types (expr_type filter.schema found.edm_type)) (one_name typed.call_typed.function function asked typed.call_typed.named named) typed.call_typed.typed in
-    let ends : found.stop ≡ s = stop_there filter there.scope place found at s (node from to (call asked trees)) stands in
+    let ends : found.stop ≡ s = stop_there filter scope place found at s (node from to (call asked trees)) stands in
     let own = found_there (λ (n : CheckedNode). AreAlong filter (IsNodeAt filter ranges) (place + 1) n.stop operands) (slice_get filter.list.nodes place) found at arguments in
-    let g = all_given filter types ranges there.scope (row_of function).arguments (place + 1) s trees typed.types operands stands.children typed.arguments_typed called.arguments
+    let g = all_given filter types ranges scope (row_of function).arguments (place + 1) s trees typed.types operands stands.children typed.arguments_typed called.arguments
     (subst (λ (k : ℕ). AreAlong filter (IsNodeAt filter ranges) (place + 1) k operands) ends own) in
     let least : 1 ≤ (row_of function).least = least_one function later in
     let enough : (row_of function).least ≤ length typed.types = called.count.least in
     let many : length typed.types ≤ length operands = g.many in
     let few : length operands ≤ length (row_of function).arguments = suit_few (row_of function).arguments operands g.suit in
     record { suit = g.suit; put = g.put; some = omega (arith, least, enough, many); counted = record { least = omega (arith, enough, many); most = few } })
-    there.stop there.part there.stands there.stands

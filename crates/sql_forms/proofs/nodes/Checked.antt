@@ -1,5 +1,5 @@
 -- Arithmetic that may leave its type or divide by 0: what each part of its SQL evaluates to.
-use Rattle.sql_forms.proofs.Common.{◌≡◌, ◌≢◌, ◌⊎◌, inl, inr, ℕ, zero, suc, ℤ, pos, negsuc, Bool, true, false, Option, Some, None, is_some, Result, Ok, Err, IsTrue, refl, sym, ap, subst, ◌∙◌, arith, FitsSigned, ◌+ℤ◌, ◌-ℤ◌, ◌*ℤ◌, w64, IsNumberOf, null, whole, PrimitiveType, ComputesTo, number_outcome, number_val, Outcome, gives, overflow, divides_by_zero, ArithmeticGives, IsDividing, MakesNumber, and3, not3, ArithFault, Overflow, DivideByZero, ArithmeticOperator, ComparisonOperator, BothNumbers, ChoiceGives, GivesInRange, GivesWhole, StrictlyGives, truth}
+use Rattle.sql_forms.proofs.Common.{◌≡◌, ◌≢◌, ◌⊎◌, inl, inr, zero, suc, ℤ, pos, negsuc, Bool, true, false, Option, Some, None, is_some, Result, Ok, Err, IsTrue, refl, sym, ap, subst, ◌∙◌, arith, FitsSigned, ◌+ℤ◌, ◌-ℤ◌, ◌*ℤ◌, w64, IsNumberOf, null, whole, PrimitiveType, ComputesTo, number_outcome, number_val, Outcome, gives, overflow, divides_by_zero, ArithmeticGives, IsDividing, MakesNumber, and3, not3, ArithFault, Overflow, DivideByZero, ArithmeticOperator, ComparisonOperator, BothNumbers, ChoiceGives, GivesInRange, GivesWhole, StrictlyGives, truth}
 use Rattle.sql_forms.proofs.outcomes.Apart.{no_number}
 use Rattle.odata_functions.specs.Division.{IsDivision}
 use Rattle.sql_meaning.proofs.OneStep.{MakesNumber-one, OneDivision}
@@ -28,16 +28,10 @@ pub record Parts (operator : ArithmeticOperator) (type : PrimitiveType) (m k : O
 no_truth : IsTrue false → ⊥
 no_truth is_so = cc
 
-above_zero : (n : ℕ) → pos (suc n) ≡ pos 0 → ⊥
-above_zero n is = let e : suc n ≡ zero = cc in omega (arith, e)
-
-below_zero : (n : ℕ) → negsuc n ≡ pos 0 → ⊥
-below_zero n is = cc
-
 decided_zero : (y : ℤ) → (y ≡ pos 0) ⊎ (y ≢ pos 0)
 decided_zero (pos zero) = inl refl
-decided_zero (pos (suc n)) = inr (above_zero n)
-decided_zero (negsuc n) = inr (below_zero n)
+decided_zero (pos (suc n)) = inr (λ is. let e : suc n ≡ zero = cc is in omega (arith, e))
+decided_zero (negsuc n) = inr (λ is. cc)
 
 -- the operator makes a number of two, unless it divides by 0
 made_free : Divides → (operator : ArithmeticOperator) (a b : ℤ) → (IsDividing operator → b ≡ pos 0 → ⊥) → (n : ℤ) × MakesNumber operator a b n
@@ -70,8 +64,7 @@ module _ (known : Divides) (operator : ArithmeticOperator) (type : PrimitiveType
       → Bounded type n (number_outcome answer)
   bounded_free x y n (Ok (Some m)) never is given =
       let same : given.0 ≡ n = MakesNumber-one known.one operator x y given.0 n given.1 is in
-      let number : Some m ≡ Some given.0 = given.2.0 in
-      let value : m ≡ given.0 = cc in
+      let value : m ≡ given.0 = cc given.2.0 in
       record {
         inside = true;
         reports = (λ is_so. subst (IsNumberOf type) same given.2.1, λ within. refl);
@@ -87,52 +80,35 @@ module _ (known : Divides) (operator : ArithmeticOperator) (type : PrimitiveType
       }
   bounded_free x y n (Err DivideByZero) never is given = absurd (never given.0 given.1)
 
+  -- nothing is computed
+  unmade : (m k : Option ℤ) (o : Outcome) (is_zero : Option Bool) (divisor : Option ℤ) → StrictlyGives ComparisonOperator.Eq (number_val k) (whole (pos 0)) (truth is_zero)
+      → ChoiceGives is_zero (gives null) (gives (number_val k)) (gives (number_val divisor)) → BothNumbers m divisor (GivesWhole operator) (gives null)
+      → ChoiceGives (and3 is_zero (Some (is_some m))) divides_by_zero (gives null) o → Parts operator type m k o
+  unmade m k o is_zero divisor zero_given divisor_given wide_given outer_given = record {
+    is_zero = is_zero;
+    divisor = divisor;
+    wide = None;
+    inside = None;
+    inner = gives null;
+    zero_given = zero_given;
+    divisor_given = divisor_given;
+    wide_given = wide_given;
+    inside_given = refl;
+    inner_given = refl;
+    outer_given = outer_given;
+  }
+
   pub parts : (m k : Option ℤ) (o : Outcome) → IsDividing operator → (m_fits : (x : ℤ) → m ≡ Some x → FitsSigned w64 x) → (k_fits : (y : ℤ) → k ≡ Some y → FitsSigned w64 y)
       → ComputesTo operator type m k o → Parts operator type m k o
   parts None (Some y) o divides m_fits k_fits given =
       elim (decided_zero y) [
-        | inl is ↦ record {
-          is_zero = Some true;
-          divisor = None;
-          wide = None;
-          inside = None;
-          inner = gives null;
-          zero_given = (tt, (λ is_so. is, λ same. refl));
-          divisor_given = refl;
-          wide_given = refl;
-          inside_given = refl;
-          inner_given = refl;
-          outer_given = given.2 ∙ ap number_outcome given.1;
-        }
-        | inr other ↦ record {
-          is_zero = Some false;
-          divisor = Some y;
-          wide = None;
-          inside = None;
-          inner = gives null;
-          zero_given = (tt, (λ is_so. absurd (no_truth is_so), λ same. absurd (other same)));
-          divisor_given = refl;
-          wide_given = refl;
-          inside_given = refl;
-          inner_given = refl;
-          outer_given = given.2 ∙ ap number_outcome given.1;
-        }
+        | inl is ↦ unmade None (Some y) o (Some true) None (tt, (λ is_so. is, λ same. refl)) refl refl (given.2 ∙ ap number_outcome given.1)
+        | inr other ↦
+            unmade None (Some y) o (Some false) (Some y) (tt, (λ is_so. absurd (no_truth is_so), λ same. absurd (other same))) refl refl (given.2 ∙ ap number_outcome given.1)
       ]
   parts (Some x) (Some y) o divides m_fits k_fits given =
       elim (decided_zero y) [
-        | inl is ↦ record {
-          is_zero = Some true;
-          divisor = None;
-          wide = None;
-          inside = None;
-          inner = gives null;
-          zero_given = (tt, (λ is_so. is, λ same. refl));
-          divisor_given = refl;
-          wide_given = refl;
-          inside_given = refl;
-          inner_given = refl;
-          outer_given = given.2 ∙ by_zero_given x y given.0 divides is given.1;
-        }
+        | inl is ↦ unmade (Some x) (Some y) o (Some true) None (tt, (λ is_so. is, λ same. refl)) refl refl (given.2 ∙ by_zero_given x y given.0 divides is given.1)
         | inr other ↦ (
             let number = made_free known operator x y (λ divides. other) in
             let b = bounded_free x y number.0 given.0 (λ divides. other) number.1 given.1 in
@@ -150,19 +126,7 @@ module _ (known : Divides) (operator : ArithmeticOperator) (type : PrimitiveType
               outer_given = given.2;
             })
       ]
-  parts m k o divides m_fits k_fits given = record {
-    is_zero = None;
-    divisor = None;
-    wide = None;
-    inside = None;
-    inner = gives null;
-    zero_given = refl;
-    divisor_given = refl;
-    wide_given = refl;
-    inside_given = refl;
-    inner_given = refl;
-    outer_given = given.2 ∙ ap number_outcome given.1;
-  }
+  parts m k o divides m_fits k_fits given = unmade m k o None None refl refl refl (given.2 ∙ ap number_outcome given.1)
 
   -- ---- where no divisor is 0
 

@@ -1,5 +1,5 @@
 -- The children of a node stand within the list, and have ranges.
-use Rattle.sql_forms.proofs.Common.{◌≡◌, ◌<◌, ◌≤◌, ◌+◌, ℕ, List, Some, length, refl, subst, arith, IsSomeAnd, slice_get, slice_get_within, Filter, IsFilter, CheckedNode, NodeKind, some_there, HasKind, tree_at, Range, BinaryOperator, Quantifier, AreRanges, Question, by_kind}
+use Rattle.sql_forms.proofs.Common.{◌≡◌, ◌<◌, ◌≤◌, ◌+◌, ℕ, List, Some, length, refl, subst, arith, IsSomeAnd, slice_get, slice_get_within, Filter, IsFilter, CheckedNode, NodeKind, some_there, there_found, HasKind, tree_at, Range, BinaryOperator, Quantifier, AreRanges, Question, by_kind}
 use Rattle.odata_ranges.proofs.Inside.{two_inside}
 use Rattle.sql_forms.proofs.nodes.BinaryPlaces.{top_node}
 
@@ -33,6 +33,14 @@ module _ (filter : Filter) (right : IsFilter filter) (place : ℕ) where
         let own = some_there (λ (n : CheckedNode). n.kind ≡ kind) (slice_get filter.list.nodes place) here in
         let one = some_there (λ (n : CheckedNode). n.stop ≡ second) (slice_get filter.list.nodes (place + 1)) stops in
         subst (λ (k : ℕ). k < length filter.list.nodes) one.1.1 ((both own.0 own.1.0 own.1.1).1 one.0 one.1.0).0
+
+  -- those of an operator that was found there
+  pub left_inside : (own : CheckedNode) → slice_get filter.list.nodes place ≡ Some own → (operator : BinaryOperator) → own.kind ≡ NodeKind.Binary operator → place + 1 < length filter.list.nodes
+  left_inside own at operator is = (operator_inside operator own at is).0
+
+  pub right_inside : (own : CheckedNode) → slice_get filter.list.nodes place ≡ Some own → (operator : BinaryOperator) → own.kind ≡ NodeKind.Binary operator → (second : ℕ)
+      → IsSomeAnd (slice_get filter.list.nodes (place + 1)) (λ n. n.stop ≡ second) → second < length filter.list.nodes
+  right_inside own at operator is = second_child (NodeKind.Binary operator) (operator_inside operator) (there_found (λ (n : CheckedNode). n.kind ≡ NodeKind.Binary operator) (slice_get filter.list.nodes place) own at is)
 
   -- the left side of `in` before a list
   pub list_child : HasKind filter.list place NodeKind.InList → place + 1 < length filter.list.nodes

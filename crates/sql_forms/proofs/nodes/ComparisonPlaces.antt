@@ -1,18 +1,16 @@
 -- The sides of a node that compares: what is put for them, and what they evaluate to where the node evaluates to no
 -- fault.
-use Rattle.sql_forms.proofs.Common.{◌≡◌, ◌≢◌, ◌<◌, ◌∙◌, inl, ℕ, List, Bool, false, true, refl, sym, subst, slice_get, Val, boolean, member, Filter, CheckedNode, some_there, there_found, CompareGives, Then, Outcome, gives, IsWithin, Range, ComparisonOperator, SqlType, Draft, Operand, Source, Kind, Form, ComparisonHas, FaultyHave, HasOrCode, IsComparisonOf, IsFaulty, IsFaultyKind, IsSide, IsSideBy, kind_of_type, IsPut, IsSourceOf, IsTestable, IsTested, OperandHas, SourceHas, AreRanges, IsFaultless, IsTruthKind, IsAskedOf, OfPlace, Puts, Question, World, puts_as}
+use Rattle.sql_forms.proofs.Common.{◌≡◌, ◌≢◌, ◌<◌, ◌∙◌, inl, ℕ, List, false, true, refl, sym, subst, slice_get, Val, boolean, member, Filter, CheckedNode, some_there, there_found, CompareGives, Then, Outcome, gives, IsWithin, Range, ComparisonOperator, SqlType, Draft, Operand, Source, Kind, Form, ComparisonHas, FaultyHave, HasOrCode, IsComparisonOf, IsFaulty, IsFaultyKind, IsSide, IsSideBy, kind_of_type, IsPut, IsSourceOf, IsTestable, IsTested, OperandHas, SourceHas, AreRanges, IsFaultless, IsTruthKind, IsAskedOf, OfPlace, Puts, Question, World, puts_as}
 use Rattle.sql_forms.specs.Forms.{IsInForm}
 use Rattle.sql_forms.specs.private.AskedForms.{OrTruth}
 use Rattle.sql_forms.specs.private.Compared.{IsCoded}
 use Rattle.sql_forms.proofs.puts.ComparisonsPut.{compared_truth}
 
-no_member : Kind.Value SqlType.Member ≡ Kind.Value SqlType.Truth → ⊥
-no_member is = cc
-
-no_structure : Kind.Value SqlType.Member ≡ Kind.Structured → ⊥
-no_structure is = cc
-
 -- ---- what is put
+
+-- a form of what is a value
+pub form_of_value : (Form : Outcome → Outcome → Type 0) (o x : Outcome) (v : Val) → o ≡ gives v → OrTruth Form o x → Form o x
+form_of_value Form o x v same form = subst (λ (p : Outcome). Form p x) (sym same) (subst (λ (p : Outcome). OrTruth Form p x) same form)
 
 module _ (filter : Filter) (ranges : List Range) (place : ℕ) (operand : Operand) where
   -- a side that is not a truth value, or that evaluates to no fault
@@ -27,7 +25,7 @@ module _ (filter : Filter) (ranges : List Range) (place : ℕ) (operand : Operan
   tested_by (Source.Node at) Kind.Structured same is put = (is.0, tt)
   tested_by (Source.Number number) Kind.Null same is put = put (λ other. cc)
   tested_by (Source.Number number) (Kind.Value type) same is put = put (λ other. cc)
-  tested_by (Source.Number number) Kind.Structured same is put = absurd (no_structure (sym is.1 ∙ same))
+  tested_by (Source.Number number) Kind.Structured same is put = absurd (cc (sym is.1 ∙ same))
   tested_by source kind same is put = absurd is
 
   pub side_tested : IsSide filter ranges place operand → (operand.kind ≡ Kind.Value SqlType.Truth → operand.range.may_fault ≡ false) → IsTested filter ranges operand
@@ -37,7 +35,7 @@ module _ (filter : Filter) (ranges : List Range) (place : ℕ) (operand : Operan
   coded_by (Source.Node at) here truth is =
       subst (λ (s : Source). IsCoded filter s) (sym here)
       (there_found (λ (node : CheckedNode). IsTruthKind (kind_of_type node.edm_type)) (slice_get filter.list.nodes at) is.0.node is.0.at (subst IsTruthKind (sym truth ∙ is.0.kind) tt))
-  coded_by (Source.Number number) here truth is = absurd (no_member (sym is.1 ∙ truth))
+  coded_by (Source.Number number) here truth is = absurd (cc (sym is.1 ∙ truth))
   coded_by source here truth is = absurd is
 
   faulty_by : (kind : Kind) → operand.kind ≡ kind → IsSide filter ranges place operand → IsFaultyKind filter ranges operand kind
@@ -49,9 +47,6 @@ module _ (filter : Filter) (ranges : List Range) (place : ℕ) (operand : Operan
   side_faulty is = faulty_by operand.kind refl is
 
 -- ---- what it evaluates to
-
-never : (may : Bool) → may ≡ false → may ≡ true → ⊥
-never may here there = let e : false ≡ true = sym here ∙ there in cc
 
 module _ (question : Question) (ranges : List Range) (are : AreRanges question ranges) (place : ℕ) where
   -- a side of a node that evaluates to no fault evaluates to none
@@ -73,7 +68,7 @@ module _ (question : Question) (ranges : List Range) (are : AreRanges question r
     where
       of_range : (range : Range) → range.may_fault ≡ false → (p : Outcome) → IsWithin range p → (v : Val) × (p ≡ gives v)
       of_range range none (gives v) within = (v, refl)
-      of_range range none _ within = absurd (never range.may_fault none within)
+      of_range range none _ within = let clash : false ≡ true = sym none ∙ within in absurd (cc)
 
       node_value : (at : ℕ) → IsSideBy question.filter ranges place operand (Source.Node at) → OfPlace question.filter at world o → (v : Val) × (o ≡ gives v)
       node_value at side there = of_range operand.range plain o (are.within at operand.range world o side.0.range seen there)
@@ -104,9 +99,6 @@ module _ (question : Question) (ranges : List Range) (are : AreRanges question r
           values_given f.left_outcome f.right_outcome o l.1.0 r.1.0 l.1.1 r.1.1 f.given,
         )
 
-    of_value : (Form : Outcome → Outcome → Type 0) (o x : Outcome) (v : Val) → o ≡ gives v → OrTruth Form o x → Form o x
-    of_value Form o x v same form = subst (λ (p : Outcome). Form p x) (sym same) (subst (λ (p : Outcome). OrTruth Form p x) same form)
-
     -- what is put for it is put for the node
     pub comparison_put : (Form : Outcome → Outcome → Type 0) (old new : Draft) → Puts question old new (ComparisonHas question.filter operator left right) (OrTruth Form)
         → Puts question old new (OfPlace question.filter place) Form
@@ -117,7 +109,7 @@ module _ (question : Question) (ranges : List Range) (are : AreRanges question r
         let l = side_value left is.left_is (side_faultless left faultless is.left_is) world f.left_outcome it.seen f.left_has in
         let r = side_value right is.right_is (side_faultless right faultless is.right_is) world f.right_outcome it.seen f.right_has in
         let b = compared_truth operator l.1.0 r.1.0 o (values_given f.left_outcome f.right_outcome o l.1.0 r.1.0 l.1.1 r.1.1 f.given) in
-        (o, plain_comparison world o it.seen has, λ x form. of_value Form o x (boolean b.0) b.1 form))
+        (o, plain_comparison world o it.seen has, λ x form. form_of_value Form o x (boolean b.0) b.1 form))
 
 -- a comparison by its code
 pub comparison_code_put : (question : Question) (ranges : List Range) (place : ℕ) (operator : ComparisonOperator) (left right : Operand) → IsComparisonOf question ranges place operator left right → (old new : Draft)

@@ -1,5 +1,5 @@
 -- Items that the filter itself has, none of them null.
-use Rattle.sql_forms.proofs.Common.{◌≡◌, ◌≢◌, ◌+◌, ◌++◌, ◌∷◌, [], ℕ, suc, List, Some, take, refl, sym, ap, subst, ◌∙◌, arith, slice_get, AllByRecursion, Val, member, null, ExprType, collection, null_type, single, SchemaModel, Slots, slots_of, LiteralKind, expr_type, single_type, EdmType, LiteralTyped, LiteralValue, Filter, CheckedNode, NodeKind, scope_of, HasKind, gives, Range, Operand, Source, Kind, kind_of_type, IsNeverNull, IsNodeOperand, SourceHas, OfPlace, MeansIn, by_kind}
+use Rattle.sql_forms.proofs.Common.{◌≡◌, ◌≢◌, ◌+◌, ◌++◌, ◌∷◌, [], ℕ, suc, List, Some, take, refl, sym, ap, subst, ◌∙◌, arith, slice_get, AllByRecursion, member, null, ExprType, collection, null_type, single, SchemaModel, Slots, slots_of, LiteralKind, expr_type, single_type, EdmType, LiteralTyped, LiteralValue, Filter, CheckedNode, NodeKind, scope_of, HasKind, gives, Range, Operand, Source, Kind, kind_of_type, IsNeverNull, IsNodeOperand, SourceHas, OfPlace, MeansIn, by_kind}
 use Rattle.sql_forms.proofs.nodes.ComparisonsAt.{same_node}
 use Rattle.sql_forms.proofs.outcomes.FaultWalk.{taken_next}
 
@@ -22,11 +22,8 @@ module _ (filter : Filter) (ranges : List Range) (item : Operand) where
   number_given number source world v has none =
       let n = subst (λ (s : Source). SourceHas filter s world (gives v)) source has.has in
       let e : gives v ≡ gives (member n.0) = n.2 in
-      let same : member n.0 ≡ null = sym_value v (member n.0) e none in
+      let same : member n.0 ≡ null = cc (e, none) in
       absurd (cc)
-    where
-      sym_value : (a b : Val) → gives a ≡ gives b → a ≡ null → b ≡ null
-      sym_value a b is zero_it = let same : a ≡ b = cc in sym same ∙ zero_it
 
   -- a literal whose kind is not that of null
   pub literal_given : (place : ℕ) (kind : LiteralKind) (value : ℕ) → item.source ≡ Source.Node place → IsNodeOperand filter ranges item place → HasKind filter.list place (NodeKind.Literal kind value) → item.kind ≢ Kind.Null

@@ -1,5 +1,5 @@
 -- What functions ask of the nodes and the operands that they are called with.
-use Rattle.sql_forms.proofs.Common.{◌≡◌, ◌≢◌, ◌<◌, ◌+◌, ◌∷◌, [], ℕ, List, Option, Some, false, length, refl, sym, ap, subst, ◌∙◌, arith, slice_get, AllByRecursion, slice_get_within, PrimitiveType, ExprType, SchemaModel, slots_of, type_name_at, negation, node, ArithmeticOperator, BinaryOperator, LogicalOperator, IsNumberOrNull, expr_type, EdmType, ValueType, OneType, Filter, IsFilter, CheckedNode, NodeKind, one_there, found_there, goes_there, inside, there_found, Range, StandsIn, type_there, SqlNode, SqlType, tree_found, Operand, Source, Kind, Form, IsChain, IsJoin, IsOfValues, IsFaulty, IsFaultyKind, kind_of_type, IsInside, IsNodeAt, IsPut, IsSourceOf, IsTestable, IsTested, AreRanges, HasValueKind, IsBooleanAt, IsFaultless, IsKindAt, IsPathAt, IsPlainAt, IsStep, IsTruthAt, IsTruthKind, Question}
+use Rattle.sql_forms.proofs.Common.{◌≡◌, ◌≢◌, ◌<◌, ◌+◌, ◌∷◌, [], ℕ, List, Option, Some, false, length, refl, sym, ap, subst, ◌∙◌, arith, slice_get, AllByRecursion, slice_get_within, PrimitiveType, ExprType, SchemaModel, slots_of, type_name_at, negation, node, ArithmeticOperator, BinaryOperator, LogicalOperator, IsNumberOrNull, expr_type, EdmType, ValueType, OneType, Filter, IsFilter, CheckedNode, NodeKind, one_there, found_there, goes_there, inside, there_found, Range, StandsIn, type_there, SqlNode, SqlType, tree_found, Operand, Source, Kind, Form, IsChain, IsJoin, IsOfValues, IsFaulty, IsFaultyKind, kind_of_single, kind_of_type, single_of, type_of_field, FieldType, IsSomeAnd, some_there, IsInside, IsNodeAt, IsPut, IsSourceOf, IsTestable, IsTested, AreRanges, HasFieldType, IsFaultless, IsKindAt, IsOfTypeAt, IsPathAt, IsValuedAt, IsCollectionAt, IsPlainAt, IsStep, IsTruthAt, IsTruthKind, Question}
 use Rattle.sql_forms.specs.private.AskedForms.{IsAskedCode}
 use Rattle.odata_ranges.proofs.Forms.{by_kind}
 use Rattle.sql_forms.specs.private.Compared.{IsCoded}
@@ -80,21 +80,58 @@ all_inside filter ranges (operand ∷ operands) all = (put_inside filter ranges 
 
 -- ---- kinds
 
-kind_value : (kind : Kind) → kind ≢ Kind.Null → kind ≢ Kind.Structured → (type : SqlType) × (kind ≡ Kind.Value type)
-kind_value Kind.Null no_null valued = absurd (no_null refl)
-kind_value (Kind.Value type) no_null valued = (type, refl)
-kind_value Kind.Structured no_null valued = absurd (valued refl)
+-- the kind of values that have such a type in JSON
+pub field_kind : (type : FieldType) → kind_of_single (single_of type) ≡ Kind.Value (type_of_field type)
+field_kind (FieldType.Prim p) = refl
+field_kind (FieldType.Enum id) = refl
 
-pub value_kind : (filter : Filter) (place : ℕ) (found : CheckedNode) → slice_get filter.list.nodes place ≡ Some found → kind_of_type found.edm_type ≢ Kind.Null → kind_of_type found.edm_type ≢ Kind.Structured
-    → HasValueKind filter place
-value_kind filter place found at no_null valued =
-    there_found (λ (n : CheckedNode). (type : SqlType) × (kind_of_type n.edm_type ≡ Kind.Value type)) (slice_get filter.list.nodes place) found at
-    (kind_value (kind_of_type found.edm_type) no_null valued)
+pub of_field : (filter : Filter) (place : ℕ) (type : FieldType) → IsOfTypeAt filter place (EdmType.Single (single_of type)) → HasFieldType filter place type
+of_field filter place type =
+    goes_there (slice_get filter.list.nodes place) (λ (n : CheckedNode). n.edm_type ≡ EdmType.Single (single_of type))
+    (λ (n : CheckedNode). kind_of_type n.edm_type ≡ Kind.Value (type_of_field type)) (λ n is. ap kind_of_type is ∙ field_kind type)
 
-pub boolean_valued : (filter : Filter) (place : ℕ) → IsBooleanAt filter place → HasValueKind filter place
-boolean_valued filter place =
-    goes_there (slice_get filter.list.nodes place) (λ (n : CheckedNode). kind_of_type n.edm_type ≡ Kind.Value SqlType.Truth)
-    (λ (n : CheckedNode). (type : SqlType) × (kind_of_type n.edm_type ≡ Kind.Value type)) (λ n is. (SqlType.Truth, is))
+pub not_null : (filter : Filter) (place : ℕ) (found : CheckedNode) → slice_get filter.list.nodes place ≡ Some found → (type : FieldType) → IsOfTypeAt filter place (EdmType.Single (single_of type))
+    → kind_of_type found.edm_type ≢ Kind.Null
+not_null filter place found at type is null =
+    let own = found_there (λ (n : CheckedNode). kind_of_type n.edm_type ≡ Kind.Value (type_of_field type)) (slice_get filter.list.nodes place) found at (of_field filter place type is) in
+    let clash : Kind.Null ≡ Kind.Value (type_of_field type) = sym null ∙ own in
+    cc
+
+only_null : (type : EdmType) → kind_of_type type ≢ Kind.Structured → ((field : FieldType) → type ≢ EdmType.Single (single_of field)) → kind_of_type type ≡ Kind.Null
+only_null EdmType.Null valued other = refl
+only_null (EdmType.Single (ValueType.Prim p)) valued other = absurd (other (FieldType.Prim p) refl)
+only_null (EdmType.Single (ValueType.Enum id)) valued other = absurd (other (FieldType.Enum id) refl)
+only_null (EdmType.Single (ValueType.Structured id)) valued other = absurd (valued refl)
+only_null (EdmType.Collection held) valued other = absurd (valued refl)
+
+-- a node that has neither a value nor a position in JSON is of type Null
+pub null_there : (filter : Filter) (place : ℕ) → IsValuedAt filter place → ((type : FieldType) → ¬ IsOfTypeAt filter place (EdmType.Single (single_of type)))
+    → IsSomeAnd (slice_get filter.list.nodes place) (λ node. kind_of_type node.edm_type ≡ Kind.Null) × IsTruthAt filter place
+null_there filter place valued other =
+    let s = some_there (λ (n : CheckedNode). kind_of_type n.edm_type ≢ Kind.Structured) (slice_get filter.list.nodes place) valued in
+    let null =
+    only_null s.0.edm_type s.1.1
+    (λ field is. other field (there_found (λ (n : CheckedNode). n.edm_type ≡ EdmType.Single (single_of field)) (slice_get filter.list.nodes place) s.0 s.1.0 is)) in (
+      there_found (λ (n : CheckedNode). kind_of_type n.edm_type ≡ Kind.Null) (slice_get filter.list.nodes place) s.0 s.1.0 null,
+      there_found (λ (n : CheckedNode). IsTruthKind (kind_of_type n.edm_type)) (slice_get filter.list.nodes place) s.0 s.1.0 (subst IsTruthKind (sym null) tt),
+    )
+
+only_structured : (held : ValueType) → ((field : FieldType) → held ≢ single_of field) → Kind.Structured ≡ kind_of_single held
+only_structured (ValueType.Prim p) other = absurd (other (FieldType.Prim p) refl)
+only_structured (ValueType.Enum id) other = absurd (other (FieldType.Enum id) refl)
+only_structured (ValueType.Structured id) other = refl
+
+-- members that have no such type are entities or complex values
+pub structured_members : (filter : Filter) (place : ℕ) → IsCollectionAt filter place → ((type : FieldType) → ¬ IsOfTypeAt filter place (EdmType.Collection (single_of type)))
+    → IsSomeAnd (slice_get filter.list.nodes place) (λ node. (held : ValueType) × (node.edm_type ≡ EdmType.Collection held) × (Kind.Structured ≡ kind_of_single held))
+structured_members filter place collection other =
+    let s = some_there (λ (n : CheckedNode). (held : ValueType) × (n.edm_type ≡ EdmType.Collection held)) (slice_get filter.list.nodes place) collection in
+    there_found (λ (n : CheckedNode). (held : ValueType) × (n.edm_type ≡ EdmType.Collection held) × (Kind.Structured ≡ kind_of_single held)) (slice_get filter.list.nodes place) s.0 s.1.0 (
+      s.1.1.0,
+      s.1.1.1,
+      only_structured s.1.1.0
+          (λ field is. other field (there_found (λ (n : CheckedNode). n.edm_type ≡ EdmType.Collection (single_of field)) (slice_get filter.list.nodes place) s.0 s.1.0 (s.1.1.1 ∙ ap EdmType.Collection is))),
+    )
 
 -- a property, a member or a variable
 pub kind_path : (filter : Filter) (place : ℕ) (kind : NodeKind) → IsKindAt filter place kind → IsStep kind → IsPathAt filter place

@@ -1,5 +1,5 @@
 -- What `in` before a path evaluates to, by what its left side does and by the members of the collection.
-use Rattle.sql_forms.proofs.Common.{◌≡◌, ◌<◌, ◌+◌, ◌∷◌, [], ℕ, zero, suc, List, Bool, true, false, Option, Some, None, length, map, refl, sym, ap, subst, ◌∙◌, arith, IsSomeAnd, slice_get, AllByRecursion, IsMoment, Val, boolean, items, null, ExprType, SingleType, collection, null_type, single, SchemaModel, Slots, slots_of, type_name_at, HasType, Tree, in_path, node, ComparisonOperator, Quantifier, IsComparableWithMembers, AreComparable, expr_type, single_type, EdmType, ValueType, OneType, Scope, Typed, Stands, CheckedNode, NodeKind, EndsOnceOnEntities, scope_of, HasKind, comparable_values, AtMostOne, one_there, there_found, members_of, CompareGives, InGives, Then, Outcome, gives, overflow, divides_by_zero, QuantifierGives, Range, truth, IsFault, Operand, Source, HasOrCode, NoTruth, IsOfKind, kind_of_single, kind_of_type, carrier_in, EachMemberEquals, MembersAt, some_of, IsOrNull, Fits, IsNodeOperand, AreRanges, IsCarriedKind, IsAskedOf, OfPlace, Question, World, MeansOf, means_in, means_of, by_kind, stop_is}
+use Rattle.sql_forms.proofs.Common.{◌≡◌, ◌<◌, ◌+◌, ◌∷◌, [], ℕ, zero, suc, List, Bool, true, false, Option, Some, None, length, map, refl, sym, ap, subst, ◌∙◌, arith, IsSomeAnd, slice_get, AllByRecursion, IsMoment, Val, boolean, items, null, ExprType, SingleType, collection, null_type, single, SchemaModel, Slots, slots_of, type_name_at, HasType, Tree, in_path, node, ComparisonOperator, Quantifier, IsComparableWithMembers, AreComparable, expr_type, single_type, EdmType, ValueType, OneType, Scope, Typed, Stands, CheckedNode, NodeKind, EndsOnceOnEntities, scope_of, HasKind, comparable_values, AtMostOne, one_there, there_found, members_of, CompareGives, InGives, Then, Outcome, gives, overflow, divides_by_zero, QuantifierGives, Range, truth, IsFault, Operand, Source, HasOrCode, NoTruth, IsOfKind, kind_of_single, kind_of_type, carrier_in, EachMemberEquals, MembersAt, some_of, IsOrNull, Fits, IsNodeOperand, AreRanges, IsCarriedKind, IsAskedOf, OfPlace, Question, World, MeansOf, means_in, means_of, by_kind, stop_is, slice_get_within}
 use Rattle.odata_meaning.proofs.meaning.OneLeaf.{CompareGives-one}
 use Rattle.sql_forms.proofs.nodes.BinaryPlaces.{top_node}
 use Rattle.sql_forms.proofs.nodes.Sides.{node_has}
@@ -8,6 +8,7 @@ use Rattle.sql_forms.proofs.nodes.MemberWorlds.{all_typed}
 use Rattle.sql_forms.proofs.outcomes.Quantified.{AreTruths, any_is, any_true}
 use Rattle.sql_forms.proofs.nodes.TypedValues.{has_type}
 use Rattle.sql_forms.proofs.nodes.WorldNodes.{ends_there, node_fits, node_plain, typed_kind}
+use Rattle.odata_checked_filter.proofs.flat.Places.{found_within}
 
 -- ---- types
 
@@ -25,14 +26,7 @@ collection_type schema (EdmType.Collection held) m same =
     (held, refl, is)
 
 pub at_place : {A : Type 0} (xs : List A) (k : ℕ) → k < length xs → (x : A) × (slice_get xs k ≡ Some x)
-at_place [] k below = absurd (omega (arith, below))
-at_place (x ∷ xs) zero below = (x, refl)
-at_place (x ∷ xs) (suc k) below = let e : k < length xs = omega (arith, below) in at_place xs k e
-
-pub within_list : {A : Type 0} (xs : List A) (k : ℕ) (x : A) → slice_get xs k ≡ Some x → k < length xs
-within_list [] k x is = let none : None ≡ Some x = is in absurd (cc)
-within_list (y ∷ xs) zero x is = omega arith
-within_list (y ∷ xs) (suc k) x is = let more = within_list xs k x is in omega (arith, more)
+at_place xs k below = found_within xs k below
 
 -- ---- a value compared with each of the members
 
@@ -51,8 +45,7 @@ flag_at l [] bs each k t is =
     absurd (cc)
 flag_at l (v ∷ vs) [] each k t is = absurd each
 flag_at l (v ∷ vs) (b ∷ bs) each zero t is =
-    let there : Some (Some b) ≡ Some t = is in
-    let same : Some b ≡ t = cc in
+    let same : Some b ≡ t = cc is in
     subst (λ (s : Option Bool). CompareGives ComparisonOperator.Eq l v (truth s)) same each.0
 flag_at l (v ∷ vs) (b ∷ bs) each (suc k) t is = flag_at l vs bs each.1 k t is
 
@@ -136,7 +129,7 @@ module _ (question : Question) (types : OneType) (ends : EndsOnceOnEntities) (is
     where
       range : (r : Range) × (slice_get ranges base ≡ Some r)
       range =
-          let inside = within_list question.filter.list.nodes base found at in
+          let inside = slice_get_within question.filter.list.nodes base found at in
           let many = are.count in
           at_place ranges base (omega (arith, inside, many))
 
@@ -152,19 +145,13 @@ module _ (question : Question) (types : OneType) (ends : EndsOnceOnEntities) (is
     abbrev middle : ℕ
     middle = stands.children.middle
 
-    is_middle : left_is.node.stop ≡ middle
-    is_middle = stop_is question.filter.schema question.filter.filtered scope question.filter.list (place + 1) left_is.node left_is.at middle a stands.children.left
-
     second_stands : Stands question.filter.schema question.filter.filtered scope question.filter.list base stop b
     second_stands =
-        subst (λ (k : ℕ). Stands question.filter.schema question.filter.filtered scope question.filter.list k stop b) (sym is_middle ∙ is_second)
+        subst (λ (k : ℕ). Stands question.filter.schema question.filter.filtered scope question.filter.list k stop b) (sym (stop_is question.filter.schema question.filter.filtered scope question.filter.list (place + 1) left_is.node left_is.at middle a stands.children.left) ∙ is_second)
         (one_there question.filter.schema question.filter.filtered scope question.filter.list middle stop b stands.children.right)
 
     abbrev left_type : ExprType
     left_type = stands.top.typed.left
-
-    left_typed : Typed slots root scope a left_type
-    left_typed = stands.top.typed.left_typed
 
     member : (m : SingleType) × (stands.top.typed.right ≡ collection m) × AreComparable left_type (single m)
     member = with_members left_type stands.top.typed.right stands.top.typed.makes.0
@@ -244,7 +231,7 @@ module _ (question : Question) (types : OneType) (ends : EndsOnceOnEntities) (is
     held_of c means = of_members c means (of_schema (collection member.0) c (has_type question ends is_moment world seen b (collection member.0) c right_typed means))
 
     left_of : (lo : Outcome) → MeansOf question world seen a lo → (l : Val) → lo ≡ gives l → HasType slots left_type l
-    left_of lo means l same = of_schema left_type l (has_type question ends is_moment world seen a left_type l left_typed (subst (MeansOf question world seen a) same means))
+    left_of lo means l same = of_schema left_type l (has_type question ends is_moment world seen a left_type l stands.top.typed.left_typed (subst (MeansOf question world seen a) same means))
 
     comes_by : (lo : Outcome) → MeansOf question world seen a lo → (c : Val) → Held c → ((l : Val) → lo ≡ gives l → InGives l c o) → (IsFault lo → o ≡ lo) → InPathComes question place base left world o
     comes_by lo means c held of_value of_fault = record {

@@ -1,5 +1,5 @@
 -- Where `in` stands before a path: members that may be compared with the left side.
-use Rattle.sql_forms.proofs.Common.{◌≡◌, ◌+◌, ◌∷◌, [], ℕ, List, Some, sym, ap, subst, ◌∙◌, slice_get, AllByRecursion, Val, ExprType, SingleType, collection, single, slots_of, type_name_at, AreComparable, expr_type, single_type, EdmType, ValueType, OneType, Typed, Filter, IsFilter, Stands, CheckedNode, NodeKind, HasKind, one_there, some_there, there_found, Range, SqlType, tree_at, Operand, Kind, AreCompared, IsOfKind, kind_of_single, kind_of_type, IsOfType, AreMembersBeside, IsCollectionAt, MembersAt, IsNodeOperand, World, by_kind, stop_is}
+use Rattle.sql_forms.proofs.Common.{◌≡◌, ◌+◌, ◌∷◌, [], ℕ, List, sym, ap, subst, ◌∙◌, slice_get, AllByRecursion, Val, ExprType, SingleType, collection, single, slots_of, type_name_at, AreComparable, expr_type, single_type, EdmType, ValueType, OneType, Typed, Filter, IsFilter, Stands, CheckedNode, NodeKind, HasKind, one_there, some_there, there_found, Range, SqlType, tree_at, Operand, Kind, AreCompared, IsOfKind, kind_of_single, kind_of_type, IsOfType, AreMembersBeside, IsCollectionAt, MembersAt, IsNodeOperand, World, by_kind, stop_is}
 use Rattle.sql_forms.proofs.nodes.BinaryPlaces.{top_node}
 use Rattle.sql_forms.proofs.nodes.ComparisonsAt.{comparable_kinds, same_node}
 use Rattle.sql_forms.proofs.nodes.InPathNodes.{collection_type, with_members}
@@ -59,8 +59,7 @@ pub members_truth : (filter : Filter) (kind : Kind) (base : ℕ) → AreMembersB
 members_truth filter kind base beside truth world m =
     let here = some_there (λ (n : CheckedNode). (type : ValueType) × (n.edm_type ≡ EdmType.Collection type) × AreCompared kind (kind_of_single type)) (slice_get filter.list.nodes base) beside in
     let there = some_there (λ (n : CheckedNode). (type : ValueType) × (n.edm_type ≡ EdmType.Collection type) × AllByRecursion (IsOfKind (kind_of_single type)) m.members) (slice_get filter.list.nodes base) m.kinds in
-    let found : Some here.0 ≡ Some there.0 = sym here.1.0 ∙ there.1.0 in
-    let one_node : here.0 ≡ there.0 = cc in
+    let one_node : here.0 ≡ there.0 = cc (here.1.0, there.1.0) in
     let same : EdmType.Collection here.1.1.0 ≡ EdmType.Collection there.1.1.0 = sym here.1.1.1 ∙ ap (λ (n : CheckedNode). n.edm_type) one_node ∙ there.1.1.1 in
     let same_type : here.1.1.0 ≡ there.1.1.0 = cc in
     let compared : AreCompared (Kind.Value SqlType.Truth) (kind_of_single there.1.1.0) =

@@ -1,11 +1,12 @@
 -- What `in` before a list evaluates to, by what its left side and its items do.
-use Rattle.sql_forms.proofs.Common.{◌≡◌, inl, inr, ◌<◌, ◌≤◌, ◌+◌, ◌∷◌, ◌↔◌, [], ℕ, zero, suc, List, Bool, true, false, IsTrue, Some, None, length, refl, sym, subst, ◌∙◌, arith, IsSomeAnd, slice_get, AllByRecursion, IsMoment, Val, boolean, member, ExprType, SchemaModel, Slots, slots_of, type_name_at, HasType, value_of, Tree, Trees, in_list, more_trees, no_trees, node, ComparisonOperator, LogicalOperator, Quantifier, AreComparableBy, ComparesTrue, IsItemFor, ResolvedNumber, OneType, ReadsNumber, quoted_text, side_of, sides_of, AreTyped, Scope, Typed, ItemsStand, Stands, CheckedNode, NodeKind, EndsOnceOnEntities, scope_of, ItemMeans, GivesMember, UnlessRead, HasKind, comparable_values, found_there, CompareGives, ItemsGive, After, Then, Outcome, gives, overflow, divides_by_zero, DecisionGives, IsUndecided, Passes, QuantifierGives, Range, Operand, Source, AreAlong, chained, FaultyHave, HasOrCode, NoTruth, carrier_in, fault_else, AreItemsOf, EachCompared, ListHas, any_of, Fits, IsNodeOperand, IsSideAt, AreRanges, IsAskedOf, OfPlace, Question, World, MeansOf, means_of, by_kind, stop_is}
+use Rattle.sql_forms.proofs.Common.{◌≡◌, inl, inr, ◌<◌, ◌≤◌, ◌+◌, ◌∷◌, ◌↔◌, [], ℕ, zero, suc, List, Bool, true, false, IsTrue, None, length, refl, sym, subst, ◌∙◌, arith, AllByRecursion, IsMoment, Val, boolean, member, ExprType, SchemaModel, Slots, slots_of, type_name_at, HasType, value_of, Tree, Trees, in_list, more_trees, no_trees, node, ComparisonOperator, LogicalOperator, Quantifier, AreComparableBy, ComparesTrue, IsItemFor, ResolvedNumber, OneType, ReadsNumber, quoted_text, side_of, sides_of, AreTyped, Scope, Typed, ItemsStand, Stands, CheckedNode, NodeKind, EndsOnceOnEntities, scope_of, ItemMeans, GivesMember, UnlessRead, HasKind, comparable_values, CompareGives, ItemsGive, After, Then, Outcome, gives, overflow, divides_by_zero, DecisionGives, IsUndecided, Passes, QuantifierGives, Range, Operand, Source, AreAlong, chained, FaultyHave, HasOrCode, NoTruth, carrier_in, fault_else, AreItemsOf, EachCompared, ListHas, any_of, Fits, IsNodeOperand, IsSideAt, AreRanges, IsAskedOf, OfPlace, Question, World, MeansOf, means_of, by_kind, stop_is}
 use Rattle.sql_forms.proofs.outcomes.Apart.{true_stays}
 use Rattle.odata_syntax.specs.Spans.{list_of_trees}
 use Rattle.odata_meaning.proofs.meaning.Reads.{number_comparable, read_has}
 use Rattle.sql_forms.proofs.puts.ComparisonsPut.{compared_truth}
 use Rattle.sql_forms.proofs.nodes.Sides.{IsEither, OneNumber, SideComes, beside_found, node_comes, side_cases, side_comes, side_some}
 use Rattle.sql_forms.proofs.nodes.TypedValues.{has_type}
+use Rattle.sql_forms.proofs.nodes.Along.{items_along, too_many}
 
 -- a comparison is true or it is not
 abbrev pub Decided : Type 0
@@ -36,8 +37,7 @@ false_first false es is = refl
 passes_first : (p : Outcome) (l v : Val) (es : List Outcome) → Then p (CompareGives ComparisonOperator.Eq l) (gives v) → IsUndecided Quantifier.Any v → any_of es ≡ any_of (gives v ∷ es)
 passes_first (gives w) l v es given undecided =
     let b = compared_truth ComparisonOperator.Eq l w (gives v) given in
-    let is : gives v ≡ gives (boolean b.0) = b.1 in
-    let same : v ≡ boolean b.0 = cc in
+    let same : v ≡ boolean b.0 = cc b.1 in
     subst (λ (x : Val). any_of es ≡ any_of (gives x ∷ es)) (sym same) (false_first b.0 es (subst (IsUndecided Quantifier.Any) same undecided))
 passes_first overflow l v es given undecided = let e : gives v ≡ overflow = given in absurd (cc)
 passes_first divides_by_zero l v es given undecided = let e : gives v ≡ divides_by_zero = given in absurd (cc)
@@ -86,9 +86,6 @@ module _ (question : Question) (types : OneType) (ends : EndsOnceOnEntities) (is
   item_comes at stop item tree either p of_item = side_comes question ranges are ends is_moment world seen one OtherSide one_type tree at stop item either p of_item
 
   -- it evaluates to something
-  item_some : (at stop : ℕ) (item : Operand) (tree : Tree) → Either tree at stop item → (p : Outcome) × Item tree p
-  item_some at stop item tree either = side_some question ranges are ends is_moment world seen one OtherSide one_type tree at stop item either
-
   -- and is comparable with the left side
   of_schema : (type : ExprType) (v : Val) → HasType (slots_of world.row.schema) type v → HasType slots type v
   of_schema type v of_type = subst (λ (s : SchemaModel). HasType (slots_of s) type v) seen.row_is.schema_is of_type
@@ -102,8 +99,7 @@ module _ (question : Question) (types : OneType) (ends : EndsOnceOnEntities) (is
       let number : ResolvedNumber slots left_type (quoted_text tree) read.0 =
       subst (λ (t : ExprType). ResolvedNumber slots t (quoted_text tree) read.0) (one_type read.1.type_of left_type read.1.beside left_typed) read.1.number in
       let gives_it : p ≡ gives (member read.0) = read.2 in
-      let both : gives (member read.0) ≡ gives v = sym gives_it ∙ is_v in
-      let is : member read.0 ≡ v = cc in
+      let is : member read.0 ≡ v = cc (gives_it, is_v) in
       comparable_values slots ComparisonOperator.Eq left_type left_type l v (number_comparable slots left_type (quoted_text tree) read.0 number) (left_of l is_l)
       (subst (HasType slots left_type) is (read_has slots left_type (quoted_text tree) read.0 number))
   alike type tree (inl beside) typed p (inr plain) l v is_l is_v =
@@ -140,19 +136,6 @@ module _ (question : Question) (types : OneType) (ends : EndsOnceOnEntities) (is
   abbrev Along : ℕ → ℕ → List Operand → Type 0
   Along = AreAlong question.filter Side
 
-  onward_along : (at stop : ℕ) (items : List Operand) → Along at stop items → at ≤ stop
-  onward_along at stop [] along = omega (arith, along)
-  onward_along at stop (item ∷ items) along =
-      let next : along.0.stop ≤ stop = onward_along along.0.stop stop items along.4 in
-      let here : at < along.0.stop = along.2 in
-      omega (arith, next, here)
-
-  too_many : (at stop : ℕ) (item : Operand) (items : List Operand) → Along at stop (item ∷ items) → at ≡ stop → ⊥
-  too_many at stop item items along same =
-      let here : at < along.0.stop = along.2 in
-      let next : along.0.stop ≤ stop = onward_along along.0.stop stop items along.4 in
-      absurd (omega (arith, here, next, same))
-
   abbrev StandAll : ℕ → ℕ → Trees → Type 0
   StandAll = ItemsStand question.filter.schema question.filter.filtered scope question.filter.list OtherSide
 
@@ -170,11 +153,11 @@ module _ (question : Question) (types : OneType) (ends : EndsOnceOnEntities) (is
       absurd (omega (arith, here, next, same))
 
   -- the trees of the items, which stand there one after another
-  record Listed (at stop : ℕ) (trees : Trees) (given_types : List ExprType) (items : List Operand) : Type 0 where
-    stand : StandAll at stop trees
-    typed : AreTyped slots root scope trees given_types
-    beside : AllByRecursion (IsItemFor slots left_type) (sides_of trees given_types)
-    along : Along at stop items
+  pub record Listed (at stop : ℕ) (trees : Trees) (given_types : List ExprType) (items : List Operand) : Type 0 where
+    pub stand : StandAll at stop trees
+    pub typed : AreTyped slots root scope trees given_types
+    pub beside : AllByRecursion (IsItemFor slots left_type) (sides_of trees given_types)
+    pub along : Along at stop items
 
   -- the first of them, and the others
   record FirstListed (at stop : ℕ) (tree : Tree) (more : Trees) (type : ExprType) (given_types : List ExprType) (item : Operand) (items : List Operand) : Type 0 where
@@ -190,7 +173,7 @@ module _ (question : Question) (types : OneType) (ends : EndsOnceOnEntities) (is
       let along : Along at stop (item ∷ items) = all.along in
       let stand = all.stand in
       let first = beside_found question.filter scope OtherSide tree at stand.middle stand.left in
-      let own : first.found ≡ along.0 = same_found first.found along.0 at first.at along.1 in
+      let own : first.found ≡ along.0 = cc (first.at, along.1) in
       let stops : along.0.stop ≡ stand.middle = subst (λ (f : CheckedNode). f.stop ≡ stand.middle) own first.stops in
       record {
         middle = stand.middle;
@@ -204,9 +187,6 @@ module _ (question : Question) (types : OneType) (ends : EndsOnceOnEntities) (is
           along = subst (λ (k : ℕ). Along k stop items) stops along.4;
         };
       }
-    where
-      same_found : (m f : CheckedNode) (k : ℕ) → slice_get question.filter.list.nodes k ≡ Some m → slice_get question.filter.list.nodes k ≡ Some f → m ≡ f
-      same_found m f k here there = let e : Some m ≡ Some f = sym here ∙ there in cc
 
   -- each is compared with the left side, whatever comes of it
   record AllCompared (items : List Operand) : Type 0 where
@@ -215,13 +195,13 @@ module _ (question : Question) (types : OneType) (ends : EndsOnceOnEntities) (is
 
   all_compared : (at stop : ℕ) (trees : Trees) (given_types : List ExprType) (items : List Operand) → Listed at stop trees given_types items → AllCompared items
   all_compared at stop no_trees given_types [] all = record { es = []; each = refl }
-  all_compared at stop no_trees given_types (item ∷ items) all = absurd (too_many at stop item items all.along all.stand)
+  all_compared at stop no_trees given_types (item ∷ items) all = absurd (too_many question.filter Side at stop item items all.along all.stand)
   all_compared at stop (more_trees tree more) given_types [] all = absurd (too_few at stop tree more all.stand all.along)
   all_compared at stop (more_trees tree more) [] (item ∷ items) all = absurd all.typed
   all_compared at stop (more_trees tree more) (type ∷ given_types) (item ∷ items) all =
       let f = first_listed at stop tree more type given_types item items all in
       let rest = all_compared f.middle stop more given_types items f.others in
-      let p = item_some at f.middle item tree f.either in
+      let p = side_some question ranges are ends is_moment world seen one OtherSide one_type tree at f.middle item f.either in
       let e = given_some left_outcome p.0 (λ l v is_l is_v. alike type tree f.beside f.typed p.0 p.1 l v is_l is_v) in
       let c = compared_item item p.0 (item_comes at f.middle item tree f.either p.0 p.1) e.0 e.1 in
       record { es = e.0 ∷ rest.es; each = (c.0, c.1, rest.each) }
@@ -232,9 +212,8 @@ module _ (question : Question) (types : OneType) (ends : EndsOnceOnEntities) (is
     of_left p e given = subst (λ (lo : Outcome). Then lo (λ x. Then p (Equal x)) e) (sym is_left) given
 
     record Walked (items : List Operand) (o : Outcome) : Type 0 where
-      es : List Outcome
-      each : EachCompared question.filter left left_outcome items world es
-      is : o ≡ any_of es
+      all : AllCompared items
+      is : o ≡ any_of all.es
 
     abbrev EqualAt : Trees → ℕ → Outcome → Type 0
     EqualAt trees k = After (ItemOf trees k) (Equal l)
@@ -253,14 +232,14 @@ module _ (question : Question) (types : OneType) (ends : EndsOnceOnEntities) (is
         here (e, (of_item, decision)) =
             let rest = all_compared f.middle stop more given_types items f.others in
             let c = compared of_item.0 e of_item.1.0 of_item.1.1 in
-            record { es = e ∷ rest.es; each = (c.0, c.1, rest.each); is = decides_all e o rest.es decision }
+            record { all = record { es = e ∷ rest.es; each = (c.0, c.1, rest.each) }; is = decides_all e o rest.es decision }
 
         -- it is not
         further : Passes Quantifier.Any (EqualAt (more_trees tree more) zero) → Walked items o → Walked (item ∷ items) o
         further passes rest =
             let of_item : After (ItemOf (more_trees tree more) zero) (Equal l) (gives passes.0) = passes.1 in
             let c = compared of_item.0 (gives passes.0) of_item.1.0 of_item.1.1 in
-            record { es = gives passes.0 ∷ rest.es; each = (c.0, c.1, rest.each); is = rest.is ∙ passes_first of_item.0 l passes.0 rest.es of_item.1.1 passes.2 }
+            record { all = record { es = gives passes.0 ∷ rest.all.es; each = (c.0, c.1, rest.all.each) }; is = rest.is ∙ passes_first of_item.0 l passes.0 rest.all.es of_item.1.1 passes.2 }
 
         at_place : (k : ℕ) → After (EqualAt (more_trees tree more) k) (DecisionGives Quantifier.Any) o → ((j : ℕ) → j < k → Passes Quantifier.Any (EqualAt (more_trees tree more) j)) → Walked (item ∷ items) o
         at_place zero decision earlier = here decision
@@ -274,8 +253,8 @@ module _ (question : Question) (types : OneType) (ends : EndsOnceOnEntities) (is
     walked : (at stop : ℕ) (trees : Trees) (given_types : List ExprType) (items : List Operand) (o : Outcome) → Listed at stop trees given_types items
         → QuantifierGives Quantifier.Any (length (list_of_trees trees)) (EqualAt trees) o → Walked items o
     walked at stop no_trees given_types [] o all (inl decides) = absurd decides.here.1.0.1.0
-    walked at stop no_trees given_types [] o all (inr passes) = record { es = []; each = refl; is = passes.is }
-    walked at stop no_trees given_types (item ∷ items) o all either = absurd (too_many at stop item items all.along all.stand)
+    walked at stop no_trees given_types [] o all (inr passes) = record { all = record { es = []; each = refl }; is = passes.is }
+    walked at stop no_trees given_types (item ∷ items) o all either = absurd (too_many question.filter Side at stop item items all.along all.stand)
     walked at stop (more_trees tree more) given_types [] o all either = absurd (too_few at stop tree more all.stand all.along)
     walked at stop (more_trees tree more) [] (item ∷ items) o all either = absurd all.typed
     walked at stop (more_trees tree more) (type ∷ given_types) (item ∷ items) o all either =
@@ -283,16 +262,11 @@ module _ (question : Question) (types : OneType) (ends : EndsOnceOnEntities) (is
         one_walked at stop tree more type given_types item items o f (walked f.middle stop more given_types items o f.others) either
 
   -- all items, whatever the left side evaluates to
-  pub items_come : (at stop : ℕ) (trees : Trees) (given_types : List ExprType) (items : List Operand) (o : Outcome)
-      → StandAll at stop trees → AreTyped slots root scope trees given_types
-      → AllByRecursion (IsItemFor slots left_type) (sides_of trees given_types) → Along at stop items
+  pub items_come : (at stop : ℕ) (trees : Trees) (given_types : List ExprType) (items : List Operand) (o : Outcome) → Listed at stop trees given_types items
       → Then left_outcome (λ l. ItemsGive l (length (list_of_trees trees)) (ItemOf trees)) o → ListHas question.filter left items world o
-  items_come at stop trees given_types items o stand typed beside along given = by left_outcome refl given
+  items_come at stop trees given_types items o all given = by left_outcome refl given
     where
-      all : Listed at stop trees given_types items
-      all = record { stand = stand; typed = typed; beside = beside; along = along }
-
-      of_all : AllCompared items → ((es : List Outcome) → o ≡ fault_else left_outcome (any_of es)) → ListHas question.filter left items world o
+      of_all : (some : AllCompared items) → o ≡ fault_else left_outcome (any_of some.es) → ListHas question.filter left items world o
       of_all some is = record {
         left_outcome = left_outcome;
         left_has = left_has;
@@ -300,23 +274,16 @@ module _ (question : Question) (types : OneType) (ends : EndsOnceOnEntities) (is
         left_plain = left_plain;
         outcomes = some.es;
         each = some.each;
-        is = is some.es;
+        is = is;
       }
 
       by : (lo : Outcome) → left_outcome ≡ lo → Then lo (λ l. ItemsGive l (length (list_of_trees trees)) (ItemOf trees)) o → ListHas question.filter left items world o
       by (gives l) same goes =
           let w = walked l same at stop trees given_types items o all goes in
-          record {
-            left_outcome = left_outcome;
-            left_has = left_has;
-            left_fits = left_fits;
-            left_plain = left_plain;
-            outcomes = w.es;
-            each = w.each;
-            is = subst (λ (x : Outcome). o ≡ fault_else x (any_of w.es)) (sym same) w.is;
-          }
+          of_all w.all (subst (λ (x : Outcome). o ≡ fault_else x (any_of w.all.es)) (sym same) w.is)
       by _ same goes =
-          of_all (all_compared at stop trees given_types items all) (λ es. subst (λ (x : Outcome). o ≡ fault_else x (any_of es)) (sym same) goes)
+          let some = all_compared at stop trees given_types items all in
+          of_all some (subst (λ (x : Outcome). o ≡ fault_else x (any_of some.es)) (sym same) goes)
 
 -- ---- the node
 
@@ -330,7 +297,8 @@ module _ (question : Question) (types : OneType) (ends : EndsOnceOnEntities) (is
       → MeansOf question world seen (node from to (in_list left_tree trees)) o → ListHas question.filter left items world o
   there are_items left_tree trees stop from to stands (lo, (means, goes)) =
       items_come question types ends is_moment one decided world seen ranges are left lo left_comes.has left_comes.fits left_comes.plain left_tree stands.top.typed.left stands.top.typed.left_typed means
-      stands.children.middle stop trees stands.top.typed.items items o stands.children.right stands.top.typed.items_typed stands.top.typed.makes.1 along goes
+      stands.children.middle stop trees stands.top.typed.items items o
+      (record { stand = stands.children.right; typed = stands.top.typed.items_typed; beside = stands.top.typed.makes.1; along = along }) goes
     where
       left_comes : SideComes question.filter left world lo
       left_comes = node_comes question ranges are ends is_moment world seen (place + 1) stands.children.middle left left_tree (record { source = left_source; is = left_is }) stands.children.left lo means
@@ -338,20 +306,10 @@ module _ (question : Question) (types : OneType) (ends : EndsOnceOnEntities) (is
       stops : left_is.node.stop ≡ stands.children.middle
       stops = stop_is question.filter.schema question.filter.filtered (scope_of world.environment) question.filter.list (place + 1) left_is.node left_is.at stands.children.middle left_tree stands.children.left
 
-      of_own : IsSomeAnd (slice_get question.filter.list.nodes (place + 1)) (λ n. AreAlong question.filter (IsSideAt question.filter ranges) n.stop stands.top.found.stop items)
-      of_own =
-          found_there (λ (own : CheckedNode). IsSomeAnd (slice_get question.filter.list.nodes (place + 1)) (λ n. AreAlong question.filter (IsSideAt question.filter ranges) n.stop own.stop items))
-          (slice_get question.filter.list.nodes place) stands.top.found stands.top.stands_at are_items
-
-      of_left : AreAlong question.filter (IsSideAt question.filter ranges) left_is.node.stop stands.top.found.stop items
-      of_left =
-          found_there (λ (n : CheckedNode). AreAlong question.filter (IsSideAt question.filter ranges) n.stop stands.top.found.stop items) (slice_get question.filter.list.nodes (place + 1))
-          left_is.node left_is.at of_own
-
       along : AreAlong question.filter (IsSideAt question.filter ranges) stands.children.middle stop items
       along =
           subst (λ (j : ℕ). AreAlong question.filter (IsSideAt question.filter ranges) j stop items) stops
-          (subst (λ (j : ℕ). AreAlong question.filter (IsSideAt question.filter ranges) left_is.node.stop j items) stands.top.last of_left)
+          (subst (λ (j : ℕ). AreAlong question.filter (IsSideAt question.filter ranges) left_is.node.stop j items) stands.top.last (items_along question.filter ranges place items are_items stands.top.found left_is.node stands.top.stands_at left_is.at))
 
   pub list_comes : HasKind question.filter.list place NodeKind.InList → AreItemsOf question.filter ranges place items → OfPlace question.filter place world o → ListHas question.filter left items world o
   list_comes here are_items has =

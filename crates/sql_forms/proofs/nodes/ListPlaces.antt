@@ -1,11 +1,12 @@
 -- The items of a list as operands: where they stand, what they are compared with, and whether one is equal.
-use Rattle.sql_forms.proofs.Common.{◌≡◌, inl, inr, ◌<◌, ◌≤◌, ◌+◌, ◌∷◌, [], ℕ, ℤ, List, Bool, true, false, Option, Some, length, refl, sym, ap, subst, ◌∙◌, arith, IsSomeAnd, slice_get, AllByRecursion, Val, boolean, ExprType, Slots, slots_of, type_name_at, Tree, Trees, in_list, more_trees, no_trees, node, ComparisonOperator, IsItemFor, AreComparable, ResolvedNumber, expr_type, OneType, quoted_text, side_of, sides_of, AreTyped, Scope, Typed, Filter, IsFilter, ItemsStand, Stands, CheckedNode, NodeKind, HasKind, found_there, some_there, there_found, CompareGives, Then, Outcome, gives, Range, node_onward, stop_inside, tree_at, SqlType, Draft, Operand, Kind, AreAlong, IsBelow, IsSide, AreCompared, kind_of_type, fault_else, AreBeside, AreItemsOf, EachCompared, EachEquals, EqualsHas, ListHas, any_of, some_of, IsNodeAt, IsNodeOperand, IsSideAt, IsTested, OperandHas, AreRanges, IsFaultless, IsAskedOf, OfPlace, Puts, Question, World, puts_as, by_kind, stop_is}
+use Rattle.sql_forms.proofs.Common.{◌≡◌, inl, inr, ◌<◌, ◌≤◌, ◌+◌, ◌∷◌, [], ℕ, List, Bool, true, false, Some, length, refl, sym, ap, subst, ◌∙◌, arith, IsSomeAnd, slice_get, AllByRecursion, Val, boolean, ExprType, Slots, slots_of, type_name_at, Tree, Trees, in_list, more_trees, no_trees, node, ComparisonOperator, IsItemFor, AreComparable, ResolvedNumber, expr_type, OneType, quoted_text, side_of, sides_of, AreTyped, Scope, Typed, Filter, IsFilter, ItemsStand, Stands, CheckedNode, NodeKind, HasKind, some_there, there_found, CompareGives, Then, Outcome, gives, Range, node_onward, stop_inside, tree_at, SqlType, Draft, Operand, Kind, AreAlong, IsBelow, IsSide, AreCompared, kind_of_type, fault_else, AreBeside, AreItemsOf, EachCompared, EachEquals, EqualsHas, ListHas, any_of, some_of, IsNodeAt, IsNodeOperand, IsSideAt, IsTested, OperandHas, AreRanges, IsFaultless, IsAskedOf, OfPlace, Puts, Question, World, puts_as, by_kind, stop_is}
 use Rattle.sql_forms.proofs.outcomes.Apart.{true_stays}
 use Rattle.sql_forms.proofs.nodes.BinaryPlaces.{top_node}
 use Rattle.sql_forms.proofs.nodes.ComparisonPlaces.{side_faultless, side_tested, side_value}
 use Rattle.sql_forms.proofs.nodes.ComparisonsAt.{comparable_kinds, same_node, side_below}
 use Rattle.sql_forms.proofs.puts.ComparisonsPut.{compared_truth}
 use Rattle.sql_forms.proofs.nodes.Sides.{IsEither, IsRead, beside_found, beside_member, side_cases}
+use Rattle.sql_forms.proofs.nodes.Along.{items_along, onward_along, too_many}
 
 -- ---- where they stand
 
@@ -13,18 +14,11 @@ module _ (filter : Filter) (ranges : List Range) (place : ℕ) (own : CheckedNod
   item_side : (at : ℕ) (item : Operand) → place < at → at < own.stop → IsSideAt filter ranges at item → IsSide filter ranges place item
   item_side at item after inside is = side_below filter ranges place at item is (after, there_found (λ (n : CheckedNode). at < n.stop) (slice_get filter.list.nodes place) own own_at inside)
 
-  onward : (at stop : ℕ) (items : List Operand) → AreAlong filter (IsSideAt filter ranges) at stop items → at ≤ stop
-  onward at stop [] along = omega (arith, along)
-  onward at stop (item ∷ items) along =
-      let next : along.0.stop ≤ stop = onward along.0.stop stop items along.4 in
-      let here : at < along.0.stop = along.2 in
-      omega (arith, next, here)
-
   all_sides : (at stop : ℕ) (items : List Operand) → place < at → stop ≤ own.stop → AreAlong filter (IsSideAt filter ranges) at stop items → AllByRecursion (IsSide filter ranges place) items
   all_sides at stop [] after inside along = tt
   all_sides at stop (item ∷ items) after inside along =
       let here : at < along.0.stop = along.2 in
-      let next : along.0.stop ≤ stop = onward along.0.stop stop items along.4 in
+      let next : along.0.stop ≤ stop = onward_along filter (IsSideAt filter ranges) along.0.stop stop items along.4 in
       let within : at < own.stop = omega (arith, here, next, inside) in
       let further : place < along.0.stop = omega (arith, here, after) in
       (item_side at item after within along.3, all_sides along.0.stop stop items further inside along.4)
@@ -48,7 +42,7 @@ list_left filter right ranges place items are =
     (slice_get filter.list.nodes place) are in
     let left = some_there (λ (n : CheckedNode). AreAlong filter (IsSideAt filter ranges) n.stop own.0.stop items) (slice_get filter.list.nodes (place + 1)) own.1.1 in
     let further : place + 1 < left.0.stop = node_onward filter right (place + 1) left.0 left.1.0 in
-    let on : left.0.stop ≤ own.0.stop = onward filter ranges place own.0 own.1.0 left.0.stop own.0.stop items left.1.1 in
+    let on : left.0.stop ≤ own.0.stop = onward_along filter (IsSideAt filter ranges) left.0.stop own.0.stop items left.1.1 in
     (omega arith, there_found (λ (n : CheckedNode). place + 1 < n.stop) (slice_get filter.list.nodes place) own.0 own.1.0 (omega (arith, further, on)))
 
 -- each has an index of its own
@@ -83,15 +77,12 @@ module _ (filter : Filter) (types : OneType) (ranges : List Range) (scope : Scop
   OtherSide = Typed slots root scope left_tree
 
   -- beside a number that is read stands a member of an enumeration
-  left_member : (quoted : Option (List ℕ)) (n : ℤ) → ResolvedNumber slots left_type quoted n → kind_of_type left_node.edm_type ≡ Kind.Value SqlType.Member
-  left_member quoted n number = beside_member slots filter.schema left_type left_node.edm_type quoted n (sym left_is) number
-
   number_compared : (item : Operand) (tree : Tree) (at : ℕ) → IsRead filter OtherSide tree at item → AreCompared (kind_of_type left_node.edm_type) item.kind
   number_compared item tree at read =
       let reads = read.reads in
       let number : ResolvedNumber slots left_type (quoted_text tree) read.number =
       subst (λ (t : ExprType). ResolvedNumber slots t (quoted_text tree) read.number) (types slots root scope left_tree reads.type_of left_type reads.beside left_typed) reads.number in
-      subst (λ (k : Kind). AreCompared k item.kind) (sym (left_member (quoted_text tree) read.number number)) (subst (AreCompared (Kind.Value SqlType.Member)) (sym read.is.kind) refl)
+      subst (λ (k : Kind). AreCompared k item.kind) (sym (beside_member slots filter.schema left_type left_node.edm_type (quoted_text tree) read.number (sym left_is) number)) (subst (AreCompared (Kind.Value SqlType.Member)) (sym read.is.kind) refl)
 
   node_compared : (at stop : ℕ) (item : Operand) (tree : Tree) (type : ExprType) → IsNodeAt filter ranges at item → Stands filter.schema filter.filtered scope filter.list at stop tree → Typed slots root scope tree type
       → AreComparable left_type type → AreCompared (kind_of_type left_node.edm_type) item.kind
@@ -113,24 +104,11 @@ module _ (filter : Filter) (types : OneType) (ranges : List Range) (scope : Scop
   abbrev Along : ℕ → ℕ → List Operand → Type 0
   Along = AreAlong filter (IsSideAt filter ranges)
 
-  later : (from stop : ℕ) (xs : List Operand) → Along from stop xs → from ≤ stop
-  later from stop [] held = omega (arith, held)
-  later from stop (x ∷ xs) held =
-      let on : held.0.stop ≤ stop = later held.0.stop stop xs held.4 in
-      let first_on : from < held.0.stop = held.2 in
-      omega (arith, on, first_on)
-
-  past_end : (at stop : ℕ) (item : Operand) (items : List Operand) → at ≡ stop → Along at stop (item ∷ items) → ⊥
-  past_end at stop item items same all =
-      let here : at < all.0.stop = all.2 in
-      let next : all.0.stop ≤ stop = later all.0.stop stop items all.4 in
-      absurd (omega (arith, here, next, same))
-
   pub all_compared_kinds : (at stop : ℕ) (trees : Trees) (given_types : List ExprType) (items : List Operand)
       → ItemsStand filter.schema filter.filtered scope filter.list OtherSide at stop trees → AreTyped slots root scope trees given_types → AllByRecursion (IsItemFor slots left_type) (sides_of trees given_types)
       → Along at stop items → AllByRecursion (λ (item : Operand). AreCompared (kind_of_type left_node.edm_type) item.kind) items
   all_compared_kinds at stop trees given_types [] stand typed beside along = tt
-  all_compared_kinds at stop no_trees given_types (item ∷ items) stand typed beside along = absurd (past_end at stop item items stand along)
+  all_compared_kinds at stop no_trees given_types (item ∷ items) stand typed beside along = absurd (too_many filter (IsSideAt filter ranges) at stop item items along stand)
   all_compared_kinds at stop (more_trees tree more) [] (item ∷ items) stand typed beside along = absurd typed
   all_compared_kinds at stop (more_trees tree more) (type ∷ given_types) (item ∷ items) stand typed beside along =
       let first = beside_found filter scope OtherSide tree at stand.middle stand.left in
@@ -161,20 +139,11 @@ module _ (filter : Filter) (types : OneType) (right : IsFilter filter) (ranges :
           subst (λ (n : CheckedNode). expr_type filter.schema n.edm_type ≡ stands.top.typed.left) same
           (types (slots_of filter.schema) (type_name_at filter.schema filter.filtered) scope left_tree (expr_type filter.schema top.found.edm_type) stands.top.typed.left top.typed stands.top.typed.left_typed)
 
-      of_own : IsSomeAnd (slice_get filter.list.nodes (place + 1)) (λ n. AreAlong filter (IsSideAt filter ranges) n.stop stands.top.found.stop items)
-      of_own =
-          found_there (λ (own : CheckedNode). IsSomeAnd (slice_get filter.list.nodes (place + 1)) (λ n. AreAlong filter (IsSideAt filter ranges) n.stop own.stop items))
-          (slice_get filter.list.nodes place) stands.top.found stands.top.stands_at are_items
-
-      of_left : AreAlong filter (IsSideAt filter ranges) left_is.node.stop stands.top.found.stop items
-      of_left =
-          found_there (λ (n : CheckedNode). AreAlong filter (IsSideAt filter ranges) n.stop stands.top.found.stop items) (slice_get filter.list.nodes (place + 1)) left_is.node left_is.at of_own
-
       along : AreAlong filter (IsSideAt filter ranges) stands.children.middle stop items
       along =
           subst (λ (k : ℕ). AreAlong filter (IsSideAt filter ranges) k stop items)
           (stop_is filter.schema filter.filtered scope filter.list (place + 1) left_is.node left_is.at stands.children.middle left_tree stands.children.left)
-          (subst (λ (k : ℕ). AreAlong filter (IsSideAt filter ranges) left_is.node.stop k items) stands.top.last of_left)
+          (subst (λ (k : ℕ). AreAlong filter (IsSideAt filter ranges) left_is.node.stop k items) stands.top.last (items_along filter ranges place items are_items stands.top.found left_is.node stands.top.stands_at left_is.at))
 
   pub list_kinds : HasKind filter.list place NodeKind.InList → AreItemsOf filter ranges place items → ItemsCompared
   list_kinds here are_items =

@@ -23,8 +23,7 @@ module _ (filter : Filter) where
   pub one_left : (operands : List Operand) (n : ℕ) (x : Operand) → slice_get operands n ≡ Some x → left_of filter x ≤ left_in filter operands
   one_left [] n x at = let none : None ≡ Some x = at in absurd (cc)
   one_left (operand ∷ operands) zero x at =
-      let there : Some operand ≡ Some x = at in
-      let same : operand ≡ x = cc in
+      let same : operand ≡ x = cc at in
       subst (λ (o : Operand). left_of filter o ≤ left_in filter (operand ∷ operands)) same (le-max_left (left_of filter operand) (left_in filter operands))
   one_left (operand ∷ operands) (suc n) x at = second_max (left_of filter x) (left_of filter operand) (left_in filter operands) (one_left operands n x at)
 
@@ -109,12 +108,9 @@ module _ (filter : Filter) where
     side_by ranges item (Source.Number number) is = nothing
     side_by ranges item source is = absurd is
 
-    pub side_left : (ranges : List Range) (item : Operand) → IsSide filter ranges place item → left_of filter item < left_from filter place
-    side_left ranges item is = side_by ranges item item.source is
-
     pub sides_left : (ranges : List Range) (items : List Operand) → AllByRecursion (IsSide filter ranges place) items → left_in filter items < left_from filter place
     sides_left ranges [] all = nothing
-    sides_left ranges (item ∷ items) all = below_both (left_of filter item) (left_in filter items) (left_from filter place) (side_left ranges item all.0) (sides_left ranges items all.1)
+    sides_left ranges (item ∷ items) all = below_both (left_of filter item) (left_in filter items) (left_from filter place) (side_by ranges item item.source all.0) (sides_left ranges items all.1)
 
     along_left : (ranges : List Range) (at stop : ℕ) (operands : List Operand) → place < at → AreAlong filter (IsNodeAt filter ranges) at stop operands → left_in filter operands < left_from filter place
     along_left ranges at stop [] after along = nothing
@@ -139,8 +135,7 @@ module _ (filter : Filter) where
   pub term_left : (terms : List ℕ) (n term : ℕ) → slice_get terms n ≡ Some term → left_from filter term ≤ left_among filter terms
   term_left [] n term at = let none : None ≡ Some term = at in absurd (cc)
   term_left (first ∷ terms) zero term at =
-      let there : Some first ≡ Some term = at in
-      let same : first ≡ term = cc in
+      let same : first ≡ term = cc at in
       subst (λ (t : ℕ). left_from filter t ≤ left_among filter (first ∷ terms)) same (le-max_left (left_from filter first) (left_among filter terms))
   term_left (first ∷ terms) (suc n) term at = second_max (left_from filter term) (left_from filter first) (left_among filter terms) (term_left terms n term at)
 

@@ -5,6 +5,7 @@ use Rattle.odata_meaning.specs.Environment.{Bound as Variable}
 use Rattle.sql_forms.proofs.nodes.Binding.{at_last, found, stays}
 use Rattle.sql_forms.proofs.nodes.TypedValues.{has_type}
 use Rattle.sql_forms.proofs.nodes.WorldNodes.{ends_there}
+use Rattle.sql_forms.proofs.outcomes.Elements.{at_all}
 
 -- names and paths evaluate to values as rows keep them
 abbrev pub PathsAreKept : Question → Type 0
@@ -32,9 +33,6 @@ past_last (z ∷ xs) x y (suc k) beyond is =
 
 module _ (question : Question) (outer inner : Draft) (is_body : IsBodyOf outer inner) (world : World) (variable : RangeVariable) (place : ℕ) (v : Val)
     (typed : HasType (slots_of world.row.schema) variable.type_of v) (kept : IsKept (slots_of world.row.schema) variable.type_of v) (is : IsWorldOf question outer world) where
-  turned : reverse (record { variable = variable; value = v } ∷ world.environment) ≡ reverse world.environment ++ record { variable = variable; value = v } ∷ []
-  turned = reverse-append (record { variable = variable; value = v } ∷ []) world.environment
-
   many : length (reverse world.environment) ≡ length outer.members.items
   many = length-reverse world.environment ∙ sym is.as_many
 
@@ -52,7 +50,7 @@ module _ (question : Question) (outer inner : Draft) (is_body : IsBodyOf outer i
       at_inner = ap (λ (xs : List ℕ). slice_get xs k) (sym is_body.members) ∙ at
 
       there_inner : slice_get (reverse world.environment ++ record { variable = variable; value = v } ∷ []) k ≡ Some other
-      there_inner = ap (λ (xs : List Variable). slice_get xs k) (sym turned) ∙ there
+      there_inner = ap (λ (xs : List Variable). slice_get xs k) (sym (reverse-append (record { variable = variable; value = v } ∷ []) world.environment)) ∙ there
 
       by : (k < length outer.members.items) ⊎ (length outer.members.items ≤ k) → StandsAt (world.bound ++ bound_member place v ∷ []) level other
       by (inl below) =
@@ -100,15 +98,6 @@ map_places quantifier count At Other o goes (inr passes) = inr (record {
   is = passes.is;
 })
 
--- what holds of all holds of one
-pub got : (P : Val → Type 0) (xs : List Val) (k : ℕ) (x : Val) → AllByRecursion P xs → slice_get xs k ≡ Some x → P x
-got P [] k x all is = let none : None ≡ Some x = is in absurd (cc)
-got P (y ∷ xs) zero x all is =
-    let there : Some y ≡ Some x = is in
-    let same : y ≡ x = cc in
-    subst P same all.0
-got P (y ∷ xs) (suc k) x all is = got P xs k x all.1 is
-
 pub all_typed : (schema : SchemaModel) (type : SingleType) (values : Vals) → AllHaveType (slots_of schema) type values → AllByRecursion (λ (v : Val). HasType (slots_of schema) (single type) v) (members_of values)
 all_typed schema type no_items all = tt
 all_typed schema type (item v values) all = (all.0, all_typed schema type values all.1)
@@ -116,9 +105,6 @@ all_typed schema type (item v values) all = (all.0, all_typed schema type values
 all_kept : (schema : SchemaModel) (type : SingleType) (values : Vals) → AreKept (slots_of schema) type values → AllByRecursion (λ (v : Val). IsKept (slots_of schema) (single type) v) (members_of values)
 all_kept schema type no_items all = tt
 all_kept schema type (item v values) all = (all.0, all_kept schema type values all.1)
-
-same_member_type : (s t : SingleType) → collection s ≡ collection t → s ≡ t
-same_member_type s t is = cc
 
 module _ (question : Question) (types : OneType) (ends : EndsOnceOnEntities) (is_moment : IsMoment question.now.civil question.now.offset_minutes) (paths : PathsAreKept question)
     (quantifier : Quantifier) (place : ℕ) (here : HasKind question.filter.list place (NodeKind.Lambda quantifier)) (world : World) (seen : IsAskedOf question world) where
@@ -159,22 +145,19 @@ module _ (question : Question) (types : OneType) (ends : EndsOnceOnEntities) (is
     standing =
         let within = body_stands question.filter.schema question.filter.filtered scope question.filter.list middle stop base asked body stands.children.right in
         let here_type : within.member_type ≡ member_type =
-        same_member_type within.member_type member_type (types slots root scope base (collection within.member_type) (collection member_type) within.binds.over over) in
+        cc (types slots root scope base (collection within.member_type) (collection member_type) within.binds.over over) in
         subst (λ (t : SingleType). Stands question.filter.schema question.filter.filtered (record { name = asked; type_of = single t } ∷ scope) question.filter.list middle stop body) here_type within.body
 
     -- the body at a member
     body_at : (type : SingleType) → Typed slots root scope base (collection type) → (k : ℕ) (v : Val) (p : Outcome)
         → Means slots root world.now (value_of world.row) (bound_over world.environment asked (single type) v) body p → OfTree question.filter middle body (at_member world variable k v) p
     body_at type typed k v p means =
-        let same : type ≡ member_type = same_member_type type member_type (types slots root scope base (collection type) (collection member_type) typed over) in (
+        let same : type ≡ member_type = cc (types slots root scope base (collection type) (collection member_type) typed over) in (
           record { stop = stop; stands = standing },
           subst (λ (n : ℕ). Means (slots_of world.row.schema) (type_name_at world.row.schema n) world.now (value_of world.row) (bound_over world.environment asked (single member_type) v) body p) (sym seen.row_is.type_is)
               (subst (λ (s : SchemaModel). Means (slots_of s) (type_name_at s question.filter.filtered) world.now (value_of world.row) (bound_over world.environment asked (single member_type) v) body p) (sym seen.row_is.schema_is)
               (subst (λ (t : SingleType). Means slots root world.now (value_of world.row) (bound_over world.environment asked (single t) v) body p) same means)),
         )
-
-    seen_at : (k : ℕ) (v : Val) → HasType (slots_of world.row.schema) (single member_type) v → IsKept (slots_of world.row.schema) (single member_type) v → IsAskedOf question (at_member world variable k v)
-    seen_at k v typed kept = record { row_is = seen.row_is; moment_is = seen.moment_is; fitting = (typed, seen.fitting); kept = (kept, seen.kept) }
 
     each_one : (k : ℕ) (v : Val) → HasType (slots_of world.row.schema) (single member_type) v → IsKept (slots_of world.row.schema) (single member_type) v
         → ComesToOne (OfTree question.filter middle body (at_member world variable k v))
@@ -183,7 +166,7 @@ module _ (question : Question) (types : OneType) (ends : EndsOnceOnEntities) (is
         of_tree : (tree : Tree) → Stands question.filter.schema question.filter.filtered (variable ∷ scope) question.filter.list middle stop tree
             → ComesToOne (OfTree question.filter middle tree (at_member world variable k v))
         of_tree (node start end shape) there =
-            let e = ends_there question ends is_moment (at_member world variable k v) (seen_at k v typed kept) middle there.top.found there.top.stands_at stop (node start end shape) there in
+            let e = ends_there question ends is_moment (at_member world variable k v) (record { row_is = seen.row_is; moment_is = seen.moment_is; fitting = (typed, seen.fitting); kept = (kept, seen.kept) }) middle there.top.found there.top.stands_at stop (node start end shape) there in
             record { outcome = e.outcome; related = (record { stop = stop; stands = there }, e.related); only = λ other has. e.only other has.1 }
 
     over_value : (v : Val) → MeansOf question world seen base (gives v) → HasType (slots_of world.row.schema) (collection member_type) v → IsKept (slots_of world.row.schema) (collection member_type) v
@@ -221,8 +204,8 @@ module _ (question : Question) (types : OneType) (ends : EndsOnceOnEntities) (is
         typed = all_typed world.row.schema member_type values has;
         kept = all_kept world.row.schema member_type values kept.1;
         each = λ k v at.
-            each_one k v (got (λ (w : Val). HasType (slots_of world.row.schema) (single member_type) w) (members_of values) k v (all_typed world.row.schema member_type values has) at)
-            (got (λ (w : Val). IsKept (slots_of world.row.schema) (single member_type) w) (members_of values) k v (all_kept world.row.schema member_type values kept.1) at);
+            each_one k v (at_all (λ (w : Val). HasType (slots_of world.row.schema) (single member_type) w) (members_of values) k v (all_typed world.row.schema member_type values has) at)
+            (at_all (λ (w : Val). IsKept (slots_of world.row.schema) (single member_type) w) (members_of values) k v (all_kept world.row.schema member_type values kept.1) at);
         given =
             map_places quantifier (length (members_of values))
             (MemberGives (λ w. Means slots root world.now (value_of world.row) (bound_over world.environment asked (single given.0) w) body) values)

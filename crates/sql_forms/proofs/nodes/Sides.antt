@@ -1,5 +1,5 @@
 -- Sides of operators and items of lists: a text that is read as the number of an enumeration, or a tree by itself.
-use Rattle.sql_forms.proofs.Common.{◌≡◌, ◌⊎◌, ◌∙◌, inl, inr, ℕ, ℤ, ◌<◌, ◌+◌, List, Option, Some, None, refl, sym, ap, subst, arith, slice_get, IsMoment, Val, member, null, Value, ExprType, enumeration, single, SchemaModel, Slots, slots_of, Filter, IsLiteralNode, IsValueOf, Stands, CheckedNode, NodeKind, further_in, found_there, EndsOnceOnEntities, scope_of, GivesMember, UnlessRead, string_type, LiteralValue, IsQuotedNumber, ResolvedNumber, OfEquality, ReadsNone, ReadsNumber, quoted_text, expr_type, Scope, Typed, EdmType, ValueType, Outcome, gives, Range, number_there, Tree, literal, node, BinaryOperator, LiteralKind, SqlType, Operand, Source, Kind, CodeHas, HasOrCode, NoTruth, carrier_in, IsOfKind, kind_of_type, Fits, IsNodeAt, IsNumberOperand, IsReadAt, IsSideAt, OperandHas, SourceHas, AreRanges, IsAskedOf, OfPlace, Question, World, BesideIn, MeansOf, means_in, means_of, by_kind}
+use Rattle.sql_forms.proofs.Common.{◌≡◌, ◌⊎◌, ◌∙◌, inl, inr, ℕ, ℤ, ◌<◌, ◌+◌, List, Option, Some, None, refl, sym, ap, subst, arith, slice_get, IsMoment, Val, member, null, Value, ExprType, enumeration, single, SchemaModel, Slots, slots_of, Filter, IsLiteralNode, IsValueOf, Stands, CheckedNode, NodeKind, further_in, found_there, EndsOnceOnEntities, scope_of, GivesMember, UnlessRead, LiteralValue, IsQuotedNumber, ResolvedNumber, OfEquality, ReadsNone, ReadsNumber, quoted_text, expr_type, Scope, Typed, EdmType, ValueType, Outcome, gives, Range, number_there, Tree, literal, node, BinaryOperator, LiteralKind, SqlType, Operand, Source, Kind, CodeHas, HasOrCode, NoTruth, carrier_in, IsOfKind, kind_of_type, Fits, IsNodeAt, IsNumberOperand, IsReadAt, IsSideAt, OperandHas, SourceHas, AreRanges, IsAskedOf, OfPlace, Question, World, BesideIn, MeansOf, means_in, means_of, by_kind}
 use Rattle.odata_checked_filter.specs.Stands.{HasValue}
 use Rattle.odata_eval.proofs.walking.Operands.{one_kind}
 use Rattle.sql_forms.proofs.nodes.BinaryPlaces.{top_node}
@@ -22,9 +22,6 @@ one_read one slots OtherSide tree types m n p q =
     one_beside one slots p.type_of (quoted_text tree) m n p.number
     (subst (λ (t : ExprType). ResolvedNumber slots t (quoted_text tree) n) (types q.type_of p.type_of q.beside p.beside) q.number)
 
-no_text : (slots : Slots) (type : ExprType) (quoted : Option (List ℕ)) (n : ℤ) → type ≡ string_type → ResolvedNumber slots type quoted n → ⊥
-no_text slots type quoted n is number = subst (λ (t : ExprType). ResolvedNumber slots t quoted n) is number
-
 unquoted : (slots : Slots) (type : ExprType) (n : ℤ) → ResolvedNumber slots type None n → ⊥
 unquoted slots (single (enumeration name)) n number = number
 unquoted slots _ n number = number
@@ -33,7 +30,7 @@ unquoted slots _ n number = number
 pub not_both : (slots : Slots) (root : List ℕ) (scope : Scope) (operator : BinaryOperator) (left right : Tree) (m n : ℤ) → ReadsNumber slots (OfEquality operator (Typed slots root scope right)) left m
     → ReadsNumber slots (OfEquality operator (Typed slots root scope left)) right n → ⊥
 not_both slots root scope operator (node from to (literal LiteralKind.Str spelling)) right m n of_left of_right =
-    no_text slots of_right.type_of (quoted_text right) n of_right.beside.1.2 of_right.number
+    subst (λ (t : ExprType). ResolvedNumber slots t (quoted_text right) n) of_right.beside.1.2 of_right.number
 not_both slots root scope operator _ right m n of_left of_right = unquoted slots of_left.type_of m of_left.number
 
 -- what is read stands beside a value of an enumeration
@@ -67,9 +64,6 @@ module _ (filter : Filter) (scope : Scope) (OtherSide : ExprType → Type 0) (tr
 
 -- ---- which of the two an operand is
 
-no_member : (slots : Slots) (spelling : List ℕ) (n : ℤ) → LiteralValue slots LiteralKind.Str spelling (member n) → ⊥
-no_member slots spelling n is = is
-
 -- a text that is read is no tree by itself
 pub read_apart : (filter : Filter) (scope : Scope) (place value : ℕ) → IsReadAt filter place value → (stop : ℕ) (tree : Tree) → Stands filter.schema filter.filtered scope filter.list place stop tree → ⊥
 read_apart filter scope place value read =
@@ -80,10 +74,8 @@ read_apart filter scope place value read =
     let is_text : LiteralKind.Str ≡ k = subst (IsLiteralNode k) kind_is stands.top.kind in
     let valued = subst (HasValue filter.list.values (IsValueOf slots k spelling)) kind_is stands.top.valued in
     let held = found_there (IsValueOf slots k spelling) (slice_get filter.list.values value) (Value.Enum read.has.0) read.has.1 valued in
-    let plain : Some (member read.has.0) ≡ Some held.val = held.plain in
-    let is_member : held.val ≡ member read.has.0 = cc in
-    no_member slots spelling read.has.0
-    (subst (λ (l : LiteralKind). LiteralValue slots l spelling (member read.has.0)) (sym is_text) (subst (LiteralValue slots k spelling) is_member held.value_of)))
+    let is_member : held.val ≡ member read.has.0 = cc held.plain in
+    subst (λ (l : LiteralKind). LiteralValue slots l spelling (member read.has.0)) (sym is_text) (subst (LiteralValue slots k spelling) is_member held.value_of))
 
 pub record IsRead (filter : Filter) (OtherSide : ExprType → Type 0) (tree : Tree) (place : ℕ) (operand : Operand) : Type 0 where
   pub number : ℤ

@@ -39,3 +39,14 @@ node_tested filter ranges operand place kind source tested =
     let by_source : IsTestable filter ranges operand (Source.Node place) operand.kind = subst (λ (s : Source). IsTestable filter ranges operand s operand.kind) source tested in
     let both : IsTestable filter ranges operand (Source.Node place) Kind.Structured = subst (IsTestable filter ranges operand (Source.Node place)) kind by_source in
     both.0
+
+-- an operand of such a kind that is tested is a node or a position in JSON
+pub not_testable : (filter : Filter) (ranges : List Range) (operand : Operand) → operand.kind ≡ Kind.Structured → IsTested filter ranges operand
+    → ((path : ℕ) → operand.source ≢ Source.Place path) → ((place : ℕ) → operand.source ≢ Source.Node place) → ⊥
+not_testable filter ranges operand kind tested no_place no_node =
+    by operand.source (subst (IsTestable filter ranges operand operand.source) kind tested) no_place no_node
+  where
+    by : (source : Source) → IsTestable filter ranges operand source Kind.Structured → ((path : ℕ) → source ≢ Source.Place path) → ((place : ℕ) → source ≢ Source.Node place) → ⊥
+    by (Source.Place path) is no_position no_other = no_position path refl
+    by (Source.Node place) is no_position no_other = no_other place refl
+    by source is no_position no_other = is.1

@@ -1,5 +1,5 @@
 -- Nodes that are truth values, by their kinds.
-use Rattle.sql_forms.proofs.Common.{◌≡◌, ◌≢◌, ◌∙◌, ℕ, List, true, false, Some, refl, sym, ap, subst, slice_get, PrimitiveType, primitive, single, structured, SchemaModel, slots_of, type_name_at, Filter, IsFilter, Stands, CheckedNode, NodeKind, there_found, HasKind, Scope, Typed, negation_numeric, operator_numeric, Range, IsNumeric, row_of, expr_type, EdmType, ValueType, Function, Tree, BinaryOperator, LogicalOperator, LiteralKind, Quantifier, SqlType, Kind, ComparesNothing, kind_of_type, IsQuietKind, AreRanges, IsCarriedKind, IsOtherKind, IsTruthKind, Question, tree_found, by_kind}
+use Rattle.sql_forms.proofs.Common.{◌≡◌, ◌≢◌, ◌∙◌, ℕ, List, true, false, Some, refl, sym, ap, subst, slice_get, PrimitiveType, primitive, single, structured, SchemaModel, slots_of, type_name_at, Filter, IsFilter, Stands, CheckedNode, NodeKind, there_found, HasKind, Scope, Typed, negation_numeric, operator_numeric, Range, IsNumeric, row_of, expr_type, EdmType, ValueType, Function, Tree, BinaryOperator, LogicalOperator, LiteralKind, Quantifier, SqlType, Kind, ComparesNothing, kind_of_type, IsQuietKind, AreRanges, IsCarriedKind, IsOtherKind, IsTruthKind, Question, tree_found, by_kind, IsSomeAnd, IsTruthAt, some_there, found_there}
 use Rattle.odata_eval.proofs.walking.Spines.{only_now}
 use Rattle.sql_forms.proofs.nodes.BinaryPlaces.{top_node}
 
@@ -126,3 +126,14 @@ pub faulting_kind : (question : Question) (ranges : List Range) → AreRanges qu
     → slice_get ranges place ≡ Some range → range.may_fault ≡ true → ¬ IsQuietKind found.kind
 faulting_kind question ranges are place found range at range_at faults =
     λ plain. (let e : true ≡ false = sym faults ∙ are.plain place found range at range_at plain in absurd (cc))
+
+-- so no other kind of truth value may be a fault
+pub no_other_truth : (question : Question) (ranges : List Range) → AreRanges question ranges → IsFilter question.filter → (place : ℕ) (found : CheckedNode) → slice_get question.filter.list.nodes place ≡ Some found
+    → IsSomeAnd (slice_get ranges place) (λ range. range.may_fault ≡ true) → IsTruthAt question.filter place → IsSomeAnd (slice_get question.filter.list.nodes place) (λ node. ComparesNothing node.kind)
+    → ((c : LogicalOperator) → found.kind ≢ NodeKind.Binary (BinaryOperator.Logical c)) → found.kind ≢ NodeKind.Not → found.kind ≢ NodeKind.InList → found.kind ≢ NodeKind.InPath → ((quantifier : Quantifier) → found.kind ≢ NodeKind.Lambda quantifier)
+    → ((f : Function) → found.kind ≢ NodeKind.Call f) → ⊥
+no_other_truth question ranges are right place found at faults truth compares connects no_not no_list no_path no_lambda no_call =
+    let range = some_there (λ (r : Range). r.may_fault ≡ true) (slice_get ranges place) faults in
+    let kind = found_there (λ (n : CheckedNode). IsTruthKind (kind_of_type n.edm_type)) (slice_get question.filter.list.nodes place) found at truth in
+    no_other_fault question.filter right place found at (faulting_boolean question ranges are place found range.0 at range.1.0 range.1.1 kind) found.kind refl (faulting_kind question ranges are place found range.0 at range.1.0 range.1.1)
+    (found_there (λ (n : CheckedNode). ComparesNothing n.kind) (slice_get question.filter.list.nodes place) found at compares) connects no_not no_list no_path no_lambda no_call

@@ -1,9 +1,10 @@
 -- The nodes that are put as values: what computes numbers, and what is a path.
-use Rattle.sql_forms.proofs.Common.{◌≡◌, ◌≢◌, ◌∙◌, inl, inr, ℕ, ◌+◌, List, Some, slice_get, refl, sym, ap, subst, IsNumberType, PrimitiveType, ExprType, single, collection, structured, PropertyModel, SchemaModel, Slots, slots_of, type_name_at, Shape, Tree, any_item, binary, call, count, in_list, it, lambda, literal, name, negation, node, ArithmeticOperator, BinaryOperator, ComparisonOperator, LogicalOperator, LiteralKind, IsCollection, boolean_type, expr_type, EdmType, ValueType, Function, Scope, Filter, IsFilter, IsCallNode, IsLiteralNode, IsMemberNode, IsNameNode, variable_names, Lies, CheckedNode, NodeKind, numbered, one_there, found_there, some_there, there_found, IsNumeric, StandsIn, TypedIn, lies, type_there, IsPathType, negation_numeric, operator_numeric, tree_found, SqlType, Kind, IsComputedIn, kind_of_type, IsPathAt, IsStep, IsOnWay, tree_on_way}
+use Rattle.sql_forms.proofs.Common.{◌≡◌, ◌≢◌, ◌∙◌, inl, inr, ℕ, ◌+◌, List, Some, slice_get, refl, sym, ap, subst, IsNumberType, PrimitiveType, ExprType, single, collection, structured, PropertyModel, SchemaModel, Slots, slots_of, type_name_at, Shape, Tree, any_item, binary, call, count, in_list, it, lambda, literal, name, negation, node, ArithmeticOperator, BinaryOperator, ComparisonOperator, LogicalOperator, LiteralKind, IsCollection, boolean_type, expr_type, EdmType, ValueType, Function, Scope, Filter, IsFilter, IsCallNode, IsLiteralNode, IsMemberNode, IsNameNode, variable_names, Lies, CheckedNode, NodeKind, numbered, one_there, found_there, some_there, there_found, IsNumeric, StandsIn, TypedIn, lies, type_there, IsPathType, negation_numeric, operator_numeric, SqlType, Kind, IsComputedIn, kind_of_type, IsPathAt, IsStep, IsOnWay, tree_on_way}
 use Rattle.odata_syntax.specs.Tree.{member}
 use Rattle.odata_checked_filter.proofs.flat.Places.{same_found}
 use Rattle.odata_ranges.proofs.Forms.{by_kind}
 use Rattle.sql_forms.proofs.nodes.StructuredNodes.{step_on_way}
+use Rattle.sql_forms.proofs.nodes.ByNode.{by_node}
 
 -- ---- types
 
@@ -77,11 +78,9 @@ module _ (filter : Filter) (right : IsFilter filter) (place : ℕ) (found : Chec
   operator_boolean : (operator : BinaryOperator) → ((type : ExprType) (scope : Scope) (a b : Tree) (from to : ℕ) → TypedIn filter scope (node from to (binary operator a b)) type → type ≡ boolean_type)
       → found.kind ≡ NodeKind.Binary operator → kind_of_type found.edm_type ≡ Kind.Value SqlType.Truth
   operator_boolean operator boolean is =
-      let there = tree_found filter right place found at (NodeKind.Binary operator) tt is in
-      by_kind filter there.scope place found at (NodeKind.Binary operator) is (λ s t. StandsIn filter there.scope place s t → kind_of_type found.edm_type ≡ Kind.Value SqlType.Truth)
-      (λ a b s from to stands again.
-      boolean_kind filter.schema found.edm_type (boolean (expr_type filter.schema found.edm_type) there.scope a b from to (type_there filter there.scope place found at s (node from to (binary operator a b)) stands)))
-      there.stop there.part there.stands there.stands
+      by_node filter right place found at (NodeKind.Binary operator) tt is (kind_of_type found.edm_type ≡ Kind.Value SqlType.Truth)
+      (λ scope a b s from to stands.
+      boolean_kind filter.schema found.edm_type (boolean (expr_type filter.schema found.edm_type) scope a b from to (type_there filter scope place found at s (node from to (binary operator a b)) stands)))
 
   logical_boolean : (logical : LogicalOperator) → found.kind ≡ NodeKind.Binary (BinaryOperator.Logical logical) → kind_of_type found.edm_type ≡ Kind.Value SqlType.Truth
   logical_boolean logical = operator_boolean (BinaryOperator.Logical logical) (λ type scope a b from to typed. elim typed.makes [ inl by ↦ by.2 | inr one ↦ one.1 ])
@@ -152,18 +151,14 @@ module _ (filter : Filter) (right : IsFilter filter) (place : ℕ) (found : Chec
 
   pub counted_path : found.kind ≡ NodeKind.Count → IsPathAt filter (place + 1)
   counted_path is =
-      let there = tree_found filter right place found at NodeKind.Count tt is in
-      by_kind filter there.scope place found at NodeKind.Count is (λ s t. StandsIn filter there.scope place s t → IsPathAt filter (place + 1))
-      (λ base s from to stands again.
-      let typed = type_there filter there.scope place found at s (node from to (count base)) stands in
-      collection_path there.scope s base typed.operand (one_there filter.schema filter.filtered there.scope filter.list (place + 1) s base stands.children) typed.operand_typed typed.makes.0)
-      there.stop there.part there.stands there.stands
+      by_node filter right place found at NodeKind.Count tt is (IsPathAt filter (place + 1))
+      (λ scope base s from to stands.
+      let typed = type_there filter scope place found at s (node from to (count base)) stands in
+      collection_path scope s base typed.operand (one_there filter.schema filter.filtered scope filter.list (place + 1) s base stands.children) typed.operand_typed typed.makes.0)
 
   pub asked_path : found.kind ≡ NodeKind.AnyItem → IsPathAt filter (place + 1)
   asked_path is =
-      let there = tree_found filter right place found at NodeKind.AnyItem tt is in
-      by_kind filter there.scope place found at NodeKind.AnyItem is (λ s t. StandsIn filter there.scope place s t → IsPathAt filter (place + 1))
-      (λ base s from to stands again.
-      let typed = type_there filter there.scope place found at s (node from to (any_item base)) stands in
-      collection_path there.scope s base typed.operand (one_there filter.schema filter.filtered there.scope filter.list (place + 1) s base stands.children) typed.operand_typed typed.makes.0)
-      there.stop there.part there.stands there.stands
+      by_node filter right place found at NodeKind.AnyItem tt is (IsPathAt filter (place + 1))
+      (λ scope base s from to stands.
+      let typed = type_there filter scope place found at s (node from to (any_item base)) stands in
+      collection_path scope s base typed.operand (one_there filter.schema filter.filtered scope filter.list (place + 1) s base stands.children) typed.operand_typed typed.makes.0)

@@ -19,10 +19,7 @@ primitive_kind p v is = absurd is
 -- a value of a type is of its kind
 pub typed_kind : (slots : Slots) (schema : SchemaModel) (type : EdmType) (v : Val) → HasType slots (expr_type schema type) v → IsOfKind (kind_of_type type) v
 typed_kind slots schema EdmType.Null null is = refl
-typed_kind slots schema (EdmType.Single (ValueType.Prim p)) null is = null_of_type (type_of_primitive p)
-  where
-    null_of_type : (type : SqlType) → IsOfType type null
-    null_of_type type = tt
+typed_kind slots schema (EdmType.Single (ValueType.Prim p)) null is = tt
 typed_kind slots schema (EdmType.Single (ValueType.Prim p)) v is = primitive_kind p v is
 typed_kind slots schema (EdmType.Single (ValueType.Enum id)) null is = tt
 typed_kind slots schema (EdmType.Single (ValueType.Enum id)) (member n) is = tt

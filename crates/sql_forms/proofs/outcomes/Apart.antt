@@ -1,5 +1,5 @@
 -- Small facts: what is not the same, and what stays of a fault or of true.
-use Rattle.sql_forms.proofs.Common.{BoundValue, IsFault, IsOfKind, IsTrue, Kind, List, LogicalOperator, None, Outcome, Some, Val, boolean, chained, false, fault_else, gives, inl, inr, length, null, refl, slice_get, true, without_fault, ℕ, ℤ, ◌++◌, ◌∷◌, ◌≡◌, ◌≢◌, ◌⊎◌, []}
+use Rattle.sql_forms.proofs.Common.{BoundValue, IsFault, IsOfKind, IsTrue, Kind, List, LogicalOperator, None, Outcome, Some, Val, boolean, chained, false, fault_else, gives, inl, inr, length, null, refl, slice_get, true, without_fault, ℤ, ◌++◌, ◌∷◌, ◌≡◌, ◌≢◌, ◌⊎◌, []}
 
 pub null_or_not : (v : Val) → (v ≡ null) ⊎ (v ≢ null)
 null_or_not null = inl refl
@@ -10,9 +10,6 @@ false_true is = cc
 
 pub none_true : None ≡ Some true → ⊥
 none_true is = cc
-
-pub null_true : gives null ≡ gives (boolean true) → ⊥
-null_true is = cc
 
 pub null_kind : (kind : Kind) → IsOfKind kind null
 null_kind Kind.Null = refl
@@ -39,6 +36,3 @@ at_end (c ∷ bound) rest b = at_end bound rest b
 
 pub no_truth : IsTrue false → ⊥
 no_truth is = cc
-
-pub no_decision : (d : ℕ) → None ≡ Some d → ⊥
-no_decision d is = cc

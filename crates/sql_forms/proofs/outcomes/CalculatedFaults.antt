@@ -64,12 +64,9 @@ made operator type (gives v) _ o a_is b_is given = record { inner = gives null; 
 made operator type _ b o a_is b_is given = record { inner = gives null; comes = no_number operator type (number_in b); is = given }
 
 -- one type stands at the index
-same_single : (node : CheckedNode) (s t : PrimitiveType) → node.edm_type ≡ EdmType.Single (ValueType.Prim s) → node.edm_type ≡ EdmType.Single (ValueType.Prim t) → s ≡ t
-same_single node s t is other = let same : EdmType.Single (ValueType.Prim s) ≡ EdmType.Single (ValueType.Prim t) = sym is ∙ other in cc
-
 pub one_type : (node : Option CheckedNode) (s t : PrimitiveType) → IsSomeAnd node (λ n. n.edm_type ≡ EdmType.Single (ValueType.Prim s)) → IsSomeAnd node (λ n. n.edm_type ≡ EdmType.Single (ValueType.Prim t)) → s ≡ t
 one_type None s t is other = absurd is
-one_type (Some node) s t is other = same_single node s t is other
+one_type (Some node) s t is other = let same : EdmType.Single (ValueType.Prim s) ≡ EdmType.Single (ValueType.Prim t) = sym is ∙ other in cc
 
 -- ---- the body over what is bound
 

@@ -3,19 +3,14 @@ use Rattle.sql_forms.proofs.Common.{◌≡◌, ◌<◌, ◌++◌, ◌∷◌, [],
 use Rattle.sql_forms.specs.Forms.{IsInForm}
 use Rattle.sql_forms.specs.private.AskedForms.{IsAskedCode, asked_digit}
 use Rattle.sql_forms.proofs.puts.ChainsPut.{TableLaws, chain_put}
-use Rattle.sql_forms.proofs.puts.DecidedPut.{all_of_front, all_of_rest, alone_put, lists_put, only_one, undecided_put}
+use Rattle.sql_forms.proofs.puts.DecidedPut.{alone_put, lists_put, undecided_put}
+use Rattle.sql_forms.proofs.outcomes.Elements.{front_all, rest_all, only_one}
 
 -- two parts of a list
 pub record Parts (whole front rest : List ℕ) : Type 0 where
   pub is : whole ≡ front ++ rest
   pub some : 0 < length front
   pub more : 0 < length rest
-
-pub all_front : (P : ℕ → Type 0) (whole front rest : List ℕ) → whole ≡ front ++ rest → AllByRecursion P whole → AllByRecursion P front
-all_front P whole front rest is all = all_of_front P front rest (subst (AllByRecursion P) is all)
-
-pub all_rest : (P : ℕ → Type 0) (whole front rest : List ℕ) → whole ≡ front ++ rest → AllByRecursion P whole → AllByRecursion P rest
-all_rest P whole front rest is all = all_of_rest P front rest (subst (AllByRecursion P) is all)
 
 of_both : (form : Form) (join : SqlNode) → IsOfBoth form → IsOfValues form join
 of_both Form.Truth join is = tt
@@ -61,8 +56,8 @@ module _ (question : Question) (form : Form) {T E : Type 0} (r : Result T E) whe
       → Puts question middle next (ChainHas question.filter c front) (IsInForm form) → OnOk r (Puts question next new (ChainHas question.filter c rest) (IsInForm form))
       → OnOk r (Puts question old new (ChainHas question.filter c terms) (IsInForm form))
   ok_all_joined ranges are laws join c is_join terms front rest parts plain old middle next new grows first second =
-      ok_joined ranges are laws join c is_join terms front rest parts (λ values. all_front (IsFaultless ranges) terms front rest parts.is (plain values))
-      (λ both. all_rest (IsFaultless ranges) terms front rest parts.is (plain (of_both form join both))) old middle next new grows first second
+      ok_joined ranges are laws join c is_join terms front rest parts (λ values. front_all (IsFaultless ranges) front rest (subst (AllByRecursion (IsFaultless ranges)) parts.is (plain values)))
+      (λ both. rest_all (IsFaultless ranges) front rest (subst (AllByRecursion (IsFaultless ranges)) parts.is (plain (of_both form join both)))) old middle next new grows first second
 
   -- a list that is another
   pub ok_same_terms : (c : LogicalOperator) (terms others : List ℕ) (old new : Draft) → terms ≡ others → OnOk r (Puts question old new (ChainHas question.filter c others) (IsInForm form))

@@ -96,7 +96,7 @@ module _ (question : Question) (right : IsFilter question.filter) (types : OneTy
       → WalkLeft question c place (at + 1) (second ∷ passed)
   walk_on left is stops =
       let b = sides_of question right types c at left.inside is left.node left.node_at second stops in
-      let own_is : b.own ≡ left.node = same_node b.own left.node b.own_at left.node_at in
+      let own_is : b.own ≡ left.node = cc (b.own_at, left.node_at) in
       let own_stop : b.own.stop ≡ left.node.stop = ap (λ (n : CheckedNode). n.stop) own_is in
       let after : at + 1 < second = b.after in
       let inner : second < b.own.stop = b.within in
@@ -131,9 +131,6 @@ module _ (question : Question) (right : IsFilter question.filter) (types : OneTy
             };
       }
     where
-      same_node : (m n : CheckedNode) → slice_get question.filter.list.nodes at ≡ Some m → slice_get question.filter.list.nodes at ≡ Some n → m ≡ n
-      same_node m n here there = let e : Some m ≡ Some n = sym here ∙ there in cc
-
       node_sides : (world : World) (p : Outcome) → IsAskedOf question world → OfPlace question.filter at world p → Connects question.filter c at second world p
       node_sides world p seen has =
           let b = sides_of question right types c at left.inside is left.node left.node_at second stops in

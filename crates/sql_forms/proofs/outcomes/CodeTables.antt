@@ -1,6 +1,6 @@
 -- What is looked up at codes of outcomes.
 use Rattle.sql_forms.proofs.Common.{◌≡◌, ◌<◌, true, false, lit<, refl, pos, null, boolean, whole, CompareGives, After, Then, Outcome, gives, overflow, divides_by_zero, LogicalGives, NotGives, ComparisonOperator, LogicalOperator, LookUp, IsCoded, OneLooked, TwoLooked, code_of, IsTableBesideNull, IsTableOf, IsTableOfComparison, IsTableOfNot}
-use Rattle.sql_forms.proofs.outcomes.Apart.{no_decision as no_digit}
+use Rattle.std.proofs.lemmas.Option.{none-some}
 use Rattle.sql_tree.specs.TableDigits.{arity_of_table}
 
 -- the code of an outcome as an engine has it
@@ -29,10 +29,10 @@ looked_comparison table operator law left right o is_left is_right given =
     (code_below_5 left is_left, code_below_5 right is_right, (code_of o, law left right o is_left is_right given, refl))
 
 pub compares_two : (table : LookUp) (operator : ComparisonOperator) → IsTableOfComparison table operator → arity_of_table table ≡ 2
-compares_two LookUp.Not operator law = absurd (no_digit 4 (law divides_by_zero divides_by_zero divides_by_zero tt tt refl))
-compares_two LookUp.IsNull operator law = absurd (no_digit 4 (law divides_by_zero divides_by_zero divides_by_zero tt tt refl))
-compares_two LookUp.IsNotNull operator law = absurd (no_digit 4 (law divides_by_zero divides_by_zero divides_by_zero tt tt refl))
-compares_two LookUp.Never operator law = absurd (no_digit 4 (law divides_by_zero divides_by_zero divides_by_zero tt tt refl))
+compares_two LookUp.Not operator law = absurd (none-some 4 (law divides_by_zero divides_by_zero divides_by_zero tt tt refl))
+compares_two LookUp.IsNull operator law = absurd (none-some 4 (law divides_by_zero divides_by_zero divides_by_zero tt tt refl))
+compares_two LookUp.IsNotNull operator law = absurd (none-some 4 (law divides_by_zero divides_by_zero divides_by_zero tt tt refl))
+compares_two LookUp.Never operator law = absurd (none-some 4 (law divides_by_zero divides_by_zero divides_by_zero tt tt refl))
 compares_two _ operator law = refl
 
 pub looked_beside_null : (table : LookUp) (operator : ComparisonOperator) → IsTableBesideNull table operator → (left o : Outcome) → IsCoded left

@@ -27,11 +27,8 @@ module _ (filter : Filter) (ranges : List Range) (operand : Operand) where
 
 -- ---- values
 
-twice : (b : Bool) → b ≡ true → b ≡ false → ⊥
-twice b here there = cc
-
 pub given_value : (operand : Operand) (v : Val) → IsGiven operand → Fits operand v → v ≢ null
-given_value operand v given fits = λ is. twice operand.range.may_be_null (fits.nullable is) given
+given_value operand v given fits = λ is. cc (fits.nullable is, given)
 
 -- moments compare as their instants do
 moments_compare : (operator : ComparisonOperator) (a b : MomentParts) (o : Outcome) → CompareGives operator (moment a) (moment b) o

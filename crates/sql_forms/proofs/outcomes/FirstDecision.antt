@@ -1,7 +1,7 @@
 -- What `any` and `all` evaluate to by the first member that decides, of bodies that may evaluate to faults.
 use Rattle.sql_forms.proofs.Common.{◌≡◌, inl, inr, ◌<◌, ◌+◌, ◌*◌, ℕ, zero, suc, pos, List, [], ◌∷◌, true, false, Option, Some, None, length, refl, sym, ap, ◌∙◌, arith, slice_get, Val, boolean, null, Quantifier, Then, Outcome, gives, overflow, divides_by_zero, DecisionGives, IsUndecided, QuantifierGives, undecided_val, IsCoded, code_of, decisions}
-use Rattle.sql_forms.proofs.outcomes.Apart.{no_decision}
 use Rattle.sql_forms.proofs.outcomes.Deciding.{first_from}
+use Rattle.std.proofs.lemmas.Option.{none-some, same_Some}
 
 -- what an outcome of the body decides, by its code
 abbrev pub decided : Quantifier → Outcome → Option ℕ
@@ -29,32 +29,23 @@ in_table quantifier _ is = absurd is
 
 -- ---- the first decision of a list
 
-same_decision : (x y : Option ℕ) → Some x ≡ Some y → x ≡ y
-same_decision x y is = cc
-
-same_code : (d e : ℕ) → Some d ≡ Some e → d ≡ e
-same_code d e is = cc
-
-no_place : (x : Option ℕ) → None ≡ Some x → ⊥
-no_place x is = cc
-
 pub first_at : (start : ℕ) (ds : List (Option ℕ)) (k d : ℕ) → slice_get ds k ≡ Some (Some d) → ((j : ℕ) → j < k → slice_get ds j ≡ Some None)
     → first_from start ds ≡ Some (pos (8 * (start + k) + d))
-first_at start [] k d is earlier = absurd (no_place (Some d) is)
+first_at start [] k d is earlier = absurd (none-some (Some d) is)
 first_at start (Some e ∷ ds) zero d is earlier =
-    let same : e ≡ d = same_code e d (same_decision (Some e) (Some d) is) in
+    let same : e ≡ d = cc (same_Some (Some e) (Some d) is) in
     let number : 8 * start + e ≡ 8 * (start + 0) + d = omega arith in
     ap (λ (n : ℕ). Some (pos n)) number
-first_at start (None ∷ ds) zero d is earlier = absurd (no_decision d (same_decision None (Some d) is))
+first_at start (None ∷ ds) zero d is earlier = absurd (none-some d (same_Some None (Some d) is))
 first_at start (Some e ∷ ds) (suc k) d is earlier =
-    absurd (no_decision e (sym (same_decision (Some e) None (earlier zero (omega arith)))))
+    absurd (none-some e (sym (same_Some (Some e) None (earlier zero (omega arith)))))
 first_at start (None ∷ ds) (suc k) d is earlier =
     let number : 8 * (start + 1 + k) + d ≡ 8 * (start + suc k) + d = omega arith in
     first_at (start + 1) ds k d is (λ j below. earlier (suc j) (omega arith)) ∙ ap (λ (n : ℕ). Some (pos n)) number
 
 pub none_first : (start : ℕ) (ds : List (Option ℕ)) → ((j : ℕ) (x : Option ℕ) → slice_get ds j ≡ Some x → x ≡ None) → first_from start ds ≡ None
 none_first start [] none = refl
-none_first start (Some d ∷ ds) none = absurd (no_decision d (sym (none zero (Some d) refl)))
+none_first start (Some d ∷ ds) none = absurd (none-some d (sym (none zero (Some d) refl)))
 none_first start (None ∷ ds) none = none_first (start + 1) ds (λ j. none (suc j))
 
 -- ---- decisions of bodies
@@ -99,5 +90,5 @@ first_decides quantifier At ds are o (inl found) =
 first_decides quantifier At ds are o (inr none) =
     passes (none_first 0 ds (λ j x there.
     let pass = none.each j (are.below j x there) in
-    same_decision x None (sym there ∙ are.inside j (gives pass.0) pass.1 ∙ ap (λ (y : Option ℕ). Some y) (undecided_none quantifier pass.0 pass.2))))
+    same_Some x None (sym there ∙ are.inside j (gives pass.0) pass.1 ∙ ap (λ (y : Option ℕ). Some y) (undecided_none quantifier pass.0 pass.2))))
     none.is

@@ -66,36 +66,12 @@ module _ (operands : List Operand) where
   pub is_index_of : IsSqlFunctionOf Function.IndexOf operands SqlFunction.IndexOf
   is_index_of now values o kinds given = by_flag now Function.IndexOf SqlFunction.IndexOf values o (λ b same g. index_makes now values o b g) given
 
-  pub is_contains : IsSqlFunctionOf Function.Contains operands SqlFunction.Contains
-  is_contains now values o kinds given = (o, given, refl)
-
-  pub is_starts_with : IsSqlFunctionOf Function.StartsWith operands SqlFunction.StartsWith
-  is_starts_with now values o kinds given = (o, given, refl)
-
-  pub is_ends_with : IsSqlFunctionOf Function.EndsWith operands SqlFunction.EndsWith
-  is_ends_with now values o kinds given = (o, given, refl)
-
-  pub is_concat : IsSqlFunctionOf Function.Concat operands SqlFunction.Concat
-  is_concat now values o kinds given = (o, given, refl)
-
-  pub is_trim : IsSqlFunctionOf Function.Trim operands SqlFunction.Trim
-  is_trim now values o kinds given = (o, given, refl)
-
-  pub is_to_lower : IsSqlFunctionOf Function.ToLower operands SqlFunction.ToLower
-  is_to_lower now values o kinds given = (o, given, refl)
-
-  pub is_to_upper : IsSqlFunctionOf Function.ToUpper operands SqlFunction.ToUpper
-  is_to_upper now values o kinds given = (o, given, refl)
-
-  pub is_rest_from : IsSqlFunctionOf Function.Substring operands SqlFunction.RestFrom
-  is_rest_from now values o kinds given = (o, given, refl)
-
   pub is_time : (function : Function) (sql : SqlFunction) → ((now : MomentParts) (values : List Val) (o : Outcome) → AreOfKinds operands values → CallGives now function values o → SqlFunctionGives now sql values o)
       → (IsCounting function → ⊥) → IsSqlFunctionOf function operands sql
   is_time function sql means other now values o kinds given = (o, means now values o kinds given, uncounted function values o other)
 
-  pub is_part_from : IsSqlFunctionOf Function.Substring operands SqlFunction.PartFrom
-  is_part_from now values o kinds given = (o, given, refl)
+  pub made_alike : (function own : Function) (sql : SqlFunction) → function ≡ own → ((now : MomentParts) (values : List Val) (o : Outcome) → AreOfKinds operands values → CallGives now own values o → SqlFunctionGives now sql values o) → (IsCounting own → ⊥) → IsSqlFunctionOf function operands sql
+  made_alike function own sql is means other = subst (λ (f : Function). IsSqlFunctionOf f operands sql) (sym is) (is_time own sql means other)
 
 -- ---- counts that are bound to Int32
 
@@ -176,22 +152,22 @@ counting function values x o is before = absurd is
 -- ---- parts of a date alone, and of a moment alone
 
 -- one date, or one moment
-abbrev IsOneTime : List Val → Type 0
+abbrev pub IsOneTime : List Val → Type 0
 IsOneTime (date d ∷ []) = Unit {0}
 IsOneTime (moment m ∷ []) = Unit {0}
 IsOneTime values = ⊥
 
-year_one : (now : MomentParts) (values : List Val) (o : Outcome) → FunctionGives now Function.Year values o → IsOneTime values
+pub year_one : (now : MomentParts) (values : List Val) (o : Outcome) → FunctionGives now Function.Year values o → IsOneTime values
 year_one now (date d ∷ []) o given = tt
 year_one now (moment m ∷ []) o given = tt
 year_one now values o given = absurd given
 
-month_one : (now : MomentParts) (values : List Val) (o : Outcome) → FunctionGives now Function.Month values o → IsOneTime values
+pub month_one : (now : MomentParts) (values : List Val) (o : Outcome) → FunctionGives now Function.Month values o → IsOneTime values
 month_one now (date d ∷ []) o given = tt
 month_one now (moment m ∷ []) o given = tt
 month_one now values o given = absurd given
 
-day_one : (now : MomentParts) (values : List Val) (o : Outcome) → FunctionGives now Function.Day values o → IsOneTime values
+pub day_one : (now : MomentParts) (values : List Val) (o : Outcome) → FunctionGives now Function.Day values o → IsOneTime values
 day_one now (date d ∷ []) o given = tt
 day_one now (moment m ∷ []) o given = tt
 day_one now values o given = absurd given
@@ -234,33 +210,15 @@ module _ (Goes : List Val → Outcome → Type 0) (operand : Operand) where
   unless_moments true operands values o at kind kinds one given = given
   unless_moments false operands values o at kind kinds one given = of_moments operands values o at kind kinds (one given) given
 
-module _ (operands : List Operand) (operand : Operand) (at : slice_get operands 0 ≡ Some operand) where
-  pub is_year_of_date : operand.kind ≡ Kind.Value SqlType.Date → IsSqlFunctionOf Function.Year operands SqlFunction.YearOfDate
-  is_year_of_date kind =
-      is_time operands Function.Year SqlFunction.YearOfDate
-      (λ now values o kinds given. unless_dates (FunctionGives now Function.Year) operand (has_null values) operands values o at kind kinds (year_one now values o) given) (λ counting. counting)
+-- a year, a month and a day
+module _ (operands : List Operand) (operand : Operand) (at : slice_get operands 0 ≡ Some operand) (function own : Function) (is : function ≡ own) (sql : SqlFunction)
+    (one : (now : MomentParts) (values : List Val) (o : Outcome) → FunctionGives now own values o → IsOneTime values) where
+  pub part_of_date : operand.kind ≡ Kind.Value SqlType.Date → ((now : MomentParts) (values : List Val) (o : Outcome) → UnlessNull (has_null values) (OfDateAlone (FunctionGives now own) values) o → SqlFunctionGives now sql values o) → (IsCounting own → ⊥) → IsSqlFunctionOf function operands sql
+  part_of_date kind alone =
+      made_alike operands function own sql is
+      (λ now values o kinds given. alone now values o (unless_dates (FunctionGives now own) operand (has_null values) operands values o at kind kinds (one now values o) given))
 
-  pub is_year_of_moment : operand.kind ≢ Kind.Value SqlType.Date → IsSqlFunctionOf Function.Year operands SqlFunction.YearOfMoment
-  is_year_of_moment kind =
-      is_time operands Function.Year SqlFunction.YearOfMoment
-      (λ now values o kinds given. unless_moments (FunctionGives now Function.Year) operand (has_null values) operands values o at kind kinds (year_one now values o) given) (λ counting. counting)
-
-  pub is_month_of_date : operand.kind ≡ Kind.Value SqlType.Date → IsSqlFunctionOf Function.Month operands SqlFunction.MonthOfDate
-  is_month_of_date kind =
-      is_time operands Function.Month SqlFunction.MonthOfDate
-      (λ now values o kinds given. unless_dates (FunctionGives now Function.Month) operand (has_null values) operands values o at kind kinds (month_one now values o) given) (λ counting. counting)
-
-  pub is_month_of_moment : operand.kind ≢ Kind.Value SqlType.Date → IsSqlFunctionOf Function.Month operands SqlFunction.MonthOfMoment
-  is_month_of_moment kind =
-      is_time operands Function.Month SqlFunction.MonthOfMoment
-      (λ now values o kinds given. unless_moments (FunctionGives now Function.Month) operand (has_null values) operands values o at kind kinds (month_one now values o) given) (λ counting. counting)
-
-  pub is_day_of_date : operand.kind ≡ Kind.Value SqlType.Date → IsSqlFunctionOf Function.Day operands SqlFunction.DayOfDate
-  is_day_of_date kind =
-      is_time operands Function.Day SqlFunction.DayOfDate
-      (λ now values o kinds given. unless_dates (FunctionGives now Function.Day) operand (has_null values) operands values o at kind kinds (day_one now values o) given) (λ counting. counting)
-
-  pub is_day_of_moment : operand.kind ≢ Kind.Value SqlType.Date → IsSqlFunctionOf Function.Day operands SqlFunction.DayOfMoment
-  is_day_of_moment kind =
-      is_time operands Function.Day SqlFunction.DayOfMoment
-      (λ now values o kinds given. unless_moments (FunctionGives now Function.Day) operand (has_null values) operands values o at kind kinds (day_one now values o) given) (λ counting. counting)
+  pub part_of_moment : operand.kind ≢ Kind.Value SqlType.Date → ((now : MomentParts) (values : List Val) (o : Outcome) → UnlessNull (has_null values) (OfMomentAlone (FunctionGives now own) values) o → SqlFunctionGives now sql values o) → (IsCounting own → ⊥) → IsSqlFunctionOf function operands sql
+  part_of_moment kind alone =
+      made_alike operands function own sql is
+      (λ now values o kinds given. alone now values o (unless_moments (FunctionGives now own) operand (has_null values) operands values o at kind kinds (one now values o) given))

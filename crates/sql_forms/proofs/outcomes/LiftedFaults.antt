@@ -1,5 +1,5 @@
 -- Faults of operands some of which are bound: the first of all, and null instead of each in the body.
-use Rattle.sql_forms.proofs.Common.{◌≡◌, ◌∷◌, [], ◌+◌, ℕ, List, Bool, true, false, Option, Some, None, map, length, refl, ap, subst, ◌∙◌, slice_get, Val, Filter, Outcome, gives, without_fault, Carrier, Operand, AllHave, AreChosen, ArePlain, bound_operand, carrier_in, chosen, chosen_of, fault_by, fault_else, faults_of, first_fault, in_let, unfaulted_by, within_let, OperandHas, World}
+use Rattle.sql_forms.proofs.Common.{◌≡◌, ◌∷◌, [], ◌+◌, ℕ, List, Bool, true, false, Option, Some, None, map, length, refl, ap, subst, ◌∙◌, slice_get, Val, Filter, Outcome, gives, without_fault, Carrier, Operand, AllHave, AreChosen, ArePlain, bound_operand, carrier_in, chosen, chosen_of, fault_by, fault_else, faults_of, first_fault, in_let, unfaulted_by, within_let, OperandHas, World, zero, suc, sym, Fits, IsOfKind, Kind}
 
 value_else : (o rest : Outcome) (v : Val) → o ≡ gives v → rest ≡ fault_else o rest
 value_else (gives w) rest v is = refl
@@ -77,37 +77,45 @@ is_itself operand = record { kind = refl; nullable = refl; low = refl; high = re
 is_bound : (level : ℕ) (operand : Operand) → IsInner operand (bound_operand level operand)
 is_bound level operand = record { kind = refl; nullable = refl; low = refl; high = refl }
 
-two_there : (filter : Filter) (left right first second a b : Operand) (world : World) (i j : Outcome) → Some a ≡ Some first → Some b ≡ Some second → IsInner left a → IsInner right b
-    → AllHave filter (a ∷ b ∷ []) world (i ∷ j ∷ []) → TwoInner filter left right first second world i j
-two_there filter left right first second a b world i j is_first is_second left_is right_is have =
-    let e : a ≡ first = cc in
-    let f : b ≡ second = cc in
-    record {
-      first_is = subst (IsInner left) e left_is;
-      second_is = subst (IsInner right) f right_is;
-      first_has = subst (λ (x : Operand). OperandHas filter x world i) e have.0;
-      second_has = subst (λ (x : Operand). OperandHas filter x world j) f have.1.0;
-    }
+-- each operand of the body is one of those outside
+pub inner_at : (choices : List Bool) (operands : List Operand) (level : ℕ) → AreChosen choices operands → (n : ℕ) (x y : Operand) → slice_get operands n ≡ Some x → slice_get (within_let level choices operands) n ≡ Some y
+    → IsInner x y
+inner_at [] [] level are n x y at inside = let none : None ≡ Some x = at in absurd (cc)
+inner_at [] (operand ∷ operands) level are n x y at inside = absurd are
+inner_at (true ∷ choices) [] level are n x y at inside = absurd are
+inner_at (false ∷ choices) [] level are n x y at inside = absurd are
+inner_at (true ∷ choices) (operand ∷ operands) level are zero x y at inside =
+    let same : operand ≡ x = cc at in
+    let other : bound_operand level operand ≡ y = cc inside in
+    subst (λ (o : Operand). IsInner o y) same (subst (IsInner operand) other (is_bound level operand))
+inner_at (true ∷ choices) (operand ∷ operands) level are (suc n) x y at inside = inner_at choices operands (level + 1) are n x y at inside
+inner_at (false ∷ choices) (operand ∷ operands) level are zero x y at inside =
+    let same : operand ≡ x = cc at in
+    let other : operand ≡ y = cc inside in
+    subst (λ (o : Operand). IsInner o y) same (subst (IsInner operand) other (is_itself operand))
+inner_at (false ∷ choices) (operand ∷ operands) level are (suc n) x y at inside = inner_at choices operands level are.1 n x y at inside
 
-too_many : (c : Bool) (cs : List Bool) → AreChosen (c ∷ cs) [] → ⊥
-too_many true cs are = are
-too_many false cs are = are
+pub inner_fits : (outer inner : Operand) (v : Val) → IsInner outer inner → Fits outer v → Fits inner v
+inner_fits outer inner v is fits = record { kind = subst (λ (k : Kind). IsOfKind k v) (sym is.kind) fits.kind; nullable = λ null_it. is.nullable ∙ fits.nullable null_it }
+
+-- what one of several operands evaluates to
+pub has_at : (filter : Filter) (operands : List Operand) (os : List Outcome) (world : World) (n : ℕ) (x : Operand) (o : Outcome) → AllHave filter operands world os → slice_get operands n ≡ Some x
+    → slice_get os n ≡ Some o → OperandHas filter x world o
+has_at filter [] os world n x o have at o_at = let none : None ≡ Some x = at in absurd (cc)
+has_at filter (operand ∷ operands) [] world n x o have at o_at = absurd have
+has_at filter (operand ∷ operands) (p ∷ os) world zero x o have at o_at =
+    let same : operand ≡ x = cc at in
+    let is : p ≡ o = cc o_at in
+    subst (λ (y : Operand). OperandHas filter y world o) same (subst (OperandHas filter operand world) is have.0)
+has_at filter (operand ∷ operands) (p ∷ os) world (suc n) x o have at o_at = has_at filter operands os world n x o have.1 at o_at
 
 -- the two that the body has
 pub two_inner : (filter : Filter) (left right first second : Operand) (level : ℕ) (choices : List Bool) (world : World) (i j : Outcome) → AreChosen choices (left ∷ right ∷ [])
     → slice_get (within_let level choices (left ∷ right ∷ [])) 0 ≡ Some first → slice_get (within_let level choices (left ∷ right ∷ [])) 1 ≡ Some second
     → AllHave filter (within_let level choices (left ∷ right ∷ [])) world (i ∷ j ∷ []) → TwoInner filter left right first second world i j
-two_inner filter left right first second level (true ∷ true ∷ []) world i j are is_first is_second have =
-    two_there filter left right first second (bound_operand level left) (bound_operand (level + 1) right) world i j is_first is_second (is_bound level left) (is_bound (level + 1) right) have
-two_inner filter left right first second level (true ∷ false ∷ []) world i j are is_first is_second have =
-    two_there filter left right first second (bound_operand level left) right world i j is_first is_second (is_bound level left) (is_itself right) have
-two_inner filter left right first second level (false ∷ true ∷ []) world i j are is_first is_second have =
-    two_there filter left right first second left (bound_operand level right) world i j is_first is_second (is_itself left) (is_bound level right) have
-two_inner filter left right first second level (false ∷ false ∷ []) world i j are is_first is_second have =
-    two_there filter left right first second left right world i j is_first is_second (is_itself left) (is_itself right) have
-two_inner filter left right first second level (false ∷ []) world i j are is_first is_second have = absurd are.1
-two_inner filter left right first second level (true ∷ true ∷ c ∷ cs) world i j are is_first is_second have = absurd (too_many c cs are)
-two_inner filter left right first second level (true ∷ false ∷ c ∷ cs) world i j are is_first is_second have = absurd (too_many c cs are.1)
-two_inner filter left right first second level (false ∷ true ∷ c ∷ cs) world i j are is_first is_second have = absurd (too_many c cs are.1)
-two_inner filter left right first second level (false ∷ false ∷ c ∷ cs) world i j are is_first is_second have = absurd (too_many c cs are.1.1)
-two_inner filter left right first second level _ world i j are is_first is_second have = absurd are
+two_inner filter left right first second level choices world i j are is_first is_second have = record {
+  first_is = inner_at choices (left ∷ right ∷ []) level are 0 left first refl is_first;
+  second_is = inner_at choices (left ∷ right ∷ []) level are 1 right second refl is_second;
+  first_has = has_at filter (within_let level choices (left ∷ right ∷ [])) (i ∷ j ∷ []) world 0 first i have is_first refl;
+  second_has = has_at filter (within_let level choices (left ∷ right ∷ [])) (i ∷ j ∷ []) world 1 second j have is_second refl;
+}

@@ -1,8 +1,6 @@
 -- What holds of operands holds of those in the body of a `Let`, and of those that it binds.
 use Rattle.sql_forms.proofs.Common.{◌≡◌, ◌∷◌, [], ◌+◌, ◌<◌, ℕ, zero, suc, List, Bool, true, false, Option, Some, None, length, refl, sym, ap, subst, ◌∙◌, arith, slice_index_or, AllByRecursion, All, slice_get, Filter, Range, Carrier, SqlType, Lifted, Operand, Source, Kind, AreAlike, AreChosen, IsLifted, bound_operand, carrier_in, chosen, within_let, IsPut, IsSourceOf, IsTestable, IsTested, bound_source}
-
-no_one : (x : Operand) → None ≡ Some x → ⊥
-no_one x is = cc
+use Rattle.sql_forms.proofs.outcomes.Elements.{at_all}
 
 within_length : (level : ℕ) (choices : List Bool) (operands : List Operand) → AreChosen choices operands → length (within_let level choices operands) ≡ length operands
 within_length level [] [] are = refl
@@ -16,14 +14,6 @@ pub inner_length : (operands : List Operand) (level : ℕ) (lifted : Lifted) →
 inner_length operands level lifted is = ap length is.inner ∙ within_length level is.choices operands is.are
 
 module _ (P : Operand → Type 0) where
-  pub got : (xs : List Operand) (n : ℕ) (x : Operand) → AllByRecursion P xs → slice_get xs n ≡ Some x → P x
-  got [] n x all is = absurd (no_one x is)
-  got (y ∷ xs) zero x all is =
-      let there : Some y ≡ Some x = is in
-      let same : y ≡ x = cc in
-      subst P same all.0
-  got (y ∷ xs) (suc n) x all is = got xs n x all.1 is
-
   one_more : (x : Operand) (xs : List Operand) → P x → All P xs → (k : ℕ) (d : Operand) → k < length (x ∷ xs) → P (slice_index_or (x ∷ xs) k d)
   one_more x xs first rest zero d below = first
   one_more x xs first rest (suc k) d below = rest k d (omega (arith, below))
@@ -44,7 +34,7 @@ module _ (P : Operand → Type 0) where
     -- of an operand of the body
     pub holds_in : (operands : List Operand) (level : ℕ) (lifted : Lifted) (n : ℕ) (x : Operand) → IsLifted operands level lifted → AllByRecursion P operands → slice_get lifted.inner.items n ≡ Some x → P x
     holds_in operands level lifted n x is all at =
-        got (within_let level is.choices operands) n x (all_within level is.choices operands is.are all) (subst (λ (xs : List Operand). slice_get xs n ≡ Some x) is.inner at)
+        at_all P (within_let level is.choices operands) n x (all_within level is.choices operands is.are all) (subst (λ (xs : List Operand). slice_get xs n ≡ Some x) is.inner at)
 
     -- of all of them
     pub holds_inside : (operands : List Operand) (level : ℕ) (lifted : Lifted) → IsLifted operands level lifted → AllByRecursion P operands → All P lifted.inner.items

@@ -1,5 +1,5 @@
 -- The code that was decided is in the lowest three bits of the least decision.
-use Rattle.sql_forms.proofs.Common.{◌≡◌, ◌<◌, ◌+◌, ◌*◌, ◌^◌, inl, inr, ℕ, pos, refl, sym, ap, ◌∙◌, arith, bit_at, w64, FitsSigned, cases_lt, ints, whole, gives, GivesBits}
+use Rattle.sql_forms.proofs.Common.{◌≡◌, ◌<◌, ◌+◌, ◌*◌, ◌^◌, inl, inr, ℕ, pos, refl, sym, ap, ◌∙◌, arith, bit_at, cases_lt, ints, whole, gives, GivesBits}
 use Rattle.std.proofs.lemmas.Nat.Bits.{bit_at_above, bit_at_cat_low, bit_at_ones, bit_at_ones_above}
 
 -- one more bit of the code, as of the decision
@@ -22,8 +22,5 @@ out p d k below both =
       | inr high ↦ absurd (omega (arith, both.1, bit_at_ones_above 3 k high))
     ]
 
-small_fits : (d : ℕ) → d < 8 → FitsSigned w64 (pos d)
-small_fits d below = omega (arith, ints)
-
 pub bits_low : (p d : ℕ) → d < 8 → GivesBits (pos (8 * p + d)) (pos 7) (gives (whole (pos d)))
-bits_low p d below = (pos d, small_fits d below, λ k under. (into p d k below, out p d k below), refl)
+bits_low p d below = (pos d, omega (arith, ints), λ k under. (into p d k below, out p d k below), refl)

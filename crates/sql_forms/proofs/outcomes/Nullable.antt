@@ -16,10 +16,7 @@ turned : (b n : Bool) (Fact : Type 0) → (IsTrue b → Fact) → (Fact → IsTr
 turned true true Fact holds given apart other = absurd (apart refl (holds refl))
 turned true false Fact holds given apart other = refl
 turned false true Fact holds given apart other = refl
-turned false false Fact holds given apart other = absurd (never (other (λ fact. never (given fact))))
-  where
-    never : IsTrue false → ⊥
-    never is = cc
+turned false false Fact holds given apart other = absurd (cc (other (λ fact. cc (given fact))))
 
 pub record Equality (l r : Val) (o : Outcome) : Type 0 where
   pub answer : Bool
@@ -46,7 +43,7 @@ true_of None = false
 pub reported_true : (Fact : Type 0) (o : Outcome) → Reports Fact o → Fact → o ≡ gives (boolean true)
 reported_true Fact o reported fact = reported.is ∙ ap (λ (b : Bool). gives (boolean b)) (reported.if_so fact)
 
-is_true_of : (s : Option Bool) → is_true s ≡ gives (boolean (true_of s))
+pub is_true_of : (s : Option Bool) → is_true s ≡ gives (boolean (true_of s))
 is_true_of (Some b) = refl
 is_true_of None = refl
 

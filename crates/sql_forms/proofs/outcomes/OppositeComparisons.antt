@@ -104,25 +104,19 @@ equal_back (guid a) (guid b) same = sym same
 equal_back (member a) (member b) same = sym same
 equal_back l r same = absurd same
 
+same_back : {A : Type 0} (l r : Val) → A ⊎ AreEqual l r → A ⊎ AreEqual r l
+same_back l r (inl a) = inl a
+same_back l r (inr same) = inr (equal_back l r same)
+
 order_back : (l r : Val) → HaveOrder l r → HaveOrder r l
 order_back null null order = tt
-order_back null (boolean b) order = order
-order_back null (whole b) order = order
-order_back null (text t) order = order
-order_back null (date b) order = order
-order_back null (moment b) order = order
-order_back (boolean a) null order = order
-order_back (whole a) null order = order
-order_back (text s) null order = order
-order_back (date a) null order = order
-order_back (moment a) null order = order
 order_back (boolean a) (boolean b) order = tt
 order_back (whole a) (whole b) order = tt
 order_back (text s) (text t) order = tt
 order_back (date a) (date b) order = tt
 order_back (moment a) (moment b) order = tt
-order_back l null order = absurd order
-order_back l r order = absurd order
+order_back l null order = order
+order_back l r order = order
 
 comparable_too : (operator : ComparisonOperator) (l r : Val) → AreComparableBy operator l r → AreComparableBy (opposite_of operator) l r
 comparable_too ComparisonOperator.Eq l r is = is
@@ -168,38 +162,14 @@ module _ (decided : (operator : ComparisonOperator) (v w : Val) → (answer : Bo
       by ComparisonOperator.Ne comparable = (λ differs same. differs same, λ none. not_equal_then l r none)
       by ComparisonOperator.Gt order = let t = one_of_three l r here there order in (t.apart, λ none. either_left (IsGreater l r) (IsGreater r l ⊎ AreEqual l r) t.some none)
       by ComparisonOperator.Le order = let t = one_of_three l r here there order in (λ other above. t.apart above other, λ none. flipped (IsGreater l r) (IsGreater r l) (AreEqual l r) t.some none)
-      by ComparisonOperator.Ge order = let t = turned_round order in (λ other below. apart_of t other below, λ none. below_of t none)
-        where
-          turned_round : HaveOrder l r → OneOfThree l r
-          turned_round is = one_of_three l r here there is
-
-          apart_of : OneOfThree l r → IsGreater l r ⊎ AreEqual l r → IsGreater r l → ⊥
-          apart_of t (inl above) below = t.apart above (inl below)
-          apart_of t (inr same) below = back.apart below (inr (equal_back l r same))
-            where
-              back : OneOfThree r l
-              back = one_of_three r l there here (order_back l r order)
-
-          below_of : OneOfThree l r → (IsGreater l r ⊎ AreEqual l r → ⊥) → IsGreater r l
-          below_of t none = pick t.some
-            where
-              pick : IsGreater l r ⊎ (IsGreater r l ⊎ AreEqual l r) → IsGreater r l
-              pick (inl above) = absurd (none (inl above))
-              pick (inr (inl below)) = below
-              pick (inr (inr same)) = absurd (none (inr same))
-      by ComparisonOperator.Lt order = (λ below other. apart_of other below, λ none. pick (one_of_three l r here there order).some none)
-        where
-          back : OneOfThree r l
-          back = one_of_three r l there here (order_back l r order)
-
-          apart_of : IsGreater l r ⊎ AreEqual l r → IsGreater r l → ⊥
-          apart_of (inl above) below = back.apart below (inl above)
-          apart_of (inr same) below = back.apart below (inr (equal_back l r same))
-
-          pick : IsGreater l r ⊎ (IsGreater r l ⊎ AreEqual l r) → (IsGreater r l → ⊥) → IsGreater l r ⊎ AreEqual l r
-          pick (inl above) none = inl above
-          pick (inr (inl below)) none = absurd (none below)
-          pick (inr (inr same)) none = inr same
+      by ComparisonOperator.Lt order =
+          let back = one_of_three r l there here (order_back l r order) in
+          (λ below other. back.apart below (same_back l r other), λ none. same_back r l (either_left (IsGreater r l) (IsGreater l r ⊎ AreEqual r l) back.some none))
+      by ComparisonOperator.Ge order =
+          let back = one_of_three r l there here (order_back l r order) in (
+            λ other below. back.apart below (same_back l r other),
+            λ none. flipped (IsGreater r l) (IsGreater l r) (AreEqual r l) back.some (λ other. none (same_back r l other)),
+          )
 
   pub are_opposite : (operator : ComparisonOperator) → AreOpposite operator (opposite_of operator)
   are_opposite operator = λ l r here there comparable.

@@ -1,6 +1,7 @@
 -- `any` and `all` over bodies that evaluate to truth values and null: what `EXISTS` says.
-use Rattle.sql_forms.proofs.Common.{◌≡◌, ◌≢◌, inl, inr, ◌<◌, ℕ, zero, suc, List, [], ◌∷◌, Bool, true, false, not, Option, Some, None, length, map, refl, sym, ap, subst, ◌∙◌, arith, slice_get, Val, boolean, null, Quantifier, Then, Outcome, gives, DecisionGives, IsUndecided, QuantifierGives, AtMostOne, SomeTrue, truth}
+use Rattle.sql_forms.proofs.Common.{◌≡◌, ◌≢◌, inl, inr, ℕ, zero, suc, List, [], ◌∷◌, Bool, true, false, not, Option, Some, None, length, map, refl, sym, ap, subst, ◌∙◌, slice_get, Val, boolean, null, Quantifier, Then, Outcome, gives, DecisionGives, IsUndecided, QuantifierGives, AtMostOne, SomeTrue, truth, slice_get-map, option_map, slice_get_within}
 use Rattle.sql_forms.proofs.outcomes.Apart.{false_true}
+use Rattle.std.proofs.lemmas.Option.{none-some, same_Some}
 
 -- one of them is true
 abbrev pub any_true : List (Option Bool) → Bool
@@ -13,17 +14,11 @@ some_true [] = refl
 some_true (Some true ∷ ts) = (any_true ts, some_true ts, refl)
 some_true (_ ∷ ts) = some_true ts
 
-same_truth : (s t : Option Bool) → Some s ≡ Some t → s ≡ t
-same_truth s t is = cc
-
-none_true : {A : Type 0} (x : A) → None ≡ Some x → ⊥
-none_true x is = cc
-
 true_at : (ts : List (Option Bool)) (k : ℕ) → slice_get ts k ≡ Some (Some true) → any_true ts ≡ true
-true_at [] k is = absurd (none_true (Some true) is)
+true_at [] k is = absurd (none-some (Some true) is)
 true_at (Some true ∷ ts) k is = refl
-true_at (Some false ∷ ts) zero is = absurd (false_true (same_truth (Some false) (Some true) is))
-true_at (None ∷ ts) zero is = absurd (none_true true (same_truth None (Some true) is))
+true_at (Some false ∷ ts) zero is = absurd (false_true (same_Some (Some false) (Some true) is))
+true_at (None ∷ ts) zero is = absurd (none-some true (same_Some None (Some true) is))
 true_at (_ ∷ ts) (suc k) is = true_at ts k is
 
 true_nowhere : (ts : List (Option Bool)) → ((k : ℕ) → slice_get ts k ≡ Some (Some true) → ⊥) → any_true ts ≡ false
@@ -33,11 +28,6 @@ true_nowhere (_ ∷ ts) none = true_nowhere ts (λ k. none (suc k))
 
 same_value : (v w : Val) → gives v ≡ gives w → v ≡ w
 same_value v w is = cc
-
-within : (us : List (Option Bool)) (k : ℕ) (t : Option Bool) → slice_get us k ≡ Some t → k < length us
-within [] k t is = absurd (none_true t is)
-within (u ∷ us) zero t is = omega arith
-within (u ∷ us) (suc k) t is = let more = within us k t is in omega arith
 
 -- the bodies at the members evaluate to these truth values, and to nothing else, and there are no others
 pub record AreTruths (At : ℕ → Outcome → Type 0) (ts : List (Option Bool)) : Type 0 where
@@ -68,23 +58,18 @@ module _ (At : ℕ → Outcome → Type 0) (ts : List (Option Bool)) (are : AreT
       decided.1 ∙ ap (λ (b : Bool). gives (boolean b)) (sym (true_at ts decides.place (body.1 ∙ ap (λ (t : Option Bool). Some t) decided.0)))
   any_is o (inr passes) =
       passes.is ∙ ap (λ (b : Bool). gives (boolean b)) (sym (true_nowhere ts (λ k here.
-      let pass = passes.each k (within ts k (Some true) here) in
+      let pass = passes.each k (slice_get_within ts k (Some true) here) in
       let body = body_is k (gives pass.0) pass.1 in
-      passes_any body.0 pass.0 body.2 pass.2 (same_truth body.0 (Some true) (sym body.1 ∙ here)))))
+      passes_any body.0 pass.0 body.2 pass.2 (same_Some body.0 (Some true) (sym body.1 ∙ here)))))
 
 -- whether a body is not true
 abbrev pub untrue : Option Bool → Option Bool
 untrue (Some true) = Some false
 untrue _ = Some true
 
-map_into : (ts : List (Option Bool)) (k : ℕ) (t : Option Bool) → slice_get ts k ≡ Some t → slice_get (map untrue ts) k ≡ Some (untrue t)
-map_into [] k t is = absurd (none_true t is)
-map_into (s ∷ ts) zero t is = ap (λ (u : Option Bool). Some (untrue u)) (same_truth s t is)
-map_into (s ∷ ts) (suc k) t is = map_into ts k t is
-
 map_out : (ts : List (Option Bool)) (k : ℕ) (u : Option Bool) → slice_get (map untrue ts) k ≡ Some u → (t : Option Bool) × (slice_get ts k ≡ Some t) × (untrue t ≡ u)
-map_out [] k u is = absurd (none_true u is)
-map_out (s ∷ ts) zero u is = (s, refl, same_truth (untrue s) u is)
+map_out [] k u is = absurd (none-some u is)
+map_out (s ∷ ts) zero u is = (s, refl, same_Some (untrue s) u is)
 map_out (s ∷ ts) (suc k) u is = map_out ts k u is
 
 true_alone : (t : Option Bool) (v : Val) → gives v ≡ truth t → IsUndecided Quantifier.All v → untrue t ≡ Some true → ⊥
@@ -103,11 +88,11 @@ module _ (At : ℕ → Outcome → Type 0) (ts : List (Option Bool)) (are : AreT
       let body = body_is At ts are decides.place decides.here.0 decides.here.1.0 in
       let decided = decides_all body.0 o (subst (λ (first : Outcome). Then first (DecisionGives Quantifier.All) o) body.2 decides.here.1.1) in
       decided.1 ∙ ap (λ (b : Bool). gives (boolean (not b)))
-      (sym (true_at (map untrue ts) decides.place (map_into ts decides.place body.0 body.1 ∙ ap (λ (t : Option Bool). Some t) decided.0)))
+      (sym (true_at (map untrue ts) decides.place (slice_get-map untrue ts decides.place ∙ ap (λ (t : Option (Option Bool)). option_map untrue t) body.1 ∙ ap (λ (t : Option Bool). Some t) decided.0)))
   all_is o (inr passes) =
       passes.is ∙ ap (λ (b : Bool). gives (boolean (not b))) (sym (true_nowhere (map untrue ts) (λ k here.
       let there = map_out ts k (Some true) here in
-      let pass = passes.each k (within ts k there.0 there.1) in
+      let pass = passes.each k (slice_get_within ts k there.0 there.1) in
       let body = body_is At ts are k (gives pass.0) pass.1 in
-      let same : body.0 ≡ there.0 = same_truth body.0 there.0 (sym body.1 ∙ there.1) in
+      let same : body.0 ≡ there.0 = same_Some body.0 there.0 (sym body.1 ∙ there.1) in
       true_alone body.0 pass.0 body.2 pass.2 (ap untrue same ∙ there.2))))

@@ -1,6 +1,8 @@
 -- Operands of a `Let`, as its body has them, may be tested as they may outside.
-use Rattle.sql_forms.proofs.Common.{◌≡◌, ◌≢◌, ◌+◌, ◌∷◌, ◌∙◌, [], ℕ, zero, suc, List, Bool, true, false, Option, Some, None, refl, sym, ap, subst, All, slice_get, AllByRecursion, Filter, Range, Carrier, SqlType, Lifted, Operand, Source, Kind, IsFaulty, IsFaultyKind, AreChosen, AreValued, IsLifted, bound_operand, carrier_in, chosen, within_let, AreCompared, IsPut, IsSourceOf, IsTestable, IsTested, bound_source}
-use Rattle.sql_forms.proofs.outcomes.LiftedOperands.{each, got}
+use Rattle.sql_forms.proofs.Common.{◌≡◌, ◌≢◌, ◌+◌, ◌∷◌, ◌∙◌, [], ℕ, List, Bool, true, false, Option, Some, None, refl, sym, subst, All, slice_get, AllByRecursion, Filter, Range, Carrier, SqlType, Lifted, Operand, Source, Kind, IsFaulty, IsFaultyKind, AreChosen, AreValued, IsLifted, bound_operand, carrier_in, chosen, within_let, AreCompared, IsPut, IsSourceOf, IsTestable, IsTested, bound_source}
+use Rattle.sql_forms.proofs.outcomes.LiftedOperands.{each}
+use Rattle.sql_forms.proofs.outcomes.LiftedFaults.{inner_at}
+use Rattle.sql_forms.proofs.outcomes.Elements.{at_all}
 
 module _ (filter : Filter) (ranges : List Range) where
   -- one that is bound
@@ -9,13 +11,10 @@ module _ (filter : Filter) (ranges : List Range) where
     bound_source_is None = tt
     bound_source_is (Some carrier) = tt
 
-    bound_may : IsPut filter ranges (bound_operand level operand)
-    bound_may = record { source = bound_source_is (carrier_in operand); valued = valued; plain = λ truth. refl }
-
     bound_by : (c : Option Carrier) (kind : Kind) → operand.kind ≡ kind → IsTestable filter ranges (bound_operand level operand) (bound_source c level) kind
     bound_by None Kind.Structured same = absurd (valued same)
     bound_by (Some carrier) Kind.Structured same = absurd (valued same)
-    bound_by _ _ same = bound_may
+    bound_by _ _ same = record { source = bound_source_is (carrier_in operand); valued = valued; plain = λ truth. refl }
 
     bound_tested : IsTested filter ranges (bound_operand level operand)
     bound_tested = bound_by (carrier_in operand) operand.kind refl
@@ -33,7 +32,7 @@ module _ (filter : Filter) (ranges : List Range) where
   pub tested_inside_let : (operands : List Operand) (depth : ℕ) (lifted : Lifted) → IsLifted operands depth lifted → AllByRecursion (IsTested filter ranges) operands → (n : ℕ) (x : Operand)
       → slice_get lifted.inner.items n ≡ Some x → IsTested filter ranges x
   tested_inside_let operands depth lifted is tested n x at =
-      got (IsTested filter ranges) (within_let depth is.choices operands) n x (all_tested is.choices operands depth is.are is.valued tested) (subst (λ (xs : List Operand). slice_get xs n ≡ Some x) is.inner at)
+      at_all (IsTested filter ranges) (within_let depth is.choices operands) n x (all_tested is.choices operands depth is.are is.valued tested) (subst (λ (xs : List Operand). slice_get xs n ≡ Some x) is.inner at)
 
   -- those that are bound may be put
   module _ (operand : Operand) (valued : operand.kind ≢ Kind.Structured) where
@@ -69,29 +68,9 @@ module _ (filter : Filter) (ranges : List Range) where
 
 -- ---- kinds are kept
 
-same_kind : (choices : List Bool) (operands : List Operand) (level : ℕ) → AreChosen choices operands → (n : ℕ) (x y : Operand) → slice_get operands n ≡ Some x → slice_get (within_let level choices operands) n ≡ Some y → y.kind ≡ x.kind
-same_kind [] [] level are n x y at inside = let none : None ≡ Some x = at in absurd (cc)
-same_kind [] (operand ∷ operands) level are n x y at inside = absurd are
-same_kind (true ∷ choices) [] level are n x y at inside = absurd are
-same_kind (false ∷ choices) [] level are n x y at inside = absurd are
-same_kind (true ∷ choices) (operand ∷ operands) level are zero x y at inside =
-    let first : Some operand ≡ Some x = at in
-    let second : Some (bound_operand level operand) ≡ Some y = inside in
-    let same : operand ≡ x = cc in
-    let other : bound_operand level operand ≡ y = cc in
-    sym (ap (λ (o : Operand). o.kind) other) ∙ ap (λ (o : Operand). o.kind) same
-same_kind (true ∷ choices) (operand ∷ operands) level are (suc n) x y at inside = same_kind choices operands (level + 1) are n x y at inside
-same_kind (false ∷ choices) (operand ∷ operands) level are zero x y at inside =
-    let first : Some operand ≡ Some x = at in
-    let second : Some operand ≡ Some y = inside in
-    let same : operand ≡ x = cc in
-    let other : operand ≡ y = cc in
-    sym (ap (λ (o : Operand). o.kind) other) ∙ ap (λ (o : Operand). o.kind) same
-same_kind (false ∷ choices) (operand ∷ operands) level are (suc n) x y at inside = same_kind choices operands level are.1 n x y at inside
-
 pub kind_inside_let : (operands : List Operand) (depth : ℕ) (lifted : Lifted) → IsLifted operands depth lifted → (n : ℕ) (x y : Operand) → slice_get operands n ≡ Some x → slice_get lifted.inner.items n ≡ Some y → y.kind ≡ x.kind
 kind_inside_let operands depth lifted is n x y at inside =
-    same_kind is.choices operands depth is.are n x y at (subst (λ (xs : List Operand). slice_get xs n ≡ Some y) is.inner inside)
+    (inner_at is.choices operands depth is.are n x y at (subst (λ (xs : List Operand). slice_get xs n ≡ Some y) is.inner inside)).kind
 
 pub compared_inside_let : (left right first second : Operand) (depth : ℕ) (lifted : Lifted) → IsLifted (left ∷ right ∷ []) depth lifted → slice_get lifted.inner.items 0 ≡ Some first → slice_get lifted.inner.items 1 ≡ Some second
     → AreCompared left.kind right.kind → AreCompared first.kind second.kind

@@ -1,7 +1,7 @@
 -- Truth values of SQL: operators take them, and conditions that are true exactly where something holds are joined.
 use Rattle.sql_forms.proofs.Common.{◌≡◌, ◌⊎◌, inl, inr, Bool, true, false, Option, Some, None, refl, sym, ◌∙◌, boolean, Outcome, gives, and3, or3, OfTruth, truth}
 use Rattle.sql_forms.specs.Forms.{IsTrueWhere}
-use Rattle.sql_forms.proofs.outcomes.Apart.{false_true, none_true, null_true as null_is_not_true}
+use Rattle.sql_forms.proofs.outcomes.Apart.{false_true, none_true}
 
 -- an operator takes a truth value
 pub of_truth : (t : Option Bool) (Goes : Option Bool → Outcome → Type 0) (o : Outcome) → Goes t o → OfTruth Goes (truth t) o
@@ -86,11 +86,8 @@ kept_or P Q R x y part joined left right = (
   ),
 )
 
-false_is_not_true : gives (boolean false) ≡ gives (boolean true) → ⊥
-false_is_not_true is = cc
-
 -- a truth value that is what the filter evaluates to is true exactly there
 pub true_where : (t : Option Bool) (o : Outcome) → truth t ≡ o → IsTrueWhere (o ≡ gives (boolean true)) (truth t)
 true_where (Some true) o is = (Some true, refl, (λ same. sym is, λ other. refl))
-true_where (Some false) o is = (Some false, refl, (λ same. absurd (false_true same), λ other. absurd (false_is_not_true (is ∙ other))))
-true_where None o is = (None, refl, (λ same. absurd (none_true same), λ other. absurd (null_is_not_true (is ∙ other))))
+true_where (Some false) o is = (Some false, refl, (λ same. absurd (false_true same), λ other. absurd (cc (is ∙ other))))
+true_where None o is = (None, refl, (λ same. absurd (none_true same), λ other. absurd (cc (is ∙ other))))

@@ -14,8 +14,7 @@ counted_number n o given value = subst (λ (x : Outcome). x ≡ gives (whole n))
   where
     answered : (answer : Result (Option ℤ) ArithFault) → ComesWithin PrimitiveType.Int64 n answer → IsValue (number_outcome answer) → number_outcome answer ≡ gives (whole n)
     answered (Ok (Some m)) comes is =
-        let number : Some m ≡ Some n = comes.0 in
-        let same : m ≡ n = cc in
+        let same : m ≡ n = cc comes.0 in
         ap (λ (k : ℤ). gives (whole k)) same
     answered (Ok None) comes is = let none : None ≡ Some n = comes.0 in absurd (cc)
     answered (Err Overflow) comes is = absurd is

@@ -1,17 +1,15 @@
 -- Values that a `Let` binds, put one after another.
-use Rattle.sql_forms.proofs.Common.{Has, ◌≡◌, ◌++◌, ◌∷◌, [], ◌+◌, ℕ, zero, suc, List, Some, None, length, take, refl, sym, ap, subst, ◌∙◌, append_assoc, append-nil, arith, slice_get, Filter, Outcome, AllMean, SqlMeans, Asked, Bound, Term, Terms, no_terms, more_terms, nodes_of, nodes_of_all, SqlNode, Draft, Operand, Grows, AllHave, OperandHas, Puts, PutsAll, Question, World, grows_then, world_before, AreShaped, IsShaped, count_of}
+use Rattle.sql_forms.proofs.Common.{Has, ◌≡◌, ◌++◌, ◌∷◌, [], ◌+◌, ℕ, zero, suc, List, Some, length, take, refl, sym, ap, subst, ◌∙◌, append_assoc, append-nil, arith, slice_get, Filter, Outcome, AllMean, SqlMeans, Asked, Bound, Term, Terms, no_terms, more_terms, nodes_of, nodes_of_all, SqlNode, Draft, Operand, Grows, AllHave, OperandHas, Puts, PutsAll, Question, World, grows_then, world_before, AreShaped, IsShaped, count_of}
 use Rattle.sql_forms.specs.private.AskedForms.{Itself}
 use Rattle.sql_forms.proofs.nodes.Binding.{puts_none}
 use Rattle.sql_forms.proofs.outcomes.FaultWalk.{taken_next}
+use Rattle.std.proofs.lemmas.Option.{none-some}
 
 -- ---- a term after others
 
 abbrev pub later : Terms → Term → Terms
 later no_terms t = more_terms t no_terms
 later (more_terms first rest) t = more_terms first (later rest t)
-
-none_there : {A : Type 0} (x : A) → None ≡ Some x → ⊥
-none_there x at = cc
 
 after_suc : (n : ℕ) → suc (n + 1) ≡ suc n + 1
 after_suc n = omega arith
@@ -30,7 +28,7 @@ later_counted no_terms t = refl
 later_counted (more_terms first rest) t = ap (λ (n : ℕ). n + 1) (later_counted rest t)
 
 pub take_counted : {A : Type 0} (xs : List A) (n : ℕ) (x : A) → slice_get xs n ≡ Some x → length (take (n + 1) xs) ≡ length (take n xs) + 1
-take_counted [] n x at = absurd (none_there x at)
+take_counted [] n x at = absurd (none-some x at)
 take_counted (y ∷ xs) zero x at = refl
 take_counted (y ∷ xs) (suc n) x at =
     let e : suc n + 1 ≡ suc (n + 1) = omega arith in

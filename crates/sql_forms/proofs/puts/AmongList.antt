@@ -13,10 +13,7 @@ null_apart v other same = absurd same
 
 no_flag : (b : Bool) (v : Val) → v ≢ null → CompareGives ComparisonOperator.Eq null v (gives (boolean b)) → b ≡ false
 no_flag false v other given = refl
-no_flag true v other given = absurd (null_apart v other (flag true given refl))
-  where
-    flag : (b : Bool) → CompareGives ComparisonOperator.Eq null v (gives (boolean b)) → b ≡ true → AreEqual null v
-    flag b is same = is.1.0 same
+no_flag true v other given = absurd (null_apart v other (given.1.0 refl))
 
 -- null is equal to no item that is never null
 none_equal_null : (filter : Filter) (l : Val) (items : List Operand) (world : World) (values : List Val) (bs : List Bool) → l ≡ null → AllByRecursion (IsNeverNull filter) items

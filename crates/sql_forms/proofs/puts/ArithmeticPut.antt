@@ -1,6 +1,6 @@
 -- What is put for arithmetic that may leave its type or divide by 0.
 use Rattle.sql_forms.proofs.puts.OperandsPut.{number_typed}
-use Rattle.sql_forms.proofs.Common.{IsOfType, ◌≡◌, [], ◌∷◌, ℤ, pos, Bool, Option, refl, sym, subst, ◌∙◌, Val, null, whole, PrimitiveType, number_val, Outcome, gives, overflow, divides_by_zero, not3, ArithFault, Overflow, DivideByZero, ArithmeticOperator, ComparisonOperator, outcome_of_fault, BothNumbers, ChoiceGives, GivesInRange, GivesWhole, StrictlyGives, truth, NodeMeans, SqlMeans, Asked, Bound, Term, no_terms, more_terms, Digit, Carrier, SqlNode, SqlType, Draft, Operand, UnlessZeroHas, WideHas, ZeroHas, Grows, OperandHas, Has, Puts, Question, World, puts_leaf, puts_one, puts_three, puts_two}
+use Rattle.sql_forms.proofs.Common.{IsOfType, ◌≡◌, [], ◌∷◌, ℤ, pos, Bool, Option, refl, sym, subst, ◌∙◌, Val, null, whole, PrimitiveType, number_val, Outcome, gives, overflow, divides_by_zero, not3, ArithFault, Overflow, DivideByZero, ArithmeticOperator, ComparisonOperator, outcome_of_fault, BothNumbers, ChoiceGives, GivesInRange, GivesWhole, StrictlyGives, truth, NodeMeans, SqlMeans, Asked, Bound, Term, no_terms, more_terms, Digit, Carrier, SqlNode, SqlType, Draft, Operand, UnlessZeroHas, WideHas, ZeroHas, Grows, OperandHas, Has, Puts, Question, puts_leaf, puts_one, puts_three, puts_two}
 use Rattle.sql_forms.specs.private.AskedForms.{Itself}
 use Rattle.sql_forms.proofs.puts.ComparisonsPut.{not_node}
 use Rattle.sql_forms.proofs.outcomes.Operators.{case_means, compare_means, wide_means, within_means}
@@ -55,7 +55,7 @@ module _ (question : Question) where
         truth (not3 has.1),
         overflow,
         gives (number_val has.0),
-        (has.1, inside_of world has, refl),
+        (has.1, (has.0, has.2, has.3), refl),
         refl,
         has.2,
         λ x y z one two three. (
@@ -67,9 +67,6 @@ module _ (question : Question) where
     where
       OutsideHas : Has
       OutsideHas = λ world o. (inside : Option Bool) × InsideHas type Wide world (truth inside) × (o ≡ truth (not3 inside))
-
-      inside_of : (world : World) {o : Outcome} (has : BoundedHas type Wide world o) → InsideHas type Wide world (truth has.1)
-      inside_of world has = (has.0, has.2, has.3)
 
       inside : Puts question second fourth (InsideHas type Wide) Itself
       inside =

@@ -1,10 +1,11 @@
 -- What is put over each member of a collection: `EXISTS` over bodies that evaluate to truth values.
-use Rattle.sql_forms.proofs.Common.{◌≡◌, ◌+◌, ◌++◌, ◌∷◌, [], ℕ, suc, List, Bool, true, false, Option, Some, None, length, map, refl, sym, ap, subst, ◌∙◌, append-nil, arith, slice_get, AllByRecursion, Val, boolean, slots_of, HasType, Tree, Quantifier, Filter, found_there, Outcome, gives, IsKept, AtEach, truth, NodeMeans, SqlMeans, Asked, Bound, bound_member, Term, no_terms, more_terms, nodes_of, term, SqlNode, SqlTree, Draft, Grows, IsFront, AtMembers, IsBodyOf, OfTree, OverHas, PutsBody, at_member, IsPathTo, Has, IsWorldOf, OfPlace, Puts, Question, Says, World, grows_then, puts_one, world_before, AreNumbered, parameters_of, arity, path_says}
+use Rattle.sql_forms.proofs.Common.{◌≡◌, ◌+◌, ◌++◌, ◌∷◌, [], ℕ, suc, List, Bool, true, false, Option, Some, None, length, map, refl, sym, ap, subst, ◌∙◌, arith, slice_get, AllByRecursion, Val, boolean, slots_of, HasType, Tree, Quantifier, Filter, found_there, Outcome, gives, IsKept, AtEach, truth, NodeMeans, SqlMeans, Asked, Bound, bound_member, Term, no_terms, more_terms, nodes_of, SqlNode, SqlTree, Draft, Grows, IsFront, AtMembers, IsBodyOf, OfTree, OverHas, PutsBody, at_member, IsPathTo, Has, IsWorldOf, OfPlace, Puts, Question, Says, World, grows_then, puts_one, AreNumbered, parameters_of, arity}
 use Rattle.sql_forms.specs.private.AskedForms.{Itself}
 use Rattle.sql_forms.proofs.outcomes.Apart.{false_true, none_true}
 use Rattle.odata_signatures.specs.Typed.{Variable as RangeVariable}
 use Rattle.sql_forms.proofs.nodes.MemberWorlds.{world_at_member}
-use Rattle.sql_forms.proofs.outcomes.Quantified.{any_true, some_true}
+use Rattle.sql_forms.proofs.outcomes.Quantified.{any_true}
+use Rattle.sql_forms.proofs.puts.ExistsOver.{exists_over}
 
 -- ---- a body among drafts
 
@@ -147,26 +148,7 @@ module _ (question : Question) (f : Option Bool → Option Bool) (F : Outcome �
       (found_there (λ (w : Val). OfTree question.filter has.over.body has.over.tree (at_member world has.over.variable k w) (truth u)) (slice_get has.over.members k) v at_v (has.truths.each k u at_u)))
 
   pub exists_put : Puts question old new (SomeHas question.filter f place body) Itself
-  exists_put = record {
-    t = term (SqlNode.Exists path level) (more_terms b.put.t no_terms);
-    shaped = (refl, (b.put.shaped, tt));
-    grows = subst (Grows old new) (ap (λ (ns : List SqlNode). SqlNode.Exists path level ∷ ns) (sym (append-nil (nodes_of b.put.t)))) all_grows;
-    says = λ world o is has.
-        let before = world_before question old new (SqlNode.Exists path level ∷ nodes_of b.put.t) world all_grows is in
-        let found = bodies question new b.after b.ends body F f b.put.t b.put.says truths world is has.over.tree has.over.variable 0 has.over.members has.us has.truths.many (at_place world o has) has.over.typed has.over.kept in (
-          gives (boolean (any_true found.ts)),
-          (
-            level_is ∙ sym before.depth,
-            (
-              has.over.collection,
-              has.over.members,
-              map truth found.ts,
-              path_says question old (place + 1) path leads world has.over.collection before has.over.has,
-              has.over.are,
-              found.at_each,
-              (any_true found.ts, some_true found.ts, refl),
-            ),
-          ),
-          ap (λ (answer : Bool). gives (boolean answer)) (same_any f has.us found.ts found.alike) ∙ sym has.is,
-        );
-  }
+  exists_put = exists_over question (place + 1) path level old new b.put.t b.put.shaped level_is leads all_grows (SomeHas question.filter f place body) Itself
+      (λ world o is has.
+      let found = bodies question new b.after b.ends body F f b.put.t b.put.says truths world is has.over.tree has.over.variable 0 has.over.members has.us has.truths.many (at_place world o has) has.over.typed has.over.kept in
+      record { c = has.over.collection; members = has.over.members; has = has.over.has; are = has.over.are; ts = found.ts; at_each = found.at_each; form = ap (λ (answer : Bool). gives (boolean answer)) (same_any f has.us found.ts found.alike) ∙ sym has.is })

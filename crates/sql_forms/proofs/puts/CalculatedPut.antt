@@ -1,14 +1,11 @@
 -- What is put for arithmetic that may leave its type or divide by 0 evaluates to what the operator makes.
-use Rattle.sql_forms.proofs.Common.{◌≡◌, [], ◌∷◌, ℤ, pos, Bool, true, false, Option, Some, None, is_some, refl, sym, ap, subst, ◌∙◌, FitsSigned, w64, Val, PrimitiveType, number_val, Outcome, gives, divides_by_zero, IsDividing, and3, not3, ArithmeticOperator, HoldsNumber, Range, ChoiceGives, GivesIsNull, truth, NodeMeans, SqlMeans, Asked, Bound, Term, no_terms, more_terms, SqlNode, Draft, Operand, CheckedHas, DivisorHas, IsFitted, IsNumberIn, WideHas, ZeroHas, Grows, OperandHas, Has, Puts, Question, puts_as, puts_one, puts_three, puts_two}
+use Rattle.sql_forms.proofs.Common.{◌≡◌, [], ◌∷◌, ℤ, pos, Bool, true, false, Option, Some, None, is_some, refl, sym, ap, subst, ◌∙◌, FitsSigned, w64, Val, PrimitiveType, number_val, Outcome, gives, divides_by_zero, IsDividing, and3, not3, ArithmeticOperator, HoldsNumber, ChoiceGives, GivesIsNull, truth, SqlMeans, SqlNode, Draft, Operand, CheckedHas, DivisorHas, IsFitted, IsNumberIn, WideHas, ZeroHas, Grows, OperandHas, Has, Puts, Question, puts_as, puts_one, puts_three, puts_two}
 use Rattle.sql_forms.specs.private.AskedForms.{Itself}
 use Rattle.sql_forms.proofs.puts.ArithmeticPut.{BoundedHas, Is, case_node}
 use Rattle.sql_forms.proofs.nodes.Checked.{Divides, parts, parts_free}
 use Rattle.sql_forms.proofs.puts.ComparisonsPut.{not_node}
 use Rattle.sql_forms.proofs.outcomes.Operators.{is_null_means}
 use Rattle.sql_forms.proofs.puts.OrNullsPut.{and_node}
-
-null_node : (asked : Asked) (bound : Bound) (a : Term) (x y : Outcome) → SqlMeans asked bound a x → (v : Val) × (x ≡ gives v) × GivesIsNull v y → NodeMeans asked bound SqlNode.IsNull (more_terms a no_terms) y
-null_node asked bound a x y first op = is_null_means asked bound a op.0 y (subst (SqlMeans asked bound a) op.1 first) op.2
 
 -- whether a number is null, and whether it is not
 null_given : (m : Option ℤ) → GivesIsNull (number_val m) (truth (not3 (Some (is_some m))))
@@ -21,9 +18,6 @@ twice false = refl
 
 fitted : (m : Option ℤ) → IsFitted m → (x : ℤ) → m ≡ Some x → FitsSigned w64 x
 fitted m fits x is = subst IsFitted is fits
-
-number_in : (range : Range) (k : Option ℤ) → IsNumberIn range k → (y : ℤ) → k ≡ Some y → HoldsNumber range y
-number_in range k within y is = subst (IsNumberIn range) is within
 
 module _ (known : Divides) (question : Question) (operator : ArithmeticOperator) (type : PrimitiveType) (left right : Operand) where
   -- ---- where a divisor may be 0
@@ -45,7 +39,7 @@ module _ (known : Divides) (question : Question) (operator : ArithmeticOperator)
 
   null_put : (old middle new : Draft) → Grows old middle (SqlNode.IsNull ∷ []) → Puts question middle new (OperandHas question.filter left) Itself → Puts question old new NullNumberHas Itself
   null_put old middle new grows put =
-      puts_one question SqlNode.IsNull refl (λ x y. (v : Val) × (x ≡ gives v) × GivesIsNull v y) old middle new (OperandHas question.filter left) NullNumberHas Itself Itself null_node grows put
+      puts_one question SqlNode.IsNull refl (λ x y. (v : Val) × (x ≡ gives v) × GivesIsNull v y) old middle new (OperandHas question.filter left) NullNumberHas Itself Itself (λ asked bound a x y first op. is_null_means asked bound a op.0 y (subst (SqlMeans asked bound a) op.1 first) op.2) grows put
       (λ world o is has. (gives (number_val has.0), has.1, λ x same. (truth (not3 (Some (is_some has.0))), (number_val has.0, same, null_given has.0), sym has.2)))
 
   given_put : (old middle new : Draft) → Grows old middle (SqlNode.Not ∷ []) → Puts question middle new NullNumberHas Itself → Puts question old new GivenNumberHas Itself
@@ -104,7 +98,7 @@ module _ (known : Divides) (question : Question) (operator : ArithmeticOperator)
       (λ world o is has.
       let p =
       parts_free known operator type has.first has.second o
-      (λ y at divides zero. never divides (subst (HoldsNumber right.range) zero (number_in right.range has.second has.within y at)))
+      (λ y at divides zero. never divides (subst (HoldsNumber right.range) zero (subst (IsNumberIn right.range) at has.within)))
       (fitted has.first has.left_fits) (fitted has.second has.right_fits) has.comes in (
         o,
         (p.wide, p.inside, (has.first, has.second, has.left_has, has.right_has, p.wide_given), p.inside_given, p.inner_given),

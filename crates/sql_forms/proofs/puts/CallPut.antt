@@ -39,17 +39,17 @@ module _ (question : Question) (types : OneType) (ends : EndsOnceOnEntities) (is
     (lifted : Lifted) (old : Draft) (is_lifted : IsLifted operands old.depth lifted) where
   -- what the call evaluates to in the body, once the faults of its arguments are out of it
   module _ (world : World) (seen : IsAskedOf question world) (o : Outcome) (at : old.depth ≡ length world.bound) (come : CallComes question types ends is_moment world seen ranges are function operands o) where
-    inner_called : CalledHas question.filter function lifted.inner.items (in_body question operands lifted old is_lifted world come.os) come.inner
+    inner_called : CalledHas question.filter function lifted.inner.items (in_body question operands lifted old is_lifted world come.all.os) come.inner
     inner_called =
-        subst (λ (xs : List Operand). CalledHas question.filter function xs (in_body question operands lifted old is_lifted world come.os) come.inner) (sym is_lifted.inner)
+        subst (λ (xs : List Operand). CalledHas question.filter function xs (in_body question operands lifted old is_lifted world come.all.os) come.inner) (sym is_lifted.inner)
         (record {
-          values = map value_or_null come.os;
+          values = map value_or_null come.all.os;
           have =
-              subst (AllHave question.filter (within_let old.depth is_lifted.choices operands) (in_body question operands lifted old is_lifted world come.os))
-              (lifted_values is_lifted.choices operands come.os is_lifted.are (as_many question.filter world operands come.os come.have) come.plain ∙ unfaulted come.os)
-              (body_have question.filter world old.depth is_lifted.choices operands come.os at is_lifted.are come.have);
-          kinds = kinds_in old.depth is_lifted.choices operands (map value_or_null come.os) is_lifted.are (kinds_of operands come.os come.fit);
-          within = first_in old.depth is_lifted.choices operands (map value_or_null come.os) is_lifted.are (first_of operands come.os come.fit);
+              subst (AllHave question.filter (within_let old.depth is_lifted.choices operands) (in_body question operands lifted old is_lifted world come.all.os))
+              (lifted_values is_lifted.choices operands come.all.os is_lifted.are (as_many question.filter world operands come.all.os come.all.have) come.all.plain ∙ unfaulted come.all.os)
+              (body_have question.filter world old.depth is_lifted.choices operands come.all.os at is_lifted.are come.all.have);
+          kinds = kinds_in old.depth is_lifted.choices operands (map value_or_null come.all.os) is_lifted.are (kinds_of operands come.all.os come.all.fit);
+          within = first_in old.depth is_lifted.choices operands (map value_or_null come.all.os) is_lifted.are (first_of operands come.all.os come.all.fit);
           given = come.given;
         })
 
@@ -57,9 +57,9 @@ module _ (question : Question) (types : OneType) (ends : EndsOnceOnEntities) (is
     pub of_call : (InnerForm Shown : Outcome → Outcome → Type 0) → ((x : Outcome) → InnerForm come.inner x → Shown come.inner x)
         → FaultsGiven question operands lifted old is_lifted (CalledHas question.filter function lifted.inner.items) InnerForm Shown Same world o
     of_call InnerForm Shown shows = record {
-      os = come.os;
-      have = come.have;
-      plain = come.plain;
+      os = come.all.os;
+      have = come.all.have;
+      plain = come.all.plain;
       inner = come.inner;
       has = inner_called;
       goes = λ x form. (come.inner, shows x form, come.is);
@@ -88,7 +88,7 @@ module _ (question : Question) (types : OneType) (ends : EndsOnceOnEntities) (is
 
     -- where no argument is a fault
     module _ (plain : (world : World) (o : Outcome) (is : IsWorldOf question new world) → OfPlace question.filter place world o → (come : CallComes question types ends is_moment world is.seen ranges are function operands o)
-        → faults_of come.os come.inner ≡ come.inner) where
+        → faults_of come.all.os come.inner ≡ come.inner) where
       pub call_plain_put : Grows opened fronted [] → Puts question fronted body (CalledHas question.filter function lifted.inner.items) Itself → Puts question old new (OfPlace question.filter place) Itself
       call_plain_put front put =
           lifted_put question operands lifted old is_lifted opened body new is_opened values idle (CalledHas question.filter function lifted.inner.items) (OfPlace question.filter place) Itself Itself
@@ -96,8 +96,8 @@ module _ (question : Question) (types : OneType) (ends : EndsOnceOnEntities) (is
           (λ world o at is has.
           let come = call_comes question types ends is_moment world is.seen ranges are one_name place function operands here arguments o has in
           record {
-            os = come.os;
-            have = come.have;
+            os = come.all.os;
+            have = come.all.have;
             inner = come.inner;
             has = inner_called world is.seen o at come;
             goes = λ x form. form ∙ sym (come.is ∙ plain world o is has come);

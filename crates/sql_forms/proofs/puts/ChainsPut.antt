@@ -6,6 +6,7 @@ use Rattle.sql_forms.proofs.outcomes.CodeTables.{coded, looked_connective}
 use Rattle.sql_forms.proofs.outcomes.Operators.{looked_two_means}
 use Rattle.sql_forms.proofs.puts.OrNullsPut.{and_node, or_node}
 use Rattle.sql_forms.proofs.outcomes.Truths.{kept_and, kept_or}
+use Rattle.sql_forms.proofs.outcomes.Elements.{front_all, rest_all}
 
 -- ---- two outcomes
 
@@ -66,27 +67,19 @@ abbrev Joined : Form → SqlNode → LogicalOperator → Outcome → Outcome →
 Joined form join c p q =
     (x y : Outcome) → IsInForm form p x → IsInForm form q y → (z : Outcome) × Joins join x y z × IsInForm form (connected c p q) z
 
-both_truths : (p q : Outcome) → Code p → Code q → IsValue p × IsValue q → Joined Form.Truth SqlNode.And LogicalOperator.And p q
-both_truths p q is_p is_q values x y one two =
+joined_truths : (join : SqlNode) (c : LogicalOperator) (joint : Option Bool → Option Bool → Option Bool) → ((s t : Option Bool) → connected c (truth s) (truth t) ≡ truth (joint s t))
+    → ((s t : Option Bool) (x y : Outcome) → x ≡ truth s → y ≡ truth t → Joins join x y (truth (joint s t))) → (p q : Outcome) → Code p → Code q → IsValue p × IsValue q → Joined Form.Truth join c p q
+joined_truths join c joint connected_is joins p q is_p is_q values x y one two =
     let s = value_truth p is_p values.0 in
     let t = value_truth q is_q values.1 in (
-      truth (and3 s.0 t.0),
-      and_joins s.0 t.0 x y (one ∙ s.1) (two ∙ t.1),
-      sym (ap (λ (o : Outcome). connected LogicalOperator.And o q) s.1 ∙ ap (λ (o : Outcome). connected LogicalOperator.And (truth s.0) o) t.1 ∙ and_of s.0 t.0),
-    )
-
-either_truth : (p q : Outcome) → Code p → Code q → IsValue p × IsValue q → Joined Form.Truth SqlNode.Or LogicalOperator.Or p q
-either_truth p q is_p is_q values x y one two =
-    let s = value_truth p is_p values.0 in
-    let t = value_truth q is_q values.1 in (
-      truth (or3 s.0 t.0),
-      or_joins s.0 t.0 x y (one ∙ s.1) (two ∙ t.1),
-      sym (ap (λ (o : Outcome). connected LogicalOperator.Or o q) s.1 ∙ ap (λ (o : Outcome). connected LogicalOperator.Or (truth s.0) o) t.1 ∙ or_of s.0 t.0),
+      truth (joint s.0 t.0),
+      joins s.0 t.0 x y (one ∙ s.1) (two ∙ t.1),
+      sym (ap (λ (o : Outcome). connected c o q) s.1 ∙ ap (λ (o : Outcome). connected c (truth s.0) o) t.1 ∙ connected_is s.0 t.0),
     )
 
 joined_by : TableLaws → (form : Form) (join : SqlNode) (c : LogicalOperator) → IsJoin form join c → (p q : Outcome) → Code p → Code q → (IsOfValues form join → IsValue p) → (IsOfBoth form → IsValue q) → Joined form join c p q
-joined_by laws Form.Truth SqlNode.And LogicalOperator.And is p q is_p is_q first second = both_truths p q is_p is_q (first tt, second tt)
-joined_by laws Form.Truth SqlNode.Or LogicalOperator.Or is p q is_p is_q first second = either_truth p q is_p is_q (first tt, second tt)
+joined_by laws Form.Truth SqlNode.And LogicalOperator.And is p q is_p is_q first second = joined_truths SqlNode.And LogicalOperator.And and3 and_of and_joins p q is_p is_q (first tt, second tt)
+joined_by laws Form.Truth SqlNode.Or LogicalOperator.Or is p q is_p is_q first second = joined_truths SqlNode.Or LogicalOperator.Or or3 or_of or_joins p q is_p is_q (first tt, second tt)
 joined_by laws Form.Code (SqlNode.LookUp LookUp.And) LogicalOperator.And is p q is_p is_q first second =
     λ x y one two. (coded (connected LogicalOperator.And p q), code_joins LookUp.And LogicalOperator.And laws.and_table p q x y is_p is_q one two, refl)
 joined_by laws Form.Code (SqlNode.LookUp LookUp.Or) LogicalOperator.Or is p q is_p is_q first second =
@@ -141,28 +134,17 @@ parted filter place (second ∷ front) other rest world first (o ∷ more) have 
       rest_have = p.rest_have;
     }
 
-all_front : (P : Outcome → Type 0) (xs ys : List Outcome) → AllByRecursion P (xs ++ ys) → AllByRecursion P xs
-all_front P [] ys all = tt
-all_front P (x ∷ xs) ys all = (all.0, all_front P xs ys all.1)
-
-all_rest : (P : Outcome → Type 0) (xs ys : List Outcome) → AllByRecursion P (xs ++ ys) → AllByRecursion P ys
-all_rest P [] ys all = all
-all_rest P (x ∷ xs) ys all = all_rest P xs ys all.1
-
 -- a chain of values evaluates to a value
 connected_value : (c : LogicalOperator) (a b : Outcome) → Code a → Code b → IsValue a → IsValue b → IsValue (connected c a b)
-connected_value c a b p q here there = of_code c a b p q here there
-  where
-    of_code : (d : LogicalOperator) (x y : Outcome) → Code x → Code y → IsValue x → IsValue y → IsValue (connected d x y)
-    of_code LogicalOperator.And _ _ is_true is_false one two = two
-    of_code LogicalOperator.And _ _ is_null is_false one two = two
-    of_code LogicalOperator.Or _ _ is_false is_false one two = two
-    of_code LogicalOperator.Or _ _ is_null is_false one two = two
-    of_code LogicalOperator.And _ _ is_false q one two = tt
-    of_code LogicalOperator.Or _ _ is_true q one two = tt
-    of_code d _ _ is_overflow q one two = absurd one
-    of_code d _ _ is_by_zero q one two = absurd one
-    of_code d _ _ _ q one two = two
+connected_value LogicalOperator.And _ _ is_true is_false one two = two
+connected_value LogicalOperator.And _ _ is_null is_false one two = two
+connected_value LogicalOperator.Or _ _ is_false is_false one two = two
+connected_value LogicalOperator.Or _ _ is_null is_false one two = two
+connected_value LogicalOperator.And _ _ is_false q one two = tt
+connected_value LogicalOperator.Or _ _ is_true q one two = tt
+connected_value d _ _ is_overflow q one two = absurd one
+connected_value d _ _ is_by_zero q one two = absurd one
+connected_value d _ _ _ q one two = two
 
 chained_value : (c : LogicalOperator) (o : Outcome) (ps : List Outcome) → Code o → IsValue o → AllByRecursion IsCoded ps → AllByRecursion IsValue ps → IsValue (chained c o ps)
 chained_value c o [] is value coded_all values = value
@@ -199,20 +181,20 @@ module _ (question : Question) (laws : TableLaws) (form : Form) (join : SqlNode)
       let p = parted question.filter place front other rest world has.first has.rest has.have in
       let all = subst (AllByRecursion IsCoded) p.is has.coded.1 in
       let first_code = code_in has.first has.coded.0 in
-      let front_all = all_front IsCoded p.front_more (p.next ∷ p.next_more) all in
-      let rest_all = all_rest IsCoded p.front_more (p.next ∷ p.next_more) all in
-      let next_code = code_in p.next rest_all.0 in
+      let front_coded = front_all IsCoded p.front_more (p.next ∷ p.next_more) all in
+      let rest_coded = rest_all IsCoded p.front_more (p.next ∷ p.next_more) all in
+      let next_code = code_in p.next rest_coded.0 in
       let l = chained c has.first p.front_more in
       let r = chained c p.next p.next_more in
-      let same : o ≡ connected c l r = has.is ∙ ap (λ (os : List Outcome). chained c has.first os) p.is ∙ chained_both c has.first p.front_more p.next p.next_more first_code front_all next_code rest_all.1 in (
+      let same : o ≡ connected c l r = has.is ∙ ap (λ (os : List Outcome). chained c has.first os) p.is ∙ chained_both c has.first p.front_more p.next p.next_more first_code front_coded next_code rest_coded.1 in (
         l,
         r,
-        record { first = has.first; rest = p.front_more; have = p.front_have; coded = (has.coded.0, front_all); is = refl },
-        record { first = p.next; rest = p.next_more; have = p.rest_have; coded = rest_all; is = refl },
+        record { first = has.first; rest = p.front_more; have = p.front_have; coded = (has.coded.0, front_coded); is = refl },
+        record { first = p.next; rest = p.next_more; have = p.rest_have; coded = rest_coded; is = refl },
         λ x y one two.
-            let j = joined_by laws form join c is_join l r (chained_code c has.first p.front_more first_code front_all) (chained_code c p.next p.next_more next_code rest_all.1)
-            (λ of_values. let v = front_valued of_values world has.first p.front_more is.seen p.front_have in chained_value c has.first p.front_more first_code v.0 front_all v.1)
-            (λ of_both. let v = rest_valued of_both world p.next p.next_more is.seen p.rest_have in chained_value c p.next p.next_more next_code v.0 rest_all.1 v.1) x y one two in
+            let j = joined_by laws form join c is_join l r (chained_code c has.first p.front_more first_code front_coded) (chained_code c p.next p.next_more next_code rest_coded.1)
+            (λ of_values. let v = front_valued of_values world has.first p.front_more is.seen p.front_have in chained_value c has.first p.front_more first_code v.0 front_coded v.1)
+            (λ of_both. let v = rest_valued of_both world p.next p.next_more is.seen p.rest_have in chained_value c p.next p.next_more next_code v.0 rest_coded.1 v.1) x y one two in
             (j.0, j.1, subst (λ (q : Outcome). IsInForm form q j.0) (sym same) j.2),
       ))
 
@@ -240,9 +222,6 @@ faultless_valued question ranges are [] all world os seen have = subst (AllByRec
 faultless_valued question ranges are (place ∷ places) all world [] seen have = absurd have
 faultless_valued question ranges are (place ∷ places) all world (o ∷ os) seen have = (value_of_place o have.0, faultless_valued question ranges are places all.1 world os seen have.1)
   where
-    never : (range : Range) → range.may_fault ≡ false → range.may_fault ≡ true → ⊥
-    never range here there = let e : false ≡ true = sym here ∙ there in cc
-
     value_of_place : (p : Outcome) → OfPlace question.filter place world p → IsValue p
     value_of_place p has =
         let r = some_there (λ (range : Range). range.may_fault ≡ false) (slice_get ranges place) all.0 in
@@ -250,4 +229,4 @@ faultless_valued question ranges are (place ∷ places) all world (o ∷ os) see
       where
         of_within : (q : Outcome) (range : Range) → range.may_fault ≡ false → IsWithin range q → IsValue q
         of_within (gives v) range plain within = tt
-        of_within _ range plain within = never range plain within
+        of_within _ range plain within = let clash : false ≡ true = sym plain ∙ within in absurd (cc)

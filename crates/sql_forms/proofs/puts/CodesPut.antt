@@ -3,6 +3,7 @@ use Rattle.sql_forms.proofs.Common.{◌≡◌, [], ◌∷◌, Bool, None, refl, 
 use Rattle.sql_forms.proofs.outcomes.CodeTables.{coded, looked_after_null, looked_beside_null, looked_comparison, compares_two}
 use Rattle.sql_forms.proofs.puts.LiftedPut.{Coded}
 use Rattle.sql_forms.proofs.outcomes.Operators.{looked_means, looked_two_means}
+use Rattle.sql_forms.proofs.puts.OperandsPut.{null_value}
 
 coded_value : (v : Val) → IsOfType SqlType.Truth v → IsCoded (gives v)
 coded_value null is = tt
@@ -20,9 +21,6 @@ then_after _ ro o operator given = given
 
 code_has : (filter : Filter) (operand : Operand) (world : World) (o : Outcome) → operand.kind ≡ Kind.Value SqlType.Truth → HasOrCode filter operand.kind operand.source world o → CodeHas filter operand.source world o
 code_has filter operand world o kind has = subst (λ (k : Kind). HasOrCode filter k operand.source world o) kind has
-
-null_value : (operand : Operand) (v : Val) → operand.kind ≡ Kind.Null → Fits operand v → v ≡ null
-null_value operand v kind fits = subst (λ (k : Kind). IsOfKind k v) kind fits.kind
 
 -- of type Null, it is no truth value, and carries no fault
 null_plain : (operand : Operand) → operand.kind ≡ Kind.Null → NoTruth operand

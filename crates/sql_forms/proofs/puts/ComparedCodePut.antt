@@ -1,10 +1,10 @@
 -- The code of a comparison whose left side may be null instead of a fault.
-use Rattle.sql_forms.proofs.Common.{◌≡◌, inl, inr, ◌∷◌, [], List, Bool, Option, Some, None, length, refl, sym, subst, slice_get, Val, null, ComparisonOperator, Filter, Outcome, gives, overflow, divides_by_zero, IsCoded, code_of, without_fault, truth, SqlMeans, Draft, Lifted, Operand, Kind, Form, ComparisonHas, FaultyHave, NoTruth, Grows, IsOfKind, AllHave, ArePlain, IsLifted, IsOpened, faults_front, faults_of, within_let, AsCode, FaultyOrNull, IsPlainValue, NullBeside, Fits, OperandHas, IsWorldOf, Puts, PutsAll, Question, World, puts_as}
+use Rattle.sql_forms.proofs.Common.{◌≡◌, inl, inr, ◌∷◌, [], List, Bool, Option, Some, None, length, refl, sym, subst, slice_get, null, ComparisonOperator, Filter, Outcome, gives, overflow, divides_by_zero, IsCoded, code_of, without_fault, truth, SqlMeans, Draft, Lifted, Operand, Kind, Form, ComparisonHas, FaultyHave, NoTruth, Grows, IsOfKind, AllHave, ArePlain, IsLifted, IsOpened, faults_front, faults_of, within_let, AsCode, FaultyOrNull, IsPlainValue, NullBeside, OperandHas, IsWorldOf, Puts, PutsAll, Question, World, puts_as}
 use Rattle.sql_forms.specs.Forms.{IsInForm}
 use Rattle.sql_forms.proofs.outcomes.Apart.{null_kind}
 use Rattle.sql_forms.proofs.outcomes.CodeTables.{code_below_5, coded}
 use Rattle.sql_forms.proofs.puts.EqualCodesPut.{own_code, reported_coded}
-use Rattle.sql_forms.proofs.puts.FaultyComparisonsPut.{OrCode, body, have, plain_has}
+use Rattle.sql_forms.proofs.puts.FaultyComparisonsPut.{OrCode, body, have, plain_has, unfaulted_value}
 use Rattle.sql_forms.proofs.outcomes.LiftedFaults.{TwoInner, lifted_values, two_inner}
 use Rattle.sql_forms.proofs.puts.LiftedPut.{Coded, closed, coded_put}
 use Rattle.sql_forms.proofs.outcomes.LiftedValues.{body_have}
@@ -50,10 +50,6 @@ faults_coded (gives v) None = tt
 faults_coded (gives v) (Some b) = tt
 faults_coded overflow t = tt
 faults_coded divides_by_zero t = tt
-
-unfaulted_value : (operand : Operand) (o : Outcome) → ((v : Val) → o ≡ gives v → Fits operand v) → (w : Val) × (without_fault o ≡ gives w) × IsOfKind operand.kind w
-unfaulted_value operand (gives v) fits = let f = fits v refl in (v, refl, f.kind)
-unfaulted_value operand _ fits = (null, refl, null_kind operand.kind)
 
 module _ (question : Question) (operator : ComparisonOperator) (left right first second : Operand) (lifted : Lifted) (old : Draft) (is_lifted : IsLifted (left ∷ right ∷ []) old.depth lifted)
     (at_first : slice_get lifted.inner.items 0 ≡ Some first) (at_second : slice_get lifted.inner.items 1 ≡ Some second) (no_left : NoTruth left) (no_right : NoTruth right) where

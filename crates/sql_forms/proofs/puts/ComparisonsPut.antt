@@ -1,11 +1,11 @@
 -- What is put for comparisons evaluates to what these evaluate to.
-use Rattle.sql_forms.proofs.Common.{◌≡◌, ◌≢◌, ◌⊎◌, inl, inr, [], ◌∷◌, Bool, false, not, Option, Some, None, IsTrue, refl, sym, subst, ◌∙◌, Val, boolean, null, CompareGives, Outcome, gives, AreEqual, ComparesTrue, not3, ComparisonOperator, StrictlyGives, is_true, truth, NodeMeans, SqlMeans, Asked, Bound, Term, no_terms, more_terms, SqlNode, SqlType, IsFault, Draft, Operand, Kind, Form, BesideNullHas, ComparisonHas, IsGiven, StrictHas, compared_in, Grows, AreAlike, IsOfKind, IsOfType, ComparedHas, Fits, HasLoosely, NullHas, as_compared, Puts, Question, World, puts_as, puts_leaf, puts_one, puts_two}
+use Rattle.sql_forms.proofs.Common.{◌≡◌, ◌≢◌, ◌⊎◌, inl, inr, [], ◌∷◌, Bool, false, not, Option, Some, None, IsTrue, refl, sym, subst, ◌∙◌, Val, boolean, null, CompareGives, Outcome, gives, AreEqual, ComparesTrue, not3, ComparisonOperator, StrictlyGives, is_true, truth, NodeMeans, SqlMeans, Asked, Bound, Term, no_terms, more_terms, SqlNode, SqlType, IsFault, Draft, Operand, Kind, Form, BesideNullHas, ComparisonHas, IsGiven, StrictHas, compared_in, Grows, AreAlike, IsOfKind, IsOfType, ComparedHas, Fits, HasLoosely, NullHas, as_compared, Puts, Question, World, puts_as, puts_leaf, puts_one, puts_two, Has}
 use Rattle.sql_forms.specs.Forms.{IsInForm}
 use Rattle.sql_forms.specs.private.AskedForms.{Itself, OrTruth}
 use Rattle.sql_meaning.specs.SqlTypeHolds.{IsComparedAs}
 use Rattle.sql_forms.proofs.outcomes.Comparisons.{StrictReports, null_left, null_right, strictly_given, reports}
 use Rattle.sql_forms.proofs.outcomes.Nullable.{equality_of}
-use Rattle.sql_forms.proofs.puts.OperandsPut.{fault_form, fault_itself, given_form, given_itself, loosely, compared_typed}
+use Rattle.sql_forms.proofs.puts.OperandsPut.{fault_form, fault_itself, given_form, given_itself, loosely, compared_typed, null_value}
 use Rattle.sql_forms.proofs.outcomes.Operators.{compare_means, is_true_means, not_means, same_means}
 use Rattle.sql_forms.proofs.outcomes.ComparedValues.{IsOrder, beside_is_false, beside_is_not, beside_is_null, denied_where, equal_compared, given_value, kept_where, not_truth, null_equality, strict_compared}
 
@@ -20,6 +20,19 @@ pub is_true_node : (asked : Asked) (bound : Bound) (a : Term) (x y : Outcome) �
     → NodeMeans asked bound SqlNode.IsTrue (more_terms a no_terms) y
 is_true_node asked bound a x y term op =
     subst (NodeMeans asked bound SqlNode.IsTrue (more_terms a no_terms)) (sym op.2) (is_true_means asked bound a op.0 (subst (SqlMeans asked bound a) op.1 term))
+
+-- the opposite of the truth value that something else evaluates to
+pub negated_puts : (question : Question) (old middle new : Draft) (Inner Outer : Has) (F G : Outcome → Outcome → Type 0) → Grows old middle (SqlNode.Not ∷ []) → Puts question middle new Inner F
+    → ((world : World) (o : Outcome) → Outer world o → (i : Outcome) × Inner world i × ((x : Outcome) → F i x → (t : Option Bool) × (x ≡ truth t) × G o (truth (not3 t)))) → Puts question old new Outer G
+negated_puts question old middle new Inner Outer F G grows inner turn =
+    puts_one question SqlNode.Not refl (λ x y. (t : Option Bool) × (x ≡ truth t) × (y ≡ truth (not3 t))) old middle new Inner Outer F G not_node grows inner
+    (λ world o is has.
+    let n = turn world o has in
+    (n.0, n.1, λ x form. let t = n.2 x form in (truth (not3 t.0), (t.0, t.1, refl), t.2)))
+
+-- a fault's form is that of its opposite too
+fault_turned : (Form : Outcome → Outcome → Type 0) (o x : Outcome) → IsFault o → OrTruth Itself o x → (t : Option Bool) × (x ≡ truth t) × OrTruth Form o (truth (not3 t))
+fault_turned Form o x fault form = let t = fault_itself o x fault form in (t.0, t.1, fault_form Form o (not3 t.0) (truth (not3 t.0)) fault refl)
 
 -- ---- comparisons
 
@@ -220,23 +233,14 @@ module _ (question : Question) (left right : Operand) where
           inl (given.0, given.1, given.2, given.3, e.given),
           λ x same. (Some e.answer, same, given_form Itself o (boolean (not e.answer)) (truth (not3 (Some e.answer))) e.is (not_truth e.answer ∙ sym e.is)),
         )
-    unequal_of decided world o (inr fault) = (
-      o,
-      inr fault,
-      λ x form.
-          let t = fault_itself o x fault.0 form in
-          (t.0, t.1, fault_form Itself o (not3 t.0) (truth (not3 t.0)) fault.0 refl),
-    )
+    unequal_of decided world o (inr fault) = (o, inr fault, λ x form. fault_turned Itself o x fault.0 form)
 
     pub unequal_put : ((v w : Val) → (answer : Bool) × (IsTrue answer → AreEqual v w) × (AreEqual v w → IsTrue answer))
         → Grows old middle (SqlNode.Not ∷ []) → Puts question middle new (ComparisonHas question.filter ComparisonOperator.Eq left right) (OrTruth Itself)
         → Puts question old new (ComparisonHas question.filter ComparisonOperator.Ne left right) (OrTruth Itself)
     unequal_put decided grows equal =
-        puts_one question SqlNode.Not refl (λ x y. (t : Option Bool) × (x ≡ truth t) × (y ≡ truth (not3 t))) old middle new (ComparisonHas question.filter ComparisonOperator.Eq left right)
-        (ComparisonHas question.filter ComparisonOperator.Ne left right) (OrTruth Itself) (OrTruth Itself) not_node grows equal
-        (λ world o is has.
-        let e = unequal_of decided world o has in
-        (e.0, e.1, λ x form. let t = e.2 x form in (truth (not3 t.0), (t.0, t.1, refl), t.2)))
+        negated_puts question old middle new (ComparisonHas question.filter ComparisonOperator.Eq left right) (ComparisonHas question.filter ComparisonOperator.Ne left right) (OrTruth Itself) (OrTruth Itself)
+        grows equal (unequal_of decided)
 
     -- true where the comparison is false
     denied_of : (operator : ComparisonOperator) (world : World) (o x : Outcome) → ComparisonHas question.filter operator left right world o → OrTruth Itself o x
@@ -247,16 +251,13 @@ module _ (question : Question) (left right : Operand) where
           given_itself o (boolean b.0) x b.1 form,
           given_form (IsInForm Form.Denies) o (boolean b.0) (truth (not3 (Some b.0))) b.1 (denied_where b.0 o (truth (not3 (Some b.0))) b.1 refl),
         )
-    denied_of operator world o x (inr fault) form =
-        let t = fault_itself o x fault.0 form in
-        (t.0, t.1, fault_form (IsInForm Form.Denies) o (not3 t.0) (truth (not3 t.0)) fault.0 refl)
+    denied_of operator world o x (inr fault) form = fault_turned (IsInForm Form.Denies) o x fault.0 form
 
     pub denied_put : (operator : ComparisonOperator) → Grows old middle (SqlNode.Not ∷ []) → Puts question middle new (ComparisonHas question.filter operator left right) (OrTruth Itself)
         → Puts question old new (ComparisonHas question.filter operator left right) (OrTruth (IsInForm Form.Denies))
     denied_put operator grows inner =
-        puts_one question SqlNode.Not refl (λ x y. (t : Option Bool) × (x ≡ truth t) × (y ≡ truth (not3 t))) old middle new (ComparisonHas question.filter operator left right)
-        (ComparisonHas question.filter operator left right) (OrTruth Itself) (OrTruth (IsInForm Form.Denies)) not_node grows inner
-        (λ world o is has. (o, has, λ x form. let t = denied_of operator world o x has form in (truth (not3 t.0), (t.0, t.1, refl), t.2)))
+        negated_puts question old middle new (ComparisonHas question.filter operator left right) (ComparisonHas question.filter operator left right) (OrTruth Itself) (OrTruth (IsInForm Form.Denies))
+        grows inner (λ world o has. (o, has, λ x form. denied_of operator world o x has form))
 
 -- ---- beside null
 
@@ -292,28 +293,15 @@ module _ (question : Question) (operand : Operand) where
         inl (given.0, given.1, n.1),
         λ x same. (Some n.0, same, given_form Itself o (boolean (not n.0)) (truth (not3 (Some n.0))) n.2 (not_truth n.0 ∙ sym n.2)),
       )
-  not_null_of world o (inr fault) = (
-    o,
-    inr fault,
-    λ x form.
-        let t = fault_itself o x fault.0 form in
-        (t.0, t.1, fault_form Itself o (not3 t.0) (truth (not3 t.0)) fault.0 refl),
-  )
+  not_null_of world o (inr fault) = (o, inr fault, λ x form. fault_turned Itself o x fault.0 form)
 
   pub beside_not_null : (old middle new : Draft) → Grows old middle (SqlNode.Not ∷ []) → Puts question middle new (NullHas question.filter operand) (OrTruth Itself)
       → Puts question old new (BesideNullHas question.filter ComparisonOperator.Ne operand) (OrTruth Itself)
   beside_not_null old middle new grows inner =
-      puts_one question SqlNode.Not refl (λ x y. (t : Option Bool) × (x ≡ truth t) × (y ≡ truth (not3 t))) old middle new (NullHas question.filter operand)
-      (BesideNullHas question.filter ComparisonOperator.Ne operand) (OrTruth Itself) (OrTruth Itself) not_node grows inner
-      (λ world o is has.
-      let n = not_null_of world o has in
-      (n.0, n.1, λ x form. let t = n.2 x form in (truth (not3 t.0), (t.0, t.1, refl), t.2)))
+      negated_puts question old middle new (NullHas question.filter operand) (BesideNullHas question.filter ComparisonOperator.Ne operand) (OrTruth Itself) (OrTruth Itself) grows inner not_null_of
 
 -- a side of type Null has null
 module _ (question : Question) (left right : Operand) (operator : ComparisonOperator) (old new : Draft) where
-  null_value : (operand : Operand) (v : Val) → operand.kind ≡ Kind.Null → Fits operand v → v ≡ null
-  null_value operand v kind fits = subst (λ (k : Kind). IsOfKind k v) kind fits.kind
-
   left_null : left.kind ≡ Kind.Null → (world : World) (o : Outcome) → ComparisonHas question.filter operator left right world o → BesideNullHas question.filter operator right world o
   left_null kind world o (inl given) = inl (given.1, given.3, inl (subst (λ (v : Val). CompareGives operator v given.1 o) (null_value left given.0 kind given.2.fits) given.4))
   left_null kind world o (inr fault) = inr (fault.0, fault.1.1, fault.1.3)

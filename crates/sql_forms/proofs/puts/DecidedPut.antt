@@ -1,45 +1,24 @@
 -- Chains put in parts: a front and the rest, joined by a node, and chains that are asked by their code.
-use Rattle.sql_forms.proofs.Common.{◌≡◌, ◌<◌, ◌++◌, ◌∷◌, ◌∙◌, [], ℕ, zero, suc, List, Some, length, refl, sym, ap, subst, append-nil, arith, slice_get, AllByRecursion, Range, ComparisonOperator, LogicalOperator, SqlNode, SqlType, Draft, Form, ChainHas, IsJoin, IsOfBoth, IsOfValues, Grows, AreRanges, IsFaultless, OfPlace, Puts, Question}
+use Rattle.sql_forms.proofs.Common.{◌≡◌, ◌<◌, ◌++◌, ◌∷◌, ◌∙◌, [], ℕ, suc, List, Some, length, refl, sym, ap, subst, append-nil, arith, slice_get, AllByRecursion, Range, ComparisonOperator, LogicalOperator, SqlNode, SqlType, Draft, Form, ChainHas, IsJoin, IsOfBoth, IsOfValues, Grows, AreRanges, IsFaultless, OfPlace, Puts, Question}
 use Rattle.sql_forms.specs.Forms.{IsInForm}
 use Rattle.sql_forms.specs.private.AskedForms.{IsAskedCode, asked_digit}
 use Rattle.sql_forms.proofs.outcomes.ChainValues.{Code, chained_code, code_in}
 use Rattle.sql_forms.proofs.puts.ChainsPut.{TableLaws, Valued, faultless_valued, joined_put, single_chain}
 use Rattle.sql_forms.proofs.outcomes.CodeConditions.{code_condition}
+use Rattle.sql_forms.proofs.outcomes.Elements.{none_left}
 
 -- ---- lists of indices
-
-pub all_of_front : (P : ℕ → Type 0) (xs ys : List ℕ) → AllByRecursion P (xs ++ ys) → AllByRecursion P xs
-all_of_front P [] ys all = tt
-all_of_front P (x ∷ xs) ys all = (all.0, all_of_front P xs ys all.1)
-
-pub all_of_rest : (P : ℕ → Type 0) (xs ys : List ℕ) → AllByRecursion P (xs ++ ys) → AllByRecursion P ys
-all_of_rest P [] ys all = all
-all_of_rest P (x ∷ xs) ys all = all_of_rest P xs ys all.1
 
 -- what holds of each by its index
 pub all_by_index : (P : ℕ → Type 0) (xs : List ℕ) → ((k x : ℕ) → k < length xs → slice_get xs k ≡ Some x → P x) → AllByRecursion P xs
 all_by_index P [] each = tt
 all_by_index P (x ∷ xs) each = (each 0 x (omega arith) refl, all_by_index P xs (λ k y below at. each (suc k) y (omega (arith, below)) at))
 
-pub get_front : (xs ys : List ℕ) (k x : ℕ) → k < length xs → slice_get xs k ≡ Some x → slice_get (xs ++ ys) k ≡ Some x
-get_front [] ys k x below at = absurd (omega (arith, below))
-get_front (y ∷ xs) ys zero x below at = at
-get_front (y ∷ xs) ys (suc k) x below at = get_front xs ys k x (omega (arith, below)) at
-
-pub only_one : (xs : List ℕ) (x : ℕ) → length xs ≡ 1 → slice_get xs 0 ≡ Some x → xs ≡ x ∷ []
-only_one [] x one at = absurd (cc)
-only_one (y ∷ []) x one at = let e : Some y ≡ Some x = at in cc
-only_one (y ∷ z ∷ xs) x one at = absurd (omega (arith, one))
-
-no_places : (xs : List ℕ) → length xs ≡ 0 → xs ≡ []
-no_places [] none = refl
-no_places (x ∷ xs) none = absurd (cc)
-
 pub without_rest : (xs ys whole : List ℕ) → whole ≡ xs ++ ys → length ys ≡ 0 → whole ≡ xs
-without_rest xs ys whole is none = is ∙ ap (λ (zs : List ℕ). xs ++ zs) (no_places ys none) ∙ append-nil xs
+without_rest xs ys whole is none = is ∙ ap (λ (zs : List ℕ). xs ++ zs) (none_left ys none) ∙ append-nil xs
 
 pub without_front : (xs ys whole : List ℕ) → whole ≡ xs ++ ys → length xs ≡ 0 → whole ≡ ys
-without_front xs ys whole is none = is ∙ ap (λ (zs : List ℕ). zs ++ ys) (no_places xs none)
+without_front xs ys whole is none = is ∙ ap (λ (zs : List ℕ). zs ++ ys) (none_left xs none)
 
 -- ---- forms
 

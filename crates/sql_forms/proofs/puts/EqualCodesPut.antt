@@ -5,6 +5,7 @@ use Rattle.sql_forms.proofs.puts.ChainsPut.{gives_connected}
 use Rattle.sql_forms.proofs.outcomes.CodeTables.{code_below_5, coded, looked_connective}
 use Rattle.sql_forms.proofs.puts.ComparisonsPut.{compared_truth}
 use Rattle.sql_forms.proofs.outcomes.Operators.{looked_two_means}
+use Rattle.sql_forms.proofs.outcomes.Elements.{front_all, rest_all}
 
 -- ---- codes
 
@@ -53,14 +54,6 @@ parted filter left l (first ∷ front) item rest world [] each = absurd each
 parted filter left l (first ∷ front) item rest world (e ∷ es) each =
     let p = parted filter left l front item rest world es each.2 in
     record { fs = e ∷ p.fs; r = p.r; rs = p.rs; is = ap (λ (xs : List Outcome). e ∷ xs) p.is; front_each = (each.0, each.1, p.front_each); rest_each = p.rest_each }
-
-all_front : (P : Operand → Type 0) (xs ys : List Operand) → AllByRecursion P (xs ++ ys) → AllByRecursion P xs
-all_front P [] ys all = tt
-all_front P (x ∷ xs) ys all = (all.0, all_front P xs ys all.1)
-
-all_rest : (P : Operand → Type 0) (xs ys : List Operand) → AllByRecursion P (xs ++ ys) → AllByRecursion P ys
-all_rest P [] ys all = all
-all_rest P (x ∷ xs) ys all = all_rest P xs ys all.1
 
 -- ---- what is put
 
@@ -141,8 +134,8 @@ module _ (question : Question) (left : Operand) where
     halves world o (inr nulls) = record {
       a = o;
       b = o;
-      first = inr (nulls.0, all_front (λ (x : Operand). NullBeside question.filter left x world o) front (item ∷ rest) nulls.1);
-      second = inr (nulls.0, all_rest (λ (x : Operand). NullBeside question.filter left x world o) front (item ∷ rest) nulls.1);
+      first = inr (nulls.0, front_all (λ (x : Operand). NullBeside question.filter left x world o) front (item ∷ rest) nulls.1);
+      second = inr (nulls.0, rest_all (λ (x : Operand). NullBeside question.filter left x world o) front (item ∷ rest) nulls.1);
       goes = λ x y form other.
           let p = outcome_of_code form.1 form.2 in
           let q = outcome_of_code other.1 other.2 in

@@ -40,9 +40,6 @@ of_one [] bs (inr is) = is
 of_one (true ∷ xs) bs either = refl
 of_one (false ∷ xs) bs either = of_one xs bs either
 
-flag_of : (a b : Bool) → gives (boolean a) ≡ gives (boolean b) → a ≡ b
-flag_of a b is = cc
-
 -- ---- items of a front and of the rest
 
 record Parted (filter : Filter) (l : Val) (front rest : List Operand) (world : World) (bs : List Bool) : Type 0 where
@@ -131,7 +128,7 @@ module _ (question : Question) (left : Operand) where
       joined true xs bs o x y same one two =
           let k =
           kept_or (gives (boolean (some_of xs)) ≡ gives (boolean true)) (gives (boolean (some_of bs)) ≡ gives (boolean true)) (o ≡ gives (boolean true)) x y
-          (λ is. of_either xs bs (one_of xs bs (flag_of (some_of (xs ++ bs)) true (sym same ∙ is)))) (λ either. same ∙ ap (λ (b : Bool). gives (boolean b)) (of_one xs bs (to_either xs bs either))) one two in
+          (λ is. of_either xs bs (one_of xs bs (cc (sym same ∙ is)))) (λ either. same ∙ ap (λ (b : Bool). gives (boolean b)) (of_one xs bs (to_either xs bs either))) one two in
           (truth (or3 k.0 k.1), (k.0, k.1, k.2, k.3, refl), k.4)
         where
           of_either : (xs bs : List Bool) → (some_of xs ≡ true) ⊎ (some_of bs ≡ true) → (gives (boolean (some_of xs)) ≡ gives (boolean true)) ⊎ (gives (boolean (some_of bs)) ≡ gives (boolean true))
@@ -139,8 +136,8 @@ module _ (question : Question) (left : Operand) where
           of_either xs bs (inr is) = inr (ap (λ (b : Bool). gives (boolean b)) is)
 
           to_either : (xs bs : List Bool) → (gives (boolean (some_of xs)) ≡ gives (boolean true)) ⊎ (gives (boolean (some_of bs)) ≡ gives (boolean true)) → (some_of xs ≡ true) ⊎ (some_of bs ≡ true)
-          to_either xs bs (inl is) = inl (flag_of (some_of xs) true is)
-          to_either xs bs (inr is) = inr (flag_of (some_of bs) true is)
+          to_either xs bs (inl is) = inl (cc is)
+          to_either xs bs (inr is) = inr (cc is)
 
 -- ---- over a left side that is computed once
 

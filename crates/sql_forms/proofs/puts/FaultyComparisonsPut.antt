@@ -4,7 +4,7 @@ use Rattle.sql_forms.specs.private.AskedForms.{Itself, OrTruth}
 use Rattle.sql_forms.proofs.outcomes.Apart.{is_faulted, null_kind, stays_fault}
 use Rattle.sql_forms.proofs.outcomes.CodeTables.{coded}
 use Rattle.sql_forms.proofs.puts.ComparisonsPut.{compared_truth}
-use Rattle.sql_forms.proofs.outcomes.LiftedFaults.{IsInner, TwoInner, lifted_values, two_inner}
+use Rattle.sql_forms.proofs.outcomes.LiftedFaults.{IsInner, TwoInner, lifted_values, two_inner, inner_fits}
 use Rattle.sql_forms.proofs.puts.LiftedPut.{Coded}
 use Rattle.sql_forms.proofs.outcomes.LiftedValues.{body_have}
 use Rattle.sql_forms.proofs.puts.OperandsPut.{fault_itself, given_itself}
@@ -14,6 +14,10 @@ use Rattle.sql_forms.proofs.outcomes.Operators.{truth_code_means}
 abbrev pub OrCode : Outcome → Outcome → Type 0
 OrCode (gives v) x = x ≡ coded (gives v)
 OrCode o x = (t : Option Bool) × (x ≡ coded (truth t))
+
+pub or_code_value : (q : Outcome) (v : Val) (y : Outcome) → q ≡ gives v → OrCode q y → Coded q y
+or_code_value (gives w) v y same form = form
+or_code_value _ v y same form = absurd (cc)
 
 pub code_is : (t : Option Bool) → code_of_truth t ≡ coded (truth t)
 code_is (Some true) = refl
@@ -41,7 +45,7 @@ truth_code_node asked bound a x y term op =
     subst (NodeMeans asked bound SqlNode.TruthCode (more_terms a no_terms)) (sym op.2) (truth_code_means asked bound a op.0 (subst (SqlMeans asked bound a) op.1 term))
 
 -- without its fault an outcome is a value of the kind
-unfaulted_value : (operand : Operand) (o : Outcome) → ((v : Val) → o ≡ gives v → Fits operand v) → (w : Val) × (without_fault o ≡ gives w) × IsOfKind operand.kind w
+pub unfaulted_value : (operand : Operand) (o : Outcome) → ((v : Val) → o ≡ gives v → Fits operand v) → (w : Val) × (without_fault o ≡ gives w) × IsOfKind operand.kind w
 unfaulted_value operand (gives v) fits = (v, refl, (fits v refl).kind)
 unfaulted_value operand _ fits = (null, refl, null_kind operand.kind)
 
@@ -94,12 +98,6 @@ module _ (question : Question) (operator : ComparisonOperator) (left right first
         two_inner question.filter left right first second level choices within (without_fault has.left_outcome) (without_fault has.right_outcome) are is_first is_second
         (subst (AllHave question.filter (within_let level choices (left ∷ right ∷ [])) within) (lifted_values choices (left ∷ right ∷ []) os are refl plain)
         (body_have question.filter world level choices (left ∷ right ∷ []) os at are have))
-
-    fits_in : (outer within_it : Operand) (v : Val) → IsInner outer within_it → Fits outer v → Fits within_it v
-    fits_in outer within_it v is fits = record {
-      kind = subst (λ (k : Kind). IsOfKind k v) (sym is.kind) fits.kind;
-      nullable = λ null_it. is.nullable ∙ fits.nullable null_it;
-    }
 
     loose_in : (outer within_it : Operand) (i : Outcome) (v : Val) → IsInner outer within_it → OperandHas question.filter within_it within i → i ≡ gives v → IsOfKind outer.kind v → HasLoosely question.filter within_it within v
     loose_in outer within_it i v is has_it same kind = record {
@@ -164,8 +162,8 @@ module _ (question : Question) (operator : ComparisonOperator) (left right first
               marked_has = inl (
                 l,
                 r,
-                record { has = subst (OperandHas question.filter first within) (ap without_fault is) inner.first_has; fits = fits_in left first l inner.first_is (has.left_fits l is) },
-                record { has = subst (OperandHas question.filter second within) (ap without_fault there) inner.second_has; fits = fits_in right second r inner.second_is (has.right_fits r there) },
+                record { has = subst (OperandHas question.filter first within) (ap without_fault is) inner.first_has; fits = inner_fits left first l inner.first_is (has.left_fits l is) },
+                record { has = subst (OperandHas question.filter second within) (ap without_fault there) inner.second_has; fits = inner_fits right second r inner.second_is (has.right_fits r there) },
                 given,
               );
               goes = λ x form. (

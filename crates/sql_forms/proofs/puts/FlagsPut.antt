@@ -1,9 +1,9 @@
 -- `has` over flags, and whether a collection has members.
-use Rattle.sql_forms.proofs.Common.{IsOfType, ◌≡◌, inl, inr, ◌<◌, ◌+◌, ◌∷◌, [], ℕ, suc, ℤ, pos, List, true, false, Some, length, refl, sym, subst, ◌∙◌, arith, ◌<ℤ◌, IsSomeAnd, slice_get, ints, IsMoment, Val, item, items, member, no_items, null, whole, ExprType, slots_of, type_name_at, Tree, node, ComparisonOperator, OneType, ReadsNumber, Typed, CheckedNode, NodeKind, scope_of, EndsOnceOnEntities, GivesMember, UnlessRead, HasKind, one_there, some_there, AnyItemGives, members_of, GivesTruth, After, Outcome, gives, overflow, divides_by_zero, Range, StrictlyGives, CountedGives, NodeMeans, SqlMeans, Asked, Bound, Term, more_terms, no_terms, Digit, SqlNode, SqlType, Draft, Operand, Source, FlagsHave, Grows, IsSideAt, OperandHas, SourceHas, IsPathTo, IsQuietKind, AreRanges, Has, IsAskedOf, OfPlace, Puts, Question, World, BesideIn, MeansOf, means_in, means_of, only_part, grows_then, puts_as, puts_leaf, puts_two, world_before, by_kind, stop_is, path_says}
+use Rattle.sql_forms.proofs.Common.{IsOfType, ◌≡◌, inl, inr, ◌+◌, ◌∷◌, [], ℕ, suc, ℤ, pos, List, true, false, Some, length, refl, sym, subst, ◌∙◌, arith, ◌<ℤ◌, IsSomeAnd, slice_get, ints, IsMoment, Val, item, items, member, no_items, null, whole, ExprType, slots_of, type_name_at, Tree, node, ComparisonOperator, OneType, ReadsNumber, Typed, CheckedNode, NodeKind, scope_of, EndsOnceOnEntities, GivesMember, UnlessRead, HasKind, one_there, some_there, AnyItemGives, members_of, GivesTruth, After, Outcome, gives, overflow, divides_by_zero, Range, StrictlyGives, CountedGives, NodeMeans, SqlMeans, Asked, Bound, Term, more_terms, no_terms, Digit, SqlNode, SqlType, Draft, Operand, Source, FlagsHave, Grows, IsSideAt, OperandHas, SourceHas, IsPathTo, IsQuietKind, AreRanges, Has, IsAskedOf, OfPlace, Puts, Question, World, BesideIn, MeansOf, means_in, means_of, only_part, grows_then, puts_as, puts_leaf, puts_two, world_before, by_kind, stop_is, path_says, slice_get_within}
 use Rattle.sql_forms.specs.private.AskedForms.{Itself}
 use Rattle.odata_syntax.specs.Tree.{has as flags}
 use Rattle.odata_filter_operations.specs.HasGives.{HasGives}
-use Rattle.sql_forms.proofs.nodes.InPathNodes.{at_place, within_list}
+use Rattle.sql_forms.proofs.nodes.InPathNodes.{at_place}
 use Rattle.sql_forms.proofs.outcomes.Operators.{compare_means}
 use Rattle.sql_forms.proofs.nodes.Sides.{OneNumber, side_cases, side_comes, side_operand}
 
@@ -38,7 +38,7 @@ module _ (question : Question) (ranges : List Range) (are : AreRanges question r
 
       range : (r : Range) × (slice_get ranges place ≡ Some r)
       range =
-          let inside = within_list question.filter.list.nodes place found.0 found.1.0 in
+          let inside = slice_get_within question.filter.list.nodes place found.0 found.1.0 in
           let many = are.count in
           at_place ranges place (omega (arith, inside, many))
 
@@ -125,22 +125,13 @@ module _ (question : Question) (types : OneType) (one : OneNumber) (ranges : Lis
 
 -- ---- whether a collection has members
 
-above_none : (k : ℕ) → pos 0 <ℤ pos (suc k)
-above_none k = omega (arith, ints)
-
-none_above : pos 0 <ℤ pos 0 → ⊥
-none_above above = absurd (omega (arith, ints, above))
-
-false_true : false ≡ true → ⊥
-false_true is = cc
-
 counted : (c : Val) (o : Outcome) → AnyItemGives c o → (n : Val) × CountedGives c (gives n) × StrictlyGives ComparisonOperator.Gt n (whole (pos 0)) o
 counted null o is = (null, refl, is)
 counted (items no_items) o is =
-    (whole (pos 0), ([], refl, refl), (tt, subst (GivesTruth (pos 0 <ℤ pos 0)) (sym is) (λ yes. absurd (false_true yes), λ above. absurd (none_above above))))
+    (whole (pos 0), ([], refl, refl), (tt, subst (GivesTruth (pos 0 <ℤ pos 0)) (sym is) (λ yes. absurd (cc yes), λ above. absurd (omega (arith, ints, above)))))
 counted (items (item v more)) o is =
     let k : ℕ = length (members_of more) in
-    (whole (pos (suc k)), (members_of (item v more), refl, refl), (tt, subst (GivesTruth (pos 0 <ℤ pos (suc k))) (sym is) (λ yes. above_none k, λ above. refl)))
+    (whole (pos (suc k)), (members_of (item v more), refl, refl), (tt, subst (GivesTruth (pos 0 <ℤ pos (suc k))) (sym is) (λ yes. omega (arith, ints), λ above. refl)))
 counted _ o is = absurd is
 
 -- a count is a whole number or null
@@ -150,8 +141,7 @@ counted_typed null n is =
     let same : n ≡ null = cc in
     subst (IsOfType SqlType.Whole) (sym same) tt
 counted_typed c n is =
-    let given : gives n ≡ gives (whole (pos (length is.0))) = is.2 in
-    let same : n ≡ whole (pos (length is.0)) = cc in
+    let same : n ≡ whole (pos (length is.0)) = cc is.2 in
     subst (IsOfType SqlType.Whole) (sym same) tt
 
 module _ (question : Question) (ranges : List Range) (are : AreRanges question ranges) (place : ℕ) (here : HasKind question.filter.list place NodeKind.AnyItem) where

@@ -3,7 +3,7 @@ use Rattle.sql_forms.proofs.Common.{◌≡◌, ◌<◌, ◌∙◌, ◌∷◌, []
 use Rattle.sql_forms.specs.Forms.{IsTrueWhere}
 use Rattle.sql_forms.specs.Forms.{IsInForm}
 use Rattle.sql_forms.specs.private.AskedForms.{IsAskedCode}
-use Rattle.sql_forms.proofs.outcomes.Apart.{false_true as some_true, none_true, null_true}
+use Rattle.sql_forms.proofs.outcomes.Apart.{false_true as some_true, none_true}
 use Rattle.sql_forms.proofs.outcomes.ChainValues.{Code, IsValue, code_in}
 use Rattle.sql_forms.proofs.puts.ChainsPut.{faultless_valued, value_truth}
 use Rattle.sql_forms.proofs.outcomes.CodeTables.{coded}
@@ -12,17 +12,11 @@ use Rattle.sql_forms.proofs.puts.FaultyComparisonsPut.{code_is, truth_code_node}
 use Rattle.sql_forms.proofs.outcomes.Truths.{true_where}
 use Rattle.sql_forms.proofs.nodes.WorldNodes.{of_type, truth_coded, typed_kind}
 
-true_false : gives (boolean true) ≡ gives (boolean false) → ⊥
-true_false is = cc
-
-null_false : gives null ≡ gives (boolean false) → ⊥
-null_false is = cc
-
 -- the opposite of a truth value that is what the filter evaluates to is true exactly where that is false
 false_where : (t : Option Bool) (o : Outcome) → truth t ≡ o → IsTrueWhere (o ≡ gives (boolean false)) (truth (not3 t))
-false_where (Some true) o is = (Some false, refl, (λ same. absurd (some_true same), λ other. absurd (true_false (is ∙ other))))
+false_where (Some true) o is = (Some false, refl, (λ same. absurd (some_true same), λ other. absurd (cc (is ∙ other))))
 false_where (Some false) o is = (Some true, refl, (λ same. sym is, λ other. refl))
-false_where None o is = (None, refl, (λ same. absurd (none_true same), λ other. absurd (null_false (is ∙ other))))
+false_where None o is = (None, refl, (λ same. absurd (none_true same), λ other. absurd (cc (is ∙ other))))
 
 -- a range for each node
 pub range_there : (question : Question) (ranges : List Range) → AreRanges question ranges → (place : ℕ) (found : CheckedNode) → slice_get question.filter.list.nodes place ≡ Some found
@@ -98,6 +92,6 @@ module _ (question : Question) (ranges : List Range) (are : AreRanges question r
         (λ world o is has. (gives (boolean false), refl, by form asked o (null_comes world o is.seen has)))
       where
         by : (f : Form) → IsAskedCode f → (o : Outcome) → o ≡ gives null → IsInForm f o (gives (boolean false))
-        by Form.Keeps is o same = (Some false, refl, (λ reported. absurd (some_true reported), λ fact. absurd (null_true (sym same ∙ fact))))
-        by Form.Denies is o same = (Some false, refl, (λ reported. absurd (some_true reported), λ fact. absurd (null_false (sym same ∙ fact))))
+        by Form.Keeps is o same = (Some false, refl, (λ reported. absurd (some_true reported), λ fact. absurd (cc (sym same ∙ fact))))
+        by Form.Denies is o same = (Some false, refl, (λ reported. absurd (some_true reported), λ fact. absurd (cc (sym same ∙ fact))))
         by f is o same = absurd is

@@ -1,5 +1,5 @@
 -- Whether a left side is equal to some member of a collection, by `EXISTS`.
-use Rattle.sql_forms.proofs.Common.{◌≡◌, ◌↔◌, inl, inr, ◌+◌, ◌-◌, ◌++◌, ◌∷◌, [], ℕ, List, Bool, true, false, Option, Some, None, length, map, refl, sym, ap, subst, ◌∙◌, append-nil, slice_get, AllByRecursion, FieldVal, Val, Vals, boolean, fields, items, null, EdmType, ValueType, ComparisonOperator, Filter, CheckedNode, some_there, Outcome, gives, Range, AtEach, truth, IsScalar, SqlMeans, bound_member, more_terms, no_terms, nodes_of, term, SqlNode, SqlType, IsFault, Draft, Operand, Source, Kind, Form, ComparisonHas, Grows, IsDeeper, AreCompared, IsOfKind, kind_of_single, IsOfType, AreMembersBeside, EachMemberEquals, HasMemberHas, IsAtPath, IsMemberOperand, MembersAt, some_of, HasLoosely, HasValue, IsSourceOf, IsTestable, IsTested, IsPathTo, PutsMemberPath, IsWorldOf, Puts, Question, World, extended, world_before, path_says}
+use Rattle.sql_forms.proofs.Common.{◌≡◌, ◌↔◌, inl, inr, ◌+◌, ◌++◌, ◌∷◌, [], ℕ, List, Bool, true, false, Option, Some, None, map, refl, sym, ap, subst, ◌∙◌, slice_get, AllByRecursion, FieldVal, Val, Vals, boolean, fields, items, null, EdmType, ValueType, ComparisonOperator, Filter, CheckedNode, some_there, Outcome, gives, Range, AtEach, truth, IsScalar, SqlMeans, bound_member, nodes_of, SqlNode, SqlType, IsFault, Draft, Operand, Source, Kind, Form, ComparisonHas, Grows, IsDeeper, AreCompared, IsOfKind, kind_of_single, IsOfType, AreMembersBeside, EachMemberEquals, HasMemberHas, IsAtPath, IsMemberOperand, MembersAt, some_of, HasLoosely, HasValue, IsSourceOf, IsTestable, IsTested, IsPathTo, PutsMemberPath, IsWorldOf, Puts, Question, World, extended}
 use Rattle.sql_forms.specs.Forms.{IsTrueWhere}
 use Rattle.sql_forms.specs.Forms.{IsInForm}
 use Rattle.sql_forms.specs.private.AskedForms.{Itself, OrTruth}
@@ -7,7 +7,8 @@ use Rattle.sql_forms.proofs.puts.EqualPut.{value_stays}
 use Rattle.sql_forms.proofs.puts.ExistsPut.{InExists, in_exists}
 use Rattle.sql_forms.proofs.outcomes.LiftedValues.{source_stays}
 use Rattle.sql_forms.proofs.puts.OperandsPut.{fault_form, given_form}
-use Rattle.sql_forms.proofs.outcomes.Quantified.{any_true, some_true}
+use Rattle.sql_forms.proofs.outcomes.Quantified.{any_true}
+use Rattle.sql_forms.proofs.puts.ExistsOver.{SomeTrue, exists_over}
 
 -- ---- the member as an operand
 
@@ -24,14 +25,11 @@ scalar type (fields held) is = absurd (no_record type held is)
 scalar type (items held) is = absurd (no_list type held is)
 scalar type v is = tt
 
-no_structure : (type : SqlType) → Kind.Value type ≡ Kind.Structured → ⊥
-no_structure type same = cc
-
 at_path_tested : (filter : Filter) (ranges : List Range) (path : ℕ) (operand : Operand) (kind : Kind) (source : Source) → operand.kind ≡ kind → operand.source ≡ source → operand.range.may_fault ≡ false
     → IsAtPath path kind source → IsTestable filter ranges operand source kind
 at_path_tested filter ranges path operand (Kind.Value type) (Source.Field number value_type) kinds same plain at = record {
   source = subst (IsSourceOf filter ranges operand) (sym same) tt;
-  valued = λ structured. no_structure type (sym kinds ∙ structured);
+  valued = λ structured. cc (sym kinds ∙ structured);
   plain = λ is. plain;
 }
 at_path_tested filter ranges path operand Kind.Structured (Source.Place number) kinds same plain at = refl
@@ -47,8 +45,7 @@ member_kinds filter collection path operand is world m =
     let here = some_there (λ (node : CheckedNode). (type : ValueType) × (node.edm_type ≡ EdmType.Collection type) × (operand.kind ≡ kind_of_single type)) (slice_get filter.list.nodes collection) is.kind in
     let there = some_there (λ (node : CheckedNode). (type : ValueType) × (node.edm_type ≡ EdmType.Collection type) × AllByRecursion (IsOfKind (kind_of_single type)) m.members)
     (slice_get filter.list.nodes collection) m.kinds in
-    let found : Some here.0 ≡ Some there.0 = sym here.1.0 ∙ there.1.0 in
-    let same_node : here.0 ≡ there.0 = cc in
+    let same_node : here.0 ≡ there.0 = cc (here.1.0, there.1.0) in
     let same : EdmType.Collection here.1.1.0 ≡ EdmType.Collection there.1.1.0 = sym here.1.1.1 ∙ ap (λ (node : CheckedNode). node.edm_type) same_node ∙ there.1.1.1 in
     let same_type : here.1.1.0 ≡ there.1.1.0 = cc in
     let kind_is : kind_of_single there.1.1.0 ≡ operand.kind = ap kind_of_single (sym same_type) ∙ sym here.1.1.2 in
@@ -60,8 +57,7 @@ pub member_compared : (filter : Filter) (left : Operand) (collection path : ℕ)
 member_compared filter left collection path operand beside is =
     let here = some_there (λ (node : CheckedNode). (type : ValueType) × (node.edm_type ≡ EdmType.Collection type) × (operand.kind ≡ kind_of_single type)) (slice_get filter.list.nodes collection) is.kind in
     let there = some_there (λ (node : CheckedNode). (type : ValueType) × (node.edm_type ≡ EdmType.Collection type) × AreCompared left.kind (kind_of_single type)) (slice_get filter.list.nodes collection) beside in
-    let found : Some here.0 ≡ Some there.0 = sym here.1.0 ∙ there.1.0 in
-    let same_node : here.0 ≡ there.0 = cc in
+    let same_node : here.0 ≡ there.0 = cc (here.1.0, there.1.0) in
     let same : EdmType.Collection here.1.1.0 ≡ EdmType.Collection there.1.1.0 = sym here.1.1.1 ∙ ap (λ (node : CheckedNode). node.edm_type) same_node ∙ there.1.1.1 in
     let same_type : here.1.1.0 ≡ there.1.1.0 = cc in
     let kind_is : kind_of_single there.1.1.0 ≡ operand.kind = ap kind_of_single (sym same_type) ∙ sym here.1.1.2 in
@@ -91,9 +87,6 @@ module _ (question : Question) (left member : Operand) (collection path number :
       (ComparisonHas question.filter ComparisonOperator.Eq left member) (OrTruth (IsInForm Form.Keeps)) put tree_is members_are depth_is
 
   module _ (world : World) (is : IsWorldOf question new world) where
-    before : IsWorldOf question old world
-    before = world_before question old new (SqlNode.Exists path old.depth ∷ nodes_of put.t) world within.grows is
-
     abbrev at_member_of : ℕ → Val → World
     at_member_of k v = extended world (bound_member k v ∷ [])
 
@@ -148,35 +141,14 @@ module _ (question : Question) (left member : Operand) (collection path number :
           record { ts = s.0 ∷ rest.ts; at_each = (subst (Body start v) s.1 m.1, rest.at_each) }
 
   pub has_member_put : Puts question old new (HasMemberHas question.filter left collection) (OrTruth Itself)
-  has_member_put = record {
-    t = term (SqlNode.Exists path old.depth) (more_terms put.t no_terms);
-    shaped = (refl, (put.shaped, tt));
-    grows = subst (Grows old new) (ap (λ (ns : List SqlNode). SqlNode.Exists path old.depth ∷ ns) (sym (append-nil (nodes_of put.t)))) within.grows;
-    says = λ world o is has. of_has world o is has;
-  }
+  has_member_put = exists_over question collection path old.depth old new put.t put.shaped refl leads within.grows (HasMemberHas question.filter left collection) (OrTruth Itself) of_has
     where
-      level_is : (world : World) → IsWorldOf question new world → old.depth ≡ length world.bound
-      level_is world is = let outer = before world is in sym outer.depth
-
-      of_has : (world : World) (o : Outcome) → IsWorldOf question new world → HasMemberHas question.filter left collection world o
-          → (x : Outcome) × SqlMeans world.asked world.bound (term (SqlNode.Exists path old.depth) (more_terms put.t no_terms)) x × OrTruth Itself o x
+      of_has : (world : World) (o : Outcome) → IsWorldOf question new world → HasMemberHas question.filter left collection world o → SomeTrue question collection put.t (OrTruth Itself) world o
       of_has world o is (inl given) =
           let m = given.0 in
-          let f = found world is given.1 given.2 0 m.members given.3 given.4 (member_kinds question.filter collection number member member_is world m) in (
-            gives (boolean (any_true f.ts)),
-            (
-              level_is world is,
-              (m.c, m.members, map truth f.ts, path_says question old collection path leads world m.c (before world is) m.has, m.are, f.at_each, (any_true f.ts, some_true f.ts, refl)),
-            ),
-            given_form Itself o (boolean (some_of given.3)) (gives (boolean (any_true f.ts))) given.5 (ap (λ (b : Bool). gives (boolean b)) f.same ∙ sym given.5),
-          )
+          let f = found world is given.1 given.2 0 m.members given.3 given.4 (member_kinds question.filter collection number member member_is world m) in
+          record { c = m.c; members = m.members; has = m.has; are = m.are; ts = f.ts; at_each = f.at_each; form = given_form Itself o (boolean (some_of given.3)) (gives (boolean (any_true f.ts))) given.5 (ap (λ (b : Bool). gives (boolean b)) f.same ∙ sym given.5) }
       of_has world o is (inr marked) =
           let m = marked.1 in
-          let f = some_found world is o marked.0 marked.2 0 m.members (member_kinds question.filter collection number member member_is world m) in (
-            gives (boolean (any_true f.ts)),
-            (
-              level_is world is,
-              (m.c, m.members, map truth f.ts, path_says question old collection path leads world m.c (before world is) m.has, m.are, f.at_each, (any_true f.ts, some_true f.ts, refl)),
-            ),
-            fault_form Itself o (Some (any_true f.ts)) (gives (boolean (any_true f.ts))) marked.0 refl,
-          )
+          let f = some_found world is o marked.0 marked.2 0 m.members (member_kinds question.filter collection number member member_is world m) in
+          record { c = m.c; members = m.members; has = m.has; are = m.are; ts = f.ts; at_each = f.at_each; form = fault_form Itself o (Some (any_true f.ts)) (gives (boolean (any_true f.ts))) marked.0 refl }

@@ -4,17 +4,15 @@ use Rattle.sql_forms.specs.Forms.{IsTrueWhere}
 use Rattle.sql_forms.specs.private.AskedForms.{Itself, OrTruth}
 use Rattle.sql_forms.proofs.outcomes.Apart.{stays_fault as fault_stays}
 use Rattle.sql_forms.proofs.puts.OneLeft.{one_null, one_value}
-use Rattle.sql_forms.proofs.puts.FaultyComparisonsPut.{OrCode, code_is, truth_code_node}
+use Rattle.sql_forms.proofs.puts.FaultyComparisonsPut.{OrCode, code_is, truth_code_node, or_code_value}
 use Rattle.sql_forms.proofs.nodes.InPathNodes.{InPathComes}
 use Rattle.sql_forms.proofs.puts.LiftedPut.{Coded, Same, closed, coded_put, same_coded}
 use Rattle.sql_forms.proofs.puts.LiftedWhole.{FaultsGiven, faults_put, in_body}
 use Rattle.sql_forms.proofs.outcomes.Truths.{true_where}
 use Rattle.sql_forms.proofs.outcomes.UnlessMissing.{CollectionThere, WholeHas, truth_unless_missing}
+use Rattle.sql_forms.proofs.puts.OperandsPut.{fault_itself}
 
 -- ---- null collections
-
-flag_is_kept : (b : Bool) (o : Outcome) → o ≡ gives (boolean b) → IsTrueWhere (o ≡ gives (boolean true)) (gives (boolean b))
-flag_is_kept b o is = true_where (Some b) o (sym is)
 
 null_is_kept : (o : Outcome) (b : Bool) → o ≡ gives null → b ≡ false → IsTrueWhere (o ≡ gives (boolean true)) (gives (boolean b))
 null_is_kept o b none off = (
@@ -31,7 +29,7 @@ no_flags l (v ∷ members) bs none each = absurd (cc)
 kept_over : (c : Val) (members : List Val) (l : Val) (bs : List Bool) (o : Outcome) → AreMembers c members → EachMemberEquals l members bs → IsOrNull c o (gives (boolean (some_of bs)))
     → IsTrueWhere (o ≡ gives (boolean true)) (gives (boolean (some_of bs)))
 kept_over null members l bs o are each is = null_is_kept o (some_of bs) is (no_flags l members bs are each)
-kept_over _ members l bs o are each is = flag_is_kept (some_of bs) o is
+kept_over _ members l bs o are each is = true_where (Some (some_of bs)) o (sym is)
 
 module _ (question : Question) (base : ℕ) (left : Operand) where
   abbrev pub member_parts : (world : World) (o : Outcome) → MemberHas question.filter left base world o → CollectionThere question base world
@@ -102,10 +100,6 @@ truth_form overflow None x is form = let e : overflow ≡ gives null = is in abs
 truth_form divides_by_zero (Some b) x is form = let e : divides_by_zero ≡ gives (boolean b) = is in absurd (cc)
 truth_form divides_by_zero None x is form = let e : divides_by_zero ≡ gives null = is in absurd (cc)
 
-marked_form : (o x : Outcome) → IsFault o → OrTruth Itself o x → (t : Option Bool) × (x ≡ truth t)
-marked_form (gives v) x fault form = absurd fault
-marked_form _ x fault form = form
-
 marked_code : (o : Outcome) (t : Option Bool) (x : Outcome) → IsFault o → x ≡ code_of_truth t → OrCode o x
 marked_code (gives v) t x fault is = absurd fault
 marked_code _ t x fault is = (t, is ∙ code_is t)
@@ -124,7 +118,7 @@ code_of_whole question Whole marked old middle new grows inner =
     by : (o x : Outcome) → IsMarked o → OrTruth Itself o x → (y : Outcome) × ((t : Option Bool) × (x ≡ truth t) × (y ≡ code_of_truth t)) × OrCode o y
     by o x (inl is) form = (code_of_truth is.0, (is.0, truth_form o is.0 x is.1 form, refl), truth_in_code is.0 o is.1)
     by o x (inr fault) form =
-        let t = marked_form o x fault form in
+        let t = fault_itself o x fault form in
         (code_of_truth t.0, (t.0, t.1, refl), marked_code o t.0 (code_of_truth t.0) fault refl)
 
 -- what comes of a collection is a truth value or null, where what comes of its members is
@@ -183,13 +177,9 @@ module _ (question : Question) (place base path : ℕ) (left first : Operand) (l
           goes = λ x form. (o, given_code come.held.c o (some_of flags.0) x flags.2 form, ap (λ (p : Outcome). fault_else p o) (sym is));
         }
       where
-        of_value_form : (q : Outcome) (v : Val) (y : Outcome) → q ≡ gives v → OrCode q y → Coded q y
-        of_value_form (gives w) v y same f = f
-        of_value_form _ v y same f = absurd (cc)
-
         given_code : (c : Val) (p : Outcome) (b : Bool) (x : Outcome) → IsOrNull c p (gives (boolean b)) → OrCode p x → Coded p x
-        given_code null p b x none form = of_value_form p null x none form
-        given_code _ p b x is_it form = of_value_form p (boolean b) x is_it form
+        given_code null p b x none form = or_code_value p null x none form
+        given_code _ p b x is_it form = or_code_value p (boolean b) x is_it form
 
     -- of a fault, instead of which null stands
     of_fault : IsFault come.left_outcome → Given

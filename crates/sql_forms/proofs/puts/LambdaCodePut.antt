@@ -1,5 +1,5 @@
 -- What is put for `any` and `all` whose bodies may evaluate to a fault: the code of the first member that decides.
-use Rattle.sql_forms.proofs.Common.{◌≡◌, ◌<◌, ◌+◌, ◌++◌, ◌∷◌, [], ℕ, zero, suc, ℤ, pos, List, true, false, Option, Some, length, map, refl, sym, ap, subst, ◌∙◌, append-nil, arith, option_map, slice_get, AllByRecursion, slice_get-map, slice_get_within, IsMoment, Val, boolean, null, whole, slots_of, HasType, Quantifier, CheckedNode, EndsOnceOnEntities, found_there, some_there, there_found, number_val, Outcome, gives, overflow, divides_by_zero, QuantifierGives, undecided_val, IsKept, IsCoded, code_of, AtEach, DecidedGives, decision_at, decisions, BothNumbers, OfNumber, Over, FirstGiven, GivesBits, NodeMeans, SqlMeans, Asked, Bound, BoundValue, bound_member, Term, no_terms, more_terms, nodes_of, term, number_of, Digit, SqlNode, Draft, Grows, AtMembers, IsStopAt, OfTree, OverHas, PutsBody, at_member, IsPathTo, IsTruthAt, IsAskedOf, IsWorldOf, OfPlace, Puts, Question, World, grows_then, puts_leaf, puts_two, world_before, path_says}
+use Rattle.sql_forms.proofs.Common.{◌≡◌, ◌<◌, ◌+◌, ◌++◌, ◌∷◌, [], ℕ, suc, ℤ, pos, List, true, false, Option, Some, length, map, refl, sym, ap, subst, ◌∙◌, append-nil, arith, option_map, slice_get, AllByRecursion, slice_get-map, slice_get_within, IsMoment, Val, boolean, null, whole, slots_of, HasType, Quantifier, EndsOnceOnEntities, found_there, some_there, there_found, number_val, Outcome, gives, overflow, divides_by_zero, QuantifierGives, undecided_val, IsKept, IsCoded, code_of, AtEach, DecidedGives, decision_at, decisions, BothNumbers, OfNumber, Over, FirstGiven, GivesBits, NodeMeans, SqlMeans, Asked, Bound, BoundValue, bound_member, Term, no_terms, more_terms, nodes_of, term, number_of, Digit, SqlNode, Draft, Grows, AtMembers, IsStopAt, OfTree, OverHas, PutsBody, at_member, IsPathTo, IsTruthAt, IsAskedOf, IsWorldOf, OfPlace, Puts, Question, World, grows_then, puts_leaf, puts_two, world_before, path_says}
 use Rattle.sql_forms.specs.private.AskedForms.{Itself}
 use Rattle.sql_forms.proofs.nodes.Binding.{at_last as at_end}
 use Rattle.sql_forms.proofs.puts.ArithmeticPut.{Is}
@@ -9,10 +9,12 @@ use Rattle.sql_forms.proofs.outcomes.Deciding.{IsDigit, decisions_from, first_fr
 use Rattle.sql_forms.proofs.outcomes.FirstDecision.{AreOutcomes, Comes, decided, decides, first_decides, in_table, passes}
 use Rattle.sql_forms.proofs.puts.LiftedPut.{Coded}
 use Rattle.sql_forms.proofs.outcomes.LowBits.{bits_low}
-use Rattle.sql_forms.proofs.puts.MemberOutcomes.{AreOutcomesAt, mapped_length, outcomes}
-use Rattle.sql_forms.proofs.nodes.MemberWorlds.{got, world_at_member}
+use Rattle.sql_forms.proofs.puts.MemberOutcomes.{AreOutcomesAt, outcomes, body_is, inside_member}
+use Rattle.sql_forms.proofs.nodes.MemberWorlds.{world_at_member}
 use Rattle.sql_forms.proofs.outcomes.Operators.{coalesce_means, of_number}
 use Rattle.sql_forms.proofs.nodes.WorldNodes.{truth_coded}
+use Rattle.odata_checked_filter.proofs.flat.Places.{found_within}
+use Rattle.std.proofs.lemmas.List.{length-map}
 
 -- ---- codes and decisions
 
@@ -43,21 +45,11 @@ module _ (question : Question) (ends : EndsOnceOnEntities) (is_moment : IsMoment
 
     coded_at : (k : ℕ) (v : Val) (p : Outcome) → slice_get over.members k ≡ Some v → OfTree question.filter over.body over.tree (at_member world over.variable k v) p → IsCoded p
     coded_at k v p at_v has =
-        let inside : IsAskedOf question (at_member world over.variable k v) = record {
-          row_is = seen.row_is;
-          moment_is = seen.moment_is;
-          fitting = (got (λ (w : Val). HasType (slots_of world.row.schema) over.variable.type_of w) over.members k v over.typed at_v, seen.fitting);
-          kept = (got (λ (w : Val). IsKept (slots_of world.row.schema) over.variable.type_of w) over.members k v over.kept at_v, seen.kept);
-        } in
+        let inside = inside_member question quantifier place world o over seen k v at_v in
         truth_coded question ends is_moment (at_member world over.variable k v) inside body is_truth p
         (subst (λ (n : ℕ). OfPlace question.filter n (at_member world over.variable k v) p) is_body (over.tree, has.0, has.1))
 
     -- ---- what they decide
-
-    found_in : (xs : List Outcome) (k : ℕ) → k < length xs → (x : Outcome) × (slice_get xs k ≡ Some x)
-    found_in [] k below = absurd (omega (arith, below))
-    found_in (x ∷ xs) zero below = (x, refl)
-    found_in (x ∷ xs) (suc k) below = let e : k < length xs = omega (arith, below) in found_in xs k e
 
     are_outcomes : (ps : List Outcome) → AreOutcomesAt At over.members ps → AreOutcomes quantifier At (map (decided quantifier) ps)
     are_outcomes ps at = record {
@@ -65,7 +57,7 @@ module _ (question : Question) (ends : EndsOnceOnEntities) (is_moment : IsMoment
           let v = some_there (λ (w : Val). OfTree question.filter over.body over.tree (at_member world over.variable k w) p) (slice_get over.members k) of_p in
           let below : k < length over.members = slice_get_within over.members k v.0 v.1.0 in
           let count : length ps ≡ length over.members = at.many in
-          let q = found_in ps k (omega (arith, below, count)) in
+          let q = found_within ps k (omega (arith, below, count)) in
           let also = found_there (λ (w : Val). OfTree question.filter over.body over.tree (at_member world over.variable k w) q.0) (slice_get over.members k) v.0 v.1.0 (at.each k q.0 q.1) in
           let one = over.each k v.0 v.1.0 in
           let same : q.0 ≡ p = one.only q.0 also ∙ sym (one.only p v.1.1) in
@@ -76,7 +68,7 @@ module _ (question : Question) (ends : EndsOnceOnEntities) (is_moment : IsMoment
     pub decision : (ps : List Outcome) → AreOutcomesAt At over.members ps → Comes quantifier (map (decided quantifier) ps) o
     decision ps at =
         first_decides quantifier At (map (decided quantifier) ps) (are_outcomes ps at) o
-        (subst (λ (n : ℕ). QuantifierGives quantifier n At o) (sym (mapped_length (decided quantifier) ps ∙ at.many)) over.given)
+        (subst (λ (n : ℕ). QuantifierGives quantifier n At o) (sym (length-map ps (decided quantifier) ∙ at.many)) over.given)
 
   -- what is decided first, of which this comes
   record FirstHas (Goes : List Outcome → Outcome → Outcome → Type 0) (world : World) (x : Outcome) : Type 0 where
@@ -211,10 +203,10 @@ module _ (question : Question) (ends : EndsOnceOnEntities) (is_moment : IsMoment
       (λ world o is has.
       let seen = is.seen in
       let ps = outcomes question quantifier place world o has in
-      let come = decision world seen o has (body_is world o has) ps.0 ps.1 in (
+      let come = decision world seen o has (body_is question quantifier place world o has body stops) ps.0 ps.1 in (
         bits_of ps.0 o come,
         gives (whole (number_of n)),
-        record { o = o; over = has; is_body = body_is world o has; seen = seen; ps = ps.0; at = ps.1; goes = (come, refl) },
+        record { o = o; over = has; is_body = body_is question quantifier place world o has body stops; seen = seen; ps = ps.0; at = ps.1; goes = (come, refl) },
         refl,
         λ x y one two. (
           coded o,
@@ -223,11 +215,6 @@ module _ (question : Question) (ends : EndsOnceOnEntities) (is_moment : IsMoment
         ),
       ))
     where
-      body_is : (world : World) (o : Outcome) (over : OverHas question.filter quantifier place world o) → over.body ≡ body
-      body_is world o over =
-          let mine = some_there (λ (n : CheckedNode). n.stop ≡ body) (slice_get question.filter.list.nodes (place + 1)) stops in
-          sym (found_there (λ (n : CheckedNode). n.stop ≡ over.body) (slice_get question.filter.list.nodes (place + 1)) mine.0 mine.1.0 over.is_body) ∙ mine.1.1
-
       bits : Puts question d1 d6 (FirstHas BitsGoes) Itself
       bits =
           puts_two question SqlNode.Bits refl (λ x y z. (m : Option ℤ) × (n : Option ℤ) × (x ≡ gives (number_val m)) × (y ≡ gives (number_val n)) × BothNumbers m n GivesBits z) d1 d2 d5 d6

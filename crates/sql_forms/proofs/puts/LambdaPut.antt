@@ -1,14 +1,15 @@
 -- What is put for `any` and `all` whose bodies evaluate to no fault.
-use Rattle.sql_forms.proofs.Common.{slice_get-map, option_map, ◌≡◌, ◌<◌, ◌+◌, ◌∷◌, [], ℕ, zero, suc, List, Bool, true, false, not, Option, Some, None, length, map, refl, sym, ap, subst, ◌∙◌, arith, slice_get, slice_get_within, IsMoment, Val, boolean, null, slots_of, HasType, Quantifier, CheckedNode, EndsOnceOnEntities, found_there, some_there, Outcome, gives, overflow, divides_by_zero, QuantifierGives, not3, IsKept, IsWithin, Range, IsCoded, is_true, truth, NodeMeans, SqlMeans, Asked, Bound, Term, no_terms, more_terms, SqlNode, Draft, Form, Grows, AtMembers, IsStopAt, OfTree, OverHas, PutsBody, at_member, IsPathTo, AreRanges, IsFaultless, IsTruthAt, IsAskedOf, OfPlace, Puts, Question, World, puts_as, puts_one}
+use Rattle.sql_forms.proofs.Common.{slice_get-map, option_map, ◌≡◌, ◌<◌, ◌+◌, ◌∷◌, [], ℕ, suc, List, Bool, true, false, not, Option, Some, None, length, map, refl, sym, ap, subst, ◌∙◌, arith, slice_get, slice_get_within, IsMoment, Val, boolean, null, Quantifier, EndsOnceOnEntities, found_there, some_there, Outcome, gives, overflow, divides_by_zero, QuantifierGives, not3, IsWithin, Range, IsCoded, is_true, truth, SqlNode, Draft, Form, Grows, AtMembers, IsStopAt, OfTree, OverHas, PutsBody, at_member, IsPathTo, AreRanges, IsFaultless, IsTruthAt, IsAskedOf, OfPlace, Puts, Question, World, puts_as, puts_one}
 use Rattle.sql_forms.specs.Forms.{IsInForm}
 use Rattle.sql_forms.specs.private.AskedForms.{Itself}
 use Rattle.sql_forms.proofs.puts.BodyPut.{AreAlikeTruths, AreTruthsAt, SomeHas, body_after, exists_put}
-use Rattle.sql_forms.proofs.puts.ComparisonsPut.{not_node}
-use Rattle.sql_forms.proofs.puts.MemberOutcomes.{AreOutcomesAt, mapped_length, outcomes}
-use Rattle.sql_forms.proofs.nodes.MemberWorlds.{got}
-use Rattle.sql_forms.proofs.outcomes.Operators.{is_true_means}
+use Rattle.sql_forms.proofs.puts.ComparisonsPut.{is_true_node, not_node}
+use Rattle.sql_forms.proofs.puts.MemberOutcomes.{AreOutcomesAt, body_is, inside_member, outcomes}
 use Rattle.sql_forms.proofs.outcomes.Quantified.{AreTruths, all_is, any_is, any_true, untrue}
 use Rattle.sql_forms.proofs.nodes.WorldNodes.{truth_coded}
+use Rattle.sql_forms.proofs.outcomes.ComparedValues.{not_truth}
+use Rattle.odata_checked_filter.proofs.flat.Places.{found_within}
+use Rattle.std.proofs.lemmas.List.{length-map}
 
 -- ---- bodies that evaluate to no fault
 
@@ -34,12 +35,7 @@ module _ (question : Question) (ends : EndsOnceOnEntities) (is_moment : IsMoment
 
     truth_at : (k : ℕ) (v : Val) (p : Outcome) → slice_get over.members k ≡ Some v → OfTree question.filter over.body over.tree (at_member world over.variable k v) p → (u : Option Bool) × (p ≡ truth u)
     truth_at k v p at_v has =
-        let inside : IsAskedOf question (at_member world over.variable k v) = record {
-          row_is = seen.row_is;
-          moment_is = seen.moment_is;
-          fitting = (got (λ (w : Val). HasType (slots_of world.row.schema) over.variable.type_of w) over.members k v over.typed at_v, seen.fitting);
-          kept = (got (λ (w : Val). IsKept (slots_of world.row.schema) over.variable.type_of w) over.members k v over.kept at_v, seen.kept);
-        } in
+        let inside = inside_member question quantifier place world o over seen k v at_v in
         let of_place : OfPlace question.filter body (at_member world over.variable k v) p =
         subst (λ (n : ℕ). OfPlace question.filter n (at_member world over.variable k v) p) is_body (over.tree, has.0, has.1) in
         let range = some_there (λ (r : Range). r.may_fault ≡ false) (slice_get ranges body) faultless in
@@ -58,7 +54,7 @@ module _ (question : Question) (ends : EndsOnceOnEntities) (is_moment : IsMoment
         let at : AreOutcomesAt At over.members (map truth t.0) = subst (AreOutcomesAt At over.members) t.1 all.1 in (
           t.0,
           record {
-            many = sym (mapped_length truth t.0) ∙ at.many;
+            many = sym (length-map t.0 truth) ∙ at.many;
             each = λ k u there. at.each k (truth u) (slice_get-map truth t.0 k ∙ ap (λ (x : Option (Option Bool)). option_map truth x) there);
           },
         )
@@ -76,13 +72,8 @@ module _ (question : Question) (ends : EndsOnceOnEntities) (is_moment : IsMoment
           let v = some_there (λ (w : Val). OfTree question.filter over.body over.tree (at_member world over.variable k w) p) (slice_get over.members k) of_p in
           let below : k < length over.members = slice_get_within over.members k v.0 v.1.0 in
           let count : length us ≡ length over.members = at.many in
-          found_in us k (omega (arith, below, count));
+          found_within us k (omega (arith, below, count));
     }
-      where
-        found_in : (xs : List (Option Bool)) (k : ℕ) → k < length xs → (x : Option Bool) × (slice_get xs k ≡ Some x)
-        found_in [] k below = absurd (omega (arith, below))
-        found_in (x ∷ xs) zero below = (x, refl)
-        found_in (x ∷ xs) (suc k) below = let e : k < length xs = omega (arith, below) in found_in xs k e
 
 -- ---- forms of a body
 
@@ -132,28 +123,20 @@ denied_truths u x form = (Some form.0, form.1, by form.0 u form.2 form.3)
     by false None into out = let no : gives null ≡ gives (boolean true) = into refl in absurd (cc)
     by true _ into out = record { into = λ is_so. refl; out = λ is_so. refl }
 
-true_node : (asked : Asked) (bound : Bound) (a : Term) (x y : Outcome) → SqlMeans asked bound a x → (s : Option Bool) × (x ≡ truth s) × (y ≡ is_true s) → NodeMeans asked bound SqlNode.IsTrue (more_terms a no_terms) y
-true_node asked bound a x y means op = subst (NodeMeans asked bound SqlNode.IsTrue (more_terms a no_terms)) (sym op.2) (is_true_means asked bound a op.0 (subst (SqlMeans asked bound a) op.1 means))
-
 -- ---- the operators
 
 module _ (question : Question) (ends : EndsOnceOnEntities) (is_moment : IsMoment question.now.civil question.now.offset_minutes) (ranges : List Range) (are : AreRanges question ranges) (body : ℕ)
     (is_truth : IsTruthAt question.filter body) (faultless : IsFaultless ranges body) (place path level : ℕ) (stops : IsStopAt question.filter (place + 1) body) where
-  body_is : (quantifier : Quantifier) (world : World) (o : Outcome) (over : OverHas question.filter quantifier place world o) → over.body ≡ body
-  body_is quantifier world o over =
-      let mine = some_there (λ (n : CheckedNode). n.stop ≡ body) (slice_get question.filter.list.nodes (place + 1)) stops in
-      sym (found_there (λ (n : CheckedNode). n.stop ≡ over.body) (slice_get question.filter.list.nodes (place + 1)) mine.0 mine.1.0 over.is_body) ∙ mine.1.1
-
   -- what the bodies evaluate to, and what the quantifier makes of that
   module _ (quantifier : Quantifier) (world : World) (seen : IsAskedOf question world) (o : Outcome) (over : OverHas question.filter quantifier place world o) where
     of_over : (us : List (Option Bool)) × AreTruthsAt (AtMembers question.filter over.body over.tree world over.variable over.members) over.members us
-    of_over = truths question ends is_moment ranges are body is_truth faultless quantifier place world seen o over (body_is quantifier world o over)
+    of_over = truths question ends is_moment ranges are body is_truth faultless quantifier place world seen o over (body_is question quantifier place world o over body stops)
 
     given_of : QuantifierGives quantifier (length of_over.0) (AtMembers question.filter over.body over.tree world over.variable over.members) o
     given_of = subst (λ (n : ℕ). QuantifierGives quantifier n (AtMembers question.filter over.body over.tree world over.variable over.members) o) (sym of_over.1.many) over.given
 
     truths_of : AreTruths (AtMembers question.filter over.body over.tree world over.variable over.members) of_over.0
-    truths_of = are_truths question ends is_moment ranges are body is_truth faultless quantifier place world seen o over (body_is quantifier world o over) of_over.0 of_over.1
+    truths_of = are_truths question ends is_moment ranges are body is_truth faultless quantifier place world seen o over (body_is question quantifier place world o over body stops) of_over.0 of_over.1
 
   pub any_put : (old middle new : Draft) → level ≡ old.depth → Grows old middle (SqlNode.Exists path level ∷ []) → IsPathTo question old (place + 1) path
       → PutsBody question middle new (OfPlace question.filter body) (IsInForm Form.Keeps) → Puts question old new (OverHas question.filter Quantifier.Any place) Itself
@@ -168,7 +151,7 @@ module _ (question : Question) (ends : EndsOnceOnEntities) (is_moment : IsMoment
           quantifier = Quantifier.Any;
           whole = o;
           over = has;
-          is_body = body_is Quantifier.Any world o has;
+          is_body = body_is question Quantifier.Any place world o has body stops;
           us = t.0;
           truths = t.1;
           is = comes ∙ ap (λ (us : List (Option Bool)). gives (boolean (any_true us))) (sym (mapped t.0));
@@ -176,24 +159,20 @@ module _ (question : Question) (ends : EndsOnceOnEntities) (is_moment : IsMoment
         λ x form. form,
       ))
 
-  not_flag : (b : Bool) → truth (not3 (Some b)) ≡ gives (boolean (not b))
-  not_flag true = refl
-  not_flag false = refl
-
   pub all_put : (old d1 d2 d3 d4 new : Draft) → level ≡ d1.depth → Grows old d1 (SqlNode.Not ∷ []) → Grows d1 d2 (SqlNode.Exists path level ∷ []) → Grows d2 d3 (SqlNode.Not ∷ []) → Grows d3 d4 (SqlNode.IsTrue ∷ [])
       → IsPathTo question d1 (place + 1) path → PutsBody question d4 new (OfPlace question.filter body) (IsInForm Form.Keeps) → Puts question old new (OverHas question.filter Quantifier.All place) Itself
   all_put old d1 d2 d3 d4 new level_is not_grows exists_grows deny_grows true_grows leads b =
       puts_one question SqlNode.Not refl (λ x y. (s : Option Bool) × (x ≡ truth s) × (y ≡ truth (not3 s))) old d1 new (SomeHas question.filter untrue place body) (OverHas question.filter Quantifier.All place) Itself Itself not_node not_grows
       (exists_put question untrue Denied denied_truths place body path level d1 d2 new level_is exists_grows leads
       (body_after question SqlNode.Not refl (λ x y. (s : Option Bool) × (x ≡ truth s) × (y ≡ truth (not3 s))) d2 d3 new (OfPlace question.filter body) AsTrue Denied not_node deny_grows true_denied
-      (body_after question SqlNode.IsTrue refl (λ x y. (s : Option Bool) × (x ≡ truth s) × (y ≡ is_true s)) d3 d4 new (OfPlace question.filter body) (IsInForm Form.Keeps) AsTrue true_node true_grows asked_true b)))
+      (body_after question SqlNode.IsTrue refl (λ x y. (s : Option Bool) × (x ≡ truth s) × (y ≡ is_true s)) d3 d4 new (OfPlace question.filter body) (IsInForm Form.Keeps) AsTrue is_true_node true_grows asked_true b)))
       (λ world o is has.
       let t = of_over Quantifier.All world is.seen o has in
       let comes = all_is (AtMembers question.filter has.body has.tree world has.variable has.members) t.0 (truths_of Quantifier.All world is.seen o has) o (given_of Quantifier.All world is.seen o has) in
       let found = any_true (map untrue t.0) in (
         gives (boolean found),
-        record { quantifier = Quantifier.All; whole = o; over = has; is_body = body_is Quantifier.All world o has; us = t.0; truths = t.1; is = refl },
-        λ x form. (truth (not3 (Some found)), (Some found, form, refl), not_flag found ∙ sym comes),
+        record { quantifier = Quantifier.All; whole = o; over = has; is_body = body_is question Quantifier.All place world o has body stops; us = t.0; truths = t.1; is = refl },
+        λ x form. (truth (not3 (Some found)), (Some found, form, refl), not_truth found ∙ sym comes),
       ))
 
   -- which is a truth value

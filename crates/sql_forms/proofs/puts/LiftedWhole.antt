@@ -3,10 +3,7 @@ use Rattle.sql_forms.proofs.Common.{◌≡◌, ◌++◌, ◌∷◌, [], ◌+◌,
 use Rattle.sql_forms.proofs.outcomes.LiftedFaults.{lifted_faults}
 use Rattle.sql_forms.proofs.puts.LiftedPut.{Bindings, closed, let_none, let_some}
 use Rattle.sql_forms.proofs.outcomes.LiftedValues.{as_many, chosen_have}
-
-no_outcome : (os : List Outcome) → length os ≡ 0 → os ≡ []
-no_outcome [] same = refl
-no_outcome (o ∷ os) same = absurd (cc)
+use Rattle.sql_forms.proofs.outcomes.Elements.{none_left}
 
 module _ (question : Question) (operands : List Operand) (lifted : Lifted) (old : Draft) (is_lifted : IsLifted operands old.depth lifted) where
   -- the world of the body, where the operands evaluate to these
@@ -59,7 +56,7 @@ module _ (question : Question) (operands : List Operand) (lifted : Lifted) (old 
         alone : lifted.bound.items ≡ [] → Inner world of_world.inner
         alone none =
             subst (λ (bs : List BoundValue). Inner (record world { bound = bs }) of_world.inner) (append-nil world.bound)
-            (subst (λ (os : List Outcome). Inner (extended world (map bound_value os)) of_world.inner) (no_outcome outcomes (count ∙ ap length none)) of_world.has)
+            (subst (λ (os : List Outcome). Inner (extended world (map bound_value os)) of_world.inner) (none_left outcomes (count ∙ ap length none)) of_world.has)
 
       by_count : (bound : List Operand) → lifted.bound.items ≡ bound → Puts question old new Outcomes Form
       by_count [] none =

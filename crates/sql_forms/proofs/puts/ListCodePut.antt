@@ -1,5 +1,5 @@
 -- The code of `in` before a list: the fault of its left side, and else the code of whether an item is equal.
-use Rattle.sql_forms.proofs.Common.{HasValue, ◌≡◌, ◌≢◌, inl, inr, ◌∷◌, [], ℕ, List, Bool, true, false, Option, Some, None, length, map, refl, sym, ap, subst, ◌∙◌, IsSomeAnd, pos, slice_get, AllByRecursion, Val, null, whole, ComparisonOperator, Filter, CompareGives, Then, Outcome, gives, IsCoded, code_of, BoundValue, bound_value, SqlType, IsFault, Draft, Lifted, Operand, Source, Kind, CodeHas, FaultyHave, HasOrCode, NoTruth, Grows, AllHave, IsLifted, IsOpened, carrier_in, chosen_of, faults_front, faults_of, AsCode, EachCompared, EqualCodesOrNull, IsPlainValue, ListHas, NullBeside, any_of, HasLoosely, SourceHas, carrier_of, IsAskedOf, OfPlace, Puts, PutsAll, Question, World, extended}
+use Rattle.sql_forms.proofs.Common.{HasValue, ◌≡◌, ◌≢◌, inl, inr, ◌∷◌, [], ℕ, List, Bool, true, false, Option, Some, None, length, map, refl, sym, ap, subst, ◌∙◌, IsSomeAnd, pos, slice_get, AllByRecursion, Val, whole, ComparisonOperator, Filter, CompareGives, Then, Outcome, gives, IsCoded, code_of, BoundValue, bound_value, SqlType, IsFault, Draft, Lifted, Operand, Source, Kind, CodeHas, FaultyHave, HasOrCode, NoTruth, Grows, AllHave, IsLifted, IsOpened, carrier_in, chosen_of, faults_front, faults_of, AsCode, EachCompared, EqualCodesOrNull, IsPlainValue, ListHas, NullBeside, any_of, SourceHas, carrier_of, IsAskedOf, OfPlace, Puts, PutsAll, Question, World, extended}
 use Rattle.sql_forms.proofs.outcomes.Apart.{stays_fault as fault_stays}
 use Rattle.sql_forms.proofs.nodes.Binding.{found, stays}
 use Rattle.sql_forms.proofs.puts.EqualCodesPut.{any_coded, each_coded, outcome_of_code}
@@ -60,9 +60,6 @@ module _ (question : Question) (place : ℕ) (left first : Operand) (items : Lis
     have : AllHave question.filter (left ∷ []) world os
     have = (plain_has question.filter left.kind left.source world come.left_outcome no_truth come.left_has, refl)
 
-    first_no_truth : NoTruth first
-    first_no_truth is = no_truth (sym inner_is.kind ∙ is)
-
     record Given : Type 0 where
       inner : Outcome
       has : EqualCodesOrNull question.filter first items within inner
@@ -73,9 +70,6 @@ module _ (question : Question) (place : ℕ) (left first : Operand) (items : Lis
       first_value_has : (v : Val) → gives l ≡ gives v → HasValue question.filter first within v
       first_value_has v same = one_value question left first lifted old is_lifted at_first world come.left_outcome at have.0 (come.left_plain no_truth) v (is ∙ same) (come.left_fits v (is ∙ same))
 
-      first_has : HasOrCode question.filter first.kind first.source within (gives l)
-      first_has = has_plain question.filter first.kind first.source within (gives l) first_no_truth (first_value_has l refl).has
-
       compared : (item : Operand) (e : Outcome) (f : FaultyHave question.filter ComparisonOperator.Eq left item world e) → f.left_outcome ≡ come.left_outcome
           → (g : FaultyHave question.filter ComparisonOperator.Eq first item within e) × (g.left_outcome ≡ gives l)
       compared item e f same =
@@ -83,7 +77,7 @@ module _ (question : Question) (place : ℕ) (left first : Operand) (items : Lis
             record {
               left_outcome = gives l;
               right_outcome = f.right_outcome;
-              left_has = first_has;
+              left_has = has_plain question.filter first.kind first.source within (gives l) (λ is. no_truth (sym inner_is.kind ∙ is)) (first_value_has l refl).has;
               right_has = has_stays question.filter item.kind item.source world more f.right_outcome f.right_has;
               left_fits = λ v same_value. (first_value_has v same_value).fits;
               right_fits = f.right_fits;
@@ -112,14 +106,8 @@ module _ (question : Question) (place : ℕ) (left first : Operand) (items : Lis
 
     -- of a fault, instead of which null stands
     module _ (fault : IsFault come.left_outcome) where
-      null_first : HasLoosely question.filter first within null
-      null_first = one_null question left first lifted old is_lifted at_first world come.left_outcome at have.0 (come.left_plain no_truth) fault
-
       carries : carrier_in left ≡ None → ⊥
       carries none = let v = come.left_plain no_truth none in let value : IsFault (gives v.0) = subst IsFault v.1 fault in value
-
-      first_value : IsPlainValue first.kind
-      first_value = subst IsPlainValue (sym inner_is.kind) (carries_value left.range.may_fault left.kind no_truth carries)
 
       unsaid : IsCoded (gives (whole (pos 0))) → ⊥
       unsaid is = is
@@ -127,8 +115,8 @@ module _ (question : Question) (place : ℕ) (left first : Operand) (items : Lis
       beside : (item : Operand) (e : Outcome) → FaultyHave question.filter ComparisonOperator.Eq left item world e → NullBeside question.filter first item within (gives (whole (pos 0)))
       beside item e f = record {
         unsaid = unsaid;
-        value = first_value;
-        left_null = null_first;
+        value = subst IsPlainValue (sym inner_is.kind) (carries_value left.range.may_fault left.kind no_truth carries);
+        left_null = one_null question left first lifted old is_lifted at_first world come.left_outcome at have.0 (come.left_plain no_truth) fault;
         right_outcome = f.right_outcome;
         right_has = has_stays question.filter item.kind item.source world more f.right_outcome f.right_has;
         right_fits = f.right_fits;

@@ -1,15 +1,13 @@
 -- Parameters and literals evaluate to their values.
 use Rattle.sql_forms.proofs.Common.{◌≡◌, ℕ, List, [], ◌∷◌, ◌++◌, Some, None, length, refl, sym, ap, ◌∙◌, slice_get, string_bytes, MomentValue, MomentParts, plain_val, Val, moment, Value, found_there, there_found, Outcome, gives, ParameterGives, NodeMeans, no_terms, SqlNode, SqlType, Parameter, Draft, Grows, GrowsBy, GrowsByText, IsFront, IsLiteralAt, Has, IsWorldOf, Puts, Question, World, arity, grown, puts_leaf}
 use Rattle.sql_forms.specs.private.AskedForms.{Itself}
-
-at_end : {A : Type 0} (xs more : List A) (x : A) → slice_get ((xs ++ x ∷ []) ++ more) (length xs) ≡ Some x
-at_end [] more x = refl
-at_end (y ∷ xs) more x = at_end xs more x
+use Rattle.odata_checked_filter.proofs.flat.Places.{get_front}
+use Rattle.sql_forms.proofs.nodes.Binding.{at_last}
 
 -- the last parameter of a draft stands where it was put
 in_world : {A : Type 0} (xs ys asked : List A) (x : A) → ys ≡ xs ++ x ∷ [] → IsFront ys asked → slice_get asked (length xs) ≡ Some x
 in_world {A} xs ys asked x is front =
-    ap (λ (l : List A). slice_get l (length xs)) (front.1 ∙ ap (λ (l : List A). l ++ front.0) is) ∙ at_end xs front.0 x
+    ap (λ (l : List A). slice_get l (length xs)) (front.1 ∙ ap (λ (l : List A). l ++ front.0) is) ∙ get_front (xs ++ x ∷ []) front.0 (length xs) x (at_last xs x)
 
 module _ (question : Question) (old new : Draft) where
   pub parameter_put : (type : SqlType) (parameter : Parameter) (Outcomes : Has) (Form : Outcome → Outcome → Type 0)
@@ -32,8 +30,7 @@ module _ (question : Question) (old new : Draft) where
     pub literal_is : (v : Val) → plain_val value ≡ Some v → (world : World) (o : Outcome) → IsLiteralAt question.filter place world o → o ≡ gives v
     literal_is v plain world o has =
         let found = found_there (λ (w : Value). (u : Val) × (plain_val w ≡ Some u) × (o ≡ gives u)) (slice_get question.filter.list.values place) value at has in
-        let same : Some found.0 ≡ Some v = sym found.1 ∙ plain in
-        let is : found.0 ≡ v = cc in
+        let is : found.0 ≡ v = cc (found.1, plain) in
         found.2 ∙ ap gives is
 
     -- a value without parts

@@ -1,18 +1,30 @@
 -- What the bodies of a lambda evaluate to, member by member.
-use Rattle.sql_forms.proofs.Common.{◌≡◌, ◌+◌, ◌∷◌, [], ℕ, zero, suc, List, Some, None, length, map, refl, ap, subst, arith, IsSomeAnd, slice_get, Val, Quantifier, goes_there, Outcome, AtMembers, OfTree, OverHas, at_member, Question, World}
+use Rattle.sql_forms.proofs.Common.{◌≡◌, ◌+◌, ◌∷◌, [], ℕ, zero, suc, List, Some, None, length, refl, ap, subst, arith, IsSomeAnd, slice_get, Val, Quantifier, goes_there, Outcome, AtMembers, OfTree, OverHas, at_member, Question, World, sym, ◌∙◌, slots_of, HasType, IsKept, IsAskedOf, IsStopAt, CheckedNode, some_there, found_there}
+use Rattle.sql_forms.proofs.outcomes.Elements.{at_all}
 
 -- the outcomes of the body at the members
 pub record AreOutcomesAt (At : ℕ → Outcome → Type 0) (members : List Val) (ps : List Outcome) : Type 0 where
   pub many : length ps ≡ length members
   pub each : (k : ℕ) (p : Outcome) → slice_get ps k ≡ Some p → At k p
 
-pub mapped_length : {A B : Type 0} (f : A → B) (xs : List A) → length (map f xs) ≡ length xs
-mapped_length f [] = refl
-mapped_length f (x ∷ xs) = ap suc (mapped_length f xs)
-
 module _ (question : Question) (quantifier : Quantifier) (place : ℕ) (world : World) (o : Outcome) (over : OverHas question.filter quantifier place world o) where
   abbrev At : ℕ → Outcome → Type 0
   At = AtMembers question.filter over.body over.tree world over.variable over.members
+
+  -- the world at a member is one of the question
+  pub inside_member : IsAskedOf question world → (k : ℕ) (v : Val) → slice_get over.members k ≡ Some v → IsAskedOf question (at_member world over.variable k v)
+  inside_member seen k v at_v = record {
+    row_is = seen.row_is;
+    moment_is = seen.moment_is;
+    fitting = (at_all (λ (w : Val). HasType (slots_of world.row.schema) over.variable.type_of w) over.members k v over.typed at_v, seen.fitting);
+    kept = (at_all (λ (w : Val). IsKept (slots_of world.row.schema) over.variable.type_of w) over.members k v over.kept at_v, seen.kept);
+  }
+
+  -- the body stands where what is before it stops
+  pub body_is : (body : ℕ) → IsStopAt question.filter (place + 1) body → over.body ≡ body
+  body_is body stops =
+      let mine = some_there (λ (n : CheckedNode). n.stop ≡ body) (slice_get question.filter.list.nodes (place + 1)) stops in
+      sym (found_there (λ (n : CheckedNode). n.stop ≡ over.body) (slice_get question.filter.list.nodes (place + 1)) mine.0 mine.1.0 over.is_body) ∙ mine.1.1
 
   record OutcomesFrom (start : ℕ) (vs : List Val) : Type 0 where
     ps : List Outcome
@@ -25,8 +37,7 @@ module _ (question : Question) (quantifier : Quantifier) (place : ℕ) (world : 
       by : (k : ℕ) (x : Outcome) → slice_get (p ∷ rest.ps) k ≡ Some x
           → IsSomeAnd (slice_get (v ∷ vs) k) (λ w. OfTree question.filter over.body over.tree (at_member world over.variable (start + k) w) x)
       by zero x at =
-          let there : Some p ≡ Some x = at in
-          let same : p ≡ x = cc in
+          let same : p ≡ x = cc at in
           let no_more : start ≡ start + 0 = omega arith in
           subst (λ (y : Outcome). OfTree question.filter over.body over.tree (at_member world over.variable (start + 0) v) y) same
           (subst (λ (n : ℕ). OfTree question.filter over.body over.tree (at_member world over.variable n v) p) no_more here)

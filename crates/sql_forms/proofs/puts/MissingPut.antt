@@ -55,9 +55,6 @@ module _ (question : Question) (quantifier : Quantifier) (place path : ℕ) wher
   -- ---- true exactly where it is
 
   module _ (truth_of : (world : World) (seen : IsAskedOf question world) (o : Outcome) → OverHas question.filter quantifier place world o → (b : Bool) × (o ≡ gives (boolean b))) where
-    kept_flag : (b : Bool) (o : Outcome) → o ≡ gives (boolean b) → IsTrueWhere (o ≡ gives (boolean true)) (gives (boolean b))
-    kept_flag b o is = true_where (Some b) o (sym is)
-
     -- of null members `any` is false
     pub kept_put : ((world : World) (seen : IsAskedOf question world) (o : Outcome) (over : OverHas question.filter quantifier place world o) → over.collection ≡ null → o ≡ gives (boolean false)) → (old new : Draft)
         → Puts question old new (OverHas question.filter quantifier place) Itself → Puts question old new (LambdaHas question.filter quantifier place) (λ o. IsTrueWhere (o ≡ gives (boolean true)))
@@ -82,7 +79,7 @@ module _ (question : Question) (quantifier : Quantifier) (place path : ℕ) wher
               refl,
               (λ is_so. (let t : Some true ≡ Some false = sym is_so ∙ ap (λ (f : Bool). Some f) off in absurd (cc)), λ is_so. (let t : gives null ≡ gives (boolean true) = sym o_null ∙ is_so in absurd (cc))),
             )
-        by {c} _ same o whole_outcome b is value none = kept_flag b o (subst (λ (w : Val). IsOrNull w o whole_outcome) same is ∙ value)
+        by {c} _ same o whole_outcome b is value none = true_where (Some b) o (sym (subst (λ (w : Val). IsOrNull w o whole_outcome) same is ∙ value))
 
     -- `all` and that it is not null
     pub kept_all_put : (old d1 d2 d3 new : Draft) → IsPathTo question old (place + 1) path → Grows old d1 (SqlNode.And ∷ []) → Grows d1 d2 (SqlNode.Not ∷ []) → Grows d2 d3 (SqlNode.IsMissing path ∷ [])
@@ -114,5 +111,5 @@ module _ (question : Question) (quantifier : Quantifier) (place path : ℕ) wher
         by : (v : Val) (o whole_outcome : Outcome) (b : Bool) → IsOrNull v o whole_outcome → whole_outcome ≡ gives (boolean b) → IsTrueWhere (o ≡ gives (boolean true)) (truth (and3 (not3 (Some (is_null v))) (Some b)))
         by null o whole_outcome true is value = (Some false, refl, (λ is_so. absurd (cc), λ is_so. (let t : gives null ≡ gives (boolean true) = sym is ∙ is_so in absurd (cc))))
         by null o whole_outcome false is value = (Some false, refl, (λ is_so. absurd (cc), λ is_so. (let t : gives null ≡ gives (boolean true) = sym is ∙ is_so in absurd (cc))))
-        by _ o whole_outcome true is value = kept_flag true o (is ∙ value)
-        by _ o whole_outcome false is value = kept_flag false o (is ∙ value)
+        by _ o whole_outcome true is value = true_where (Some true) o (sym (is ∙ value))
+        by _ o whole_outcome false is value = true_where (Some false) o (sym (is ∙ value))

@@ -18,6 +18,9 @@ pub given_itself : (o : Outcome) (v : Val) (x : Outcome) → o ≡ gives v → O
 given_itself (gives w) v x is form = form ∙ is
 given_itself _ v x is form = absurd (cc)
 
+pub null_value : (operand : Operand) (v : Val) → operand.kind ≡ Kind.Null → Fits operand v → v ≡ null
+null_value operand v kind fits = subst (λ (k : Kind). IsOfKind k v) kind fits.kind
+
 pub fault_itself : (o x : Outcome) → IsFault o → OrTruth Itself o x → (t : Option Bool) × (x ≡ truth t)
 fault_itself (gives v) x fault form = absurd fault
 fault_itself _ x fault form = form
@@ -64,9 +67,6 @@ missing_is_null : (v : Val) (o : Outcome) → GivesIsNull v o → GivesMissing v
 missing_is_null null o given = given
 missing_is_null v o given = given
 
-pub null_is : (v : Val) (o : Outcome) → v ≡ null → GivesIsNull v o → o ≡ gives (boolean true)
-null_is v o is given = subst (λ (w : Val). GivesIsNull w o) is given
-
 pub given_is : (v : Val) (o : Outcome) → v ≢ null → GivesIsNull v o → o ≡ gives (boolean false)
 given_is null o other given = absurd (other refl)
 given_is v o other given = given
@@ -79,9 +79,6 @@ null_of v = (false, refl)
 null_reported : (v : Val) (o : Outcome) → GivesIsNull v o → (n : Bool) × (o ≡ gives (boolean n))
 null_reported null o given = (true, given)
 null_reported v o given = (false, given)
-
-true_or_false : (b : Bool) → b ≡ true → b ≡ false → ⊥
-true_or_false b here there = cc
 
 module _ (question : Question) where
   pub bound_put : (old new : Draft) (level : ℕ) → Grows old new (SqlNode.Bound level ∷ []) → Puts question old new (SourceHas question.filter (Source.Bound level)) Itself
@@ -155,14 +152,14 @@ module _ (question : Question) where
   never_null operand old new never grows =
       puts_leaf question (SqlNode.Truth false) refl old new (NullHas question.filter operand) (OrTruth Itself) grows
       (λ world o is has. null_cases operand (λ w x. x ≡ gives (boolean false))
-      (constant operand false (λ v p fits given. given_is v p (λ null_it. true_or_false operand.range.may_be_null (fits.nullable null_it) never) given)) world o has)
+      (constant operand false (λ v p fits given. given_is v p (λ null_it. cc (fits.nullable null_it, never)) given)) world o has)
 
   pub always_null : (operand : Operand) (old new : Draft) → operand.kind ≡ Kind.Null → Grows old new (SqlNode.Truth true ∷ [])
       → Puts question old new (NullHas question.filter operand) (OrTruth Itself)
   always_null operand old new kind grows =
       puts_leaf question (SqlNode.Truth true) refl old new (NullHas question.filter operand) (OrTruth Itself) grows
       (λ world o is has. null_cases operand (λ w x. x ≡ gives (boolean true))
-      (constant operand true (λ v p fits given. null_is v p (subst (λ (k : Kind). IsOfKind k v) kind fits.kind) given)) world o has)
+      (constant operand true (λ v p fits given. subst (λ (w : Val). GivesIsNull w p) (subst (λ (k : Kind). IsOfKind k v) kind fits.kind) given)) world o has)
 
   -- a position in JSON
   pub missing_put : (operand : Operand) (old new : Draft) (path : ℕ) → operand.source ≡ Source.Place path → Grows old new (SqlNode.IsMissing path ∷ [])

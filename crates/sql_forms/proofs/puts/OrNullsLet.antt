@@ -1,7 +1,7 @@
 -- A comparison in the body of a `Let`: what is put for one that is true of two nulls, with the `Let` around it.
-use Rattle.sql_forms.proofs.Common.{◌≡◌, ◌≢◌, ◌∷◌, [], inl, inr, List, Some, Result, Ok, Err, OnOk, length, refl, sym, subst, ◌∙◌, slice_get, Val, null, Outcome, gives, ComparesTrue, ComparisonOperator, SqlNode, Draft, Lifted, Operand, Kind, ComparisonHas, StrictHas, Grows, GrowsBy, IsOfKind, AllHave, IsLifted, IsOpened, within_let, Fits, HasLoosely, HasValue, NullHas, OperandHas, Puts, PutsAll, Question, World, by_node}
+use Rattle.sql_forms.proofs.Common.{◌≡◌, ◌≢◌, ◌∷◌, [], inl, inr, List, Some, Result, Ok, Err, OnOk, length, refl, sym, subst, slice_get, Val, null, Outcome, gives, ComparesTrue, ComparisonOperator, SqlNode, Draft, Lifted, Operand, Kind, ComparisonHas, StrictHas, Grows, GrowsBy, IsOfKind, AllHave, IsLifted, IsOpened, within_let, Fits, HasLoosely, HasValue, NullHas, OperandHas, Puts, PutsAll, Question, World, by_node}
 use Rattle.sql_forms.specs.private.AskedForms.{Itself, OrTruth}
-use Rattle.sql_forms.proofs.outcomes.LiftedFaults.{IsInner, TwoInner, lifted_values, two_inner}
+use Rattle.sql_forms.proofs.outcomes.LiftedFaults.{IsInner, TwoInner, lifted_values, two_inner, inner_fits}
 use Rattle.sql_forms.proofs.puts.LiftedPut.{closed}
 use Rattle.sql_forms.proofs.outcomes.LiftedValues.{body_have}
 use Rattle.sql_forms.proofs.puts.LiftedWhole.{BodyGiven, in_body, lifted_put}
@@ -24,10 +24,7 @@ module _ (question : Question) (operator : ComparisonOperator) (left right first
         (body_have question.filter world old.depth is_lifted.choices (left ∷ right ∷ []) (values_of l r) at is_lifted.are (left_has, (right_has, refl))))
 
     value_in : (outer inner : Operand) (within : World) (v : Val) → IsInner outer inner → OperandHas question.filter inner within (gives v) → Fits outer v → HasValue question.filter inner within v
-    value_in outer inner within v is has fits = record {
-      has = has;
-      fits = record { kind = subst (λ (k : Kind). IsOfKind k v) (sym is.kind) fits.kind; nullable = λ null_it. is.nullable ∙ fits.nullable null_it };
-    }
+    value_in outer inner within v is has fits = record { has = has; fits = inner_fits outer inner v is fits }
 
     loose_in : (outer inner : Operand) (within : World) (v : Val) → IsInner outer inner → OperandHas question.filter inner within (gives v) → IsOfKind outer.kind v → HasLoosely question.filter inner within v
     loose_in outer inner within v is has kind = record { has = has; kind = subst (λ (k : Kind). IsOfKind k v) (sym is.kind) kind }

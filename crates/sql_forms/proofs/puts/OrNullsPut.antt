@@ -2,7 +2,7 @@
 use Rattle.sql_forms.proofs.Common.{◌≡◌, ◌≢◌, inl, inr, [], ◌∷◌, Bool, false, Option, Some, None, refl, sym, subst, ◌∙◌, boolean, null, Outcome, gives, ComparesTrue, and3, or3, ComparisonOperator, is_true, truth, NodeMeans, SqlMeans, Asked, Bound, Term, no_terms, more_terms, SqlNode, Draft, Operand, ComparisonHas, StrictHas, Grows, NullHas, Has, Puts, Question, World, puts_one, puts_two}
 use Rattle.sql_forms.specs.private.AskedForms.{Itself, OrTruth}
 use Rattle.sql_forms.proofs.puts.ComparisonsPut.{compared_truth, is_true_node, null_strict}
-use Rattle.sql_forms.proofs.outcomes.Nullable.{or_nulls, true_of}
+use Rattle.sql_forms.proofs.outcomes.Nullable.{or_nulls, true_of, is_true_of}
 use Rattle.sql_forms.proofs.puts.OperandsPut.{fault_form, fault_itself, given_form, loosely}
 use Rattle.sql_forms.proofs.outcomes.Operators.{and_means, or_means}
 
@@ -18,10 +18,6 @@ pub or_node : (asked : Asked) (bound : Bound) (a b : Term) (x y z : Outcome) →
 or_node asked bound a b x y z first second op =
     subst (NodeMeans asked bound SqlNode.Or (more_terms a (more_terms b no_terms))) (sym op.4)
     (or_means asked bound a b op.0 op.1 (subst (SqlMeans asked bound a) op.2 first) (subst (SqlMeans asked bound b) op.3 second))
-
-true_of_is : (s : Option Bool) → is_true s ≡ truth (Some (true_of s))
-true_of_is (Some b) = refl
-true_of_is None = refl
 
 module _ (question : Question) (left right : Operand) (operator : ComparisonOperator) where
   -- whether the comparison of SQL is true
@@ -79,20 +75,14 @@ module _ (question : Question) (left right : Operand) (operator : ComparisonOper
           q = gives (boolean n.right_null);
           left_has = inl (given.0, given.2, n.left_given);
           right_has = inl (given.1, given.3, n.right_given);
-          goes = λ x y one two. (Some n.left_null, Some n.right_null, one, two, itself_of (and3 (Some n.left_null) (Some n.right_null)));
+          goes = λ x y one two. (Some n.left_null, Some n.right_null, one, two, refl);
         };
         goes = λ y form. (
           and3 (Some n.left_null) (Some n.right_null),
-          of_itself (and3 (Some n.left_null) (Some n.right_null)) y form,
+          form,
           given_form Itself o (boolean b.0) (truth (or3 (Some (true_of n.strict)) (and3 (Some n.left_null) (Some n.right_null)))) b.1 (sym n.is),
         );
       }
-    where
-      itself_of : (t : Option Bool) → OrTruth Itself (truth t) (truth t)
-      itself_of t = refl
-
-      of_itself : (t : Option Bool) (y : Outcome) → OrTruth Itself (truth t) y → y ≡ truth t
-      of_itself t y form = form
   parts other of_nulls world o (inr fault) = record {
     strict = None;
     strict_has = (fault.1.0, fault.1.1, fault.1.2, fault.1.3, null_strict operator fault.1.0 fault.1.1 fault.1.4);
@@ -128,5 +118,5 @@ module _ (question : Question) (left right : Operand) (operator : ComparisonOper
         p.nulls_have,
         λ x y one two.
             let g = p.goes y two in
-            (truth (or3 (Some (true_of p.strict)) g.0), (Some (true_of p.strict), g.0, one ∙ true_of_is p.strict, g.1, refl), g.2),
+            (truth (or3 (Some (true_of p.strict)) g.0), (Some (true_of p.strict), g.0, one ∙ is_true_of p.strict, g.1, refl), g.2),
       ))

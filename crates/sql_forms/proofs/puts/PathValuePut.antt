@@ -1,5 +1,5 @@
 -- The value at a path, as a column or at a position in JSON.
-use Rattle.sql_forms.proofs.Common.{◌≡◌, ◌∷◌, [], ℕ, List, Some, refl, sym, subst, IsSomeAnd, slice_get, IsMoment, Val, slots_of, CheckedNode, NodeKind, EndsOnceOnEntities, found_there, some_there, there_found, Outcome, gives, IsQuietKind, Range, BaseGives, IsScalar, PathGives, PlaceGives, SlotGives, StepsGive, Asked, Bound, FieldType, SqlNode, SqlType, Base, Path, Draft, Kind, Grows, IsOfKind, kind_of_type, IsOfType, type_of_field, PutsPath, AreRanges, HasValueKind, IsPathAt, IsStep, IsAskedOf, IsWorldOf, OfPlace, Puts, Question, World, puts_leaf, world_before, path_says}
+use Rattle.sql_forms.proofs.Common.{◌≡◌, ◌∷◌, [], ℕ, List, Some, refl, sym, subst, slice_get, IsMoment, Val, slots_of, CheckedNode, NodeKind, EndsOnceOnEntities, found_there, some_there, there_found, Outcome, gives, IsQuietKind, Range, BaseGives, IsScalar, PathGives, PlaceGives, SlotGives, StepsGive, Asked, Bound, FieldType, SqlNode, Base, Path, Draft, Kind, Grows, IsOfKind, kind_of_type, IsOfType, type_of_field, PutsPath, AreRanges, HasFieldType, IsPathAt, IsStep, IsAskedOf, IsWorldOf, OfPlace, Puts, Question, World, puts_leaf, world_before, path_says}
 use Rattle.sql_forms.specs.private.AskedForms.{Itself}
 use Rattle.sql_tree.specs.declared.path.Step.{Step}
 use Rattle.sql_forms.proofs.puts.FlagsPut.{plain_value}
@@ -21,13 +21,13 @@ column_gives asked bound slot path v base_is none given =
     subst (SlotGives asked.schema asked.row_type slot asked.entity) (sym same) at_base
 
 module _ (question : Question) (ends : EndsOnceOnEntities) (is_moment : IsMoment question.now.civil question.now.offset_minutes) (ranges : List Range) (are : AreRanges question ranges) (place number : ℕ)
-    (is_path : IsPathAt question.filter place) (has_value : HasValueKind question.filter place) (old middle new : Draft) (path : PutsPath question old middle place number) where
+    (is_path : IsPathAt question.filter place) (type : FieldType) (has_value : HasFieldType question.filter place type) (old middle new : Draft) (path : PutsPath question old middle place number) where
   -- the node evaluates to a value of its type
-  typed_there : (type : SqlType) → IsSomeAnd (slice_get question.filter.list.nodes place) (λ node. kind_of_type node.edm_type ≡ Kind.Value type) → (world : World) (o : Outcome) → IsAskedOf question world
-      → OfPlace question.filter place world o → (v : Val) × (o ≡ gives v) × IsOfType type v
-  typed_there type is_kind world o seen has =
+  typed_there : (world : World) (o : Outcome) → IsAskedOf question world
+      → OfPlace question.filter place world o → (v : Val) × (o ≡ gives v) × IsOfType (type_of_field type) v
+  typed_there world o seen has =
       let step = some_there (λ (n : CheckedNode). IsStep n.kind) (slice_get question.filter.list.nodes place) is_path in
-      let kinded = found_there (λ (n : CheckedNode). kind_of_type n.edm_type ≡ Kind.Value type) (slice_get question.filter.list.nodes place) step.0 step.1.0 is_kind in
+      let kinded = found_there (λ (n : CheckedNode). kind_of_type n.edm_type ≡ Kind.Value (type_of_field type)) (slice_get question.filter.list.nodes place) step.0 step.1.0 has_value in
       let v = plain_value question ranges are place step.0.kind (step_plain step.0.kind step.1.1)
       (there_found (λ (n : CheckedNode). n.kind ≡ step.0.kind) (slice_get question.filter.list.nodes place) step.0 step.1.0 refl) world o seen has in
       let of_v : OfPlace question.filter place world (gives v.0) = subst (OfPlace question.filter place world) v.1 has in
@@ -38,25 +38,18 @@ module _ (question : Question) (ends : EndsOnceOnEntities) (is_moment : IsMoment
   -- which is no record and no list
   value_there : (world : World) (o : Outcome) → IsAskedOf question world → OfPlace question.filter place world o → (v : Val) × (o ≡ gives v) × IsScalar v
   value_there world o seen has =
-      let step = some_there (λ (n : CheckedNode). IsStep n.kind) (slice_get question.filter.list.nodes place) is_path in
-      let kinded = found_there (λ (n : CheckedNode). (type : SqlType) × (kind_of_type n.edm_type ≡ Kind.Value type)) (slice_get question.filter.list.nodes place) step.0 step.1.0 has_value in
-      let v = plain_value question ranges are place step.0.kind (step_plain step.0.kind step.1.1)
-      (there_found (λ (n : CheckedNode). n.kind ≡ step.0.kind) (slice_get question.filter.list.nodes place) step.0 step.1.0 refl) world o seen has in
-      let of_v : OfPlace question.filter place world (gives v.0) = subst (OfPlace question.filter place world) v.1 has in
-      let typed = of_type question ends is_moment world seen place step.0 step.1.0 (gives v.0) of_v in
-      let kind = typed_kind (slots_of world.row.schema) world.row.schema step.0.edm_type v.0 typed in
-      let of_sql : IsOfType kinded.0 v.0 = subst (λ (k : Kind). IsOfKind k v.0) kinded.1 kind in
-      (v.0, v.1, scalar kinded.0 v.0 of_sql)
+      let v = typed_there world o seen has in
+      (v.0, v.1, scalar (type_of_field type) v.0 v.2)
 
   leads : (node : SqlNode) → Grows middle new (node ∷ []) → (world : World) → IsWorldOf question new world → (v : Val) → OfPlace question.filter place world (gives v) → PlaceGives world.asked world.bound number v
   leads node grows world is v has = path_says question middle place number path.leads world v (world_before question middle new (node ∷ []) world grows is) has
 
   -- at its position in JSON
-  pub field_put : (type : FieldType) → IsSomeAnd (slice_get question.filter.list.nodes place) (λ node. kind_of_type node.edm_type ≡ Kind.Value (type_of_field type)) → Grows middle new (SqlNode.Field number type ∷ []) → Grows old new (SqlNode.Field number type ∷ []) → Puts question old new (OfPlace question.filter place) Itself
-  field_put type is_kind grows whole =
+  pub field_put : Grows middle new (SqlNode.Field number type ∷ []) → Grows old new (SqlNode.Field number type ∷ []) → Puts question old new (OfPlace question.filter place) Itself
+  field_put grows whole =
       puts_leaf question (SqlNode.Field number type) refl old new (OfPlace question.filter place) Itself whole
       (λ world o is has.
-      let v = typed_there (type_of_field type) is_kind world o is.seen has in
+      let v = typed_there world o is.seen has in
       (o, (v.0, leads (SqlNode.Field number type) grows world is v.0 (subst (OfPlace question.filter place world) v.1 has), v.2, v.1), refl))
 
   -- in its own column

@@ -2,7 +2,7 @@
 use Rattle.sql_forms.proofs.Common.{◌≡◌, inl, ◌+◌, ℕ, List, None, refl, sym, ap, subst, ◌∙◌, Val, boolean, null, Outcome, gives, Draft, Operand, Source, NoTruth, carrier_in, fault_else, AsCode, EqualCodesOrNull, HasMemberHas, ListHas, any_of, some_of, IsOrNull, SourceHas, IsAskedOf, OfPlace, Puts, Question, World, puts_as}
 use Rattle.sql_forms.proofs.outcomes.CodeTables.{coded}
 use Rattle.sql_forms.proofs.puts.EqualCodesPut.{any_coded, each_coded}
-use Rattle.sql_forms.proofs.puts.FaultyComparisonsPut.{OrCode}
+use Rattle.sql_forms.proofs.puts.FaultyComparisonsPut.{OrCode, or_code_value}
 use Rattle.sql_forms.proofs.nodes.InPathNodes.{InPathComes}
 use Rattle.sql_forms.proofs.puts.InPathPut.{marked_parts}
 use Rattle.sql_forms.proofs.puts.LiftedPut.{Coded}
@@ -22,10 +22,6 @@ module _ (question : Question) (place : ℕ) (left : Operand) (no_truth : NoTrut
         inl (record { left_outcome = come.left_outcome; outcomes = come.outcomes; each = come.each; is = refl }),
         λ x form. form.0 (any_coded come.outcomes (each_coded question.filter left come.left_outcome items world come.outcomes come.each)) ∙ ap coded (sym whole),
       ))
-
-  or_code_value : (q : Outcome) (v : Val) (y : Outcome) → q ≡ gives v → OrCode q y → Coded q y
-  or_code_value (gives w) v y same form = form
-  or_code_value _ v y same form = absurd (cc)
 
   or_null_code : (c inner : Val) (o x : Outcome) → IsOrNull c o (gives inner) → OrCode o x → Coded o x
   or_null_code null inner o x is form = or_code_value o null x is form

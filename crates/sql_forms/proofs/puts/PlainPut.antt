@@ -23,8 +23,7 @@ module _ (question : Question) (operator : ArithmeticOperator) (type : Primitive
   of_answer : (x y : ℤ) (r : Outcome) (answer : Result (Option ℤ) ArithFault) → ArithmeticGives operator type (Some x) (Some y) answer → r ≡ number_outcome answer
       → GivesSome (λ v. Unit {0}) r → GivesWithin64 operator x y r
   of_answer x y r (Ok (Some m)) given is some =
-      let number : Some m ≡ Some given.0 = given.2.0 in
-      let value : m ≡ given.0 = cc in
+      let value : m ≡ given.0 = cc given.2.0 in
       (given.0, given.1, number_fits type given.0 given.2.1, is ∙ ap (λ (z : ℤ). gives (whole z)) value)
   of_answer x y r (Ok None) given is some = absurd (no_number given.0 given.2.0)
   of_answer x y r (Err Overflow) given is some = absurd (subst (GivesSome (λ v. Unit {0})) is some)

@@ -1,15 +1,15 @@
 -- `in` before a path whose left side is a truth value, which is bound by its code: the members' codes are compared with
 -- it.
-use Rattle.sql_forms.proofs.Common.{◌≡◌, ◌↔◌, ◌+◌, ◌++◌, ◌∷◌, [], ℕ, pos, List, Bool, true, false, Option, Some, None, length, map, refl, sym, ap, subst, ◌∙◌, append-nil, slice_get, AllByRecursion, Val, boolean, null, whole, ComparisonOperator, there_found, CompareGives, Outcome, gives, overflow, divides_by_zero, AreEqual, IsCoded, code_of, AtEach, StrictlyGives, code_of_truth, truth, SqlMeans, BoundValue, bound_member, more_terms, no_terms, nodes_of, term, SqlNode, SqlType, Draft, Operand, Source, Kind, CodeHas, Grows, IsDeeper, IsOfKind, IsOfType, EachMemberEquals, IsMemberOperand, MembersAt, some_of, OperandHas, SourceHas, IsPathTo, PutsMemberPath, Has, IsWorldOf, Puts, Question, World, extended, puts_one, puts_two, world_before, path_says}
+use Rattle.sql_forms.proofs.Common.{◌≡◌, ◌↔◌, ◌+◌, ◌++◌, ◌∷◌, [], ℕ, pos, List, Bool, true, false, Option, Some, None, map, refl, sym, ap, subst, ◌∙◌, slice_get, AllByRecursion, Val, boolean, null, whole, ComparisonOperator, there_found, Outcome, gives, overflow, divides_by_zero, AreEqual, IsCoded, code_of, AtEach, StrictlyGives, code_of_truth, truth, SqlMeans, BoundValue, bound_member, nodes_of, SqlNode, SqlType, Draft, Operand, Source, Kind, CodeHas, Grows, IsDeeper, IsOfKind, IsOfType, EachMemberEquals, IsMemberOperand, MembersAt, some_of, OperandHas, IsPathTo, PutsMemberPath, Has, IsWorldOf, Puts, Question, World, extended, puts_one, puts_two, puts_leaf}
 use Rattle.sql_forms.specs.private.AskedForms.{Itself}
 use Rattle.sql_forms.proofs.nodes.Binding.{found, stays}
 use Rattle.sql_forms.proofs.outcomes.CodeTables.{coded}
 use Rattle.sql_forms.proofs.puts.FaultyComparisonsPut.{code_is, truth_code_node}
 use Rattle.sql_forms.proofs.puts.ExistsPut.{InExists, in_exists}
 use Rattle.sql_forms.proofs.puts.HasMemberPut.{member_kinds}
-use Rattle.sql_forms.proofs.puts.OperandsPut.{bound_put}
 use Rattle.sql_forms.proofs.outcomes.Operators.{compare_means}
-use Rattle.sql_forms.proofs.outcomes.Quantified.{any_true, some_true}
+use Rattle.sql_forms.proofs.outcomes.Quantified.{any_true}
+use Rattle.sql_forms.proofs.puts.ExistsOver.{exists_over}
 
 -- ---- codes of truth values
 
@@ -78,12 +78,9 @@ pub equal_members : (l : Val) → IsOfType SqlType.Truth l → (members : List V
 equal_members l of_l [] bs typed each = each
 equal_members l of_l (v ∷ members) [] typed each = absurd each
 equal_members l of_l (v ∷ members) (b ∷ bs) typed each = (
-  same_flag b (same_truth v (gives l)) (AreEqual l v) (flag_of b each.0) (codes_report l v of_l typed.0),
+  same_flag b (same_truth v (gives l)) (AreEqual l v) each.0.1 (codes_report l v of_l typed.0),
   equal_members l of_l members bs typed.1 each.1,
 )
-  where
-    flag_of : (c : Bool) → CompareGives ComparisonOperator.Eq l v (gives (boolean c)) → (c ≡ true) ↔ AreEqual l v
-    flag_of c given = given.1
 
 -- of a fault: what comes of the members' codes, whatever it is
 pub flags_beside : (lo : Outcome) (members : List Val) → (bs : List Bool) × CodesEqual lo members bs
@@ -92,24 +89,37 @@ flags_beside lo (v ∷ members) = let rest = flags_beside lo members in (same_tr
 
 -- ---- the members
 
+module _ (question : Question) (level : ℕ) where
+  -- the code that is bound
+  abbrev pub AtLevel : World → Outcome → Type 0
+  AtLevel world lo = CodeHas question.filter (Source.Bound level) world lo
+
+  abbrev pub LevelCode : Has
+  LevelCode world x = (lo : Outcome) × AtLevel world lo × (x ≡ coded lo)
+
+  pub level_code : (old new : Draft) → Grows old new (SqlNode.Bound level ∷ []) → Puts question old new LevelCode Itself
+  level_code old new grows =
+      puts_leaf question (SqlNode.Bound level) refl old new LevelCode Itself grows
+      (λ world x is has.
+      let b = found (slice_get world.bound level) (λ (c : BoundValue). c.value ≡ coded has.0) has.1 in
+      (coded has.0, there_found (λ (c : BoundValue). coded has.0 ≡ c.value) (slice_get world.bound level) b.0 b.1 (sym b.2), sym has.2))
+
+  -- whether a member has the code
+  abbrev pub CodesHave : ℕ → Has
+  CodesHave collection world o =
+      (m : MembersAt question.filter collection world) × (lo : Outcome) × IsCoded lo × AtLevel world lo × (bs : List Bool) × CodesEqual lo m.members bs × (o ≡ gives (boolean (some_of bs)))
+
 module _ (question : Question) (member : Operand) (level collection path number : ℕ) (old m1 m2 m3 m4 m5 m6 m7 new : Draft) (level_below : old.depth ≡ level + 1) (is_truth : member.kind ≡ Kind.Value SqlType.Truth)
     (leads : IsPathTo question old collection path) (member_path : PutsMemberPath old m1 old.depth number) (member_is : IsMemberOperand question.filter collection number member)
     (exists_grows : Grows m1 m2 (SqlNode.Exists path old.depth ∷ [])) (deeper : IsDeeper m2 m3 1) (compare_grows : Grows m3 m4 (SqlNode.Compare ComparisonOperator.Eq SqlType.Whole ∷ []))
     (code_grows : Grows m4 m5 (SqlNode.TruthCode ∷ [])) (value : Puts question m5 m6 (OperandHas question.filter member) Itself) (bound_grows : Grows m6 m7 (SqlNode.Bound level ∷ []))
     (tree_is : new.tree ≡ m7.tree) (members_are : new.members.items ≡ m7.members.items) (depth_is : new.depth + 1 ≡ m7.depth) where
-  -- the code that is bound
-  abbrev pub AtLevel : World → Outcome → Type 0
-  AtLevel world lo = CodeHas question.filter (Source.Bound level) world lo
-
   -- a member, and whether it has that code
   abbrev MemberHere : Has
-  MemberHere world o = (v : Val) × (lo : Outcome) × OperandHas question.filter member world (gives v) × IsOfType SqlType.Truth v × IsCoded lo × AtLevel world lo × (o ≡ gives (boolean (same_truth v lo)))
+  MemberHere world o = (v : Val) × (lo : Outcome) × OperandHas question.filter member world (gives v) × IsOfType SqlType.Truth v × IsCoded lo × AtLevel question level world lo × (o ≡ gives (boolean (same_truth v lo)))
 
   abbrev MemberCode : Has
   MemberCode world o = (v : Val) × OperandHas question.filter member world (gives v) × IsOfType SqlType.Truth v × (o ≡ coded (gives v))
-
-  abbrev LevelCode : Has
-  LevelCode world o = (lo : Outcome) × AtLevel world lo × (o ≡ coded lo)
 
   truth_of : (v : Val) → IsOfType SqlType.Truth v → (t : Option Bool) × (gives v ≡ truth t)
   truth_of null is = (None, refl)
@@ -123,27 +133,13 @@ module _ (question : Question) (member : Operand) (level collection path number 
       let t = truth_of has.0 has.2 in
       (gives has.0, has.1, λ x form. (code_of_truth t.0, (t.0, form ∙ t.1, refl), code_is t.0 ∙ ap coded (sym t.1) ∙ sym has.3)))
 
-  level_code : Puts question m6 m7 LevelCode Itself
-  level_code = record {
-    t = put.t;
-    shaped = put.shaped;
-    grows = put.grows;
-    says = λ world o is has.
-        let b = found (slice_get world.bound level) (λ (c : BoundValue). c.value ≡ coded has.0) has.1 in
-        let m = put.says world (coded has.0) is (there_found (λ (c : BoundValue). coded has.0 ≡ c.value) (slice_get world.bound level) b.0 b.1 (sym b.2)) in
-        (m.0, m.1, m.2 ∙ sym has.2);
-  }
-    where
-      put : Puts question m6 m7 (SourceHas question.filter (Source.Bound level)) Itself
-      put = bound_put question m6 m7 level bound_grows
-
   put : Puts question m3 m7 MemberHere Itself
   put =
-      puts_two question (SqlNode.Compare ComparisonOperator.Eq SqlType.Whole) refl (λ x y z. (l : Val) × (r : Val) × (x ≡ gives l) × (y ≡ gives r) × IsOfType SqlType.Whole l × IsOfType SqlType.Whole r × StrictlyGives ComparisonOperator.Eq l r z) m3 m4 m6 m7 MemberCode LevelCode
+      puts_two question (SqlNode.Compare ComparisonOperator.Eq SqlType.Whole) refl (λ x y z. (l : Val) × (r : Val) × (x ≡ gives l) × (y ≡ gives r) × IsOfType SqlType.Whole l × IsOfType SqlType.Whole r × StrictlyGives ComparisonOperator.Eq l r z) m3 m4 m6 m7 MemberCode (LevelCode question level)
       MemberHere Itself Itself Itself
       (λ asked bound a b x y z first second op.
       compare_means asked bound ComparisonOperator.Eq SqlType.Whole a b op.0 op.1 z op.4 op.5 (subst (SqlMeans asked bound a) op.2 first) (subst (SqlMeans asked bound b) op.3 second) op.6)
-      compare_grows member_code level_code
+      compare_grows member_code (level_code question level m6 m7 bound_grows)
       (λ world o is has. (
         coded (gives has.0),
         coded has.1,
@@ -162,17 +158,14 @@ module _ (question : Question) (member : Operand) (level collection path number 
       MemberHere Itself put tree_is members_are depth_is
 
   module _ (world : World) (is : IsWorldOf question new world) where
-    before : IsWorldOf question old world
-    before = world_before question old new (SqlNode.Exists path old.depth ∷ nodes_of put.t) world within.grows is
-
     abbrev at_member_of : ℕ → Val → World
     at_member_of k v = extended world (bound_member k v ∷ [])
 
     abbrev Body : ℕ → Val → Outcome → Type 0
     Body k v = SqlMeans world.asked (world.bound ++ bound_member k v ∷ []) put.t
 
-    module _ (lo : Outcome) (is_coded : IsCoded lo) (at_code : AtLevel world lo) where
-      code_further : (k : ℕ) (v : Val) → AtLevel (at_member_of k v) lo
+    module _ (lo : Outcome) (is_coded : IsCoded lo) (at_code : AtLevel question level world lo) where
+      code_further : (k : ℕ) (v : Val) → AtLevel question level (at_member_of k v) lo
       code_further k v =
           let b = found (slice_get world.bound level) (λ (c : BoundValue). c.value ≡ coded lo) at_code in
           there_found (λ (c : BoundValue). c.value ≡ coded lo) (slice_get (world.bound ++ bound_member k v ∷ []) level) b.0 (stays world.bound (bound_member k v ∷ []) level b.0 b.1) b.2
@@ -196,27 +189,9 @@ module _ (question : Question) (member : Operand) (level collection path number 
           one_more true ts bs same = refl
           one_more false ts bs same = same
 
-  -- whether a member has the code
-  abbrev pub CodesHave : Has
-  CodesHave world o =
-      (m : MembersAt question.filter collection world) × (lo : Outcome) × IsCoded lo × AtLevel world lo × (bs : List Bool) × CodesEqual lo m.members bs × (o ≡ gives (boolean (some_of bs)))
-
-  pub codes_put : Puts question old new CodesHave Itself
-  codes_put = record {
-    t = term (SqlNode.Exists path old.depth) (more_terms put.t no_terms);
-    shaped = (refl, (put.shaped, tt));
-    grows = subst (Grows old new) (ap (λ (ns : List SqlNode). SqlNode.Exists path old.depth ∷ ns) (sym (append-nil (nodes_of put.t)))) within.grows;
-    says = λ world o is has.
-        let m = has.0 in
-        let f = found_codes world is has.1 has.2 has.3 0 m.members has.4 has.5 (member_kinds question.filter collection number member member_is world m) in (
-          gives (boolean (any_true f.ts)),
-          (
-            level_is world is,
-            (m.c, m.members, map truth f.ts, path_says question old collection path leads world m.c (before world is) m.has, m.are, f.at_each, (any_true f.ts, some_true f.ts, refl)),
-          ),
-          ap (λ (b : Bool). gives (boolean b)) f.same ∙ sym has.6,
-        );
-  }
-    where
-      level_is : (world : World) → IsWorldOf question new world → old.depth ≡ length world.bound
-      level_is world is = let outer = before world is in sym outer.depth
+  pub codes_put : Puts question old new (CodesHave question level collection) Itself
+  codes_put = exists_over question collection path old.depth old new put.t put.shaped refl leads within.grows (CodesHave question level collection) Itself
+      (λ world o is has.
+      let m = has.0 in
+      let f = found_codes world is has.1 has.2 has.3 0 m.members has.4 has.5 (member_kinds question.filter collection number member member_is world m) in
+      record { c = m.c; members = m.members; has = m.has; are = m.are; ts = f.ts; at_each = f.at_each; form = ap (λ (b : Bool). gives (boolean b)) f.same ∙ sym has.6 })

@@ -3,7 +3,7 @@
 use Rattle.sql_forms.proofs.Common.{◌≡◌, ◌↔◌, ◌+◌, ◌++◌, ◌∷◌, [], ℕ, pos, List, Bool, true, false, Option, Some, None, length, refl, sym, ap, subst, ◌∙◌, slice_get, AllByRecursion, Val, boolean, null, whole, ComparisonOperator, there_found, Outcome, gives, IsCoded, code_of, ChoiceGives, StrictlyGives, code_of_truth, truth, SqlMeans, BoundValue, bound_value, Digit, SqlNode, SqlType, IsFault, Draft, Operand, Source, Kind, CodeHas, Grows, IsOfKind, IsOfType, fault_else, MembersAt, some_of, IsOrNull, Has, IsAskedOf, OfPlace, Puts, Question, World, extended, puts_leaf, puts_one, puts_three, puts_two}
 use Rattle.sql_forms.specs.private.AskedForms.{Itself}
 use Rattle.sql_forms.proofs.outcomes.Apart.{stays_fault}
-use Rattle.sql_forms.proofs.nodes.Binding.{at_last, found, puts_let}
+use Rattle.sql_forms.proofs.nodes.Binding.{at_last, puts_let}
 use Rattle.sql_forms.proofs.outcomes.ChainValues.{code_in}
 use Rattle.sql_forms.proofs.outcomes.CodeTables.{coded}
 use Rattle.sql_forms.proofs.puts.CodesPut.{truth_coded}
@@ -13,35 +13,23 @@ use Rattle.sql_forms.proofs.nodes.InPathNodes.{InPathComes}
 use Rattle.sql_forms.proofs.puts.InPathPut.{held_stays}
 use Rattle.sql_forms.proofs.puts.LiftedPut.{Coded}
 use Rattle.sql_forms.proofs.outcomes.Operators.{case_means, compare_means}
-use Rattle.sql_forms.proofs.puts.TruthInPathPut.{CodesEqual, equal_members, flags_beside}
+use Rattle.sql_forms.proofs.puts.TruthInPathPut.{AtLevel, CodesEqual, CodesHave, LevelCode, equal_members, flags_beside, level_code}
 use Rattle.sql_forms.proofs.puts.TruthListPut.{LeftCodes, left_codes}
 use Rattle.sql_forms.proofs.outcomes.UnlessMissing.{CollectionThere, WholeHas}
 
 module _ (question : Question) (level base path : ℕ) where
-  -- the code that is bound
-  abbrev AtLevel : World → Outcome → Type 0
-  AtLevel world lo = CodeHas question.filter (Source.Bound level) world lo
-
-  -- whether a member has the code
-  abbrev pub CodesHave : Has
-  CodesHave world o =
-      (m : MembersAt question.filter base world) × (lo : Outcome) × IsCoded lo × AtLevel world lo × (bs : List Bool) × CodesEqual lo m.members bs × (o ≡ gives (boolean (some_of bs)))
-
-  abbrev pub code_parts : (world : World) (o : Outcome) → CodesHave world o → CollectionThere question base world
+  abbrev pub code_parts : (world : World) (o : Outcome) → CodesHave question level base world o → CollectionThere question base world
   code_parts world o has = let m = has.0 in record { c = m.c; members = m.members; has = m.has; are = m.are }
 
   abbrev pub Whole : Has
-  Whole = WholeHas question base path CodesHave code_parts
+  Whole = WholeHas question base path (CodesHave question level base) code_parts
 
   -- what is chosen: the fault, or the other
   abbrev pub ChosenHas : Has
-  ChosenHas world o = (lo : Outcome) × IsCoded lo × AtLevel world lo × (w : Outcome) × Whole world w × (o ≡ fault_else lo w)
+  ChosenHas world o = (lo : Outcome) × IsCoded lo × AtLevel question level world lo × (w : Outcome) × Whole world w × (o ≡ fault_else lo w)
 
   abbrev FaultFlag : Has
-  FaultFlag world x = (lo : Outcome) × (is : IsCoded lo) × AtLevel world lo × (x ≡ gives (boolean (at_least_3 lo (code_in lo is)).answer))
-
-  abbrev LevelCode : Has
-  LevelCode world x = (lo : Outcome) × AtLevel world lo × (x ≡ coded lo)
+  FaultFlag world x = (lo : Outcome) × (is : IsCoded lo) × AtLevel question level world lo × (x ≡ gives (boolean (at_least_3 lo (code_in lo is)).answer))
 
   abbrev ThreeHas : Has
   ThreeHas world x = x ≡ gives (whole (pos 3))
@@ -49,21 +37,14 @@ module _ (question : Question) (level base path : ℕ) where
   abbrev WholeCode : Has
   WholeCode world x = (w : Outcome) × Whole world w × (x ≡ coded w)
 
-  level_code : (old new : Draft) → Grows old new (SqlNode.Bound level ∷ []) → Puts question old new LevelCode Itself
-  level_code old new grows =
-      puts_leaf question (SqlNode.Bound level) refl old new LevelCode Itself grows
-      (λ world x is has.
-      let b = found (slice_get world.bound level) (λ (c : BoundValue). c.value ≡ coded has.0) has.1 in
-      (coded has.0, there_found (λ (c : BoundValue). coded has.0 ≡ c.value) (slice_get world.bound level) b.0 b.1 (sym b.2), sym has.2))
-
   fault_flag : (c1 c2 c3 c4 : Draft) → Grows c1 c2 (SqlNode.Compare ComparisonOperator.Ge SqlType.Whole ∷ []) → Grows c2 c3 (SqlNode.Bound level ∷ []) → Grows c3 c4 (SqlNode.Number Digit.Three ∷ [])
       → Puts question c1 c4 FaultFlag Itself
   fault_flag c1 c2 c3 c4 compare_grows bound_grows three_grows =
-      puts_two question (SqlNode.Compare ComparisonOperator.Ge SqlType.Whole) refl (λ x y z. (l : Val) × (r : Val) × (x ≡ gives l) × (y ≡ gives r) × IsOfType SqlType.Whole l × IsOfType SqlType.Whole r × StrictlyGives ComparisonOperator.Ge l r z) c1 c2 c3 c4 LevelCode ThreeHas
+      puts_two question (SqlNode.Compare ComparisonOperator.Ge SqlType.Whole) refl (λ x y z. (l : Val) × (r : Val) × (x ≡ gives l) × (y ≡ gives r) × IsOfType SqlType.Whole l × IsOfType SqlType.Whole r × StrictlyGives ComparisonOperator.Ge l r z) c1 c2 c3 c4 (LevelCode question level) ThreeHas
       FaultFlag Itself Itself Itself
       (λ asked bound a b x y z first second op.
       compare_means asked bound ComparisonOperator.Ge SqlType.Whole a b op.0 op.1 z op.4 op.5 (subst (SqlMeans asked bound a) op.2 first) (subst (SqlMeans asked bound b) op.3 second) op.6)
-      compare_grows (level_code c2 c3 bound_grows)
+      compare_grows (level_code question level c2 c3 bound_grows)
       (puts_leaf question (SqlNode.Number Digit.Three) refl c3 c4 ThreeHas Itself three_grows (λ world x is has. (gives (whole (pos 3)), refl, sym has)))
       (λ world x is has.
       let at = at_least_3 has.0 (code_in has.0 has.1) in (
@@ -98,9 +79,9 @@ module _ (question : Question) (level base path : ℕ) where
   pub chosen_put : (c0 c1 c2 c3 c4 c5 c6 body : Draft) → Grows c0 c1 (SqlNode.Case ∷ []) → Grows c1 c2 (SqlNode.Compare ComparisonOperator.Ge SqlType.Whole ∷ []) → Grows c2 c3 (SqlNode.Bound level ∷ [])
       → Grows c3 c4 (SqlNode.Number Digit.Three ∷ []) → Grows c4 c5 (SqlNode.Bound level ∷ []) → Grows c5 c6 (SqlNode.TruthCode ∷ []) → Puts question c6 body Whole Itself → Puts question c0 body ChosenHas Coded
   chosen_put c0 c1 c2 c3 c4 c5 c6 body case_grows compare_grows bound_grows three_grows again_grows code_grows inner =
-      puts_three question SqlNode.Case refl (λ x y z w. (t : Option Bool) × (x ≡ truth t) × ChoiceGives t y z w) c0 c1 c4 c5 body FaultFlag LevelCode WholeCode ChosenHas Itself Itself Itself Coded
+      puts_three question SqlNode.Case refl (λ x y z w. (t : Option Bool) × (x ≡ truth t) × ChoiceGives t y z w) c0 c1 c4 c5 body FaultFlag (LevelCode question level) WholeCode ChosenHas Itself Itself Itself Coded
       (λ asked bound a b c x y z w first second third op. case_means asked bound a b c op.0 y z w (subst (SqlMeans asked bound a) op.1 first) second third op.2)
-      case_grows (fault_flag c1 c2 c3 c4 compare_grows bound_grows three_grows) (level_code c4 c5 again_grows) (whole_code c5 c6 body code_grows inner)
+      case_grows (fault_flag c1 c2 c3 c4 compare_grows bound_grows three_grows) (level_code question level c4 c5 again_grows) (whole_code c5 c6 body code_grows inner)
       (λ world o is has.
       let at = at_least_3 has.0 (code_in has.0 has.1) in (
         gives (boolean at.answer),

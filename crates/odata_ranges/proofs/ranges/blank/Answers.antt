@@ -1,5 +1,4 @@
-use Rattle.std.proofs.Common.{◌∙◌, length, ap, arith}
-use Rattle.odata_ranges.proofs.Put.{long_push}
+use Rattle.std.proofs.Common.{◌∙◌, [], ◌∷◌, length, length-append, ap, arith}
 use Rattle.odata_ranges.proofs.ranges.blank.Goals as goal
 
 pub loop-made-init : goal.loop-made-init
@@ -8,7 +7,7 @@ loop-made-init c = (ap length c.in_ok-ranges.ensures.items, omega arith)
 pub loop-made-preserved : goal.loop-made-preserved
 loop-made-preserved c =
     let l = c.loop-made in
-    let long = ap length c.in_ok-push.ensures.items ∙ long_push l.ranges.items c.plain.result in
+    let long = ap length c.in_ok-push.ensures.items ∙ length-append l.ranges.items (c.plain.result ∷ []) in
     let was = l.invariant.0 in
     (omega (arith, long, was), omega arith)
 

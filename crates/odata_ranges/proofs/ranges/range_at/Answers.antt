@@ -32,13 +32,12 @@ returns-clause-right c =
 
 pub returns-clause-reported : goal.returns-clause-reported
 returns-clause-reported c = λ node at.
-    let own = c.own_range.ensures.own in
+    let own = c.own_range.ensures in
     let fault = ap (λ (r : Range). r.may_fault) c.with_faults.ensures in
     subst (λ (n : CheckedNode). ReportsFaults c.args.ranges.now c.args.place n c.with_faults.result)
     (same_found _ c.node_at-node.result node c.node_at-node.ensures.found at) (record {
       inherits = λ none. c.any_fault-faults.ensures.none (both_none c.with_faults.result.may_fault c.own_range.result.may_fault c.any_fault-faults.result fault none).1;
       owns = λ makes quiet.
-          neither c.with_faults.result.may_fault c.own_range.result.may_fault c.any_fault-faults.result fault
-          (own.quiet c.node_at-node.result c.node_at-node.ensures.found makes quiet) (c.any_fault-faults.ensures.one quiet);
-      entity = λ is. ap (λ (r : Range). r.may_be_null) c.with_faults.ensures ∙ own.entity c.node_at-node.result c.node_at-node.ensures.found is;
+          neither c.with_faults.result.may_fault c.own_range.result.may_fault c.any_fault-faults.result fault (own.quiet makes quiet) (c.any_fault-faults.ensures.one quiet);
+      entity = λ is. ap (λ (r : Range). r.may_be_null) c.with_faults.ensures ∙ own.entity is;
     })

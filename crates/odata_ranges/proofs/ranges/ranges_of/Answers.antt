@@ -1,8 +1,8 @@
-use Rattle.std.proofs.Common.{◌≡◌, ◌<◌, ◌+◌, ◌-◌, ◌∙◌, ℕ, List, length, sym, ap, subst, arith}
+use Rattle.std.proofs.Common.{◌≡◌, ◌<◌, ◌+◌, ◌-◌, ◌∙◌, ℕ, List, length, length-set, sym, ap, subst, arith}
 use Rattle.odata_ranges.specs.Faults.{AreReportedFrom, ReportsFaults}
 use Rattle.odata_ranges.specs.Ranges.{AreRangesFrom}
 use Rattle.odata_ranges.specs.declared.range.Range.{Range}
-use Rattle.odata_ranges.proofs.Put.{as_long, none_after, none_reported, put_range, put_reported}
+use Rattle.odata_ranges.proofs.Put.{none_after, none_reported, put_range, put_reported}
 use Rattle.odata_ranges.proofs.QuietTypes.{all_quiet}
 use Rattle.odata_ranges.proofs.ranges.ranges_of.Goals as goal
 
@@ -42,7 +42,7 @@ loop-place-preserved c =
     let back : l.place ≡ l.place - 1 + 1 = omega arith in
     let after : AreRangesFrom filter (l.place - 1 + 1) l.ranges.items = subst (λ (n : ℕ). AreRangesFrom filter n l.ranges.items) back l.invariant.each in
     record {
-      as_many = as_long l.ranges.items (l.place - 1) c.range_at-found.result ∙ l.invariant.as_many;
+      as_many = length-set l.ranges.items (l.place - 1) c.range_at-found.result ∙ l.invariant.as_many;
       within = omega (arith, l.invariant.within);
       each = put_range filter l.ranges.items (l.place - 1) c.range_at-found.result after c.range_at-found.ensures.right;
       reported = put_reported filter l.ranges.items (l.place - 1) c.range_at-found.result (subst (λ (n : ℕ). AreReportedFrom filter n l.ranges.items) back l.invariant.reported)

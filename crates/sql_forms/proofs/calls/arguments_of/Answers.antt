@@ -1,10 +1,7 @@
 use Rattle.sql_forms.proofs.Common.{◌≡◌, ◌<◌, ◌+◌, arith, refl, subst, sym, CheckedNode, NodeKind, found_there, slice_get, Operand, Source, question_of}
-use Rattle.sql_forms.proofs.answers.AlongAnswers.{ArgumentsSoFar, arguments_end, arguments_more, arguments_start, call_inside, next_after, next_inside, node_is_at}
+use Rattle.sql_forms.proofs.answers.AlongAnswers.{ArgumentsSoFar, arguments_end, arguments_more, arguments_start, next_after, next_inside, node_is_at}
 use Rattle.sql_forms.proofs.nodes.ChildPlaces.{has_range}
 use Rattle.sql_forms.proofs.calls.arguments_of.Goals as goal
-
-pub node-stop-requires : goal.node-stop-requires
-node-stop-requires c = call_inside c.args.context.now.checked.now c.args.place c.requires.call
 
 pub loop-at-init : goal.loop-at-init
 loop-at-init c =

@@ -1,5 +1,6 @@
-use Rattle.sql_forms.proofs.Common.{◌≡◌, arith, false, get_or, length, sym, ◌∙◌, slice_get-get_or, slice_get, goes_there, Range}
-use Rattle.sql_forms.proofs.answers.LoopAnswers.{faultless_on, ranged_at}
+use Rattle.sql_forms.proofs.Common.{◌≡◌, ◌<◌, ℕ, arith, false, get_or, length, sym, ◌∙◌, slice_get-get_or, slice_get, goes_there, Range}
+use Rattle.sql_forms.proofs.answers.LoopAnswers.{faultless_on}
+use Rattle.sql_forms.proofs.outcomes.Elements.{at_all}
 use Rattle.sql_forms.proofs.keeps.faultless_terms.Goals as goal
 
 pub may_fault-requires : goal.may_fault-requires
@@ -7,7 +8,7 @@ may_fault-requires c =
     let terms = c.args.terms.now in
     let term = get_or terms c.loop-count.count 0 in
     let at = slice_get-get_or terms c.loop-count.count 0 c.loop-count-test.true in
-    ranged_at (length c.args.context.now.ranges.now) terms c.loop-count.count term c.requires.ranged at
+    at_all (λ (t : ℕ). t < length c.args.context.now.ranges.now) terms c.loop-count.count term c.requires.ranged at
 
 pub loop-count-preserved : goal.loop-count-preserved
 loop-count-preserved c =

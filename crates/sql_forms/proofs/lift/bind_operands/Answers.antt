@@ -1,5 +1,5 @@
 use Rattle.sql_forms.proofs.Common.{◌≡◌, ◌≢◌, ◌∙◌, List, None, Vec, ap, arith, is_some, length, refl, subst, sym, take, ℕ, take-length, slice_get_read, Global, Operand, Kind, carrier_in}
-use Rattle.sql_forms.proofs.outcomes.LiftedOperands.{got}
+use Rattle.sql_forms.proofs.outcomes.Elements.{at_all}
 use Rattle.sql_forms.proofs.outcomes.LiftWalk.{Taken, bound_on, carried_valued, kept_on, not_both, not_some}
 use Rattle.sql_forms.proofs.lift.bind_operands.Goals as goal
 use Rattle.sql_forms.proofs.lift.bind_operands.Goals.{then-is_some, else-is_some+then-all, else-is_some+else-all}
@@ -14,7 +14,7 @@ loop-operand-preserved c =
           elim c.if-is_some.branch [
             | then-is_some v ↦ carried_valued c.operand-item.result (v.if-is_some.ensures ∙ ap is_some c.carrier.ensures)
             | else-is_some+then-all v ↦
-                got (λ (operand : Operand). operand.kind ≢ Kind.Structured) c.args.operands.now c.loop-operand.operand-index c.operand-item.result (c.requires.valued v.if-all.true) at
+                at_all (λ (operand : Operand). operand.kind ≢ Kind.Structured) c.args.operands.now c.loop-operand.operand-index c.operand-item.result (c.requires.valued v.if-all.true) at
             | else-is_some+else-all v ↦ absurd (not_both c.if-is_some.value w.if-not-is_leaf.true (v.value-is ∙ v.if-all.false))
           ] in
           record {

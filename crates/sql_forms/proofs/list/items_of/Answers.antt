@@ -1,11 +1,8 @@
 use Rattle.sql_forms.proofs.Common.{◌≡◌, ◌<◌, arith, subst, sym, slice_get, CheckedNode, NodeKind, found_there, question_of}
-use Rattle.sql_forms.proofs.answers.AlongAnswers.{ItemsSoFar, items_end, items_more, items_start, kind_inside, next_after, next_inside}
+use Rattle.sql_forms.proofs.answers.AlongAnswers.{ItemsSoFar, items_end, items_more, items_start, next_after, next_inside}
 use Rattle.sql_forms.proofs.nodes.ChildPlaces.{has_range, list_child}
 use Rattle.sql_forms.proofs.nodes.ListPlaces.{items_few}
 use Rattle.sql_forms.proofs.list.items_of.Goals as goal
-
-pub node-stop-requires : goal.node-stop-requires
-node-stop-requires c = kind_inside c.args.context.now.checked.now c.args.place NodeKind.InList c.requires.list
 
 pub second-at-requires : goal.second-at-requires
 second-at-requires c = list_child c.args.context.now.checked.now c.requires.translated.right c.args.place c.requires.list

@@ -1,25 +1,12 @@
-use Rattle.sql_forms.proofs.Common.{◌≡◌, ◌∙◌, Some, None, ap, length, refl, subst, sym, slice_get_read, slice_get, EdmType, ValueType, CheckedNode, found_there, there_found, type_of_field, SqlType, Base, Kind, kind_of_single, kind_of_type, Draft, PutsPath, question_of}
-use Rattle.sql_forms.proofs.answers.PathAnswers.{no_items, ok_column_value, ok_field_value, single_value}
+use Rattle.sql_forms.proofs.Common.{◌≡◌, ◌∙◌, Some, None, ap, length, refl, subst, sym, slice_get_read, slice_get, Base, Draft, PutsPath, question_of}
+use Rattle.sql_forms.proofs.answers.PathAnswers.{no_items, ok_column_value, ok_field_value}
 use Rattle.sql_forms.proofs.path_value.put_path_value.Goals as goal
-use Rattle.sql_forms.proofs.path_value.put_path_value.Goals.{in-Column+then-is_empty, in-Column+else-is_empty, in_default-base}
-
-pub field_type-value_type-requires : goal.field_type-value_type-requires
-field_type-value_type-requires c =
-    let there =
-    found_there (λ (n : CheckedNode). (type : SqlType) × (kind_of_type n.edm_type ≡ Kind.Value type)) (slice_get c.args.context.now.checked.now.list.nodes c.args.place) c.node.result c.node.ensures c.requires.value in
-    subst (λ (t : ValueType). (type : SqlType) × (kind_of_single t ≡ Kind.Value type)) (sym c.in-Single.value_type-is)
-    (subst (λ (t : EdmType). (type : SqlType) × (kind_of_type t ≡ Kind.Value type)) c.in-Single.is there)
-
-pub unreachable-requires : goal.unreachable-requires
-unreachable-requires c =
-    let there =
-    found_there (λ (n : CheckedNode). (type : SqlType) × (kind_of_type n.edm_type ≡ Kind.Value type)) (slice_get c.args.context.now.checked.now.list.nodes c.args.place) c.node.result c.node.ensures c.requires.value in
-    single_value c.node.result.edm_type there c.in_default.not-Single
+use Rattle.sql_forms.proofs.path_value.put_path_value.Goals.{in-Column+then-is_empty, in-Column+else-is_empty, in_default}
 
 pub returns-in-Some : goal.returns-in-Some
 returns-in-Some c =
     let question = question_of c.args.context.now in
-    let after : c.match-found.draft ≡ c.put_path.new.draft = elim c.match-found.branch [ in-Column+then-is_empty w ↦ w.draft-is | in-Column+else-is_empty w ↦ w.draft-is | in_default-base w ↦ w.draft-is ] in
+    let after : c.match-found.draft ≡ c.put_path.new.draft = elim c.match-found.branch [ in-Column+then-is_empty w ↦ w.draft-is | in-Column+else-is_empty w ↦ w.draft-is | in_default w ↦ w.draft-is ] in
     let leads = subst (λ (d : Draft). PutsPath question c.args.draft.now d c.args.place c.in_ok-path.path) (sym after) c.in_ok-path.ensures in
     let paths = c.put_path.new.draft.tree.paths.items in
     let found = c.index-found.result.now in
@@ -30,19 +17,16 @@ returns-in-Some c =
           let one : Some w.in-Column.slot ≡ Some c.in-Some.slot = sym w.column-is ∙ c.in-Some.is in
           let slot : w.in-Column.slot ≡ c.in-Some.slot = cc in
           ok_column_value question c.typed_trees_end_once_on_entities.ensures c.requires.translated.moment c.args.context.now.ranges.now c.requires.translated.ranges c.args.place c.in_ok-path.path
-          c.requires.path c.requires.value c.args.draft.now c.match-found.draft c.put.new.self leads c.put.result c.in-Some.slot found at (w.in-Column.is ∙ ap Base.Column slot)
+          c.requires.path c.args.value_type c.requires.value c.args.draft.now c.match-found.draft c.put.new.self leads c.put.result c.in-Some.slot found at (w.in-Column.is ∙ ap Base.Column slot)
           (no_items found.steps.items w.as_slice.result.now w.is_empty.result w.as_slice.ensures.value w.is_empty.ensures w.if-is_empty.true) c.put.ensures.ok)
       | in-Column+else-is_empty w ↦ (let none : None ≡ Some c.in-Some.slot = sym w.column-is ∙ c.in-Some.is in absurd (cc))
-      | in_default-base w ↦ (let none : None ≡ Some c.in-Some.slot = sym w.column-is ∙ c.in-Some.is in absurd (cc))
+      | in_default w ↦ (let none : None ≡ Some c.in-Some.slot = sym w.column-is ∙ c.in-Some.is in absurd (cc))
     ]
 
 pub returns-in-None : goal.returns-in-None
 returns-in-None c =
     let question = question_of c.args.context.now in
-    let after : c.match-found.draft ≡ c.put_path.new.draft = elim c.match-found.branch [ in-Column+then-is_empty w ↦ w.draft-is | in-Column+else-is_empty w ↦ w.draft-is | in_default-base w ↦ w.draft-is ] in
+    let after : c.match-found.draft ≡ c.put_path.new.draft = elim c.match-found.branch [ in-Column+then-is_empty w ↦ w.draft-is | in-Column+else-is_empty w ↦ w.draft-is | in_default w ↦ w.draft-is ] in
     let leads = subst (λ (d : Draft). PutsPath question c.args.draft.now d c.args.place c.in_ok-path.path) (sym after) c.in_ok-path.ensures in
     ok_field_value question c.typed_trees_end_once_on_entities.ensures c.requires.translated.moment c.args.context.now.ranges.now c.requires.translated.ranges c.args.place c.in_ok-path.path
-    c.requires.path c.requires.value c.args.draft.now c.match-found.draft c.put-in-None.new.self leads c.put-in-None.result c.field_type-value_type.result
-    (there_found (λ (n : CheckedNode). kind_of_type n.edm_type ≡ Kind.Value (type_of_field c.field_type-value_type.result)) (slice_get c.args.context.now.checked.now.list.nodes c.args.place) c.node.result c.node.ensures
-    (ap kind_of_type c.in-Single.is ∙ ap kind_of_single (sym c.in-Single.value_type-is) ∙ c.field_type-value_type.ensures))
-    c.put-in-None.ensures.ok
+    c.requires.path c.args.value_type c.requires.value c.args.draft.now c.match-found.draft c.put-in-None.new.self leads c.put-in-None.result c.put-in-None.ensures.ok
