@@ -57,7 +57,7 @@ each_by P Q by (p ∷ ps) each = (by p each.0, each_by P Q by ps each.1)
 mutual
   value_kept : (slots : Slots) (expansion : PathSet) (nullable : Bool) (type : ExprType) (json : Data) (v : Val) → FitsType (expanded slots expansion) nullable type json v → IsStorable v
       → IsKept slots type v
-  value_kept slots expansion nullable type json (text s) fits storable = storable
+  value_kept slots expansion nullable type json (text s) fits storable = storable.0
   value_kept slots expansion nullable (single (structured name)) json (fields f) fits storable =
       each_by (λ p. FitsProperty (expanded slots (below expansion p.name)) p.nullable p.type_of (get p.name json) (f p.name))
       (λ p. IsKeptProperty slots p.type_of (property_takes_null p.type_of p.nullable) (f p.name))
