@@ -1,15 +1,17 @@
 -- What holds at the moment for a filter, as what holds of the filter's handle and the judge.
 use Rattle.std.proofs.Common.{◌≡◌, ℕ, List, Result, Ok, Err, Option, None, Some, refl, subst}
+use Rattle.std.specs.Prelude.{Bool, true, false, IsFalse, if◌then◌else◌}
 use Rattle.edm_values.specs.MomentParts.{MomentParts}
+use Rattle.line_filter.specs.declared.judge.Judgment.{Judgment}
 use Rattle.line_filter.specs.declared.tally.Tally.{Tally}
 use Rattle.odata_checked_filter.specs.Filter.{Filter}
 use Rattle.odata_eval.specs.declared.verdict.Verdict.{Verdict}
-use Rattle.row_judges.specs.RowAnswer.{ReportsRow}
+use Rattle.row_judges.specs.RowAnswer.{ReportsRow, is_memory}
 use Rattle.row_judges.specs.RowCosts.{ReportsRowWithin}
+use Rattle.row_judges.specs.RowJudgment.{JudgesRow}
 use Rattle.row_judges.specs.declared.bad_row.BadRow.{BadRow}
-use Rattle.row_judges.specs.declared.no_verdict.NoVerdict.{NoVerdict}
 use Rattle.handle_calls.specs.RowCalls.{IsMomentFor, IsOutcomeAt, IsOutcomeOn, IsRunAt, IsRunOver}
-use Rattle.handle_calls.specs.private.JudgeCalls.{row_fault}
+use Rattle.handle_calls.specs.private.JudgeCalls.{fault_at_no_line, row_fault}
 use Rattle.handle_calls.specs.declared.call_fault.Fault.{Fault}
 
 -- what is said at the moment that was taken, of the filter as it was put together
@@ -71,17 +73,28 @@ outcome_there filter given bound row (Err Fault.Unsayable) there = there
 outcome_there filter given bound row (Err Fault.TooDeep) there = there
 outcome_there filter given bound row (Err Fault.UnknownColumn) there = there
 
--- what is reported about a row without a bound, and within one
-pub plain_row : (filter : Filter) (now : MomentParts) (row : List ℕ) (why : NoVerdict) → ReportsRow filter now row (Err why)
-    → IsOutcomeAt filter now None row (Err (row_fault why))
-plain_row filter now row (NoVerdict.Bad BadRow.NotJson) reported = (refl, reported)
-plain_row filter now row (NoVerdict.Bad (BadRow.NoEntity fault)) reported = (refl, reported)
-plain_row filter now row (NoVerdict.Bad (BadRow.NoValue fault)) reported = (refl, (reported, tt))
-plain_row filter now row NoVerdict.Memory reported = tt
+-- what is reported about a row without a bound, and within one: nothing where memory ran out
+by_memory : (Says : Fault → Type 0) (why : BadRow) → Says Fault.Memory → (IsFalse (is_memory why) → Says (fault_at_no_line why)) → Says (row_fault why)
+by_memory Says why of_memory known = by (is_memory why) refl
+  where
+    by : (b : Bool) → is_memory why ≡ b → Says (if b then Fault.Memory else fault_at_no_line why)
+    by true is = of_memory
+    by false is = known is
 
-pub bounded_row : (filter : Filter) (now : MomentParts) (row : List ℕ) (most : ℕ) (why : NoVerdict)
+pub plain_row : (filter : Filter) (now : MomentParts) (row : List ℕ) (why : BadRow) → ReportsRow filter now row (Err why)
+    → IsOutcomeAt filter now None row (Err (row_fault why))
+plain_row filter now row why reported = by_memory (λ fault. IsOutcomeAt filter now None row (Err fault)) why tt (λ known. by why (reported known))
+  where
+    by : (bad : BadRow) → JudgesRow filter now row (Judgment.Fault bad) → IsOutcomeAt filter now None row (Err (fault_at_no_line bad))
+    by BadRow.NotJson judges = (refl, judges)
+    by (BadRow.NoEntity fault) judges = (refl, judges)
+    by (BadRow.NoValue fault) judges = (refl, (judges, tt))
+
+pub bounded_row : (filter : Filter) (now : MomentParts) (row : List ℕ) (most : ℕ) (why : BadRow)
     → ReportsRowWithin filter now row most (Err why) → IsOutcomeAt filter now (Some most) row (Err (row_fault why))
-bounded_row filter now row most (NoVerdict.Bad BadRow.NotJson) reported = (refl, reported)
-bounded_row filter now row most (NoVerdict.Bad (BadRow.NoEntity fault)) reported = (refl, reported)
-bounded_row filter now row most (NoVerdict.Bad (BadRow.NoValue fault)) reported = (refl, reported)
-bounded_row filter now row most NoVerdict.Memory reported = tt
+bounded_row filter now row most why reported = by_memory (λ fault. IsOutcomeAt filter now (Some most) row (Err fault)) why tt (by why reported)
+  where
+    by : (bad : BadRow) → ReportsRowWithin filter now row most (Err bad) → IsFalse (is_memory bad) → IsOutcomeAt filter now (Some most) row (Err (fault_at_no_line bad))
+    by BadRow.NotJson judges known = (refl, judges known)
+    by (BadRow.NoEntity fault) judges known = (refl, judges known)
+    by (BadRow.NoValue fault) judges known = (refl, judges known)

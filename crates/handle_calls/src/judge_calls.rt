@@ -22,7 +22,7 @@ use edm_entities::RowReader;
 use edm_values::{Moment, read_moment};
 use jiff::civil;
 use odata_eval::Verdict;
-use odata_filter::{BadRow, BoundedJudge, FilterRows, NoVerdict, judge_row};
+use odata_filter::{BadRow, BoundedJudge, FilterRows, judge_row};
 use odata_typing::Checked;
 use std::alloc::{AllocError, Global};
 use std::sync::Arc;
@@ -128,19 +128,21 @@ pub(crate) fn moment_for(checked: &Checked<'_>, given: Option<Moment>) -> Result
 }
 
 /// The fault of a row by itself.
-fn row_fault(why: NoVerdict) -> Fault
+fn row_fault(why: BadRow) -> Fault
     ensures { result ≡ row_fault why }
 {
+    if why.is_memory() {
+        return Fault::Memory;
+    }
     match why {
-        NoVerdict::Bad(BadRow::NotJson) => Fault::Json { line: 0 },
-        NoVerdict::Bad(BadRow::NoEntity(fault)) => Fault::Row { line: 0, fault },
-        NoVerdict::Bad(BadRow::NoValue(fault)) => Fault::Evaluation { line: 0, fault },
-        NoVerdict::Memory => Fault::Memory,
+        BadRow::NotJson => Fault::Json { line: 0 },
+        BadRow::NoEntity(fault) => Fault::Row { line: 0, fault },
+        BadRow::NoValue(fault) => Fault::Evaluation { line: 0, fault },
     }
 }
 
 /// What a filter says of a row without a bound, as a call reports it.
-fn plain_outcome(reported: Result<Verdict, NoVerdict>) -> Result<Verdict, Fault>
+fn plain_outcome(reported: Result<Verdict, BadRow>) -> Result<Verdict, Fault>
     ensures { (filter : Filter) → (now : MomentParts) → (row : List ℕ) → ReportsRow filter now row reported
         → IsOutcomeAt filter now None row result }
 {
@@ -151,7 +153,7 @@ fn plain_outcome(reported: Result<Verdict, NoVerdict>) -> Result<Verdict, Fault>
 }
 
 /// What a filter says of a row within a bound, as a call reports it.
-fn bounded_outcome(reported: Result<Option<Verdict>, NoVerdict>) -> Result<Verdict, Fault>
+fn bounded_outcome(reported: Result<Option<Verdict>, BadRow>) -> Result<Verdict, Fault>
     ensures { (filter : Filter) → (now : MomentParts) → (row : List ℕ) → (most : ℕ)
         → ReportsRowWithin filter now row most reported → IsOutcomeAt filter now (Some most) row result }
 {

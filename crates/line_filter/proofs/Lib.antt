@@ -3,7 +3,7 @@ mod DeviceLaws
 mod FeedLemmas
 pub mod ItemLaws
 mod LineLaws
-mod PlaceLaws
+mod IndexLaws
 mod ReaderLaws
 mod RunLaws
 mod WriteLaws

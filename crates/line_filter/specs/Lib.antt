@@ -1,5 +1,6 @@
 pub mod CallLogs
 pub mod Growth
+pub mod ItemIndexes
 pub mod Kept
 pub mod LineItems
 pub mod LineSource
@@ -7,5 +8,4 @@ pub mod LineStreams
 pub mod Lines
 pub mod Logged
 pub mod Once
-pub mod Places
 pub mod private

@@ -21,7 +21,7 @@ left_of remaining source = prepend_known source.waiting (remaining source.reader
 -- The first line of these bytes, and what follows it, past its LF if it has one.
 pub record IsFirstLine (bytes line rest : List ℕ) : Type 0 where
   pub first : lines_of bytes ≡ line ∷ lines_of rest
-  pub behind : (bytes ≡ line ++ 10 ∷ rest) ⊎ ((bytes ≡ line) × (rest ≡ []))
+  pub whole : (bytes ≡ line ++ 10 ∷ rest) ⊎ ((bytes ≡ line) × (rest ≡ []))
 
 -- the first line of these bytes is over-long
 abbrev pub BeginsTooLong : List ℕ → Type 0

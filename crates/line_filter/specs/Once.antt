@@ -4,7 +4,7 @@ use Rattle.line_filter.specs.declared.judge.Judgment.{Judgment}
 use Rattle.line_filter.specs.declared.line_class.LineClass.{LineClass}
 use Rattle.line_filter.specs.Kept.{IsFaultless}
 use Rattle.line_filter.specs.LineItems.{LineJudge}
-use Rattle.line_filter.specs.Places.{ItemJudge}
+use Rattle.line_filter.specs.ItemIndexes.{ItemJudge}
 
 -- the judgment, whatever a fault reports
 abbrev pub kind_of : {F : Type 0} → Judgment F → Judgment (Unit {0})

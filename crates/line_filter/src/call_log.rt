@@ -16,7 +16,7 @@ pub enum CallLog {
     /// The last call has failed, the first one to do so, and none was a flush.
     Failed,
     /// A call came after a flush or a failed one.
-    Behind,
+    After,
 }
 
 impl CallLog {
@@ -28,7 +28,7 @@ impl CallLog {
             CallLog::Unlogged => CallLog::Unlogged,
             CallLog::Unfailing => CallLog::Unfailing,
             CallLog::Well => CallLog::Well,
-            CallLog::Flushed | CallLog::Failed | CallLog::Behind => CallLog::Behind,
+            CallLog::Flushed | CallLog::Failed | CallLog::After => CallLog::After,
         }
     }
 
@@ -40,7 +40,7 @@ impl CallLog {
             CallLog::Unlogged => CallLog::Unlogged,
             CallLog::Unfailing => CallLog::Unfailing,
             CallLog::Well => CallLog::Flushed,
-            CallLog::Flushed | CallLog::Failed | CallLog::Behind => CallLog::Behind,
+            CallLog::Flushed | CallLog::Failed | CallLog::After => CallLog::After,
         }
     }
 
@@ -51,7 +51,7 @@ impl CallLog {
         match self {
             CallLog::Unlogged => CallLog::Unlogged,
             CallLog::Unfailing | CallLog::Well => CallLog::Failed,
-            CallLog::Flushed | CallLog::Failed | CallLog::Behind => CallLog::Behind,
+            CallLog::Flushed | CallLog::Failed | CallLog::After => CallLog::After,
         }
     }
 }

@@ -1,8 +1,9 @@
+//! The loop over the items of a list, of which the kept ones are reported by their indexes.
 ghost use Rattle.std.specs.Prelude.{◌≡◌, ℕ, List, [], decimal, IfErr, IfOk, OnErr, OnOk};
 ghost use Rattle.line_filter.specs.CallLogs.{StaysWell, FailsLast};
 ghost use Rattle.line_filter.specs.Growth.{Writes};
 ghost use Rattle.line_filter.specs.Kept.{StopsWithin, IsOfItem};
-ghost use Rattle.line_filter.specs.Places.{IsJudged, places};
+ghost use Rattle.line_filter.specs.ItemIndexes.{IsJudged, indexed_items};
 ghost use Rattle.line_filter.specs.private.HeldBack.{WritesBut};
 ghost use Rattle.line_filter.specs.private.Walk.{GoesOver};
 
@@ -35,22 +36,22 @@ fn judge_items<J: JudgeItem, W: Write, T: Writes<W>>(
     requires { held.old.items ≡ [] }
     ensures ok { IfOk result (λ outcome. (text : List ℕ)
         × WritesBut (W.contents out.old) (W.contents out.new) held.new.items text
-        × GoesOver (places (J.says judge.now) items.now) text outcome) }
+        × GoesOver (indexed_items (J.says judge.now) items.now) text outcome) }
     ensures of_item { IfOk result (λ outcome. IfErr outcome IsOfItem) }
     ensures err { OnErr result
-        (Writes (W.contents out.old) (W.contents out.new) (StopsWithin (places (J.says judge.now) items.now))) }
+        (Writes (W.contents out.old) (W.contents out.new) (StopsWithin (indexed_items (J.says judge.now) items.now))) }
     ensures well { OnOk result (StaysWell (T.calls out.old) (T.calls out.new)) }
     ensures failed { OnErr result (FailsLast (T.calls out.old) (T.calls out.new)) }
 {
-    let mut place = 0;
+    let mut index = 0;
     let mut tally = Tally { rows: 0, kept: 0 };
     for item in items {
         let found = find_item(judge, item);
         let mut buffer = Buffer::new();
-        let text = buffer.format(place);
-        match settle::<J::Fault, W, T>(found, text.as_bytes(), place + 1, out, held)? {
+        let text = buffer.format(index);
+        match settle::<J::Fault, W, T>(found, text.as_bytes(), index + 1, out, held)? {
             Ok(one) => {
-                place += 1;
+                index += 1;
                 tally.rows += one.rows;
                 tally.kept += one.kept;
             }
@@ -61,17 +62,17 @@ fn judge_items<J: JudgeItem, W: Write, T: Writes<W>>(
 }
 
 /// Judges the items up to the first fault, and writes the indexes of the kept ones.
-pub fn write_kept_places<J: JudgeItem, W: Write, T: Writes<W>>(
+pub fn write_kept_indexes<J: JudgeItem, W: Write, T: Writes<W>>(
     alloc: Global,
     judge: &J,
     items: &[J::Item],
     out: &mut W,
 ) -> Result<Result<Tally, RunStop<J::Fault>>, NotWritten>
     ensures ok { IfOk result (λ outcome. Writes (W.contents out.old) (W.contents out.new)
-        (λ text. GoesOver (places (J.says judge.now) items.now) text outcome)) }
+        (λ text. GoesOver (indexed_items (J.says judge.now) items.now) text outcome)) }
     ensures of_item { IfOk result (λ outcome. IfErr outcome IsOfItem) }
     ensures err { OnErr result
-        (Writes (W.contents out.old) (W.contents out.new) (StopsWithin (places (J.says judge.now) items.now))) }
+        (Writes (W.contents out.old) (W.contents out.new) (StopsWithin (indexed_items (J.says judge.now) items.now))) }
     ensures well { OnOk result (StaysWell (T.calls out.old) (T.calls out.new)) }
     ensures failed { OnErr result (FailsLast (T.calls out.old) (T.calls out.new)) }
 {

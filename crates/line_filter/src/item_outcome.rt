@@ -1,3 +1,4 @@
+//! What an item counts, or why the run stops at it. The loops over streams, bytes and lists all settle items by this.
 ghost use Rattle.std.specs.Prelude.{◌≡◌, ◌++◌, Ok, true, IfOk, OnOk, OnErr};
 ghost use Rattle.line_filter.specs.declared.judge.Judgment.{Judgment as JudgmentModel};
 ghost use Rattle.line_filter.specs.declared.line_class.LineClass.{LineClass as LineClassModel};

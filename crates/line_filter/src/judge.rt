@@ -2,11 +2,12 @@ ghost use Rattle.std.specs.Prelude.{◌≤◌, length, take, IfOk, IfSome, IsTru
 ghost use Rattle.std.specs.Str.{IsAscii};
 ghost use Rattle.line_filter.specs.LineItems.{LineJudge, SaysTheSame};
 ghost use Rattle.line_filter.specs.Lines.{IsBlank};
-ghost use Rattle.line_filter.specs.Places.{ItemJudge};
+ghost use Rattle.line_filter.specs.ItemIndexes.{ItemJudge};
 
 use std::alloc::AllocError;
 
-/// The judgment of an item. The item is a line that is neither too long nor blank, or what stands in a list.
+/// The judgment of an item. It is what a run needs to know of a verdict, and a fault that the judge alone can name. The
+/// item is a line that is neither too long nor blank, or what stands in a list.
 #[derive(Debug, Drop)]
 pub enum Judgment<F> {
     Kept,

@@ -5,7 +5,7 @@ ghost use Rattle.line_filter.specs.declared.tally.Tally.{Tally as TallyModel};
 ghost use Rattle.line_filter.specs.Kept.{Filters, StopsAt};
 ghost use Rattle.line_filter.specs.LineItems.{IsFoundOf, lines};
 ghost use Rattle.line_filter.specs.Once.{IsFaulty, JudgesItemsOnce, JudgesOnce, kind_found};
-ghost use Rattle.line_filter.specs.Places.{places};
+ghost use Rattle.line_filter.specs.ItemIndexes.{indexed_items};
 
 use super::judge::{Judge, SaysOfItems};
 use std::io::{Read, Write};
@@ -41,13 +41,14 @@ pub fn lines_stop_once<J: Judge>(judge: &J)
 pub fn items_stop_once<J: SaysOfItems>(judge: &J)
     requires { JudgesItemsOnce (J.says judge.now) }
     ensures stopped { (items : List J.Item) (text other : List ℕ) (m n : ℕ) (f g : LineClassModel J.Fault)
-        → IsFaulty f → IsFaulty g → (a : StopsAt (places (J.says judge.now) items) text m f)
-        → (b : StopsAt (places (J.says judge.now) items) other n g) → (m ≡ n) × (text ≡ other) × (a.bad ≡ b.bad) }
+        → IsFaulty f → IsFaulty g → (a : StopsAt (indexed_items (J.says judge.now) items) text m f)
+        → (b : StopsAt (indexed_items (J.says judge.now) items) other n g)
+        → (m ≡ n) × (text ≡ other) × (a.bad ≡ b.bad) }
     ensures filtered { (items : List J.Item) (text other : List ℕ) (tally : TallyModel) (n : ℕ)
         (f : LineClassModel J.Fault)
-        → Filters (places (J.says judge.now) items) text tally → IsFaulty f
-        → StopsAt (places (J.says judge.now) items) other n f → ⊥ }
+        → Filters (indexed_items (J.says judge.now) items) text tally → IsFaulty f
+        → StopsAt (indexed_items (J.says judge.now) items) other n f → ⊥ }
     ensures kept { (items : List J.Item) (text other : List ℕ) (m n : TallyModel)
-        → Filters (places (J.says judge.now) items) text m
-        → Filters (places (J.says judge.now) items) other n → (text ≡ other) × (m ≡ n) }
+        → Filters (indexed_items (J.says judge.now) items) text m
+        → Filters (indexed_items (J.says judge.now) items) other n → (text ≡ other) × (m ≡ n) }
 {}

@@ -1,3 +1,4 @@
+//! What is found of a line: that it is too long, that it is blank, or what the judge says of it.
 ghost use Rattle.std.specs.Prelude.{IfOk, IsTrue, length, take, ◌↔◌, ◌≡◌};
 ghost use Rattle.line_filter.specs.LineItems.{IsFoundOf, SaysTheSame};
 ghost use Rattle.line_filter.specs.Lines.{IsBlank, is_space};
@@ -9,7 +10,8 @@ use std::alloc::AllocError;
 /// The most bytes that a line may have before its LF.
 pub(crate) const LONGEST_LINE: usize = 1_048_576;
 
-/// The class of an item. A line that is too long or blank is not judged; items of other kinds may all be.
+/// The class of an item. To a judgment it adds what no judge sees: lines that are too long, and blank ones. Items of
+/// other kinds may all be judged.
 #[derive(Debug, Drop)]
 pub enum LineClass<F> {
     TooLong,

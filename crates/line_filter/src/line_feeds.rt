@@ -31,23 +31,23 @@ pub(crate) fn first_line_feed(bytes: &[u8], from: usize, to: usize) -> Option<(u
         (λ found. NoneBefore (Passes (is_byte 10) bytes.now) from to found.0 × Passes (is_byte 10) bytes.now found.0) }
     ensures ascii { IfSome result (λ found. IsTrue found.1 → AsciiBetween bytes.now from found.0) }
 {
-    let mut place = from;
+    let mut offset = from;
     let mut is_ascii = true;
-    while to - place >= 64 {
-        let lanes = u8x64::from_slice(&bytes[place..]);
+    while to - offset >= 64 {
+        let lanes = u8x64::from_slice(&bytes[offset..]);
         let feeds = feeds_64(lanes);
         let beyond = beyond_64(lanes);
         if feeds != 0 {
             let count = feeds.trailing_zeros();
             return Some((
-                place + count as usize,
+                offset + count as usize,
                 is_ascii & (beyond.trailing_zeros() >= count),
             ));
         }
         is_ascii = is_ascii & (beyond == 0);
-        place += 64;
+        offset += 64;
     }
-    match line_feed_of_few(bytes, place, to) {
+    match line_feed_of_few(bytes, offset, to) {
         Some(feed) => Some((feed, false)),
         None => None,
     }

@@ -6,11 +6,11 @@ ghost use Rattle.line_filter.specs.Kept.{Filters, StopsHeld, StopsWith};
 ghost use Rattle.line_filter.specs.LineItems.{lines, SaysTheSame};
 ghost use Rattle.line_filter.specs.LineSource.{left_of, IsOver};
 ghost use Rattle.line_filter.specs.LineStreams.{LacksLine, ReadsUntil, WritesUntil};
-ghost use Rattle.line_filter.specs.Places.{places};
+ghost use Rattle.line_filter.specs.ItemIndexes.{indexed_items};
 ghost use Rattle.line_filter.specs.private.Walk.{Closes, Ends};
 
 use super::device::{Reads, Writes};
-use super::item_indexes::write_kept_places;
+use super::item_indexes::write_kept_indexes;
 use super::judge::{Judge, JudgeItem};
 use super::line_reader::LineReader;
 use super::run_stop::RunStop;
@@ -75,20 +75,20 @@ pub fn filter_reader<R: Read, S: Reads<R>, J: Judge, W: Write, T: Writes<W>>(
 ///
 /// The first faulty item ends the run with `Fault`, whose number is the item's index plus one. `Write` reports a write
 /// that fails or takes no byte, and a failed flush. Up to 65,536 bytes are held back before they are written.
-pub fn filter_places<J: JudgeItem, W: Write, T: Writes<W>>(
+pub fn filter_items<J: JudgeItem, W: Write, T: Writes<W>>(
     alloc: Global,
     judge: &J,
     items: &[J::Item],
     out: &mut W,
 ) -> Result<Tally, RunStop<J::Fault>>
     ensures filters { IfOk result (λ tally. Writes (W.contents out.old) (W.contents out.new)
-        (λ text. Filters (places (J.says judge.now) items.now) text tally)) }
+        (λ text. Filters (indexed_items (J.says judge.now) items.now) text tally)) }
     ensures stops { IfErr result (λ stop. Writes (W.contents out.old) (W.contents out.new)
-        (λ text. StopsHeld (places (J.says judge.now) items.now) text stop)) }
+        (λ text. StopsHeld (indexed_items (J.says judge.now) items.now) text stop)) }
     ensures writes { MatchResult result (λ tally. FlushesLast (T.calls out.old) (T.calls out.new))
         (λ stop. WritesUntil (T.calls out.old) (T.calls out.new) stop) }
 {
-    match write_kept_places::<J, W, T>(alloc, judge, items, out) {
+    match write_kept_indexes::<J, W, T>(alloc, judge, items, out) {
         Ok(outcome) => finish::<J::Fault, W, T>(outcome, out),
         Err(_) => Err(RunStop::Write),
     }

@@ -1,7 +1,8 @@
 use std::fmt::Display;
 use thiserror::Error;
 
-/// Why a run over lines ended early. Lines are counted from 1.
+/// Why a run over lines ended early. To a judge's fault it adds the line, counted from 1, and faults of devices and of
+/// memory.
 #[derive(Debug, Drop, Error)]
 #[error_bound(F: Display)]
 pub enum RunStop<F> {

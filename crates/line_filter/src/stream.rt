@@ -1,3 +1,4 @@
+//! The loop over the lines of a reader, read as they are needed.
 ghost use Rattle.std.specs.Prelude.{◌≡◌, ℕ, ◌+◌, ◌-◌, ◌<◌, ◌^◌, List, [], IfErr, IfOk, IfSome, MatchResult, OnOk, OnErr};
 ghost use Rattle.line_filter.specs.CallLogs.{StaysWell, FailsLast};
 ghost use Rattle.line_filter.specs.Growth.{Writes, WritesFront};

@@ -2,7 +2,6 @@
 use Rattle.std.specs.Prelude.{true, false, Option, Some, None, Result, Ok, Err}
 use Rattle.edm_values.specs.Val.{Val, null, boolean}
 use Rattle.odata_filter_operations.specs.declared.fault.EvalFault.{EvalFault}
-use Rattle.odata_eval.specs.declared.stop.EvalStop.{EvalStop}
 use Rattle.odata_eval.specs.declared.verdict.Verdict.{Verdict}
 use Rattle.odata_filter_operations.specs.FaultView.{fault_outcome}
 use Rattle.odata_filter_operations.specs.Outcome.{Outcome, gives}
@@ -18,7 +17,7 @@ reported_outcome (Ok verdict) = Some (gives (verdict_val verdict))
 reported_outcome (Err fault) = fault_outcome fault
 
 -- so of a bounded answer; none where it says only that the bound is too low
-abbrev pub outcome_reported : Result Verdict EvalStop → Option Outcome
-outcome_reported (Ok verdict) = Some (gives (verdict_val verdict))
-outcome_reported (Err (EvalStop.Fault fault)) = fault_outcome fault
-outcome_reported (Err EvalStop.TooCostly) = None
+abbrev pub outcome_reported : Result (Option Verdict) EvalFault → Option Outcome
+outcome_reported (Ok (Some verdict)) = Some (gives (verdict_val verdict))
+outcome_reported (Ok None) = None
+outcome_reported (Err fault) = fault_outcome fault

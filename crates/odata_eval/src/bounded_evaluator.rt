@@ -21,21 +21,21 @@ use odata_filter_operations::EvalFault;
 use std::alloc::Global;
 
 /// Evaluates the filter on the entity, within a bound on its cost. The bound is on the bodies of lambda operators, and
-/// the items of lists within them, that it evaluates. If it costs more, evaluation stops with `TooCostly`.
+/// the items of lists within them, that it evaluates. `None` if the filter costs more than the bound allows.
 pub fn evaluate_within(
     alloc: Global,
     checked: &Checked<'_>,
     entity: &Entity<'_>,
     now: &Moment,
     most: u64,
-) -> Result<Verdict, EvalStop>
+) -> Result<Option<Verdict>, EvalFault>
     requires one_schema { checked.now.schema ≡ entity.now.schema }
     requires one_type { checked.now.filtered ≡ entity.now.type_id }
     requires covers { Covers (paths_in entity.now.expansion) (paths_in checked.now.expansion) }
     ensures outcome { IfSome (outcome_reported result)
         (IsTheOutcome entity.now now.now (tree_of_filter checked.now)) }
     ensures bound { KeepsBound entity.now now.now (tree_of_filter checked.now) most result }
-    ensures no_memory { ¬ TakesMemory (tree_of_filter checked.now) → result ≢ Err (EvalStop.Fault EvalFault.Memory) }
+    ensures no_memory { ¬ TakesMemory (tree_of_filter checked.now) → result ≢ Err EvalFault.Memory }
 {
     let _nodes = checked.nodes();
     let moment = Value::Moment(*now);
@@ -43,6 +43,9 @@ pub fn evaluate_within(
     context.ends_once();
     context.costs_once();
     let mut budget = Budget::Left(most);
-    let truth = truth_at(&context, 0, &mut budget)?;
-    Ok(verdict_of(truth))
+    match truth_at(&context, 0, &mut budget) {
+        Ok(truth) => Ok(Some(verdict_of(truth))),
+        Err(EvalStop::Fault(fault)) => Err(fault),
+        Err(EvalStop::TooCostly) => Ok(None),
+    }
 }

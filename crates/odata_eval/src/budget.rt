@@ -91,6 +91,7 @@ pub(crate) fn fault_of(stop: EvalStop) -> EvalFault
 {
     match stop {
         EvalStop::Fault(fault) => fault,
+        // No walk without a bound stops for its cost.
         EvalStop::TooCostly => unreachable!(),
     }
 }

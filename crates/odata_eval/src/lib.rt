@@ -32,6 +32,5 @@ mod walk_operand;
 pub use bounded_evaluator::evaluate_within;
 pub use evaluator::{evaluate, evaluate_with};
 pub use odata_filter_operations::EvalFault;
-pub use stop::EvalStop;
 pub use value_tests::{SlotSieve, SlotTests, slot_sieves};
 pub use verdict::Verdict;

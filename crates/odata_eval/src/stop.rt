@@ -1,13 +1,10 @@
 use odata_filter_operations::EvalFault;
-use thiserror::Error;
 
-/// Why a bounded evaluation has no verdict. It is displayed by its name.
-#[derive(Clone, Copy, Debug, PartialEq, Eq, Error)]
-pub enum EvalStop {
+/// Why a walk stopped early. It is the walk's own: what it reports leaves by `Result<Option<_>, EvalFault>`.
+#[derive(Clone, Copy)]
+pub(crate) enum EvalStop {
     /// The filter has no value on the entity.
-    #[error("{0}")]
     Fault(EvalFault),
-    /// The filter costs more on the entity than the bound allows.
-    #[error("TooCostly")]
+    /// The walk asked for more than its budget had left.
     TooCostly,
 }

@@ -78,9 +78,9 @@ fn plain_truth_at<B: Counting>(
     }
     match walk_operand_at(context, place) {
         WalkOperand::Leaf(value) => Ok(kept_truth(value)),
-        WalkOperand::Logical => unreachable!(),
         WalkOperand::Numeric => numeric_truth_at(context, place, budget),
-        WalkOperand::Eager => made_truth_at(context, place, budget),
+        // It takes the values of its operands, since it is none of truth values.
+        _ => made_truth_at(context, place, budget),
     }
 }
 
@@ -440,12 +440,10 @@ fn made_at<'e, B: Counting>(
         NodeKind::InPath => as_stop(among_at::<B>(context, place, &first)),
         NodeKind::InList => listed_at(context, place, &first, budget),
         NodeKind::Lambda { quantifier } => lambda_at(context, place, quantifier, first, budget),
-        NodeKind::Binary { operator } => match operator {
-            BinaryOperator::Comparison(comparison) => {
-                compared_at(context, place, comparison, first, budget)
-            }
-            _ => unreachable!(),
-        },
+        NodeKind::Binary {
+            operator: BinaryOperator::Comparison(comparison),
+        } => compared_at(context, place, comparison, first, budget),
+        // The walk takes no other node by the values of its operands.
         _ => unreachable!(),
     }
 }

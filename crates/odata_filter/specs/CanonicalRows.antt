@@ -17,7 +17,6 @@ use Rattle.row_judges.specs.RowAnswer.{ReportsRow}
 use Rattle.row_judges.specs.RowJudgment.{FilterMeans, JudgesRow, JudgesValue, rows_of}
 use Rattle.odata_filter.specs.RunStops.{StopsBy}
 use Rattle.row_judges.specs.declared.bad_row.BadRow.{BadRow}
-use Rattle.row_judges.specs.declared.no_verdict.NoVerdict.{NoVerdict}
 use Rattle.odata_filter.specs.declared.run_fault.RunFault.{RunFault}
 
 -- `check` accepts the text as the first filter, and the canonical text of that as the second, for the same type of the
@@ -58,7 +57,7 @@ SaySameOfValues filter again =
 -- of each row by itself they have the same answers
 abbrev pub AnswerRowsAlike : Filter → Filter → Type 0
 AnswerRowsAlike filter again =
-    (now : MomentParts) (row : List ℕ) (answer : Result Verdict NoVerdict)
+    (now : MomentParts) (row : List ℕ) (answer : Result Verdict BadRow)
     → ReportsRow filter now row answer ↔ ReportsRow again now row answer
 
 -- of every input they keep the same lines and count the same

@@ -6,7 +6,7 @@ use Rattle.serde_json.specs.View.{items_of}
 use Rattle.edm_values.specs.MomentParts.{MomentParts}
 use Rattle.csdl_schema.specs.JsonText.{IsJsonOf, IsNoJson}
 use Rattle.line_filter.specs.Kept.{Items, StopsOn}
-use Rattle.line_filter.specs.Places.{Placed, places}
+use Rattle.line_filter.specs.ItemIndexes.{IndexedItem, indexed_items}
 use Rattle.row_judges.specs.declared.bad_row.BadRow.{BadRow}
 use Rattle.odata_filter.specs.declared.run_fault.RunFault.{RunFault}
 use Rattle.row_judges.specs.RowJudgment.{JudgesValue}
@@ -28,11 +28,11 @@ abbrev pub IsNoCollection : List ℕ → Type 0
 IsNoCollection document = IsNoJson document ⊎ ((json : Data) × IsJsonOf document json × (array_of json ≡ None))
 
 -- the items, each at its index and judged by the filter
-abbrev pub entities_of : Filter → MomentParts → List Data → Items (Placed Data) BadRow
-entities_of filter now items = places (JudgesValue filter now) items
+abbrev pub entities_of : Filter → MomentParts → List Data → Items (IndexedItem Data) BadRow
+entities_of filter now items = indexed_items (JudgesValue filter now) items
 
 -- the document is a collection, and P holds of its items
-abbrev pub OfCollection : Filter → MomentParts → List ℕ → (Items (Placed Data) BadRow → Type 0) → Type 0
+abbrev pub OfCollection : Filter → MomentParts → List ℕ → (Items (IndexedItem Data) BadRow → Type 0) → Type 0
 OfCollection filter now document P =
     (items : List Data) × IsCollectionOf document items × P (entities_of filter now items)
 

@@ -22,7 +22,7 @@ pub use Rattle.line_filter.specs.LineSource
 pub use Rattle.line_filter.specs.LineStreams
 pub use Rattle.line_filter.specs.Lines
 pub use Rattle.line_filter.specs.Once
-pub use Rattle.line_filter.specs.Places
+pub use Rattle.line_filter.specs.ItemIndexes
 pub use Rattle.odata_checked_filter.specs.Filter
 pub use Rattle.odata_eval.specs.VerdictView
 pub use Rattle.odata_filter_operations.specs.Outcome

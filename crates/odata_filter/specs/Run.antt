@@ -11,7 +11,7 @@ use Rattle.line_filter.specs.Growth.{Writes, WritesFront}
 use Rattle.line_filter.specs.Kept.{Items, Filters, StopsAt, StopsWithin, IsFaultless}
 use Rattle.line_filter.specs.declared.line_class.LineClass.{LineClass}
 use Rattle.line_filter.specs.declared.tally.Tally.{Tally}
-use Rattle.line_filter.specs.Places.{Placed}
+use Rattle.line_filter.specs.ItemIndexes.{IndexedItem}
 use Rattle.serde_json.specs.Data.{Data}
 use Rattle.row_judges.specs.RowJudgment.{rows_of}
 use Rattle.odata_filter.specs.Collection.{IsNoCollection, OfCollection}
@@ -137,7 +137,7 @@ OfRows = (X : Type 0) → Items X BadRow → List ℕ → Type 0
 -- P holds of the rows that the bytes are: of their lines, or, where a collection is asked for, of the items of that
 abbrev pub HoldsOfRows : Bool → OfRows → Filter → MomentParts → List ℕ → List ℕ → Type 0
 HoldsOfRows false P filter now bytes text = P (List ℕ) (rows_of filter now bytes) text
-HoldsOfRows true P filter now bytes text = OfCollection filter now bytes (λ items. P (Placed Data) items text)
+HoldsOfRows true P filter now bytes text = OfCollection filter now bytes (λ items. P (IndexedItem Data) items text)
 
 -- The plan's text is a filter, and P holds of the rows by that filter and of the text that was written.
 pub record ByFilter (P : OfRows) (plan : Plan) (document : List ℕ) (streams : Streams) : Type 0 where

@@ -12,7 +12,7 @@ ghost use Rattle.csdl_schema.specs.JsonText.{IsJsonOf};
 use crate::known_verdicts::KnownVerdicts;
 use crate::run_fault::{RunFault, run_fault};
 use edm_values::Moment;
-use line_filter::{Tally, Unlogged, Writes, filter_places};
+use line_filter::{Tally, Unlogged, Writes, filter_items};
 use odata_typing::Checked;
 use row_judges::{RowJudge, verdicts_in_place};
 use serde_json::Value;
@@ -78,7 +78,7 @@ fn filter_known<W: Write, T: Writes<W>>(
     ensures writes { MatchResult result (λ tally. FlushesLast (T.calls out.old) (T.calls out.new))
         (λ fault. WritesUntilFault (T.calls out.old) (T.calls out.new) fault) }
 {
-    match filter_places::<KnownVerdicts, W, T>(alloc, &KnownVerdicts, kept, out) {
+    match filter_items::<KnownVerdicts, W, T>(alloc, &KnownVerdicts, kept, out) {
         Ok(tally) => Ok(tally),
         Err(stop) => Err(run_fault(stop)),
     }
@@ -109,7 +109,7 @@ fn filter_by_tree<W: Write, T: Writes<W>>(
         checked,
         moment: now,
     };
-    match filter_places::<RowJudge<'_, '_>, W, T>(alloc, &judge, items, out) {
+    match filter_items::<RowJudge<'_, '_>, W, T>(alloc, &judge, items, out) {
         Ok(tally) => Ok(tally),
         Err(stop) => Err(run_fault(stop)),
     }

@@ -7,7 +7,8 @@ use odata_eval::EvalFault;
 use row_judges::BadRow;
 use thiserror::Error;
 
-/// Why a run over rows ended early. Lines are counted from 1.
+/// Why a run over rows ended early. It names what is wrong with a row, and adds a document that is no collection. Lines
+/// are counted from 1.
 #[derive(Debug, Drop, Error)]
 pub enum RunFault {
     /// The line is not UTF-8, or not JSON that `serde_json` reads.

@@ -1,22 +1,23 @@
 -- What is reported about a row that is judged by itself (OData JSON Format 4.01, sections 4.5 and 7; OData URL
 -- Conventions 4.01, section 5.1.1).
-use Rattle.std.specs.Prelude.{◌≡◌, ◌≢◌, ◌⊎◌, ◌<◌, ℕ, List, [], length, slice_get, unwrap_or, IfSome, Option, Some, None, Result, Ok, Err, IsTrue}
+use Rattle.std.specs.Prelude.{◌≡◌, ◌≢◌, ◌⊎◌, ◌<◌, ℕ, List, [], length, slice_get, unwrap_or, Bool, true, false, IfSome, Option, Some, None, Result, Ok, Err, IsTrue, IsFalse, if◌then◌else◌}
 use Rattle.serde_json.specs.Data.{Data}
 use Rattle.edm_values.specs.MomentParts.{MomentParts}
 use Rattle.csdl_schema.specs.JsonText.{IsJsonOf}
 use Rattle.edm_row_plans.specs.Plans.{IsPlanOf}
 use Rattle.edm_row_plans.specs.PassedNames.{Names, names_passed}
 use Rattle.edm_row_plans.specs.declared.row_plan.RowPlan.{RowPlan}
+use Rattle.edm_entities.specs.declared.row_fault.RowFault.{RowFault}
 use Rattle.line_filter.specs.declared.judge.Judgment.{Judgment}
 use Rattle.odata_checked_filter.specs.Filter.{Filter}
 use Rattle.odata_checked_filter.specs.declared.checked_node.NodeKind.{NodeKind}
 use Rattle.odata_filter_operations.specs.Outcome.{gives}
+use Rattle.odata_filter_operations.specs.declared.fault.EvalFault.{EvalFault}
 use Rattle.odata_eval.specs.VerdictView.{verdict_val}
 use Rattle.odata_eval.specs.declared.verdict.Verdict.{Verdict}
 use Rattle.row_judges.specs.RowJudgment.{HasOutcome, JudgesRow}
 use Rattle.row_judges.specs.RowsOnce.{AreSameJudgment}
 use Rattle.row_judges.specs.declared.bad_row.BadRow.{BadRow}
-use Rattle.row_judges.specs.declared.no_verdict.NoVerdict.{NoVerdict}
 
 -- the filter's list has none of these names at a node; where there are some, nothing stands for the whole row
 pub record PassesNone (filter : Filter) (Passed : Names) : Type 0 where
@@ -41,25 +42,29 @@ pub record HasVerdict (filter : Filter) (now : MomentParts) (row : List ℕ) (ve
   pub is_json : IsJsonOf row json
   pub outcome : HasOutcome filter now json (gives (verdict_val verdict))
 
+-- an allocation failed while the row was read or judged
+abbrev pub is_memory : BadRow → Bool
+is_memory (BadRow.NoEntity RowFault.Memory) = true
+is_memory (BadRow.NoValue EvalFault.Memory) = true
+is_memory _ = false
+
 -- what is reported about a row: its verdict, or what is wrong with it, which is what is said of a line at fault;
 -- running out of memory says nothing
-abbrev pub ReportsRow : Filter → MomentParts → List ℕ → Result Verdict NoVerdict → Type 0
+abbrev pub ReportsRow : Filter → MomentParts → List ℕ → Result Verdict BadRow → Type 0
 ReportsRow filter now row (Ok verdict) = HasVerdict filter now row verdict
-ReportsRow filter now row (Err (NoVerdict.Bad bad)) = JudgesRow filter now row (Judgment.Fault bad)
-ReportsRow filter now row (Err NoVerdict.Memory) = Unit {0}
+ReportsRow filter now row (Err bad) = IsFalse (is_memory bad) → JudgesRow filter now row (Judgment.Fault bad)
 
 -- what is said of the row as a line: it is kept where the verdict is true; nothing when out of memory
-abbrev pub judgment_reported : Result Verdict NoVerdict → Option (Judgment BadRow)
+abbrev pub judgment_reported : Result Verdict BadRow → Option (Judgment BadRow)
 judgment_reported (Ok Verdict.True) = Some Judgment.Kept
 judgment_reported (Ok Verdict.False) = Some Judgment.LeftOut
 judgment_reported (Ok Verdict.Null) = Some Judgment.LeftOut
-judgment_reported (Err (NoVerdict.Bad bad)) = Some (Judgment.Fault bad)
-judgment_reported (Err NoVerdict.Memory) = None
+judgment_reported (Err bad) = if is_memory bad then None else Some (Judgment.Fault bad)
 
 -- the same verdict, or the same fault; running out of memory goes with any
-abbrev pub AreSameAnswer : Result Verdict NoVerdict → Result Verdict NoVerdict → Type 0
+abbrev pub AreSameAnswer : Result Verdict BadRow → Result Verdict BadRow → Type 0
 AreSameAnswer (Ok v) (Ok w) = v ≡ w
-AreSameAnswer (Err (NoVerdict.Bad f)) (Err (NoVerdict.Bad g)) = AreSameJudgment (Judgment.Fault f) (Judgment.Fault g)
-AreSameAnswer (Err NoVerdict.Memory) other = Unit {0}
-AreSameAnswer other (Err NoVerdict.Memory) = Unit {0}
-AreSameAnswer _ _ = ⊥
+AreSameAnswer (Ok v) (Err g) = IsTrue (is_memory g)
+AreSameAnswer (Err f) (Ok w) = IsTrue (is_memory f)
+AreSameAnswer (Err f) (Err g) =
+    IsFalse (is_memory f) → IsFalse (is_memory g) → AreSameJudgment (Judgment.Fault f) (Judgment.Fault g)

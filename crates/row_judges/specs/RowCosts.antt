@@ -1,18 +1,19 @@
 -- What a filter costs on a row, and what is reported about a row within a bound (OData JSON Format 4.01, sections 4.5
 -- and 7; OData URL Conventions 4.01, section 5.1.1).
-use Rattle.std.specs.Prelude.{◌≡◌, ◌<◌, ◌≤◌, ℕ, List, [], Option, Some, None, Result, Ok, Err}
+use Rattle.std.specs.Prelude.{◌≡◌, ◌<◌, ◌≤◌, ℕ, List, [], Option, Some, None, Result, Ok, Err, IsFalse}
 use Rattle.serde_json.specs.Data.{Data}
 use Rattle.edm_values.specs.MomentParts.{MomentParts}
 use Rattle.edm_values.specs.Val.{Val}
 use Rattle.csdl_schema.specs.JsonText.{IsJsonOf}
 use Rattle.csdl_schema.specs.SchemaModel.{slots_of, type_name_at}
+use Rattle.line_filter.specs.declared.judge.Judgment.{Judgment}
 use Rattle.edm_entities.specs.Fits.{Fits}
 use Rattle.odata_checked_filter.specs.Filter.{Filter, slots_for_filter, tree_of_filter}
 use Rattle.odata_meaning.specs.Costs.{Costs}
 use Rattle.odata_eval.specs.declared.verdict.Verdict.{Verdict}
-use Rattle.row_judges.specs.RowAnswer.{ReportsRow}
+use Rattle.row_judges.specs.RowAnswer.{HasVerdict, ReportsRow, is_memory}
+use Rattle.row_judges.specs.RowJudgment.{JudgesRow}
 use Rattle.row_judges.specs.declared.bad_row.BadRow.{BadRow}
-use Rattle.row_judges.specs.declared.no_verdict.NoVerdict.{NoVerdict}
 
 -- what a filter costs on a value of its type
 abbrev pub FilterCosts : Filter → MomentParts → Val → ℕ → Type 0
@@ -37,12 +38,12 @@ pub record RowCostIs (filter : Filter) (now : MomentParts) (row : List ℕ) (Hol
   pub cost_is : CostIs filter now json Holds
 
 -- a verdict, or a fault of arithmetic, only where the cost is within the bound; none only where it is not; what is no
--- entity has no cost
-abbrev pub ReportsRowWithin : Filter → MomentParts → List ℕ → ℕ → Result (Option Verdict) NoVerdict → Type 0
+-- entity has no cost; running out of memory says nothing
+abbrev pub ReportsRowWithin : Filter → MomentParts → List ℕ → ℕ → Result (Option Verdict) BadRow → Type 0
 ReportsRowWithin filter now row most (Ok (Some verdict)) =
-    ReportsRow filter now row (Ok verdict) × RowCostIs filter now row (λ cost. cost ≤ most)
+    HasVerdict filter now row verdict × RowCostIs filter now row (λ cost. cost ≤ most)
 ReportsRowWithin filter now row most (Ok None) = RowCostIs filter now row (λ cost. most < cost)
-ReportsRowWithin filter now row most (Err (NoVerdict.Bad (BadRow.NoValue fault))) =
-    ReportsRow filter now row (Err (NoVerdict.Bad (BadRow.NoValue fault)))
-    × RowCostIs filter now row (λ cost. cost ≤ most)
+ReportsRowWithin filter now row most (Err (BadRow.NoValue fault)) =
+    IsFalse (is_memory (BadRow.NoValue fault))
+    → JudgesRow filter now row (Judgment.Fault (BadRow.NoValue fault)) × RowCostIs filter now row (λ cost. cost ≤ most)
 ReportsRowWithin filter now row most (Err other) = ReportsRow filter now row (Err other)

@@ -1,8 +1,12 @@
+ghost use Rattle.std.specs.Prelude.{◌≡◌};
+ghost use Rattle.row_judges.specs.RowAnswer.{is_memory};
+
 use edm_entities::RowFault;
 use odata_eval::EvalFault;
 use thiserror::Error;
 
-/// The fault of a line that is judged as a row.
+/// Why a row has no verdict. To the faults of an entity, and of a filter on it, it adds a row that is no JSON. An
+/// allocation that failed says nothing of the row ([`is_memory`](BadRow::is_memory)), and is never a line's fault.
 #[derive(Debug, Drop, Error)]
 pub enum BadRow {
     /// It is not UTF-8, or not JSON that `serde_json` reads.
@@ -14,4 +18,17 @@ pub enum BadRow {
     /// The filter has no value on its entity.
     #[error("{0}")]
     NoValue(EvalFault),
+}
+
+impl BadRow {
+    /// Whether an allocation failed. A judge of lines reports no such fault.
+    pub fn is_memory(&self) -> bool
+        ensures { result ≡ is_memory self.now }
+    {
+        match self {
+            BadRow::NotJson => false,
+            BadRow::NoEntity(fault) => matches!(fault, RowFault::Memory),
+            BadRow::NoValue(fault) => matches!(fault, EvalFault::Memory),
+        }
+    }
 }

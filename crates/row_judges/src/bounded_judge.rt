@@ -12,15 +12,15 @@ ghost use Rattle.odata_eval.specs.VerdictView.{outcome_reported};
 ghost use Rattle.row_judges.specs.FilterRows.{KeepsNames};
 ghost use Rattle.row_judges.specs.RowAnswer.{IsPlanOfFilter};
 ghost use Rattle.row_judges.specs.RowCosts.{ReportsRowWithin};
-ghost use Rattle.row_judges.specs.private.BoundedJudge.{ReportsValueWithin, stop_reported};
+ghost use Rattle.row_judges.specs.private.BoundedJudge.{ReportsValueWithin};
+ghost use Rattle.row_judges.specs.private.ValueAnswer.{answer_reported};
 
 use crate::bad_row::BadRow;
-use crate::no_verdict::NoVerdict;
-use crate::row_judge::reported_fault;
+use crate::row_judge::reported;
 use edm_entities::{Entity, RowFault, RowPlan, RowReader};
 use edm_rows::TypeRows;
 use edm_values::Moment;
-use odata_eval::{EvalStop, Verdict, evaluate_within};
+use odata_eval::{EvalFault, Verdict, evaluate_within};
 use odata_typing::Checked;
 use serde_json::Value;
 use std::alloc::Global;
@@ -39,7 +39,7 @@ pub struct BoundedJudge<'c, 's> {
 impl BoundedJudge<'_, '_> {
     /// Judges a row, one JSON object, as [`judge_row`](crate::judge_row) does without a bound. `None` if the filter
     /// costs more on the row than the bound allows.
-    pub fn judge(&self, reader: &mut RowReader, row: &[u8]) -> Result<Option<Verdict>, NoVerdict>
+    pub fn judge(&self, reader: &mut RowReader, row: &[u8]) -> Result<Option<Verdict>, BadRow>
         requires { IsPlanOfFilter self.now.checked.now self.now.plan.now }
         ensures { ReportsRowWithin self.now.checked.now self.now.moment.now row.now self.now.most result }
     {
@@ -56,10 +56,10 @@ impl BoundedJudge<'_, '_> {
         alloc: Global,
         reader: &mut RowReader,
         row: &[u8],
-    ) -> Option<Result<Verdict, EvalStop>>
+    ) -> Option<Result<Option<Verdict>, EvalFault>>
         requires { IsPlanOfFilter self.now.checked.now self.now.plan.now }
         ensures { IfSome result (λ answer. ReportsRowWithin self.now.checked.now self.now.moment.now row.now
-            self.now.most (stop_reported answer)) }
+            self.now.most (answer_reported answer)) }
     {
         let is_whole = self.plan.is_whole;
         if !is_whole {
@@ -77,7 +77,7 @@ impl BoundedJudge<'_, '_> {
         &self,
         alloc: Global,
         rows: &TypeRows<'_>,
-    ) -> Result<Option<Verdict>, NoVerdict>
+    ) -> Result<Option<Verdict>, BadRow>
         requires rows { KeepsNames self.now.checked.now rows.now }
         requires ready { rows.now.is_ready ≡ true }
         requires whole { rows.now.is_whole ≡ true }
@@ -89,7 +89,7 @@ impl BoundedJudge<'_, '_> {
     }
 
     /// Judges an entity of the filter's type, with what the filter needs.
-    fn judge_entity(&self, alloc: Global, entity: &Entity<'_>) -> Result<Verdict, EvalStop>
+    fn judge_entity(&self, alloc: Global, entity: &Entity<'_>) -> Result<Option<Verdict>, EvalFault>
         requires schema { entity.now.schema ≡ self.now.checked.now.schema }
         requires type_id { entity.now.type_id ≡ self.now.checked.now.filtered }
         requires expansion { (path : PropertyPath)
@@ -103,41 +103,29 @@ impl BoundedJudge<'_, '_> {
     }
 
     /// Judges a row through a tree.
-    fn judge_by_tree(&self, alloc: Global, row: &[u8]) -> Result<Option<Verdict>, NoVerdict>
+    fn judge_by_tree(&self, alloc: Global, row: &[u8]) -> Result<Option<Verdict>, BadRow>
         ensures { ReportsRowWithin self.now.checked.now self.now.moment.now row.now self.now.most result }
     {
         match Value::from_slice(alloc, row) {
             Ok(json) => self.judge_value(alloc, &json),
             Err(error) => {
                 if error.is_memory() {
-                    Err(NoVerdict::Memory)
+                    Err(BadRow::NoEntity(RowFault::Memory))
                 } else {
-                    Err(NoVerdict::Bad(BadRow::NotJson))
+                    Err(BadRow::NotJson)
                 }
             }
         }
     }
 
     /// Judges a JSON value.
-    fn judge_value(&self, alloc: Global, json: &Value) -> Result<Option<Verdict>, NoVerdict>
+    fn judge_value(&self, alloc: Global, json: &Value) -> Result<Option<Verdict>, BadRow>
         ensures { ReportsValueWithin self.now.checked.now self.now.moment.now (view json.now) self.now.most result }
     {
         let (schema, type_id) = (self.checked.schema(), self.checked.filtered_type());
         match Entity::expanded_from_json(alloc, schema, type_id, self.checked.expansion(), json) {
             Ok(entity) => reported(self.judge_entity(alloc, &entity)),
-            Err(RowFault::Memory) => Err(NoVerdict::Memory),
-            Err(fault) => Err(NoVerdict::Bad(BadRow::NoEntity(fault))),
+            Err(fault) => Err(BadRow::NoEntity(fault)),
         }
-    }
-}
-
-/// What a filter's answer to an entity reports about its row: none where it costs too much.
-fn reported(answer: Result<Verdict, EvalStop>) -> Result<Option<Verdict>, NoVerdict>
-    ensures { result ≡ stop_reported answer }
-{
-    match answer {
-        Ok(verdict) => Ok(Some(verdict)),
-        Err(EvalStop::Fault(fault)) => Err(reported_fault(fault)),
-        Err(EvalStop::TooCostly) => Ok(None),
     }
 }

@@ -5,8 +5,8 @@ ghost use Rattle.row_judges.specs.FilterRows.{AreRowsOfFilter};
 ghost use Rattle.row_judges.specs.RowAnswer.{ReportsRow};
 ghost use Rattle.row_judges.specs.RowCosts.{ReportsRowWithin};
 
+use crate::bad_row::BadRow;
 use crate::bounded_judge::BoundedJudge;
-use crate::no_verdict::NoVerdict;
 use crate::row_judge::RowJudge;
 use crate::row_verdict::{plan_of, row_plan_of};
 use crate::rows_in_place::{keep_filtered, reads_copy};
@@ -68,7 +68,7 @@ impl<'s> FilterRows<'s> {
         checked: &Checked<'_>,
         now: &Moment,
         row: &[u8],
-    ) -> Result<Verdict, NoVerdict>
+    ) -> Result<Verdict, BadRow>
         requires { AreRowsOfFilter checked.now self.old }
         ensures verdict { ReportsRow checked.now now.now row.now result }
         ensures rows { AreRowsOfFilter checked.now self.new }
@@ -92,7 +92,7 @@ impl<'s> FilterRows<'s> {
         now: &Moment,
         most: u64,
         row: &[u8],
-    ) -> Result<Option<Verdict>, NoVerdict>
+    ) -> Result<Option<Verdict>, BadRow>
         requires { AreRowsOfFilter checked.now self.old }
         ensures verdict { ReportsRowWithin checked.now now.now row.now most result }
         ensures rows { AreRowsOfFilter checked.now self.new }

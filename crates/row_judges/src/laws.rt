@@ -9,7 +9,6 @@ ghost use Rattle.row_judges.specs.RowAnswer.{AreSameAnswer, ReportsRow, judgment
 ghost use Rattle.row_judges.specs.RowJudgment.{JudgesRow, JudgesValue};
 ghost use Rattle.row_judges.specs.RowsOnce.{AreSameJudgment};
 ghost use Rattle.row_judges.specs.declared.bad_row.BadRow.{BadRow};
-ghost use Rattle.row_judges.specs.declared.no_verdict.NoVerdict.{NoVerdict};
 
 use edm_entities::{one_fault_is_first, one_value_fits, what_has_a_fault_fits_nothing};
 
@@ -27,9 +26,9 @@ pub fn rows_are_judged_once()
 
 /// One verdict or one fault is reported about a row, and that is what is said of the row as a line.
 pub fn rows_are_reported_once()
-    ensures one { (filter : Filter) (now : MomentParts) (row : List ℕ) (a b : Result Verdict NoVerdict)
+    ensures one { (filter : Filter) (now : MomentParts) (row : List ℕ) (a b : Result Verdict BadRow)
         → ReportsRow filter now row a → ReportsRow filter now row b → AreSameAnswer a b }
-    ensures line { (filter : Filter) (now : MomentParts) (row : List ℕ) (answer : Result Verdict NoVerdict)
+    ensures line { (filter : Filter) (now : MomentParts) (row : List ℕ) (answer : Result Verdict BadRow)
         (said : Judgment BadRow) → ReportsRow filter now row answer → judgment_reported answer ≡ Some said
         → JudgesRow filter now row said }
 {

@@ -12,10 +12,9 @@ ghost use Rattle.odata_meaning.specs.MeansOn.{IsTheOutcome};
 ghost use Rattle.odata_eval.specs.VerdictView.{reported_outcome};
 ghost use Rattle.row_judges.specs.RowAnswer.{IsPlanOfFilter, ReportsRow, judgment_reported};
 ghost use Rattle.row_judges.specs.RowJudgment.{JudgesValue};
-ghost use Rattle.row_judges.specs.private.ValueAnswer.{ReportsValue, answer_reported, fault_reported};
+ghost use Rattle.row_judges.specs.private.ValueAnswer.{ReportsValue, answer_reported};
 
 use crate::bad_row::BadRow;
-use crate::no_verdict::NoVerdict;
 use edm_entities::{Entity, RowFault, RowPlan, RowReader};
 use edm_values::Moment;
 use line_filter::{JudgeItem, Judgment};
@@ -34,7 +33,7 @@ pub struct RowJudge<'c, 's> {
 
 impl RowJudge<'_, '_> {
     /// Judges a JSON value.
-    pub(crate) fn judge_value(&self, json: &Value) -> Result<Verdict, NoVerdict>
+    pub(crate) fn judge_value(&self, json: &Value) -> Result<Verdict, BadRow>
         ensures { ReportsValue self.now.checked.now self.now.moment.now (view json.now) result }
     {
         let (schema, type_id) = (self.checked.schema(), self.checked.filtered_type());
@@ -46,8 +45,7 @@ impl RowJudge<'_, '_> {
             json,
         ) {
             Ok(entity) => reported(self.judge_entity(&entity)),
-            Err(RowFault::Memory) => Err(NoVerdict::Memory),
-            Err(fault) => Err(NoVerdict::Bad(BadRow::NoEntity(fault))),
+            Err(fault) => Err(BadRow::NoEntity(fault)),
         }
     }
 
@@ -70,16 +68,16 @@ impl RowJudge<'_, '_> {
 
     /// Judges a row through a tree.
     #[inline(never)]
-    pub(crate) fn judge_by_tree(&self, row: &[u8]) -> Result<Verdict, NoVerdict>
+    pub(crate) fn judge_by_tree(&self, row: &[u8]) -> Result<Verdict, BadRow>
         ensures { ReportsRow self.now.checked.now self.now.moment.now row.now result }
     {
         match Value::from_slice(self.alloc, row) {
             Ok(json) => self.judge_value(&json),
             Err(error) => {
                 if error.is_memory() {
-                    Err(NoVerdict::Memory)
+                    Err(BadRow::NoEntity(RowFault::Memory))
                 } else {
-                    Err(NoVerdict::Bad(BadRow::NotJson))
+                    Err(BadRow::NotJson)
                 }
             }
         }
@@ -91,7 +89,7 @@ impl RowJudge<'_, '_> {
         plan: &RowPlan,
         reader: &mut RowReader,
         row: &[u8],
-    ) -> Result<Verdict, NoVerdict>
+    ) -> Result<Verdict, BadRow>
         requires { IsPlanOfFilter self.now.checked.now plan.now }
         ensures { ReportsRow self.now.checked.now self.now.moment.now row.now result }
     {
@@ -138,23 +136,13 @@ impl JudgeItem for RowJudge<'_, '_> {
     }
 }
 
-/// What a fault of the filter says of its row. Running out of memory says nothing of it.
-pub(crate) fn reported_fault(fault: EvalFault) -> NoVerdict
-    ensures { result ≡ fault_reported fault }
-{
-    match fault {
-        EvalFault::Memory => NoVerdict::Memory,
-        EvalFault::Overflow | EvalFault::DivideByZero => NoVerdict::Bad(BadRow::NoValue(fault)),
-    }
-}
-
-/// What a filter's answer to an entity says of its row.
-pub(crate) fn reported(answer: Result<Verdict, EvalFault>) -> Result<Verdict, NoVerdict>
+/// What a filter's answer to an entity says of its row, within a bound or without one.
+pub(crate) fn reported<V>(answer: Result<V, EvalFault>) -> Result<V, BadRow>
     ensures { result ≡ answer_reported answer }
 {
     match answer {
-        Ok(verdict) => Ok(verdict),
-        Err(fault) => Err(reported_fault(fault)),
+        Ok(found) => Ok(found),
+        Err(fault) => Err(BadRow::NoValue(fault)),
     }
 }
 
@@ -186,15 +174,17 @@ pub(crate) fn judgment_at_once(answer: Result<Verdict, EvalFault>) -> Option<Jud
 }
 
 /// What is kept of rows by what is reported about each.
-pub(crate) fn judgment_of(
-    answer: Result<Verdict, NoVerdict>,
-) -> Result<Judgment<BadRow>, AllocError>
+pub(crate) fn judgment_of(answer: Result<Verdict, BadRow>) -> Result<Judgment<BadRow>, AllocError>
     ensures { MatchResult result (λ said. judgment_reported answer ≡ Some said)
         (λ refused. judgment_reported answer ≡ None) }
 {
     match answer {
         Ok(verdict) => Ok(judged_by(verdict)),
-        Err(NoVerdict::Bad(bad)) => Ok(Judgment::Fault(bad)),
-        Err(NoVerdict::Memory) => Err(AllocError),
+        Err(bad) => {
+            if bad.is_memory() {
+                return Err(AllocError);
+            }
+            Ok(Judgment::Fault(bad))
+        }
     }
 }

@@ -2,7 +2,7 @@ ghost use Rattle.std.specs.Prelude.{◌≡◌};
 ghost use Rattle.row_judges.specs.RowJudgment.{JudgesRow};
 
 use crate::bad_row::BadRow;
-use crate::row_judge::{RowJudge, judged_by, judgment_of, reported_fault};
+use crate::row_judge::{RowJudge, judged_by, judgment_of};
 use crate::row_verdict::row_plan_of;
 use crate::rows_in_place::{read_at_front, type_rows_of, whole_tests};
 use edm_entities::{RowPlan, RowReader};
@@ -99,7 +99,7 @@ impl Judge for RowLineJudge<'_, '_> {
         };
         match self.rows.judge_read(&self.plan, reader, line) {
             Some(Ok(verdict)) => Ok(judged_by(verdict)),
-            Some(Err(fault)) => judgment_of(Err(reported_fault(fault))),
+            Some(Err(fault)) => judgment_of(Err(BadRow::NoValue(fault))),
             None => judgment_of(self.rows.judge_by_tree(line)),
         }
     }

@@ -7,7 +7,7 @@ ghost use Rattle.edm_row_plans.specs.PassedNames.{names_passed};
 ghost use Rattle.odata_checked_filter.specs.declared.checked_node.NodeKind.{NodeKind as NodeKindModel};
 ghost use Rattle.row_judges.specs.RowAnswer.{IsPlanOfFilter, ReportsRow};
 
-use crate::no_verdict::NoVerdict;
+use crate::bad_row::BadRow;
 use crate::row_judge::RowJudge;
 use edm_entities::{RowPlan, RowReader};
 use edm_values::Moment;
@@ -105,7 +105,7 @@ pub fn judge_row(
     plan: &RowPlan,
     reader: &mut RowReader,
     row: &[u8],
-) -> Result<Verdict, NoVerdict>
+) -> Result<Verdict, BadRow>
     requires { IsPlanOfFilter checked.now plan.now }
     ensures { ReportsRow checked.now now.now row.now result }
 {

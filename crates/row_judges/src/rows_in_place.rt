@@ -16,7 +16,6 @@ ghost use Rattle.row_judges.specs.private.RowsInPlace.{AreRowsOf, IsRead, IsRead
 ghost use Rattle.row_judges.specs.private.ValueAnswer.{ReportsValue, answer_reported};
 
 use crate::bad_row::BadRow;
-use crate::no_verdict::NoVerdict;
 use crate::row_judge::{RowJudge, judgment_at_once, reported};
 use crate::row_verdict::{names_whole_row, plan_of};
 use edm_entities::what_fits_has_its_type;
@@ -240,7 +239,7 @@ impl RowJudge<'_, '_> {
 
     /// Judges the row that was read last.
     #[inline(always)]
-    pub(crate) fn judge_held(&self, rows: &TypeRows<'_>) -> Result<Verdict, NoVerdict>
+    pub(crate) fn judge_held(&self, rows: &TypeRows<'_>) -> Result<Verdict, BadRow>
         requires rows { KeepsNames self.now.checked.now rows.now }
         requires ready { rows.now.is_ready ≡ true }
         requires whole { rows.now.is_whole ≡ true }

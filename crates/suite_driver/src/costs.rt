@@ -1,20 +1,20 @@
 //! What a filter costs on a row.
-use crate::filters::{judged, one_of, spelled, spelled_no_verdict};
+use crate::filters::{judged, one_of, spelled, spelled_bad_row};
 use crate::trouble::{Trouble, owned};
 use edm_entities::RowReader;
 use edm_values::Moment;
 use odata_eval::Verdict;
-use odata_filter::{BoundedJudge, FilterRows, NoVerdict, row_plan_of};
+use odata_filter::{BadRow, BoundedJudge, FilterRows, row_plan_of};
 use odata_typing::Checked;
 use serde_json::Value;
 use std::alloc::Global;
 
 /// What is reported about a row within a bound, if that is enough.
-fn spelled_within(reported: &Result<Option<Verdict>, NoVerdict>) -> Option<&'static str> {
+fn spelled_within(reported: &Result<Option<Verdict>, BadRow>) -> Option<&'static str> {
     match reported {
         Ok(Some(verdict)) => Some(spelled(Ok(*verdict))),
         Ok(None) => None,
-        Err(why) => Some(spelled_no_verdict(why)),
+        Err(why) => Some(spelled_bad_row(why)),
     }
 }
 

@@ -2,7 +2,7 @@
 ghost use Rattle.csdl_schema.specs.SchemaModel.{HoldsType};
 
 use crate::filters::{TypeOf, moment_of, schema_of, verdict_of_row};
-use crate::spelled_numbers::{shown_no_verdict, shown_row_fault};
+use crate::spelled_numbers::{shown_bad_row, shown_row_fault};
 use crate::trouble::{Trouble, owned};
 use crate::values::push_slots;
 use csdl_schema::{Expansion, Schema, TypeId};
@@ -78,7 +78,7 @@ fn row_answer(
             let is_true = matches!(verdict, Verdict::True);
             owned(alloc, if is_true { "fits" } else { "no true" })
         }
-        Err(why) => shown_no_verdict(alloc, why),
+        Err(why) => shown_bad_row(alloc, why),
     }
 }
 

@@ -7,7 +7,7 @@ ghost use Rattle.row_judges.specs.FilterRows.{AreRowsOfFilter};
 
 use crate::costs::cost;
 use crate::nodes::{reported_nodes, second_type};
-use crate::spelled_numbers::{shown_no_verdict, shown_refusal, shown_row_fault};
+use crate::spelled_numbers::{shown_bad_row, shown_refusal, shown_row_fault};
 use crate::trouble::{Trouble, owned};
 use csdl_schema::{Schema, SchemaFault, TypeId};
 use edm_entities::{Entity, RowFault, RowReader};
@@ -15,8 +15,8 @@ use edm_values::{Moment, read_moment};
 use jiff::civil;
 use odata_eval::{EvalFault, Verdict, evaluate};
 use odata_filter::{
-    BadRow, FaultKind, FilterRows, NoVerdict, Numbered, RunFault, Tally, fault_name, filter_slice,
-    judge_row, row_plan_of,
+    BadRow, FaultKind, FilterRows, Numbered, RunFault, Tally, fault_name, filter_slice, judge_row,
+    row_plan_of,
 };
 use odata_typing::{Checked, check_to_store};
 use serde_json::Value;
@@ -105,19 +105,19 @@ fn kept(alloc: Global, checked: &Checked<'_>, line: &[u8], now: &Moment) -> &'st
 }
 
 /// What is reported about a row by itself that has no verdict: the fault of the evaluation, unless the row is at fault.
-pub(crate) fn spelled_no_verdict(why: &NoVerdict) -> &'static str {
+pub(crate) fn spelled_bad_row(why: &BadRow) -> &'static str {
     match why {
-        NoVerdict::Bad(BadRow::NoValue(fault)) => spelled(Err(*fault)),
-        NoVerdict::Bad(_) => "another fault",
-        NoVerdict::Memory => "memory",
+        BadRow::NoValue(fault) => spelled(Err(*fault)),
+        BadRow::NoEntity(RowFault::Memory) => "memory",
+        _ => "another fault",
     }
 }
 
 /// What is reported about a row by itself.
-fn spelled_row(reported: &Result<Verdict, NoVerdict>) -> &'static str {
+fn spelled_row(reported: &Result<Verdict, BadRow>) -> &'static str {
     match reported {
         Ok(verdict) => spelled(Ok(*verdict)),
-        Err(why) => spelled_no_verdict(why),
+        Err(why) => spelled_bad_row(why),
     }
 }
 
@@ -138,7 +138,7 @@ pub(crate) fn verdict_of_row(
     checked: &Checked<'_>,
     line: &[u8],
     now: &Moment,
-) -> Result<Verdict, NoVerdict> {
+) -> Result<Verdict, BadRow> {
     let plan = row_plan_of(alloc, checked);
     let mut reader = RowReader::new(alloc);
     judge_row(checked, now, &plan, &mut reader, line)
@@ -243,7 +243,7 @@ fn fault_of_row(
 ) -> Result<String, Trouble> {
     match &verdict_of_row(alloc, checked, line, now) {
         Ok(_) => owned(alloc, "no fault"),
-        Err(why) => shown_no_verdict(alloc, why),
+        Err(why) => shown_bad_row(alloc, why),
     }
 }
 

@@ -1,7 +1,7 @@
 //! Faults as they are shown, where their numbers, names and spans say the same.
 use crate::trouble::Trouble;
 use edm_entities::RowFault;
-use odata_filter::{FaultKind, NoVerdict, Numbered, fault_name, refusal_span, row_fault_path};
+use odata_filter::{BadRow, FaultKind, Numbered, fault_name, refusal_span, row_fault_path};
 use odata_typing::Refusal;
 use std::alloc::{AllocError, Global};
 
@@ -65,11 +65,11 @@ pub(crate) fn shown_refusal(alloc: Global, refusal: &Refusal) -> Result<String, 
 }
 
 /// What is shown of a row that has no verdict.
-pub(crate) fn shown_no_verdict(alloc: Global, why: &NoVerdict) -> Result<String, Trouble> {
-    match why {
-        NoVerdict::Memory => Err(Trouble::Memory),
-        NoVerdict::Bad(fault) => Ok(format!(in alloc; "{fault}")?),
+pub(crate) fn shown_bad_row(alloc: Global, why: &BadRow) -> Result<String, Trouble> {
+    if why.is_memory() {
+        return Err(Trouble::Memory);
     }
+    Ok(format!(in alloc; "{why}")?)
 }
 
 /// What is shown of a row's fault.

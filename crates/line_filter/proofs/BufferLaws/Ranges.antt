@@ -69,13 +69,13 @@ module _ (xs : List ℕ) (a s f : ℕ) (start : a ≤ s) (order : s ≤ f) (with
       let low : s ≤ k = found.low in
       let high : k < f = found.high in
       let fits : k - a < f - a = omega (arith, low, high, start) in
-      let place : a + (k - a) ≡ k = omega (arith, low, start) in (
+      let there : a + (k - a) ≡ k = omega (arith, low, start) in (
         record {
           low = omega arith;
           high = omega (arith, all, fits);
           before = none_in_range xs a f k (omega (arith, high)) (searched_to k found.before);
         },
-        in_range xs a f (k - a) fits (subst (Passes (is_byte 10) xs) (sym place) is),
+        in_range xs a f (k - a) fits (subst (Passes (is_byte 10) xs) (sym there) is),
       )
 
 -- ---- bytes of ASCII

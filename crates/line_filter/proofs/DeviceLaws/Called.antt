@@ -18,7 +18,7 @@ work_stays CallLog.Unfailing well = refl
 work_stays CallLog.Well well = refl
 work_stays CallLog.Flushed well = absurd well
 work_stays CallLog.Failed well = absurd well
-work_stays CallLog.Behind well = absurd well
+work_stays CallLog.After well = absurd well
 
 pub stays_well_by_work : (a b : CallLog) → b ≡ after_work a → StaysWell a b
 stays_well_by_work a b e = record { same = λ well. e ∙ work_stays a well }

@@ -6,7 +6,7 @@ use Rattle.std.proofs.lemmas.List.Sums.{sum_by-cons}
 use Rattle.line_filter.specs.Kept.{IsFaultless, is_kept, is_row, Sieve, Items, SiftedItem, kept_text, Passes, StopsAt}
 use Rattle.line_filter.specs.LineItems.{LineJudge, IsFoundOf}
 use Rattle.line_filter.specs.Once.{kind_found, IsFaulty, JudgesItemsOnce, JudgesOnce}
-use Rattle.line_filter.specs.Places.{IsJudged, ItemJudge}
+use Rattle.line_filter.specs.ItemIndexes.{IsJudged, ItemJudge}
 use Rattle.line_filter.specs.declared.judge.Judgment.{Judgment}
 use Rattle.line_filter.specs.declared.line_class.LineClass.{LineClass}
 use Rattle.line_filter.specs.declared.tally.Tally.{Tally}
@@ -155,21 +155,21 @@ module _ {X F : Type 0} (sieve : Sieve X F) (once : (x : X) (f g : LineClass F) 
   Passes-fine xs text m p before bad after split f finds faulty = faulty (passing_fine xs p.all p.in_order p.found before bad after split f finds)
 
   -- two beginnings of one list, each before one at fault
-  splits_meet : (before other : List X) (bad worse : X) (after behind : List X) → before ++ bad ∷ after ≡ other ++ worse ∷ behind
+  splits_meet : (before other : List X) (bad worse : X) (after later : List X) → before ++ bad ∷ after ≡ other ++ worse ∷ later
       → ((x : X) (more : List X) (l : List X) → before ≡ l ++ x ∷ more → (f : LineClass F) → sieve.finds x f → IsFaulty f → ⊥)
       → ((x : X) (more : List X) (l : List X) → other ≡ l ++ x ∷ more → (f : LineClass F) → sieve.finds x f → IsFaulty f → ⊥)
       → (f g : LineClass F) → sieve.finds bad f → sieve.finds worse g → IsFaulty f → IsFaulty g → (before ≡ other) × (bad ≡ worse)
-  splits_meet [] [] bad worse after behind same fine fine' f g finds finds' faulty faulty' = (refl, cc)
-  splits_meet [] (y ∷ ys) bad worse after behind same fine fine' f g finds finds' faulty faulty' =
+  splits_meet [] [] bad worse after later same fine fine' f g finds finds' faulty faulty' = (refl, cc)
+  splits_meet [] (y ∷ ys) bad worse after later same fine fine' f g finds finds' faulty faulty' =
       let item : bad ≡ y = cc in
       absurd (fine' y ys [] refl f (subst (λ (x : X). sieve.finds x f) item finds) faulty)
-  splits_meet (x ∷ xs) [] bad worse after behind same fine fine' f g finds finds' faulty faulty' =
+  splits_meet (x ∷ xs) [] bad worse after later same fine fine' f g finds finds' faulty faulty' =
       let item : worse ≡ x = cc in
       absurd (fine x xs [] refl g (subst (λ (z : X). sieve.finds z g) item finds') faulty')
-  splits_meet (x ∷ xs) (y ∷ ys) bad worse after behind same fine fine' f g finds finds' faulty faulty' =
+  splits_meet (x ∷ xs) (y ∷ ys) bad worse after later same fine fine' f g finds finds' faulty faulty' =
       let item : x ≡ y = cc in
-      let rest : xs ++ bad ∷ after ≡ ys ++ worse ∷ behind = cc in
-      let (front, last) = splits_meet xs ys bad worse after behind rest (λ z more l e. fine z more (x ∷ l) (ap (λ k. x ∷ k) e)) (λ z more l e. fine' z more (y ∷ l) (ap (λ k. y ∷ k) e)) f g finds finds' faulty faulty' in
+      let rest : xs ++ bad ∷ after ≡ ys ++ worse ∷ later = cc in
+      let (front, last) = splits_meet xs ys bad worse after later rest (λ z more l e. fine z more (x ∷ l) (ap (λ k. x ∷ k) e)) (λ z more l e. fine' z more (y ∷ l) (ap (λ k. y ∷ k) e)) f g finds finds' faulty faulty' in
       (ap (λ k. x ∷ k) front ∙ ap (λ z. z ∷ ys) item, last)
 
   module _ (items : List X) (CameWhole : List X → Type 0) where

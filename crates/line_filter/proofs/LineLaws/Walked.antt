@@ -35,10 +35,10 @@ module _ {F E : Type 0} (judge : LineJudge F) (bytes line rest after : List ℕ)
   pub HasPassed-more : (one : Tally) (goes_further : Type 0) → (goes_further → rest ≡ line ++ 10 ∷ after) → goes_on → WritesBut b c h₂ (h₁ ++ text_where_kept found (line ++ 10 ∷ []))
       → outcome_of (passed + 1) found ≡ Ok one → HasPassed judge bytes after goes_further a c h₂ (passed + 1) (sum_of tally one)
   unfolding HasWalked-more
-  HasPassed-more one goes_further behind some more step = record {
+  HasPassed-more one goes_further whole some more step = record {
     walked = HasWalked-more (lines judge bytes) line (lines_of rest) (lines_of after) a b c h₁ h₂ passed tally found first finds so_far.walked one more step;
     complete = λ some_after.
-        so_far.complete some ∙ ap (λ l. text_of_lines so_far.walked.before ++ l) (behind some_after) ∙ text_of_lines-more so_far.walked.before line after;
+        so_far.complete some ∙ ap (λ l. text_of_lines so_far.walked.before ++ l) (whole some_after) ∙ text_of_lines-more so_far.walked.before line after;
   }
 
   -- it is kept, and not all of it could be written

@@ -60,12 +60,12 @@ first_by_feed ws more n found is =
     record {
       first = lines_of-line (ws ++ more) n long (none_below ws more n (omega arith) found.before) (ap (λ (k : ℕ). k == 10) here ∙ is)
           ∙ ap (λ l. l ∷ lines_of (drop (n + 1) (ws ++ more))) front ∙ ap (λ l. take n ws ∷ lines_of l) rest;
-      behind = inl (whole_by_feed ws more n high is);
+      whole = inl (whole_by_feed ws more n high is);
     }
 
 -- where nothing follows, bytes without LF are a line
 pub first_at_end : (ws : List ℕ) → 0 < length ws → All (λ b. b ≢ 10) ws → IsFirstLine ws ws []
 first_at_end ws some none = record {
   first = lines_of-last ws some (λ j below is. none j 0 below (eqb-true _ _ is));
-  behind = inr (refl, refl);
+  whole = inr (refl, refl);
 }

@@ -149,9 +149,9 @@ module _ {F : Type 0} (judge : LineJudge F) where
 module _ {F E : Type 0} (judge : LineJudge F) (line : List ℕ) (goes_on : Type 0) (u v w : Option (List ℕ)) (h₁ h₂ : List ℕ) (passed : ℕ) (tally : Tally) (found : Result (LineClass F) E)
     (finds : IfOk found (IsFoundOf judge line)) (more : goes_on) where
   -- of a list that has no more lines, or has an LF after this one
-  behind : (Over : Type 0) (rest after : List ℕ) → Over ⊎ (rest ≡ line ++ 10 ∷ after) → (Over → ⊥) → rest ≡ line ++ 10 ∷ after
-  behind Over rest after (inl over) not_over = absurd (not_over over)
-  behind Over rest after (inr whole) not_over = whole
+  has_feed : (Over : Type 0) (rest after : List ℕ) → Over ⊎ (rest ≡ line ++ 10 ∷ after) → (Over → ⊥) → rest ≡ line ++ 10 ∷ after
+  has_feed Over rest after (inl over) not_over = absurd (not_over over)
+  has_feed Over rest after (inr whole) not_over = whole
 
   -- it passes
   pub HasCome-more : (a r s : Option (List ℕ)) (Over : Type 0) (one : Tally) → HasCome judge a r goes_on u v h₁ passed tally → WhereKnown r s (λ rest after. IsFirstLine rest line after)
@@ -161,7 +161,7 @@ module _ {F E : Type 0} (judge : LineJudge F) (line : List ℕ) (goes_on : Type 
   HasCome-more (Some bytes) None s Over one so_far first whole wrote step = absurd so_far
   HasCome-more (Some bytes) (Some rest) None Over one so_far first whole wrote step = absurd first
   HasCome-more (Some bytes) (Some rest) (Some after) Over one so_far first whole wrote step =
-      HasPassed-more judge bytes line rest after goes_on u v w h₁ h₂ passed tally found first.first finds so_far one (Over → ⊥) (behind Over rest after whole) more wrote step
+      HasPassed-more judge bytes line rest after goes_on u v w h₁ h₂ passed tally found first.first finds so_far one (Over → ⊥) (has_feed Over rest after whole) more wrote step
 
   -- the run stops at it
   pub HasCome-stopped : (waiting : List ℕ) (known a r s : Option (List ℕ)) (stop : RunStop F) → HasCome judge a r goes_on u v h₁ passed tally → WhereKnown r s (λ rest after. IsFirstLine rest line after)

@@ -389,8 +389,9 @@ number_walk::numeric_at-calculated_at-requires g t c =
 
 pub walk::made_at-compared_at-requires : goal.walk::made_at-compared_at-requires
 walk::made_at-compared_at-requires g t c =
-    let operator = BinaryOperator.Comparison c.in-Comparison.comparison in
-    let here : HasOperator c.args.context.now.list c.args.place operator = there_found (λ (f : CheckedNode). f.kind ≡ NodeKind.Binary operator) (slice_get c.args.context.now.list.nodes c.args.place) c.node.result.now c.node.ensures (c.in-Binary.is ∙ ap NodeKind.Binary c.in-Comparison.is) in
+    let operator = BinaryOperator.Comparison c.in-Binary-Comparison.comparison in
+    let operator_is : c.in-Binary-Comparison.operator ≡ operator = rw c.in-Binary-Comparison.is at c.in-Binary-Comparison.operator-is in
+    let here : HasOperator c.args.context.now.list c.args.place operator = there_found (λ (f : CheckedNode). f.kind ≡ NodeKind.Binary operator) (slice_get c.args.context.now.list.nodes c.args.place) c.node.result.now c.node.ensures (c.in-Binary-Comparison.is ∙ ap NodeKind.Binary operator_is) in
     let left : AnswersDatum c.args.context.now (c.args.place + 1) (Ok c.in-Ok.first) = subst (λ (r : Result Datum EvalStop). CountedDatum c.args.context.now (c.args.place + 1) r) c.in-Ok.is c.requires.first in
     let smaller : measure_at c.args.context.now.list.nodes c.args.place rank_rest < measure_at c.args.context.now.list.nodes c.args.place rank_step = omega arith in
     search rules
@@ -1117,8 +1118,8 @@ pub walk::made_at-returns-in-Lambda-clause-spent : goal.walk::made_at-returns-in
 walk::made_at-returns-in-Lambda-clause-spent g t c =
     after_value Datum c.args.context.now c.args.place c.args.first c.in-Ok.first (g.B.Counting.left c.args.budget.now) (g.B.Counting.left c.lambda_at.new.budget) (datum_stop c.lambda_at.result) c.in-Ok.is c.lambda_at.ensures.spent
 
-pub walk::made_at-returns-in-Comparison-clause-spent : goal.walk::made_at-returns-in-Comparison-clause-spent
-walk::made_at-returns-in-Comparison-clause-spent g t c =
+pub walk::made_at-returns-in-Binary-Comparison-clause-spent : goal.walk::made_at-returns-in-Binary-Comparison-clause-spent
+walk::made_at-returns-in-Binary-Comparison-clause-spent g t c =
     after_value Datum c.args.context.now c.args.place c.args.first c.in-Ok.first (g.B.Counting.left c.args.budget.now) (g.B.Counting.left c.compared_at.new.budget) (datum_stop c.compared_at.result) c.in-Ok.is c.compared_at.ensures.spent
 
 pub walk::compared_at-returns-in-Leaf-clause-spent : goal.walk::compared_at-returns-in-Leaf-clause-spent

@@ -1,5 +1,5 @@
 -- What a bound allows of a whole filter, and that nothing is too costly without one.
-use Rattle.std.proofs.Common.{◌≡◌, ◌≤◌, ℕ, [], Option, Some, Result, Ok, Err, length, sym, subst, inl, inr, arith}
+use Rattle.std.proofs.Common.{◌≡◌, ◌≤◌, ℕ, [], Option, Some, None, Result, Ok, Err, length, sym, subst, inl, inr, arith}
 use Rattle.edm_values.specs.MomentParts.{MomentParts}
 use Rattle.csdl_schema.specs.SchemaModel.{slots_of, type_name_at}
 use Rattle.edm_entities.specs.Row.{Row, value_of}
@@ -11,16 +11,11 @@ use Rattle.odata_meaning.specs.Environment.{Environment}
 use Rattle.odata_eval.specs.declared.budget.Budget.{Budget}
 use Rattle.odata_eval.specs.declared.stop.EvalStop.{EvalStop}
 use Rattle.odata_eval.specs.declared.verdict.Verdict.{Verdict}
-use Rattle.std.specs.Prelude.{IfSome}
-use Rattle.odata_checked_filter.specs.Calls.{TakesMemory}
-use Rattle.odata_meaning.specs.MeansOn.{IsTheOutcome}
-use Rattle.odata_eval.specs.VerdictView.{outcome_reported}
 use Rattle.odata_eval.specs.private.Place.{OperandStands}
-use Rattle.odata_eval.specs.private.EvalContext.{EndsOnceHere}
 use Rattle.odata_eval.specs.private.ContextModel.{ContextModel}
-use Rattle.odata_eval.specs.private.Spending.{CostsHere, CostsOnceHere, CountedTruth, SpendsAt, Spent, Takes, stopped_by}
+use Rattle.odata_eval.specs.private.Spending.{CostsHere, CostsOnceHere, SpendsAt, Spent, Takes}
 use Rattle.odata_eval.proofs.walking.Spines.{has_type}
-use Rattle.odata_eval.proofs.walking.TopNode.{no_variables, top_memory, top_outcome, whole_stands, whole_typed}
+use Rattle.odata_eval.proofs.walking.TopNode.{no_variables, whole_stands, whole_typed}
 
 -- so many were taken for what stands there
 some_spent : (context : ContextModel) (place : ℕ) (old new : Budget) (stop : Option EvalStop) → OperandStands context place → CostsOnceHere context → SpendsAt context place old new stop → (n : ℕ) × Spent stop old new n
@@ -40,10 +35,14 @@ taken_within : (most n : ℕ) (new : Budget) → Takes (Budget.Left most) new n 
 taken_within most n (Budget.Left left) takes = omega (arith, takes)
 taken_within most n Budget.Unbounded takes = absurd takes
 
-answer_within : (most n : ℕ) (new : Budget) (answer : Result Verdict EvalStop) → Spent (stopped_by answer) (Budget.Left most) new n → IsWithin most n answer
-answer_within most n new (Err EvalStop.TooCostly) spent = spent
-answer_within most n new (Err (EvalStop.Fault EvalFault.Memory)) spent = tt
-answer_within most n new _ spent = taken_within most n new spent
+-- so it is where there was a verdict, and where there was a fault
+pub verdict_within : (most : ℕ) (new : Budget) (verdict : Verdict) (n : ℕ) → Spent None (Budget.Left most) new n → IsWithin most n (Ok (Some verdict))
+verdict_within most new verdict n = taken_within most n new
+
+pub fault_within : (most : ℕ) (new : Budget) (fault : EvalFault) (n : ℕ) → Spent (Some (EvalStop.Fault fault)) (Budget.Left most) new n → IsWithin most n (Err fault)
+fault_within most new EvalFault.Overflow n = taken_within most n new
+fault_within most new EvalFault.DivideByZero n = taken_within most n new
+fault_within most new EvalFault.Memory n = λ spent. tt
 
 module _ (filter : Filter) (row : Row) (moment : MomentParts) (context : ContextModel) (right : IsFilter filter) (one_schema : filter.schema ≡ row.schema)
     (one_type : filter.filtered ≡ row.type_id) (is_row : context.row ≡ row) (is_moment : context.moment ≡ moment) (is_list : context.list ≡ filter.list) (is_empty : context.frames ≡ []) where
@@ -58,9 +57,10 @@ module _ (filter : Filter) (row : Row) (moment : MomentParts) (context : Context
       subst (λ (e : Environment). Costs (slots_of context.row.schema) (type_name_at context.row.schema context.row.type_id) context.moment (value_of context.row) e (tree_of_filter filter) n)
       (sym (no_variables filter row moment context right one_schema one_type is_row is_moment is_list is_empty))
 
-  pub top_bound : CostsOnceHere context → (most : ℕ) (new : Budget) (answer : Result Verdict EvalStop) (stop : Option EvalStop) → stopped_by answer ≡ stop → SpendsAt context 0 (Budget.Left most) new stop
-      → KeepsBound row moment (tree_of_filter filter) most answer
-  top_bound once most new answer stop same spends =
+  -- what a walk spent of a bound is what its answer says of it
+  pub top_bound : CostsOnceHere context → (most : ℕ) (new : Budget) (answer : Result (Option Verdict) EvalFault) (stop : Option EvalStop) → ((n : ℕ) → Spent stop (Budget.Left most) new n → IsWithin most n answer)
+      → SpendsAt context 0 (Budget.Left most) new stop → KeepsBound row moment (tree_of_filter filter) most answer
+  top_bound once most new answer stop says spends =
       let cost = once (tree_of_filter filter) right.type_of (whole_typed filter row moment context right one_schema one_type is_row is_moment is_list is_empty) in
       let spent = spends.of_tree (length filter.list.nodes) (tree_of_filter filter) cost.cost (whole_stands filter row moment context right one_schema one_type is_row is_moment is_list is_empty) cost.related in
       subst (λ (r : Row). KeepsBound r moment (tree_of_filter filter) most answer) is_row
@@ -69,16 +69,5 @@ module _ (filter : Filter) (row : Row) (moment : MomentParts) (context : Context
         cost = cost.cost;
         related = costs_alone cost.cost cost.related;
         only = λ other of_other. cost.only other (costs_here other of_other);
-        within = answer_within most cost.cost new answer (subst (λ (s : Option EvalStop). Spent s (Budget.Left most) new cost.cost) (sym same) spent);
+        within = says cost.cost spent;
       }))
-
-  -- a stop, as an outcome, and where memory ran out
-  pub top_stop_outcome : EndsOnceHere context → (stop : EvalStop) → CountedTruth context 0 (Err stop) → IfSome (outcome_reported (Err stop)) (IsTheOutcome row moment (tree_of_filter filter))
-  top_stop_outcome ends (EvalStop.Fault fault) answers = top_outcome filter row moment context right one_schema one_type is_row is_moment is_list is_empty ends (Err fault) answers
-  top_stop_outcome ends EvalStop.TooCostly answers = tt
-
-  pub top_stop_memory : (stop : EvalStop) → CountedTruth context 0 (Err stop) → stop ≡ EvalStop.Fault EvalFault.Memory → TakesMemory (tree_of_filter filter)
-  top_stop_memory (EvalStop.Fault fault) answers same =
-      let memory : fault ≡ EvalFault.Memory = cc in
-      top_memory filter row moment context right one_schema one_type is_row is_moment is_list is_empty fault answers memory
-  top_stop_memory EvalStop.TooCostly answers same = absurd (cc)

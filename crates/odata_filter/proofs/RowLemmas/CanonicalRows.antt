@@ -28,7 +28,7 @@ use Rattle.odata_eval.specs.declared.verdict.Verdict.{Verdict}
 use Rattle.line_filter.specs.Kept.{Filters, IsFaultless, Items, Passes, Sieve, SiftedItem, Stops, StopsAt, StopsBefore, StopsOn, StopsWithin}
 use Rattle.line_filter.specs.LineItems.{IsFoundOf, LineJudge}
 use Rattle.line_filter.specs.Lines.{lines_of, text_of_line, text_of_lines}
-use Rattle.line_filter.specs.Places.{IsJudged, ItemJudge, Placed, place_sieve, placed_from, places}
+use Rattle.line_filter.specs.ItemIndexes.{IsJudged, ItemJudge, IndexedItem, index_sieve, indexed_from, indexed_items}
 use Rattle.line_filter.specs.declared.line_class.LineClass.{LineClass}
 use Rattle.line_filter.specs.declared.judge.Judgment.{Judgment}
 use Rattle.line_filter.specs.declared.run_stop.RunStop.{RunStop}
@@ -40,7 +40,6 @@ use Rattle.row_judges.specs.RowAnswer.{ReportsRow}
 use Rattle.row_judges.specs.RowJudgment.{FilterMeans, HasOutcome, JudgesJson, JudgesRow, JudgesValue, rows_of}
 use Rattle.odata_filter.specs.RunStops.{StopsBy, run_stop}
 use Rattle.row_judges.specs.declared.bad_row.BadRow.{BadRow}
-use Rattle.row_judges.specs.declared.no_verdict.NoVerdict.{NoVerdict}
 use Rattle.odata_filter.specs.declared.run_fault.RunFault.{RunFault}
 
 -- ---- items of which the same is found
@@ -160,10 +159,9 @@ module _ (filter again : Filter) (same : ComeToTheSame filter again) (now : Mome
   row_carried line (Judgment.Fault (BadRow.NoEntity fault)) is = json_carried line (Judgment.Fault (BadRow.NoEntity fault)) is
   row_carried line (Judgment.Fault (BadRow.NoValue fault)) is = json_carried line (Judgment.Fault (BadRow.NoValue fault)) is
 
-  answer_carried : (row : List ℕ) (answer : Result Verdict NoVerdict) → ReportsRow filter now row answer → ReportsRow again now row answer
+  answer_carried : (row : List ℕ) (answer : Result Verdict BadRow) → ReportsRow filter now row answer → ReportsRow again now row answer
   answer_carried row (Ok verdict) is = record { json = is.json; is_json = is.is_json; outcome = outcome_carried is.json _ is.outcome }
-  answer_carried row (Err (NoVerdict.Bad bad)) is = row_carried row (Judgment.Fault bad) is
-  answer_carried row (Err NoVerdict.Memory) is = tt
+  answer_carried row (Err bad) is = λ known. row_carried row (Judgment.Fault bad) (is known)
 
   found_carried : (line : List ℕ) (line_class : LineClass BadRow) → IsFoundOf (JudgesRow filter now) line line_class → IsFoundOf (JudgesRow again now) line line_class
   found_carried line LineClass.TooLong is = is
@@ -185,7 +183,7 @@ module _ (filter again : Filter) (same : ComeToTheSame filter again) (now : Mome
 
   -- ---- of items
 
-  judged_carried : (item : Placed Data) (line_class : LineClass BadRow) → IsJudged (JudgesValue filter now) item.item line_class → IsJudged (JudgesValue again now) item.item line_class
+  judged_carried : (item : IndexedItem Data) (line_class : LineClass BadRow) → IsJudged (JudgesValue filter now) item.item line_class → IsJudged (JudgesValue again now) item.item line_class
   judged_carried item LineClass.TooLong is = absurd is
   judged_carried item LineClass.PassedOver is = absurd is
   judged_carried item (LineClass.Judged said) is = value_carried item.item said is
@@ -195,8 +193,8 @@ module _ (filter again : Filter) (same : ComeToTheSame filter again) (now : Mome
   items_carried document text tally (values, is, filters) = (
     values,
     is,
-    passes_carried (placed_from 0 values) (place_sieve (JudgesValue filter now)).text_of (λ before. Unit {0})
-        (λ placed. IsJudged (JudgesValue filter now) placed.item) (λ placed. IsJudged (JudgesValue again now) placed.item) judged_carried (placed_from 0 values) text tally filters,
+    passes_carried (indexed_from 0 values) (index_sieve (JudgesValue filter now)).text_of (λ before. Unit {0})
+        (λ indexed. IsJudged (JudgesValue filter now) indexed.item) (λ indexed. IsJudged (JudgesValue again now) indexed.item) judged_carried (indexed_from 0 values) text tally filters,
   )
 
   item_stop_carried : (document text : List ℕ) (fault : RunFault) → OfCollection filter now document (λ items. StopsBy items text fault)
@@ -205,8 +203,8 @@ module _ (filter again : Filter) (same : ComeToTheSame filter again) (now : Mome
     values,
     is,
     some_carried (run_stop fault) (Stops (entities_of filter now values) text) (Stops (entities_of again now values) text)
-        (λ stop. stops_carried (placed_from 0 values) (place_sieve (JudgesValue filter now)).text_of (λ before. Unit {0})
-        (λ placed. IsJudged (JudgesValue filter now) placed.item) (λ placed. IsJudged (JudgesValue again now) placed.item) judged_carried text stop) stops,
+        (λ stop. stops_carried (indexed_from 0 values) (index_sieve (JudgesValue filter now)).text_of (λ before. Unit {0})
+        (λ indexed. IsJudged (JudgesValue filter now) indexed.item) (λ indexed. IsJudged (JudgesValue again now) indexed.item) judged_carried text stop) stops,
   )
 
   collection_carried : (document text : List ℕ) (fault : RunFault) → StopsCollection filter now document text fault → StopsCollection again now document text fault
@@ -215,8 +213,8 @@ module _ (filter again : Filter) (same : ComeToTheSame filter again) (now : Mome
   collection_carried document text (RunFault.Memory line) (inr (values, is, stops)) = inr (
     values,
     is,
-    on_carried (placed_from 0 values) (place_sieve (JudgesValue filter now)).text_of (λ before. Unit {0})
-        (λ placed. IsJudged (JudgesValue filter now) placed.item) (λ placed. IsJudged (JudgesValue again now) placed.item) judged_carried text line stops,
+    on_carried (indexed_from 0 values) (index_sieve (JudgesValue filter now)).text_of (λ before. Unit {0})
+        (λ indexed. IsJudged (JudgesValue filter now) indexed.item) (λ indexed. IsJudged (JudgesValue again now) indexed.item) judged_carried text line stops,
   )
   collection_carried document text (RunFault.Row line fault) stops = item_stop_carried document text (RunFault.Row line fault) stops
   collection_carried document text (RunFault.Arithmetic line fault) stops = item_stop_carried document text (RunFault.Arithmetic line fault) stops

@@ -11,7 +11,7 @@ use Rattle.edm_values.specs.MomentParts.{MomentParts}
 use Rattle.csdl_schema.specs.JsonText.{IsJsonOf}
 use Rattle.line_filter.specs.Growth.{Writes}
 use Rattle.line_filter.specs.Kept.{Filters, StopsHeld}
-use Rattle.line_filter.specs.Places.{ItemJudge, places}
+use Rattle.line_filter.specs.ItemIndexes.{ItemJudge, indexed_items}
 use Rattle.line_filter.specs.declared.run_stop.RunStop.{RunStop}
 use Rattle.line_filter.specs.declared.tally.Tally.{Tally}
 use Rattle.odata_checked_filter.specs.Filter.{Filter}
@@ -27,11 +27,11 @@ module _ (filter : Filter) (now : MomentParts) (document : List ℕ) (values : L
   abbrev pub judge : ItemJudge Value BadRow
   judge item = JudgesValue filter now (view item)
 
-  pub collection_filtered : (tally : Tally) → Filters (places judge values) text tally → OfCollection filter now document (λ items. Filters items text tally)
+  pub collection_filtered : (tally : Tally) → Filters (indexed_items judge values) text tally → OfCollection filter now document (λ items. Filters items text tally)
   collection_filtered tally filtered = (map view values, is, Filters-renamed (JudgesValue filter now) view values text tally filtered)
 
   -- the stop that a fault reports is one of the items
-  stopped_by : (fault : RunFault) → IsSomeAnd (run_stop fault) (StopsHeld (places judge values) text) → StopsCollection filter now document text fault
+  stopped_by : (fault : RunFault) → IsSomeAnd (run_stop fault) (StopsHeld (indexed_items judge values) text) → StopsCollection filter now document text fault
   stopped_by RunFault.NotACollection stops = absurd stops
   stopped_by (RunFault.Json line) stops = absurd stops.found
   stopped_by (RunFault.LineTooLong line) stops = absurd stops.found
@@ -42,8 +42,8 @@ module _ (filter : Filter) (now : MomentParts) (document : List ℕ) (values : L
   stopped_by (RunFault.Memory line) (inl never) = absurd never
   stopped_by (RunFault.Memory line) (inr stops) = inr (map view values, is, StopsOn-renamed (JudgesValue filter now) view values text line stops)
 
-  pub collection_stopped : (fault : RunFault) (stop : RunStop BadRow) → run_stop fault ≡ Some stop → StopsHeld (places judge values) text stop → StopsCollection filter now document text fault
-  collection_stopped fault stop reported stops = stopped_by fault (subst (λ s. IsSomeAnd s (StopsHeld (places judge values) text)) (sym reported) stops)
+  pub collection_stopped : (fault : RunFault) (stop : RunStop BadRow) → run_stop fault ≡ Some stop → StopsHeld (indexed_items judge values) text stop → StopsCollection filter now document text fault
+  collection_stopped fault stop reported stops = stopped_by fault (subst (λ s. IsSomeAnd s (StopsHeld (indexed_items judge values) text)) (sym reported) stops)
 
 -- none of the items was judged
 pub unjudged : (filter : Filter) (now : MomentParts) (document : List ℕ) (old : Option (List ℕ)) (fault : RunFault) → IsUnjudgedBy document fault

@@ -7,7 +7,7 @@ use Rattle.edm_values.specs.MomentParts.{MomentParts}
 use Rattle.collection_items.specs.JudgedItems.{AreJudged, IsArrayIn}
 use Rattle.line_filter.specs.Growth.{Writes}
 use Rattle.line_filter.specs.Kept.{Filters, StopsHeld}
-use Rattle.line_filter.specs.Places.{ItemJudge}
+use Rattle.line_filter.specs.ItemIndexes.{ItemJudge}
 use Rattle.line_filter.specs.declared.tally.Tally.{Tally}
 use Rattle.odata_checked_filter.specs.Filter.{Filter}
 use Rattle.row_judges.specs.RowJudgment.{JudgesValue, judgment_where}

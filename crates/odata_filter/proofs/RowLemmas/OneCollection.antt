@@ -6,7 +6,7 @@ use Rattle.edm_values.specs.MomentParts.{MomentParts}
 use Rattle.csdl_schema.specs.JsonText.{IsJsonOf}
 use Rattle.line_filter.specs.Kept.{Filters, StopsAt}
 use Rattle.line_filter.specs.Once.{IsFaulty}
-use Rattle.line_filter.specs.Places.{Placed}
+use Rattle.line_filter.specs.ItemIndexes.{IndexedItem}
 use Rattle.line_filter.specs.declared.line_class.LineClass.{LineClass}
 use Rattle.line_filter.specs.declared.judge.Judgment.{Judgment}
 use Rattle.line_filter.specs.declared.tally.Tally.{Tally}
@@ -68,7 +68,7 @@ module _ (filter : Filter) (now : MomentParts) (once : (json : Data) (j k : Judg
       → StopsAt (entities_of filter now items) other n (LineClass.Judged (Judgment.Fault e)) → ((m ≡ n) × AreSameJudgment (Judgment.Fault d) (Judgment.Fault e)) × (text ≡ other)
   items_meet items text other m n d e a b =
       let (number, texts, bad) = stopped items text other m n (LineClass.Judged (Judgment.Fault d)) (LineClass.Judged (Judgment.Fault e)) (λ fine. fine) (λ fine. fine) a b in
-      let there : says b.bad.item (Judgment.Fault d) = subst (λ (p : Placed Data). says p.item (Judgment.Fault d)) bad a.found in
+      let there : says b.bad.item (Judgment.Fault d) = subst (λ (p : IndexedItem Data). says p.item (Judgment.Fault d)) bad a.found in
       ((number, once b.bad.item (Judgment.Fault d) (Judgment.Fault e) there b.found), texts)
 
   module _ (document text other : List ℕ) where

@@ -5,7 +5,7 @@ use Rattle.std.specs.Io.KnownBytes.{Appends, Keeps}
 use Rattle.edm_values.specs.MomentParts.{MomentParts}
 use Rattle.line_filter.specs.Growth.{Writes}
 use Rattle.line_filter.specs.Kept.{Items, Filters, Passes, Stops, StopsWithin}
-use Rattle.line_filter.specs.Places.{Placed}
+use Rattle.line_filter.specs.ItemIndexes.{IndexedItem}
 use Rattle.line_filter.specs.declared.line_class.LineClass.{LineClass}
 use Rattle.line_filter.specs.declared.judge.Judgment.{Judgment}
 use Rattle.line_filter.specs.declared.run_stop.RunStop.{RunStop}
@@ -165,19 +165,19 @@ module _ (plan : Plan) (document : List ℕ) (filter : Filter) (now : MomentPart
     abbrev these : Streams
     these = streams rows old new
 
-    of_places : (Q : OfRows) (all text : List ℕ) → OfCollection filter now all (λ items. Q (Placed Data) items text) → HoldsOfRows plan.collection Q filter now all text
-    of_places Q all text q = subst (λ (b : Bool). HoldsOfRows b Q filter now all text) (sym is_collection) q
+    of_indexed : (Q : OfRows) (all text : List ℕ) → OfCollection filter now all (λ items. Q (IndexedItem Data) items text) → HoldsOfRows plan.collection Q filter now all text
+    of_indexed Q all text q = subst (λ (b : Bool). HoldsOfRows b Q filter now all text) (sym is_collection) q
 
-    by_places : (Q : OfRows) → Writes old new (λ text. OfCollection filter now bytes (λ items. Q (Placed Data) items text)) → ByFilter Q plan document these
-    by_places Q wrote =
-        by_filter (λ all text. OfCollection filter now all (λ items. Q (Placed Data) items text)) Q these (of_places Q)
-        (over_whole rows old new bytes (λ all text. OfCollection filter now all (λ items. Q (Placed Data) items text)) whole wrote)
+    by_indexed : (Q : OfRows) → Writes old new (λ text. OfCollection filter now bytes (λ items. Q (IndexedItem Data) items text)) → ByFilter Q plan document these
+    by_indexed Q wrote =
+        by_filter (λ all text. OfCollection filter now all (λ items. Q (IndexedItem Data) items text)) Q these (of_indexed Q)
+        (over_whole rows old new bytes (λ all text. OfCollection filter now all (λ items. Q (IndexedItem Data) items text)) whole wrote)
 
     -- an item is the first at fault
     item_at_fault : (fault : RunFault) (line : ℕ) (bad : BadRow) → run_stop fault ≡ Some (RunStop.Fault line bad) → Writes old new (λ text. OfCollection filter now bytes (λ items. StopsBy items text fault))
         → ByFilter StopsAtFault plan document these
     item_at_fault fault line bad reported (text, wrote, (items, is, stops)) =
-        by_places StopsAtFault (text, wrote, (items, is, (line, LineClass.Judged (Judgment.Fault bad), (λ sound. sound), subst (λ t. IsSomeAnd t (Stops (entities_of filter now items) text)) reported stops)))
+        by_indexed StopsAtFault (text, wrote, (items, is, (line, LineClass.Judged (Judgment.Fault bad), (λ sound. sound), subst (λ t. IsSomeAnd t (Stops (entities_of filter now items) text)) reported stops)))
 
     pub places_fail : (fault : RunFault) → Writes old new (λ text. StopsCollection filter now bytes text fault) → FailureSays (status_of_rows fault) Verb.Filter plan document these
     places_fail (Json line) (text, wrote, stops) = absurd stops
@@ -195,13 +195,13 @@ module _ (plan : Plan) (document : List ℕ) (filter : Filter) (now : MomentPart
     places_fail (Memory line) wrote = tt
 
     pub places_done : (tally : Tally) → Writes old new (λ text. OfCollection filter now bytes (λ items. Filters items text tally)) → ByFilter FiltersAll plan document these
-    places_done tally (text, wrote, (items, is, filtered)) = by_places FiltersAll (text, wrote, (items, is, (tally, filtered)))
+    places_done tally (text, wrote, (items, is, filtered)) = by_indexed FiltersAll (text, wrote, (items, is, (tally, filtered)))
 
     pub places_done-begin : (tally : Tally) → Writes old new (λ text. OfCollection filter now bytes (λ items. Filters items text tally)) → BeginsAs Verb.Filter plan document these
-    places_done-begin tally (text, wrote, (items, is, filtered)) = inr (by_places BeginsKept (text, wrote, (items, is, within_all (entities_of filter now items) text tally filtered)))
+    places_done-begin tally (text, wrote, (items, is, filtered)) = inr (by_indexed BeginsKept (text, wrote, (items, is, within_all (entities_of filter now items) text tally filtered)))
 
     begun : (stop : RunStop BadRow) → Writes old new (λ text. OfCollection filter now bytes (λ items. Stops items text stop)) → BeginsAs Verb.Filter plan document these
-    begun stop (text, wrote, (items, is, stops)) = inr (by_places BeginsKept (text, wrote, (items, is, within_stop (entities_of filter now items) text stop stops)))
+    begun stop (text, wrote, (items, is, stops)) = inr (by_indexed BeginsKept (text, wrote, (items, is, within_stop (entities_of filter now items) text stop stops)))
 
     pub places_fail-begin : (fault : RunFault) → Writes old new (λ text. StopsCollection filter now bytes text fault) → BeginsAs Verb.Filter plan document these
     places_fail-begin (Json line) (text, wrote, stops) = absurd stops
@@ -213,4 +213,4 @@ module _ (plan : Plan) (document : List ℕ) (filter : Filter) (now : MomentPart
     places_fail-begin Write wrote = begun RunStop.Write wrote
     places_fail-begin (Memory line) (text, wrote, inl (zero, empty)) = inl (wrote_none old new text wrote empty)
     places_fail-begin (Memory line) (text, wrote, inr (items, is, stops)) =
-        inr (by_places BeginsKept (text, wrote, (items, is, front_passed (entities_of filter now items) text stops.before (stops.here ∷ stops.after) stops.tally stops.whole stops.passes)))
+        inr (by_indexed BeginsKept (text, wrote, (items, is, front_passed (entities_of filter now items) text stops.before (stops.here ∷ stops.after) stops.tally stops.whole stops.passes)))

@@ -3,7 +3,7 @@
 use Rattle.std.specs.Prelude.{◌≡◌, ℕ, List, Bool}
 use Rattle.line_filter.specs.Kept.{Items}
 use Rattle.row_judges.specs.RowJudgment.{judgment_where}
-use Rattle.line_filter.specs.Places.{Placed, places}
+use Rattle.line_filter.specs.ItemIndexes.{IndexedItem, indexed_items}
 use Rattle.row_judges.specs.declared.bad_row.BadRow.{BadRow}
 use Rattle.odata_filter.specs.Collection.{IsNoCollection}
 use Rattle.odata_filter.specs.declared.run_fault.RunFault.{RunFault}
@@ -15,5 +15,5 @@ IsUnjudgedBy document (RunFault.Memory line) = line ≡ 0
 IsUnjudgedBy document _ = ⊥
 
 -- the items of a collection by their verdicts alone, each at its index
-abbrev pub known_items : List Bool → Items (Placed Bool) BadRow
-known_items flags = places (λ kept judgment. judgment ≡ judgment_where kept) flags
+abbrev pub known_items : List Bool → Items (IndexedItem Bool) BadRow
+known_items flags = indexed_items (λ kept judgment. judgment ≡ judgment_where kept) flags

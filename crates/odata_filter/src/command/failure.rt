@@ -8,8 +8,9 @@ use odata_text::QueryFault;
 use odata_typing::Refusal;
 use thiserror::Error;
 
-/// Why a run ended before the end of its rows. It is displayed as the one line that is reported, a refusal as what
-/// stands after `refused ` there: running out of memory is `memory`, wherever it comes from.
+/// Why a run ended before the end of its rows. To a fault of rows it adds those before them, and the status. It is
+/// displayed as the one line that is reported, a refusal as what stands after `refused ` there: running out of memory
+/// is `memory`, wherever it comes from.
 #[derive(Debug, Drop, Error)]
 pub enum Failure<'p> {
     #[error("usage now is not a moment")]

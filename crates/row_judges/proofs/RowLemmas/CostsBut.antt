@@ -17,9 +17,9 @@ use Rattle.odata_filter_operations.specs.Outcome.{Outcome}
 use Rattle.odata_meaning.specs.Costs.{Costs}
 use Rattle.odata_eval.specs.CostsOn.{CostsOn, KeepsBound}
 use Rattle.odata_meaning.specs.Means.{Means}
-use Rattle.odata_eval.specs.declared.stop.EvalStop.{EvalStop}
+use Rattle.odata_filter_operations.specs.declared.fault.EvalFault.{EvalFault}
 use Rattle.odata_eval.specs.declared.verdict.Verdict.{Verdict}
-use Rattle.std.specs.Prelude.{Result}
+use Rattle.std.specs.Prelude.{Option, Result}
 use Rattle.row_judges.specs.RowAnswer.{PassesNone}
 use Rattle.row_judges.specs.RowCosts.{FilterCosts, HasCost}
 use Rattle.row_judges.proofs.RowLemmas.CostsAlone.{costs_same}
@@ -99,7 +99,7 @@ kept_costs filter now line Passed row schema_is type_is paths passes read =
 
 -- ---- its cost
 
-pub cost_of_row : (filter : Filter) (now : MomentParts) (json : Data) (row : Row) (most : ℕ) (answer : Result Verdict EvalStop) → IsRowCosting filter now json row
+pub cost_of_row : (filter : Filter) (now : MomentParts) (json : Data) (row : Row) (most : ℕ) (answer : Result (Option Verdict) EvalFault) → IsRowCosting filter now json row
     → (bound : KeepsBound row now (tree_of_filter filter) most answer) → HasCost filter now json bound.cost
 cost_of_row filter now json row most answer is bound =
     record { value = is.whole; fits = is.fits; related = is.costs bound.cost bound.related; only = λ other costs. bound.only other (is.costed other costs) }

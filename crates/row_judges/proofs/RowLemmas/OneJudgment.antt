@@ -1,6 +1,6 @@
 -- Of a line a filter has one judgment at most, and of a row one answer.
 use Rattle.std.proofs.Common.{◌≡◌, ◌≢◌, ℕ, List, [], ◌∷◌, Option, Some, None, Result, Ok, Err, inl, inr, ◌⊎◌, refl, sym, ap, ◌∙◌, subst}
-use Rattle.std.specs.Prelude.{true, IsSome}
+use Rattle.std.specs.Prelude.{Bool, true, false, IsFalse, IsSome, IsTrue}
 use Rattle.std.specs.List.{join_with_byte}
 use Rattle.serde_json.specs.Data.{Data}
 use Rattle.serde_json.specs.Find.{as_object}
@@ -20,8 +20,7 @@ use Rattle.odata_eval.specs.declared.verdict.Verdict.{Verdict}
 use Rattle.odata_checked_filter.specs.Filter.{Filter, slots_for_filter}
 use Rattle.line_filter.specs.declared.judge.Judgment.{Judgment}
 use Rattle.row_judges.specs.declared.bad_row.BadRow.{BadRow}
-use Rattle.row_judges.specs.declared.no_verdict.NoVerdict.{NoVerdict}
-use Rattle.row_judges.specs.RowAnswer.{AreSameAnswer, ReportsRow}
+use Rattle.row_judges.specs.RowAnswer.{AreSameAnswer, ReportsRow, is_memory}
 use Rattle.row_judges.specs.RowJudgment.{FilterMeans, HasOutcome, JudgesValue, JudgesJson, JudgesRow}
 use Rattle.row_judges.specs.RowsOnce.{flaw_reported, AreSameJudgment}
 use Rattle.row_judges.proofs.RowLemmas.RowJudges.{row_judged}
@@ -198,19 +197,23 @@ module _ (one_fits : OneFits) (fits_nothing : FaultFitsNothing) (one_fault : One
   json_once line a b (utf8, is) (utf8', is') = cc
 
   -- a row with a verdict has no fault
-  never_bad : (row : List ℕ) (verdict : Verdict) (bad : BadRow) → ReportsRow filter now row (Ok verdict) → ReportsRow filter now row (Err (NoVerdict.Bad bad)) → ⊥
+  never_bad : (row : List ℕ) (verdict : Verdict) (bad : BadRow) → ReportsRow filter now row (Ok verdict) → JudgesRow filter now row (Judgment.Fault bad) → ⊥
   never_bad row Verdict.True bad reported fault = judged_once row Judgment.Kept (Judgment.Fault bad) (row_judged filter now row (Ok Verdict.True) Judgment.Kept reported refl) fault
   never_bad row Verdict.False bad reported fault = judged_once row Judgment.LeftOut (Judgment.Fault bad) (row_judged filter now row (Ok Verdict.False) Judgment.LeftOut reported refl) fault
   never_bad row Verdict.Null bad reported fault = judged_once row Judgment.LeftOut (Judgment.Fault bad) (row_judged filter now row (Ok Verdict.Null) Judgment.LeftOut reported refl) fault
 
-  pub reported_once : (row : List ℕ) (a b : Result Verdict NoVerdict) → ReportsRow filter now row a → ReportsRow filter now row b → AreSameAnswer a b
+  memory_where : (bad : BadRow) → ¬ IsFalse (is_memory bad) → IsTrue (is_memory bad)
+  memory_where bad never = by (is_memory bad) refl
+    where
+      by : (b : Bool) → is_memory bad ≡ b → IsTrue b
+      by true known = refl
+      by false known = absurd (never known)
+
+  pub reported_once : (row : List ℕ) (a b : Result Verdict BadRow) → ReportsRow filter now row a → ReportsRow filter now row b → AreSameAnswer a b
   reported_once row (Ok v) (Ok w) p q =
       let same : q.json ≡ p.json = json_once row p.json q.json p.is_json q.is_json in
       let there : HasOutcome filter now p.json (gives (verdict_val w)) = subst (λ (d : Data). HasOutcome filter now d (gives (verdict_val w))) same q.outcome in
       verdict_once v w (outcome_once p.json (gives (verdict_val v)) (gives (verdict_val w)) p.outcome there)
-  reported_once row (Ok v) (Err (NoVerdict.Bad g)) p q = never_bad row v g p q
-  reported_once row (Ok v) (Err NoVerdict.Memory) p q = tt
-  reported_once row (Err (NoVerdict.Bad f)) (Ok w) p q = never_bad row w f q p
-  reported_once row (Err (NoVerdict.Bad f)) (Err (NoVerdict.Bad g)) p q = judged_once row (Judgment.Fault f) (Judgment.Fault g) p q
-  reported_once row (Err (NoVerdict.Bad f)) (Err NoVerdict.Memory) p q = tt
-  reported_once row (Err NoVerdict.Memory) b p q = tt
+  reported_once row (Ok v) (Err g) p q = memory_where g (λ known. never_bad row v g p (q known))
+  reported_once row (Err f) (Ok w) p q = memory_where f (λ known. never_bad row w f q (p known))
+  reported_once row (Err f) (Err g) p q = λ of_f of_g. judged_once row (Judgment.Fault f) (Judgment.Fault g) (p of_f) (q of_g)

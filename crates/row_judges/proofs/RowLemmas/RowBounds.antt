@@ -9,44 +9,42 @@ use Rattle.odata_filter_operations.specs.declared.fault.EvalFault.{EvalFault}
 use Rattle.odata_eval.specs.CostsOn.{KeepsBound}
 use Rattle.odata_meaning.specs.MeansOn.{IsTheOutcome}
 use Rattle.odata_eval.specs.VerdictView.{outcome_reported}
-use Rattle.odata_eval.specs.declared.stop.EvalStop.{EvalStop}
 use Rattle.odata_eval.specs.declared.verdict.Verdict.{Verdict}
 use Rattle.row_judges.specs.RowCosts.{CostIs, ReportsRowWithin, RowCostIs}
 use Rattle.row_judges.specs.declared.bad_row.BadRow.{BadRow}
-use Rattle.row_judges.specs.declared.no_verdict.NoVerdict.{NoVerdict}
-use Rattle.row_judges.specs.private.BoundedJudge.{ReportsValueWithin, stop_reported}
+use Rattle.row_judges.specs.private.BoundedJudge.{ReportsValueWithin}
+use Rattle.row_judges.specs.private.ValueAnswer.{answer_reported}
 use Rattle.row_judges.proofs.RowLemmas.CostsBut.{IsRowCosting, cost_of_row}
 use Rattle.row_judges.proofs.RowLemmas.RowJudges.{row_reported}
 use Rattle.row_judges.proofs.RowLemmas.RowsBut.{answer_but}
 
 -- the filter's answer to the entity is what is reported about the JSON
-pub answer_within_row : (filter : Filter) (now : MomentParts) (json : Data) (row : Row) (most : ℕ) (answer : Result Verdict EvalStop) → IsRowCosting filter now json row
+pub answer_within_row : (filter : Filter) (now : MomentParts) (json : Data) (row : Row) (most : ℕ) (answer : Result (Option Verdict) EvalFault) → IsRowCosting filter now json row
     → IfSome (outcome_reported answer) (IsTheOutcome row now (tree_of_filter filter)) → KeepsBound row now (tree_of_filter filter) most answer
-    → ReportsValueWithin filter now json most (stop_reported answer)
-answer_within_row filter now json row most (Ok verdict) is_row reported bound =
-    (answer_but filter now json row (Ok verdict) is_row.reported reported, (bound.cost, cost_of_row filter now json row most (Ok verdict) is_row bound, bound.within))
-answer_within_row filter now json row most (Err EvalStop.TooCostly) is_row reported bound =
-    (bound.cost, cost_of_row filter now json row most (Err EvalStop.TooCostly) is_row bound, bound.within)
-answer_within_row filter now json row most (Err (EvalStop.Fault EvalFault.Overflow)) is_row reported bound = (
-  answer_but filter now json row (Err EvalFault.Overflow) is_row.reported reported,
-  (bound.cost, cost_of_row filter now json row most (Err (EvalStop.Fault EvalFault.Overflow)) is_row bound, bound.within),
+    → ReportsValueWithin filter now json most (answer_reported answer)
+answer_within_row filter now json row most (Ok (Some verdict)) is_row reported bound =
+    (answer_but filter now json row (Ok verdict) is_row.reported reported, (bound.cost, cost_of_row filter now json row most (Ok (Some verdict)) is_row bound, bound.within))
+answer_within_row filter now json row most (Ok None) is_row reported bound =
+    (bound.cost, cost_of_row filter now json row most (Ok None) is_row bound, bound.within)
+answer_within_row filter now json row most (Err EvalFault.Overflow) is_row reported bound = λ known. (
+  answer_but filter now json row (Err EvalFault.Overflow) is_row.reported reported known,
+  (bound.cost, cost_of_row filter now json row most (Err EvalFault.Overflow) is_row bound, bound.within),
 )
-answer_within_row filter now json row most (Err (EvalStop.Fault EvalFault.DivideByZero)) is_row reported bound = (
-  answer_but filter now json row (Err EvalFault.DivideByZero) is_row.reported reported,
-  (bound.cost, cost_of_row filter now json row most (Err (EvalStop.Fault EvalFault.DivideByZero)) is_row bound, bound.within),
+answer_within_row filter now json row most (Err EvalFault.DivideByZero) is_row reported bound = λ known. (
+  answer_but filter now json row (Err EvalFault.DivideByZero) is_row.reported reported known,
+  (bound.cost, cost_of_row filter now json row most (Err EvalFault.DivideByZero) is_row bound, bound.within),
 )
-answer_within_row filter now json row most (Err (EvalStop.Fault EvalFault.Memory)) is_row reported bound = tt
+answer_within_row filter now json row most (Err EvalFault.Memory) is_row reported bound = λ known. absurd cc
 
 -- what is reported about the JSON that a row is, is reported about the row
-pub row_within : (filter : Filter) (now : MomentParts) (row : List ℕ) (json : Data) (most : ℕ) (answer : Result (Option Verdict) NoVerdict) → IsJsonOf row json
+pub row_within : (filter : Filter) (now : MomentParts) (row : List ℕ) (json : Data) (most : ℕ) (answer : Result (Option Verdict) BadRow) → IsJsonOf row json
     → ReportsValueWithin filter now json most answer → ReportsRowWithin filter now row most answer
 row_within filter now row json most (Ok (Some verdict)) is reports =
     (row_reported filter now row json (Ok verdict) is reports.0, record { json = json; is_json = is; cost_is = reports.1 })
 row_within filter now row json most (Ok None) is reports = record { json = json; is_json = is; cost_is = reports }
-row_within filter now row json most (Err (NoVerdict.Bad (BadRow.NoValue fault))) is reports =
-    (row_reported filter now row json (Err (NoVerdict.Bad (BadRow.NoValue fault))) is reports.0, record { json = json; is_json = is; cost_is = reports.1 })
-row_within filter now row json most (Err (NoVerdict.Bad BadRow.NotJson)) is reports =
-    row_reported filter now row json (Err (NoVerdict.Bad BadRow.NotJson)) is reports
-row_within filter now row json most (Err (NoVerdict.Bad (BadRow.NoEntity fault))) is reports =
-    row_reported filter now row json (Err (NoVerdict.Bad (BadRow.NoEntity fault))) is reports
-row_within filter now row json most (Err NoVerdict.Memory) is reports = tt
+row_within filter now row json most (Err (BadRow.NoValue fault)) is reports = λ known. (
+  row_reported filter now row json (Err (BadRow.NoValue fault)) is (λ k. (reports k).0) known,
+  record { json = json; is_json = is; cost_is = (reports known).1 },
+)
+row_within filter now row json most (Err BadRow.NotJson) is reports = row_reported filter now row json (Err BadRow.NotJson) is reports
+row_within filter now row json most (Err (BadRow.NoEntity fault)) is reports = row_reported filter now row json (Err (BadRow.NoEntity fault)) is reports

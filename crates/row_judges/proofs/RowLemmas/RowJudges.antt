@@ -4,7 +4,7 @@ use Rattle.std.proofs.Common.{◌≡◌, ◌≢◌, ℕ, List, [], Some, None, R
 use Rattle.serde_json.specs.Data.{Data}
 use Rattle.edm_values.specs.MomentParts.{MomentParts}
 use Rattle.edm_values.specs.Val.{Val, null, boolean}
-use Rattle.std.specs.Prelude.{true, false, MatchResult}
+use Rattle.std.specs.Prelude.{Bool, true, false, IsFalse, MatchResult, if◌then◌else◌}
 use Rattle.csdl_schema.specs.JsonText.{IsJsonOf}
 use Rattle.csdl_schema.specs.ExpansionView.{StepModel, paths_in}
 use Rattle.csdl_schema.specs.PathSet.{PathSet, PropertyPath}
@@ -15,16 +15,17 @@ use Rattle.line_filter.specs.declared.judge.Judgment.{Judgment}
 use Rattle.row_judges.specs.declared.bad_row.BadRow.{BadRow}
 use Rattle.edm_entities.specs.Fits.{Fits}
 use Rattle.edm_entities.specs.Row.{Row, expanded_by, slots_for, value_of}
+use Rattle.edm_entities.specs.RowFaults.{IsMemory, IsRowFault}
+use Rattle.edm_entities.specs.declared.row_fault.RowFault.{RowFault}
 use Rattle.odata_meaning.specs.Means.{Means}
 use Rattle.odata_meaning.specs.MeansOn.{IsTheOutcome}
 use Rattle.odata_filter_operations.specs.Outcome.{Outcome, gives, overflow, divides_by_zero}
 use Rattle.odata_filter_operations.specs.FaultView.{fault_outcome}
 use Rattle.odata_eval.specs.VerdictView.{reported_outcome, verdict_val}
 use Rattle.odata_checked_filter.specs.Filter.{Filter, slots_for_filter, tree_of_filter}
-use Rattle.row_judges.specs.declared.no_verdict.NoVerdict.{NoVerdict}
-use Rattle.row_judges.specs.RowAnswer.{ReportsRow, judgment_reported}
+use Rattle.row_judges.specs.RowAnswer.{ReportsRow, is_memory, judgment_reported}
 use Rattle.row_judges.specs.RowJudgment.{HasOutcome, JudgesRow, JudgesValue}
-use Rattle.row_judges.specs.private.ValueAnswer.{ReportsValue, answer_reported, fault_reported}
+use Rattle.row_judges.specs.private.ValueAnswer.{ReportsValue, answer_reported}
 
 -- an entity of the filter's schema and type, read from the JSON with what the filter needs
 pub record IsRowOf (filter : Filter) (json : Data) (row : Row) : Type 0 where
@@ -72,11 +73,11 @@ outcome_of_row filter now json row outcome is_row reported =
 -- a fault on the entity is what is reported about the JSON
 pub reported_by_fault : (filter : Filter) (now : MomentParts) (json : Data) (row : Row) (fault : EvalFault)
     → IsRowOf filter json row → IfSome (fault_outcome fault) (IsTheOutcome row now (tree_of_filter filter))
-    → ReportsValue filter now json (Err (fault_reported fault))
-reported_by_fault filter now json row EvalFault.Overflow is_row reported = (overflow, (refl, outcome_of_row filter now json row overflow is_row reported))
+    → ReportsValue filter now json (Err (BadRow.NoValue fault))
+reported_by_fault filter now json row EvalFault.Overflow is_row reported = λ known. (overflow, (refl, outcome_of_row filter now json row overflow is_row reported))
 reported_by_fault filter now json row EvalFault.DivideByZero is_row reported =
-    (divides_by_zero, (refl, outcome_of_row filter now json row divides_by_zero is_row reported))
-reported_by_fault filter now json row EvalFault.Memory is_row reported = tt
+    λ known. (divides_by_zero, (refl, outcome_of_row filter now json row divides_by_zero is_row reported))
+reported_by_fault filter now json row EvalFault.Memory is_row reported = λ known. absurd cc
 
 -- the filter's answer to the entity is what is reported about the JSON
 pub answer_of_row : (filter : Filter) (now : MomentParts) (json : Data) (row : Row) (answer : Result Verdict EvalFault)
@@ -85,6 +86,30 @@ pub answer_of_row : (filter : Filter) (now : MomentParts) (json : Data) (row : R
 answer_of_row filter now json row (Ok verdict) is_row reported = outcome_of_row filter now json row (gives (verdict_val verdict)) is_row reported
 answer_of_row filter now json row (Err fault) is_row reported = reported_by_fault filter now json row fault is_row reported
 
+-- ---- faults of an entity
+
+not_memory : (fault : RowFault) → IsFalse (is_memory (BadRow.NoEntity fault)) → ¬ IsMemory fault
+not_memory RowFault.Memory known = absurd cc
+not_memory _ known = λ memory. memory
+
+-- the first fault by the filter's schema, type and paths is what is reported about the JSON
+pub fault_of_json : (filter : Filter) (now : MomentParts) (json : Data) (fault : RowFault) (s : SchemaModel) (n : ℕ) (expansion : List StepModel)
+    → s ≡ filter.schema → n ≡ filter.filtered → expansion ≡ filter.expansion
+    → (¬ IsMemory fault → IsRowFault (expanded_by s expansion) (type_name_at s n) json fault) → ReportsValue filter now json (Err (BadRow.NoEntity fault))
+fault_of_json filter now json fault s n expansion of_schema of_type of_expansion first known =
+    subst (λ (s' : SchemaModel). IsRowFault (expanded_by s' filter.expansion) (type_name_at s' filter.filtered) json fault) of_schema
+    (subst (λ (n' : ℕ). IsRowFault (expanded_by s filter.expansion) (type_name_at s n') json fault) of_type
+    (subst (λ (e : List StepModel). IsRowFault (expanded_by s e) (type_name_at s n) json fault) of_expansion (first (not_memory fault known))))
+
+-- what is said of a row at fault, unless memory ran out
+said_at_fault : (Said : Judgment BadRow → Type 0) (bad : BadRow) (said : Judgment BadRow)
+    → (IsFalse (is_memory bad) → Said (Judgment.Fault bad)) → judgment_reported (Err bad) ≡ Some said → Said said
+said_at_fault Said bad said holds = by (is_memory bad) refl
+  where
+    by : (b : Bool) → is_memory bad ≡ b → (if b then None else Some (Judgment.Fault bad)) ≡ Some said → Said said
+    by true known is = absurd cc
+    by false known is = let same : Judgment.Fault bad ≡ said = cc in subst Said same (holds known)
+
 -- ---- what is reported, and what is said of a line
 
 module _ (filter : Filter) (now : MomentParts) where
@@ -92,7 +117,7 @@ module _ (filter : Filter) (now : MomentParts) where
   left_out : (json : Data) (value : Val) → value ≢ boolean true → HasOutcome filter now json (gives value) → JudgesValue filter now json Judgment.LeftOut
   left_out json value not_so has = (value, (not_so, has))
 
-  pub value_judged : (json : Data) (answer : Result Verdict NoVerdict) (said : Judgment BadRow)
+  pub value_judged : (json : Data) (answer : Result Verdict BadRow) (said : Judgment BadRow)
       → ReportsValue filter now json answer → judgment_reported answer ≡ Some said → JudgesValue filter now json said
   value_judged json (Ok Verdict.True) said reported is =
       let same : Judgment.Kept ≡ said = cc in subst (λ (j : Judgment BadRow). JudgesValue filter now json j) same reported
@@ -102,11 +127,9 @@ module _ (filter : Filter) (now : MomentParts) where
   value_judged json (Ok Verdict.Null) said reported is =
       let same : Judgment.LeftOut ≡ said = cc in
       subst (λ (j : Judgment BadRow). JudgesValue filter now json j) same (left_out json null (λ e. cc) reported)
-  value_judged json (Err (NoVerdict.Bad bad)) said reported is =
-      let same : Judgment.Fault bad ≡ said = cc in subst (λ (j : Judgment BadRow). JudgesValue filter now json j) same reported
-  value_judged json (Err NoVerdict.Memory) said reported is = absurd cc
+  value_judged json (Err bad) said reported is = said_at_fault (JudgesValue filter now json) bad said reported is
 
-  pub row_judged : (row : List ℕ) (answer : Result Verdict NoVerdict) (said : Judgment BadRow)
+  pub row_judged : (row : List ℕ) (answer : Result Verdict BadRow) (said : Judgment BadRow)
       → ReportsRow filter now row answer → judgment_reported answer ≡ Some said → JudgesRow filter now row said
   row_judged row (Ok Verdict.True) said reported is =
       let same : Judgment.Kept ≡ said = cc in
@@ -119,29 +142,26 @@ module _ (filter : Filter) (now : MomentParts) where
       let same : Judgment.LeftOut ≡ said = cc in
       subst (λ (j : Judgment BadRow). JudgesRow filter now row j) same
       (record { json = reported.json; is_json = reported.is_json; judged = left_out reported.json null (λ e. cc) reported.outcome })
-  row_judged row (Err (NoVerdict.Bad bad)) said reported is =
-      let same : Judgment.Fault bad ≡ said = cc in subst (λ (j : Judgment BadRow). JudgesRow filter now row j) same reported
-  row_judged row (Err NoVerdict.Memory) said reported is = absurd cc
+  row_judged row (Err bad) said reported is = said_at_fault (JudgesRow filter now row) bad said reported is
 
   -- what is reported about the JSON that a row is, is reported about the row
-  pub row_reported : (row : List ℕ) (json : Data) (answer : Result Verdict NoVerdict)
+  pub row_reported : (row : List ℕ) (json : Data) (answer : Result Verdict BadRow)
       → IsJsonOf row json → ReportsValue filter now json answer → ReportsRow filter now row answer
   row_reported row json (Ok verdict) is reported = record { json = json; is_json = is; outcome = reported }
-  row_reported row json (Err (NoVerdict.Bad BadRow.NotJson)) is reported = absurd reported
-  row_reported row json (Err (NoVerdict.Bad (BadRow.NoEntity fault))) is reported = record { json = json; is_json = is; judged = reported }
-  row_reported row json (Err (NoVerdict.Bad (BadRow.NoValue fault))) is reported = record { json = json; is_json = is; judged = reported }
-  row_reported row json (Err NoVerdict.Memory) is reported = tt
+  row_reported row json (Err BadRow.NotJson) is reported = absurd (reported refl)
+  row_reported row json (Err (BadRow.NoEntity fault)) is reported = λ known. record { json = json; is_json = is; judged = reported known }
+  row_reported row json (Err (BadRow.NoValue fault)) is reported = λ known. record { json = json; is_json = is; judged = reported known }
 
   -- what is kept by what is reported is right to keep
-  abbrev Says : {E : Type 0} → Result Verdict NoVerdict → Result (Judgment BadRow) E → Type 0
+  abbrev Says : {E : Type 0} → Result Verdict BadRow → Result (Judgment BadRow) E → Type 0
   Says answer result = MatchResult result (λ said. judgment_reported answer ≡ Some said) (λ refused. judgment_reported answer ≡ None)
 
-  pub item_judged : {E : Type 0} (json : Data) (answer : Result Verdict NoVerdict) (result : Result (Judgment BadRow) E)
+  pub item_judged : {E : Type 0} (json : Data) (answer : Result Verdict BadRow) (result : Result (Judgment BadRow) E)
       → ReportsValue filter now json answer → Says answer result → IfOk result (JudgesValue filter now json)
   item_judged json answer (Ok said) reported is = value_judged json answer said reported is
   item_judged json answer (Err refused) reported is = tt
 
-  pub line_judged : {E : Type 0} (line : List ℕ) (answer : Result Verdict NoVerdict) (result : Result (Judgment BadRow) E)
+  pub line_judged : {E : Type 0} (line : List ℕ) (answer : Result Verdict BadRow) (result : Result (Judgment BadRow) E)
       → ReportsRow filter now line answer → Says answer result → IfOk result (JudgesRow filter now line)
   line_judged line answer (Ok said) reported is = row_judged line answer said reported is
   line_judged line answer (Err refused) reported is = tt

@@ -27,7 +27,8 @@ use Rattle.odata_filter_operations.specs.declared.fault.EvalFault.{EvalFault}
 use Rattle.odata_eval.specs.declared.verdict.Verdict.{Verdict}
 use Rattle.row_judges.specs.RowAnswer.{PassesNone}
 use Rattle.row_judges.specs.RowJudgment.{HasOutcome}
-use Rattle.row_judges.specs.private.ValueAnswer.{ReportsValue, answer_reported, fault_reported}
+use Rattle.row_judges.specs.declared.bad_row.BadRow.{BadRow}
+use Rattle.row_judges.specs.private.ValueAnswer.{ReportsValue, answer_reported}
 use Rattle.row_judges.proofs.RowLemmas.NamesAlone.{NamesNone, NodesNameNone, list_none, means_same}
 
 -- ---- what a filter that names none of them evaluates to
@@ -113,10 +114,10 @@ outcome_but filter now json row outcome is reported =
     record { value = is.whole; fits = is.fits; related = is.means outcome reported.related; only = λ other means. reported.only other (is.meant other means) }
 
 fault_but : (filter : Filter) (now : MomentParts) (json : Data) (row : Row) (fault : EvalFault) → IsRowBut filter now json row → IfSome (fault_outcome fault) (IsTheOutcome row now (tree_of_filter filter))
-    → ReportsValue filter now json (Err (fault_reported fault))
-fault_but filter now json row EvalFault.Overflow is reported = (overflow, (refl, outcome_but filter now json row overflow is reported))
-fault_but filter now json row EvalFault.DivideByZero is reported = (divides_by_zero, (refl, outcome_but filter now json row divides_by_zero is reported))
-fault_but filter now json row EvalFault.Memory is reported = tt
+    → ReportsValue filter now json (Err (BadRow.NoValue fault))
+fault_but filter now json row EvalFault.Overflow is reported = λ known. (overflow, (refl, outcome_but filter now json row overflow is reported))
+fault_but filter now json row EvalFault.DivideByZero is reported = λ known. (divides_by_zero, (refl, outcome_but filter now json row divides_by_zero is reported))
+fault_but filter now json row EvalFault.Memory is reported = λ known. absurd cc
 
 pub answer_but : (filter : Filter) (now : MomentParts) (json : Data) (row : Row) (answer : Result Verdict EvalFault) → IsRowBut filter now json row → IfSome (reported_outcome answer) (IsTheOutcome row now (tree_of_filter filter))
     → ReportsValue filter now json (answer_reported answer)

@@ -1,5 +1,5 @@
 -- From what a reader of rows in place says of a line to what is said of it by the filter.
-use Rattle.std.proofs.Common.{◌≡◌, ◌≢◌, inl, inr, ℕ, Bool, true, false, List, [], Some, Result, Ok, Err, slice_get, map, refl, sym, ap, ◌∙◌, subst, IfSome}
+use Rattle.std.proofs.Common.{◌≡◌, ◌≢◌, inl, inr, ℕ, Bool, true, false, List, [], Option, Some, Result, Ok, Err, slice_get, map, refl, sym, ap, ◌∙◌, subst, IfSome}
 use Rattle.std.specs.Prelude.{◌↔◌, All}
 use Rattle.serde_json.specs.Data.{Data}
 use Rattle.edm_values.specs.MomentParts.{IsMoment, MomentParts}
@@ -24,18 +24,16 @@ use Rattle.odata_meaning.specs.EndsOnce.{TypedEndsOnce}
 use Rattle.odata_meaning.specs.MeansOn.{IsTheOutcome}
 use Rattle.odata_eval.specs.CostsOn.{KeepsBound}
 use Rattle.odata_eval.specs.VerdictView.{outcome_reported, reported_outcome}
-use Rattle.odata_eval.specs.declared.stop.EvalStop.{EvalStop}
 use Rattle.odata_eval.specs.declared.verdict.Verdict.{Verdict}
 use Rattle.odata_filter_operations.specs.Outcome.{Outcome, gives}
 use Rattle.odata_filter_operations.specs.declared.fault.EvalFault.{EvalFault}
 use Rattle.row_judges.specs.RowAnswer.{PassesNone, ReportsRow, judgment_reported}
+use Rattle.row_judges.specs.declared.bad_row.BadRow.{BadRow}
 use Rattle.row_judges.specs.RowCosts.{ReportsRowWithin}
 use Rattle.row_judges.specs.RowJudgment.{FilterMeans, JudgesRow, JudgesValue}
 use Rattle.row_judges.specs.FilterRows.{KeepsNames}
 use Rattle.row_judges.specs.private.RowsInPlace.{AreRowsOf, IsRead, IsSameButSieves, IsTestAt}
 use Rattle.row_judges.specs.private.ValueAnswer.{ReportsValue, answer_reported}
-use Rattle.row_judges.specs.private.BoundedJudge.{stop_reported}
-use Rattle.row_judges.specs.declared.no_verdict.NoVerdict.{NoVerdict}
 use Rattle.row_judges.proofs.RowLemmas.CostsBut.{kept_costs}
 use Rattle.row_judges.proofs.RowLemmas.RowBounds.{answer_within_row, row_within}
 use Rattle.row_judges.proofs.RowLemmas.BlankLines.{json_not_blank}
@@ -149,8 +147,8 @@ module _ (filter : Filter) where
     answer_said line (Ok Verdict.True) reported = row_judged filter now line (Ok Verdict.True) Judgment.Kept reported refl
     answer_said line (Ok Verdict.False) reported = row_judged filter now line (Ok Verdict.False) Judgment.LeftOut reported refl
     answer_said line (Ok Verdict.Null) reported = row_judged filter now line (Ok Verdict.Null) Judgment.LeftOut reported refl
-    answer_said line (Err EvalFault.Overflow) reported = reported
-    answer_said line (Err EvalFault.DivideByZero) reported = reported
+    answer_said line (Err EvalFault.Overflow) reported = reported refl
+    answer_said line (Err EvalFault.DivideByZero) reported = reported refl
     answer_said line (Err EvalFault.Memory) reported = tt
 
     -- such a line is not blank
@@ -158,12 +156,12 @@ module _ (filter : Filter) where
     answer_not_blank line (Ok Verdict.True) reported = json_not_blank line reported.json reported.is_json
     answer_not_blank line (Ok Verdict.False) reported = json_not_blank line reported.json reported.is_json
     answer_not_blank line (Ok Verdict.Null) reported = json_not_blank line reported.json reported.is_json
-    answer_not_blank line (Err EvalFault.Overflow) reported = json_not_blank line reported.json reported.is_json
-    answer_not_blank line (Err EvalFault.DivideByZero) reported = json_not_blank line reported.json reported.is_json
+    answer_not_blank line (Err EvalFault.Overflow) reported = json_not_blank line (reported refl).json (reported refl).is_json
+    answer_not_blank line (Err EvalFault.DivideByZero) reported = json_not_blank line (reported refl).json (reported refl).is_json
     answer_not_blank line (Err EvalFault.Memory) reported = tt
 
     -- what is reported of each JSON that the held row stands for is reported of its line
-    pub line_reported : (rows : RowsOfType) (answer : Result Verdict NoVerdict) → ((json : Data) → IsJsonBut json (names_unkept rows) (row_held rows) → ReportsValue filter now json answer)
+    pub line_reported : (rows : RowsOfType) (answer : Result Verdict BadRow) → ((json : Data) → IsJsonBut json (names_unkept rows) (row_held rows) → ReportsValue filter now json answer)
         → (line : List ℕ) → IsLineBut line (names_unkept rows) (row_held rows) → ReportsRow filter now line answer
     line_reported rows answer reported line read = row_reported filter now line read.json answer read.is_json (reported read.json (of_line line (names_unkept rows) (row_held rows) read))
 
@@ -181,11 +179,11 @@ module _ (filter : Filter) where
           answer_but filter now json (row_held rows) answer but outcome
 
       -- and within a bound
-      pub held_within : (line : List ℕ) (most : ℕ) (answer : Result Verdict EvalStop) → IsLineBut line (names_unkept rows) (row_held rows) → IfSome (outcome_reported answer) (IsTheOutcome (row_held rows) now (tree_of_filter filter))
-          → KeepsBound (row_held rows) now (tree_of_filter filter) most answer → ReportsRowWithin filter now line most (stop_reported answer)
+      pub held_within : (line : List ℕ) (most : ℕ) (answer : Result (Option Verdict) EvalFault) → IsLineBut line (names_unkept rows) (row_held rows) → IfSome (outcome_reported answer) (IsTheOutcome (row_held rows) now (tree_of_filter filter))
+          → KeepsBound (row_held rows) now (tree_of_filter filter) most answer → ReportsRowWithin filter now line most (answer_reported answer)
       held_within line most answer read outcome bound =
           let costs = kept_costs filter now line (names_unkept rows) (row_held rows) names.schema names.type_id paths_same names.keeps read in
-          row_within filter now line read.json most (stop_reported answer) read.is_json (answer_within_row filter now read.json (row_held rows) most answer costs outcome bound)
+          row_within filter now line read.json most (answer_reported answer) read.is_json (answer_within_row filter now read.json (row_held rows) most answer costs outcome bound)
 
     -- what is known of a line that is left out is known of its JSON
     of_left : (rows : RowsOfType) (line : List ℕ) → (left : IsLeftOut line rows) → IsJsonLeftOut left.json rows

@@ -5,9 +5,9 @@ use Rattle.line_filter.specs.private.Ascii.{AsciiBetween}
 use Rattle.line_filter.proofs.line_feeds.first_line_feed.Given as goal
 
 -- no LF stands before the offset; where it is noted so, the bytes before it are of ASCII
-abbrev pub invariant-loop-place : goal.invariant-loop-place
-invariant-loop-place l = (l.from ≤ l.place) × (l.place ≤ l.to) × Nowhere (Passes (is_byte 10) l.bytes) l.from l.place
-    × (IsTrue l.is_ascii → AsciiBetween l.bytes l.from l.place)
+abbrev pub invariant-loop-offset : goal.invariant-loop-offset
+invariant-loop-offset l = (l.from ≤ l.offset) × (l.offset ≤ l.to) × Nowhere (Passes (is_byte 10) l.bytes) l.from l.offset
+    × (IsTrue l.is_ascii → AsciiBetween l.bytes l.from l.offset)
 
-abbrev pub decreases-loop-place : goal.decreases-loop-place
-decreases-loop-place l = l.to - l.place
+abbrev pub decreases-loop-offset : goal.decreases-loop-offset
+decreases-loop-offset l = l.to - l.offset

@@ -39,4 +39,4 @@ returns-in-None-clause-writes g c = no_writes (g.T.Writes.calls c.args.out.now)
 
 pub returns-clause-writes : goal.returns-clause-writes
 returns-clause-writes g c =
-    writes_until_fault (g.T.Writes.calls c.args.out.now) (g.T.Writes.calls c.filter_places.new.out) c.run_fault.result c.in-Err.stop c.run_fault.ensures c.in-Err.ensures.writes
+    writes_until_fault (g.T.Writes.calls c.args.out.now) (g.T.Writes.calls c.filter_items.new.out) c.run_fault.result c.in-Err.stop c.run_fault.ensures c.in-Err.ensures.writes

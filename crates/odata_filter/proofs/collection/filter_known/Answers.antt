@@ -12,4 +12,4 @@ returns-in-Err-clause-stops g c =
 
 pub returns-in-Err-clause-writes : goal.returns-in-Err-clause-writes
 returns-in-Err-clause-writes g c =
-    writes_until_fault (g.T.Writes.calls c.args.out.now) (g.T.Writes.calls c.filter_places.new.out) c.run_fault.result c.in-Err.stop c.run_fault.ensures c.in-Err.ensures.writes
+    writes_until_fault (g.T.Writes.calls c.args.out.now) (g.T.Writes.calls c.filter_items.new.out) c.run_fault.result c.in-Err.stop c.run_fault.ensures c.in-Err.ensures.writes

@@ -5,3 +5,6 @@ use Rattle.row_judges.proofs.bounded_judge.BoundedJudge.judge_by_tree.Goals as g
 pub returns-in-Ok : goal.returns-in-Ok
 returns-in-Ok c =
     row_within c.args.self.now.checked.now c.args.self.now.moment.now c.args.row.now (view c.in-Ok.json) c.args.self.now.most c.judge_value.result c.in-Ok.ensures.ok c.judge_value.ensures
+
+pub returns-then-is_memory : goal.returns-then-is_memory
+returns-then-is_memory c = λ known. absurd cc

@@ -4,7 +4,7 @@ use Rattle.csdl_schema.specs.PathSet.{PropertyPath}
 use Rattle.edm_row_plans.specs.Plans.{IsPlanOf}
 use Rattle.edm_row_plans.specs.PassedNames.{names_passed}
 use Rattle.row_judges.specs.RowAnswer.{PassesNone}
-use Rattle.row_judges.specs.private.BoundedJudge.{stop_reported}
+use Rattle.row_judges.specs.private.ValueAnswer.{answer_reported}
 use Rattle.row_judges.proofs.RowLemmas.CostsBut.{kept_costs}
 use Rattle.row_judges.proofs.RowLemmas.RowBounds.{answer_within_row, row_within}
 use Rattle.row_judges.proofs.bounded_judge.BoundedJudge.judge_read.Goals as goal
@@ -30,5 +30,5 @@ returns c =
     let paths : (path : PropertyPath) → paths_in c.in-Some.entity.expansion path ≡ paths_in filter.expansion path = λ path. ap (λ (steps : List StepModel). paths_in steps path) (c.in-Some.ensures.expansion ∙ c.requires.whole c.if-not-is_whole.false) in
     let passes = subst (λ schema. PassesNone filter (names_passed schema plan)) (sym c.schema.ensures) c.requires.passes in
     let is = kept_costs filter now c.args.row.now (names_passed c.schema.result.now plan) c.in-Some.entity (c.in-Some.ensures.of_type.0 ∙ c.schema.ensures) (c.in-Some.ensures.of_type.1 ∙ c.requires.type_id) paths passes line in
-    row_within filter now c.args.row.now line.json most (stop_reported answer) line.is_json
+    row_within filter now c.args.row.now line.json most (answer_reported answer) line.is_json
     (answer_within_row filter now line.json c.in-Some.entity most answer is c.judge_entity-answer.ensures.outcome c.judge_entity-answer.ensures.bound)

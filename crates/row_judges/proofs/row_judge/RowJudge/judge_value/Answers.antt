@@ -2,7 +2,7 @@ use Rattle.std.proofs.Common.{List, sym, ap, subst, ◌∙◌}
 use Rattle.csdl_schema.specs.ExpansionView.{StepModel, paths_in}
 use Rattle.serde_json.specs.View.{view}
 use Rattle.row_judges.specs.private.ValueAnswer.{ReportsValue}
-use Rattle.row_judges.proofs.RowLemmas.RowJudges.{fits_of_row}
+use Rattle.row_judges.proofs.RowLemmas.RowJudges.{fault_of_json, fits_of_row}
 use Rattle.row_judges.proofs.row_judge.RowJudge.judge_value.Goals as goal
 
 pub judge_entity-requires : goal.judge_entity-requires
@@ -18,3 +18,8 @@ returns-in-Ok c =
     (c.judge_entity.ensures.reported (view c.args.json.now)
     (fits_of_row (view c.args.json.now) c.in-Ok.entity c.schema-schema.result.now c.filtered_type-type_id.result c.expansion.result.now c.in-Ok.ensures.of_type.0 c.in-Ok.ensures.of_type.1 c.in-Ok.ensures.expansion
     c.in-Ok.ensures.fits))
+
+pub returns-in-Err : goal.returns-in-Err
+returns-in-Err c =
+    fault_of_json c.args.self.now.checked.now c.args.self.now.moment.now (view c.args.json.now) c.in-Err.fault c.schema-schema.result.now c.filtered_type-type_id.result c.expansion.result.now
+    c.schema-schema.ensures c.filtered_type-type_id.ensures.same c.expansion.ensures.same c.in-Err.ensures.first_fault

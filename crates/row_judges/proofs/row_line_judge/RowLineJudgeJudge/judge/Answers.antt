@@ -6,7 +6,6 @@ use Rattle.odata_eval.specs.declared.verdict.Verdict.{Verdict}
 use Rattle.row_judges.specs.RowAnswer.{ReportsRow}
 use Rattle.row_judges.specs.RowJudgment.{JudgesRow}
 use Rattle.row_judges.specs.declared.bad_row.BadRow.{BadRow}
-use Rattle.row_judges.specs.declared.no_verdict.NoVerdict.{NoVerdict}
 use Rattle.row_judges.specs.RowLineJudge.{FilterNow}
 use Rattle.row_judges.specs.private.ValueAnswer.{answer_reported}
 use Rattle.row_judges.proofs.RowLemmas.RowJudges.{line_judged}
@@ -28,8 +27,8 @@ returns-clause-said c =
           subst Right (sym w.result-is) (line_judged filter now line (Ok w.in-Some-Ok.verdict) said (subst Reported w.in-Some-Ok.field-0-is (subst Read w.in-Some-Ok.is c.judge_read.ensures)) w.judged_by.ensures)
       | in-Some-Err w ↦
           subst Right (sym w.result-is)
-          (line_judged filter now line (Err w.reported_fault.result) w.judgment_of.result
-          (subst (λ (n : NoVerdict). ReportsRow filter now line (Err n)) (sym w.reported_fault.ensures) (subst Reported w.in-Some-Err.field-0-is (subst Read w.in-Some-Err.is c.judge_read.ensures))) w.judgment_of.ensures)
+          (line_judged filter now line (Err (BadRow.NoValue w.in-Some-Err.fault)) w.judgment_of.result
+          (subst Reported w.in-Some-Err.field-0-is (subst Read w.in-Some-Err.is c.judge_read.ensures)) w.judgment_of.ensures)
       | in-None w ↦ subst Right (sym w.result-is) (line_judged filter now line w.judge_by_tree-in-None.result w.judgment_of-in-None.result w.judge_by_tree-in-None.ensures w.judgment_of-in-None.ensures)
     ] in
     subst (λ (f : FilterNow). IfOk c.match-judge_read.result (JudgesRow f.filter f.moment line)) c.self.view_is right

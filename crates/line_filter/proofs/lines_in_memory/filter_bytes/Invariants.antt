@@ -2,7 +2,7 @@
 use Rattle.std.proofs.Common.{◌+◌, ◌<◌, ◌≤◌, [], Some, length}
 use Rattle.line_filter.specs.LineItems.{SaysTheSame}
 use Rattle.line_filter.proofs.LineLaws.Walked.{HasPassed}
-use Rattle.line_filter.proofs.line_walk.filter_bytes.Given as goal
+use Rattle.line_filter.proofs.lines_in_memory.filter_bytes.Given as goal
 
 abbrev pub invariant-loop-rest : goal.invariant-loop-rest
 invariant-loop-rest g l = (l.lines + length l.rest ≤ length l.bytes)

@@ -1,3 +1,4 @@
+//! The loop over the lines of bytes in memory.
 ghost use Rattle.std.specs.Prelude.{◌≡◌, ◌++◌, Ok, IfErr, IfOk, OnErr, OnOk};
 ghost use Rattle.line_filter.specs.Growth.{Grows};
 ghost use Rattle.line_filter.specs.Kept.{Filters, IsOfItem, StopsHeld};

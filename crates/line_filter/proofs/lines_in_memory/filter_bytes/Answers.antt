@@ -3,7 +3,7 @@ use Rattle.std.proofs.lemmas.Result.{err_from_is_err_and}
 use Rattle.line_filter.proofs.LineLaws.Found.{SaysTheSame-refl, SaysTheSame-trans, found-same}
 use Rattle.line_filter.proofs.LineLaws.InMemory.{found_put, grows_whole, put_whole}
 use Rattle.line_filter.proofs.LineLaws.Walked.{HasPassed-none, HasPassed-more, HasPassed-stopped}
-use Rattle.line_filter.proofs.line_walk.filter_bytes.Goals as goal
+use Rattle.line_filter.proofs.lines_in_memory.filter_bytes.Goals as goal
 
 pub loop-rest-init : goal.loop-rest-init
 loop-rest-init g c = (omega arith, SaysTheSame-refl (g.J.Judge.says c.args.judge.now), HasPassed-none _ c.args.bytes.now _ (Some c.args.out.now.items) [] refl)
@@ -19,7 +19,7 @@ loop-rest-preserved g c =
       room,
       SaysTheSame-trans _ _ _ c.loop-rest.invariant.1 c.find_at_front.ensures.same,
       HasPassed-more _ _ line c.loop-rest.rest.now after _ (Some c.args.out.now.items) (Some c.loop-rest.out.items) (Some c.put_kept-found.new.out.items) [] [] c.loop-rest.lines c.loop-rest.tally c.put_kept-found.result
-          c.first_line.ensures.lines finds c.loop-rest.invariant.2 c.in_ok-one.one _ c.first_line.ensures.behind (omega (arith, c.first_line.ensures.shorter)) put (sym c.outcome_of.ensures ∙ c.in_ok-one.was),
+          c.first_line.ensures.lines finds c.loop-rest.invariant.2 c.in_ok-one.one _ c.first_line.ensures.whole (omega (arith, c.first_line.ensures.shorter)) put (sym c.outcome_of.ensures ∙ c.in_ok-one.was),
     )
 
 pub returns-in_err-one-clause-stops : goal.returns-in_err-one-clause-stops
