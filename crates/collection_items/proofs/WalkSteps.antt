@@ -23,9 +23,9 @@ use Rattle.edm_rows.specs.private.MembersSoFar.{MembersRead, MembersUpTo}
 use Rattle.edm_rows.proofs.Places.{ItemsUpTo, array_ends, array_to, brace_then, close_ends, comma_ends, comma_then, member_then, object_ends, object_opened, spaces_at}
 use Rattle.edm_rows.proofs.RowsRead.{stands_read}
 use Rattle.collection_items.specs.JudgedItems.{AreJudged, HasValue, IsArrayIn, ItemJudge, SaysNoMore}
-use Rattle.collection_items.specs.private.Walk.{EndsItem, EndsPair, FindsArray, JudgesArray, NamesMember}
-use Rattle.collection_items.specs.declared.walk.After.{After}
-use Rattle.collection_items.specs.declared.walk.MemberName.{MemberName}
+use Rattle.collection_items.specs.private.DocumentWalk.{EndsItem, EndsPair, FindsArray, JudgesArray, NamesMember}
+use Rattle.collection_items.specs.declared.document_walk.After.{After}
+use Rattle.collection_items.specs.declared.document_walk.MemberName.{MemberName}
 
 -- ---- what comes after an item or a member
 

@@ -1,8 +1,8 @@
 //! The items of a collection, judged one by one where they stand in its document.
 #![tactic(auto)]
 
-mod judge;
-mod walk;
+mod document_walk;
+mod item_judge;
 
-pub use judge::JudgesItems;
-pub use walk::judged_items;
+pub use document_walk::judged_items;
+pub use item_judge::JudgesItems;

@@ -10,9 +10,9 @@ ghost use Rattle.handle_calls.specs.RowReports.{FiltersLines, JudgesNext, Judges
 ghost use Rattle.handle_calls.specs.RowReports.{SetsBound, SetsMoment, ReportsNeed, ReportsPath};
 
 use crate::answer::Answer;
-use crate::buffer::report_bytes;
 use crate::call_answers::{give, report_fault};
 use crate::call_fault::Fault;
+use crate::caller_buffer::report_bytes;
 use crate::cost_calls::{counted, path_lines, report_lines};
 use crate::filter_calls::{canonical_of, explanation_of, filter_for, filter_in_query, filter_of};
 use crate::handle::Handle;

@@ -5,9 +5,9 @@ ghost use Rattle.handle_calls.specs.Costs.{ArePaths, ArePathsOf, ReportsLines, l
 ghost use Rattle.handle_calls.specs.FilterCalls.{IsNoText};
 
 use crate::answer::Answer;
-use crate::buffer::write_text;
 use crate::call_answers::report_fault;
 use crate::call_fault::Fault;
+use crate::caller_buffer::write_text;
 use crate::handle::{FilterHandle, Handle};
 use std::alloc::{AllocError, Global};
 

@@ -8,9 +8,9 @@
 #![tactic(auto)]
 
 mod answer;
-mod buffer;
 mod call_answers;
 mod call_fault;
+mod caller_buffer;
 pub mod calls;
 mod cost_calls;
 mod filter_calls;

@@ -3,9 +3,9 @@ ghost use Rattle.handle_calls.specs.RowCalls.{IsRunAt, IsRunOver};
 ghost use Rattle.handle_calls.specs.RowReports.{FiltersBy, FiltersLines, ReportsStop, ReportsTally};
 
 use crate::answer::Answer;
-use crate::buffer::write_text;
 use crate::call_answers::report_fault;
 use crate::call_fault::{Fault, measured};
+use crate::caller_buffer::write_text;
 use crate::handle::{FilterHandle, Handle, JudgeHandle};
 use crate::judge_calls::{keep_fault, moment_for};
 use edm_values::Moment;

@@ -5,8 +5,8 @@ ghost use Rattle.handle_calls.specs.SchemaCalls.{IsNoSchema, IsNoType, IsSchemaO
 ghost use Rattle.handle_calls.specs.Reports.{ReportsNames};
 
 use crate::answer::Answer;
-use crate::buffer::write_both;
 use crate::call_fault::Fault;
+use crate::caller_buffer::write_both;
 use crate::handle::{Handle, SchemaHandle, TypeHandle};
 use csdl_schema::{Expansion, Schema, SchemaFault, TypeId};
 use edm_entities::RowPlan;

@@ -4,8 +4,8 @@ ghost use Rattle.odata_text.specs.Find.{found_model};
 ghost use Rattle.handle_calls.specs.UrlCalls.{IsFoundFor, IsNotFound, ReportsFound};
 
 use crate::answer::Answer;
-use crate::buffer::write_text;
 use crate::call_fault::Fault;
+use crate::caller_buffer::write_text;
 use crate::handle::Handle;
 use odata_text::{FindFault, FoundFilter, find_filter};
 use std::alloc::Global;

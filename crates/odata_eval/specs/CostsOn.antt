@@ -6,7 +6,7 @@ use Rattle.csdl_schema.specs.SchemaModel.{slots_of, type_name_at}
 use Rattle.edm_entities.specs.Row.{Row, value_of}
 use Rattle.odata_meaning.specs.Costs.{Costs}
 use Rattle.odata_eval.specs.declared.verdict.Verdict.{Verdict}
-use Rattle.odata_filter_operations.specs.declared.fault.EvalFault.{EvalFault}
+use Rattle.odata_filter_operations.specs.declared.eval_fault.EvalFault.{EvalFault}
 
 abbrev pub CostsOn : Row → MomentParts → Tree → ℕ → Type 0
 CostsOn row now = Costs (slots_of row.schema) (type_name_at row.schema row.type_id) now (value_of row) []

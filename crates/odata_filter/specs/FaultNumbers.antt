@@ -9,7 +9,7 @@ use Rattle.odata_syntax.specs.declared.syntax_fault.SyntaxFault.{SyntaxFault}
 use Rattle.odata_signatures.specs.declared.refusal.Refusal.{Refusal}
 use Rattle.odata_signatures.specs.declared.refusal.TypeFaultCode.{TypeFaultCode}
 use Rattle.edm_entities.specs.declared.row_fault.RowFault.{RowFault}
-use Rattle.odata_filter_operations.specs.declared.fault.EvalFault.{EvalFault}
+use Rattle.odata_filter_operations.specs.declared.eval_fault.EvalFault.{EvalFault}
 use Rattle.row_judges.specs.RowsOnce.{flaw_reported}
 use Rattle.odata_filter.specs.declared.fault_number.FaultKind.{FaultKind}
 

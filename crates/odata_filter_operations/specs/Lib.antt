@@ -1,12 +1,12 @@
 pub mod ArgumentValues
 pub mod CalculationGives
 pub mod CallGives
-pub mod Calls
 pub mod CollectionGives
 pub mod Collections
 pub mod CompareGives
 pub mod DatumView
 pub mod FaultView
+pub mod FunctionCalls
 pub mod FunctionGives
 pub mod HasGives
 pub mod LambdaGives

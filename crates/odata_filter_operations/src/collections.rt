@@ -11,7 +11,7 @@ ghost use Rattle.odata_filter_operations.specs.Outcome.{gives};
 ghost use Rattle.odata_filter_operations.specs.DatumView.{answer_outcome, reading_at};
 ghost use Rattle.odata_filter_operations.specs.Collections.{HasMembers, IsAmong, IsOfEnumeration, MayBeAmong, MayBeMember};
 
-use super::fault::EvalFault;
+use super::eval_fault::EvalFault;
 use super::stored_values::datum_of;
 use edm_values::{Datum, Value};
 use odata_functions::{compare, comparisons_are_decided, has_bits};

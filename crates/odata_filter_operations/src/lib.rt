@@ -12,15 +12,15 @@
 //! ```
 #![tactic(auto)]
 
-mod calls;
 mod collections;
-mod fault;
+mod eval_fault;
+mod function_calls;
 mod operators;
 mod stored_values;
 
-pub use calls::{called_on_one, called_on_three, called_on_two};
 pub use collections::{among, any_item_of, count_of, flags_of};
-pub use fault::EvalFault;
+pub use eval_fault::EvalFault;
+pub use function_calls::{called_on_one, called_on_three, called_on_two};
 pub use operators::{calculated, compare_kept, compare_numbers, negated};
 pub use stored_values::{
     datum_of, datum_of_number, datum_of_truth, kept_number, kept_truth, number_of, step, truth_of,

@@ -10,7 +10,7 @@ ghost use Rattle.odata_filter_operations.specs.CalculationGives.{CalculationGive
 ghost use Rattle.odata_filter_operations.specs.DatumView.{answer_outcome};
 ghost use Rattle.odata_filter_operations.specs.Operators.{AreNumbers, IsOneNumber};
 
-use super::fault::EvalFault;
+use super::eval_fault::EvalFault;
 use edm_values::{Prim, Value};
 use odata_functions::{ArithFault, arith, compare_values, negate};
 use odata_signatures::{EdmType, ValueType};

@@ -45,7 +45,7 @@ pub use Rattle.odata_meaning.specs.Means.{ArgumentsMean, ItemMeans, Means}
 pub use Rattle.odata_meaning.specs.NameGives.{FieldGives, FoundGives, NameGives, StepGives}
 pub use Rattle.odata_meaning.specs.OperatorGives.{InType, OperatorGives, SidesGive}
 pub use Rattle.odata_meaning.specs.ReadGives.{GivesMember}
-pub use Rattle.odata_ranges.specs.Calls.{AreWithin, CalledWithin, IsSpellable}
+pub use Rattle.odata_ranges.specs.FunctionRanges.{AreWithin, CalledWithin, IsSpellable}
 pub use Rattle.odata_ranges.specs.Faults.{AreQuiet, AreQuietThere, AreReportedFrom, IsQuietKind, IsQuietType, MakesNone, ReportsFaults}
 pub use Rattle.odata_ranges.specs.Kept.{AreKept, AreKeptVariables, IsKept, IsKeptProperty, IsNullOnlyIf, property_takes_null}
 pub use Rattle.odata_ranges.specs.Owners.{BelongsTo, IsOwnerAt, NamesSlotOf}
@@ -56,7 +56,7 @@ pub use Rattle.odata_ranges.specs.declared.node_form.NodeForm.{NodeForm}
 pub use Rattle.odata_ranges.specs.declared.range.Range.{Range}
 pub use Rattle.odata_ranges.specs.private.Called.{IsCalledRange}
 pub use Rattle.odata_ranges.specs.private.NodeForm.{AreKnownAfter, HasForm, IsOwnRange, form_of}
-pub use Rattle.odata_ranges.specs.private.Operators.{CoversFaults, CoversNulls, HoldsArithmetic, HoldsOperator, IsNumericIn}
+pub use Rattle.odata_ranges.specs.private.OperatorRanges.{CoversFaults, CoversNulls, HoldsArithmetic, HoldsOperator, IsNumericIn}
 pub use Rattle.odata_ranges.specs.private.Values.{AllPlaced, Covers, CoversLine, HoldsValues, IsNumeric, LieBetween}
 pub use Rattle.odata_signatures.specs.CollectionTyped.{IsCollection}
 pub use Rattle.odata_signatures.specs.ExprTypes.{IsNumberOrNull, number_or_null}

@@ -1,5 +1,5 @@
-pub mod Calls
 pub mod Faults
+pub mod FunctionRanges
 pub mod Kept
 pub mod Owners
 pub mod Ranges

@@ -1,6 +1,6 @@
 -- Definitions that private clauses alone cite.
-pub mod Arithmetic
+pub mod ArithmeticRanges
 pub mod Called
 pub mod NodeForm
-pub mod Operators
+pub mod OperatorRanges
 pub mod Values

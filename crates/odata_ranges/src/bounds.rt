@@ -7,7 +7,7 @@ ghost use Rattle.edm_values.specs.declared.primitive.PrimitiveType.TheVariants.{
 ghost use Rattle.odata_ranges.specs.Reach.{HoldsNumber, IsBounded};
 ghost use Rattle.odata_ranges.specs.Within.{HoldsCount, IsValueWithin};
 
-use super::arithmetic::least;
+use super::arithmetic_ranges::least;
 use super::range::Range;
 use edm_values::{Prim, Value};
 

@@ -2,22 +2,22 @@
 //! to null, and how great its numbers and how long its texts may be.
 #![tactic(auto)]
 
-mod arithmetic;
+mod arithmetic_ranges;
 mod bounds;
-mod calls;
+mod function_ranges;
 mod laws;
-mod leaves;
-mod lines;
+mod leaf_ranges;
+mod list_ranges;
+mod named_properties;
 mod node_form;
-mod operators;
-mod places;
-mod properties;
+mod node_lookups;
+mod operator_ranges;
 mod range;
 mod ranges;
 
-pub use arithmetic::is_safe;
-pub use calls::may_exceed_int32;
+pub use arithmetic_ranges::is_safe;
+pub use function_ranges::may_exceed_int32;
 pub use laws::entities_are_kept;
-pub use properties::owner_of;
+pub use named_properties::owner_of;
 pub use range::Range;
 pub use ranges::ranges_of;

@@ -6,12 +6,12 @@ ghost use Rattle.odata_ranges.specs.Faults.{AreQuiet, AreReportedFrom, ReportsFa
 ghost use Rattle.odata_ranges.specs.Ranges.{AreRangesOf, IsRangeAt};
 ghost use Rattle.odata_ranges.specs.private.NodeForm.{AreKnownAfter, IsOwnRange};
 
-use super::arithmetic::either;
-use super::leaves::{of_leaf, of_step};
-use super::lines::{of_call, of_list};
+use super::arithmetic_ranges::either;
+use super::leaf_ranges::{of_leaf, of_step};
+use super::list_ranges::{of_call, of_list};
 use super::node_form::{NodeForm, form_of};
-use super::operators::{of_one, of_two};
-use super::places::{node_at, range_in};
+use super::node_lookups::{node_at, range_in};
+use super::operator_ranges::{of_one, of_two};
 use super::range::Range;
 use odata_checked_filter::{Checked, CheckedNode};
 use odata_signatures::{calls_have_one_type, trees_have_one_type};

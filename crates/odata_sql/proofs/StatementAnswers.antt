@@ -20,15 +20,15 @@ use Rattle.sql_meaning.specs.OneMeaning.{HaveOneMeaning}
 use Rattle.odata_sql.specs.Refusals.{HasColumns, IsNulFree, IsTooDeep, NestsTooDeeply, SomeTreeWith, TreeWith, fewest_nodes, most_symbols}
 use Rattle.odata_sql.specs.private.Refused.{IsRefused, IsRefusedTree}
 use Rattle.odata_sql.specs.private.ShapedTrees.{IsOfShape, IsTextOfShape}
-use Rattle.odata_sql.specs.declared.fault.SqlFault.{SqlFault}
+use Rattle.odata_sql.specs.declared.sql_fault.SqlFault.{SqlFault}
 use Rattle.sql_tree.specs.TableModel.{TableModel, StorageModel}
 use Rattle.sql_tree.specs.Term.{nodes_of, Term}
 use Rattle.sql_tree.specs.declared.dialect.Dialect.{Dialect}
-use Rattle.sql_tree.specs.declared.node.Digit.{Digit}
-use Rattle.sql_tree.specs.declared.node.SqlNode.{SqlNode}
-use Rattle.sql_tree.specs.declared.node.SqlType.{SqlType}
+use Rattle.sql_tree.specs.declared.sql_node.Digit.{Digit}
+use Rattle.sql_tree.specs.declared.sql_node.SqlNode.{SqlNode}
+use Rattle.sql_tree.specs.declared.sql_node.SqlType.{SqlType}
 use Rattle.sql_tree.specs.declared.parameter.Parameter.{Parameter}
-use Rattle.sql_tree.specs.declared.path.Path.{Path}
+use Rattle.sql_tree.specs.declared.json_path.Path.{Path}
 use Rattle.sql_draft.specs.declared.draft.Draft.{Draft}
 use Rattle.odata_filter_operations.specs.Outcome.{Outcome, gives, overflow, divides_by_zero}
 use Rattle.odata_sql.specs.Conditions.{FaultsIt, SaysOfEach, asked_of}

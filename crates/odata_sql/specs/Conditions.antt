@@ -11,7 +11,7 @@ use Rattle.sql_meaning.specs.SqlMeans.{SqlMeans}
 use Rattle.sql_meaning.specs.Table.{Asked}
 use Rattle.sql_tree.specs.Term.{Term}
 use Rattle.sql_tree.specs.declared.parameter.Parameter.{Parameter}
-use Rattle.sql_tree.specs.declared.path.Path.{Path}
+use Rattle.sql_tree.specs.declared.json_path.Path.{Path}
 use Rattle.sql_forms.specs.Forms.{IsTrueWhere}
 use Rattle.sql_draft.specs.Rows.{IsFault, IsRowOf}
 

@@ -15,7 +15,7 @@ use Rattle.sql_tree.specs.TableModel.{StorageModel, in_columns, in_document}
 use Rattle.sql_tree.specs.Term.{Term}
 use Rattle.sql_tree.specs.declared.dialect.Dialect.{Dialect}
 use Rattle.sql_tree.specs.declared.parameter.Parameter.{Parameter}
-use Rattle.sql_tree.specs.declared.path.Path.{Path}
+use Rattle.sql_tree.specs.declared.json_path.Path.{Path}
 use Rattle.odata_sql.specs.Conditions.{FaultsIt, IsItsCode, KeepsIt, SaysOfEach}
 
 -- ---- `Nul`

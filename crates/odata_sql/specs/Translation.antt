@@ -13,7 +13,7 @@ use Rattle.sql_tree.specs.TableModel.{StorageModel, TableModel}
 use Rattle.sql_tree.specs.Term.{Term, nodes_of}
 use Rattle.sql_tree.specs.TreeText.{IsWhole, text_of}
 use Rattle.sql_tree.specs.declared.dialect.Dialect.{Dialect}
-use Rattle.sql_tree.specs.declared.path.Path.{Path}
+use Rattle.sql_tree.specs.declared.json_path.Path.{Path}
 use Rattle.odata_sql.specs.Conditions.{SaysOfEach}
 use Rattle.odata_sql.specs.Refusals.{most_symbols}
 use Rattle.sql_draft.specs.Rows.{IsFault, IsRowOf}

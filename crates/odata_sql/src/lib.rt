@@ -8,13 +8,13 @@
 #![tactic(auto)]
 
 mod columns;
-mod fault;
 mod json_text;
 mod laws;
 mod nul_free;
+mod sql_fault;
 mod translation;
 
-pub use fault::SqlFault;
 pub use json_text::conditions_json;
 pub use laws::columns_suffice;
+pub use sql_fault::SqlFault;
 pub use translation::{Conditions, Statement, translate};

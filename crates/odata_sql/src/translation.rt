@@ -4,15 +4,15 @@ ghost use Rattle.sql_tree.specs.TableModel.{storage_in, table_in};
 ghost use Rattle.odata_sql.specs.Conditions.{FaultsIt, IsItsCode, KeepsIt};
 ghost use Rattle.odata_sql.specs.Translation.{CanFault, NeverFaults, Says, table_of};
 ghost use Rattle.odata_sql.specs.Refusals.{HasColumns, IsNulFree, IsTooDeep, fewest_nodes, most_symbols};
-ghost use Rattle.odata_sql.specs.declared.fault.SqlFault.{SqlFault};
+ghost use Rattle.odata_sql.specs.declared.sql_fault.SqlFault.{SqlFault};
 ghost use Rattle.odata_sql.specs.private.Refused.{IsRefused, IsRefusedTree};
 ghost use Rattle.odata_sql.specs.private.ShapedTrees.{IsOfShape, IsTextOfShape};
 ghost use Rattle.odata_ranges.specs.Faults.{AreReportedFrom};
 ghost use Rattle.sql_draft.specs.Translated.{IsTranslated};
 
 use super::columns::has_columns;
-use super::fault::SqlFault;
 use super::nul_free::is_nul_free;
+use super::sql_fault::SqlFault;
 use edm_entities::what_fits_has_its_type;
 use edm_values::Moment;
 use odata_checked_filter::Checked;

@@ -1,2 +1,2 @@
-pub mod Texts
+pub mod StoredTexts
 pub mod private

@@ -3,9 +3,9 @@
 #![tactic(auto)]
 
 mod spares;
-mod texts;
+mod stored_texts;
 mod written;
 
 pub use spares::{Spare, Spares};
-pub use texts::{is_filled_again, overwrite_text, write_text};
+pub use stored_texts::{is_filled_again, overwrite_text, write_text};
 pub use written::{fit_count, list_in, put_number, put_truth, record_in};

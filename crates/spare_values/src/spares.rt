@@ -1,9 +1,9 @@
 //! Values that no row holds any more, to be filled again.
 ghost use Rattle.std.specs.Prelude.{◌≡◌, ◌<◌, ◌≤◌, ℕ, length, take, IsTrue};
 ghost use Rattle.std.specs.Str.{IsUtf8};
-ghost use Rattle.spare_values.specs.Texts.{HoldsText};
+ghost use Rattle.spare_values.specs.StoredTexts.{HoldsText};
 
-use super::texts::{TEXT_ROOM, is_filled_again, overwrite_text, write_text};
+use super::stored_texts::{TEXT_ROOM, is_filled_again, overwrite_text, write_text};
 use edm_values::Value;
 use std::alloc::Global;
 use std::mem;

@@ -6,9 +6,9 @@ use Rattle.sql_meaning.specs.SqlMeans.{NodeMeans, SqlMeans}
 use Rattle.sql_meaning.specs.Table.{Asked, Bound}
 use Rattle.sql_tree.specs.Shapes.{arity}
 use Rattle.sql_tree.specs.Term.{Term, term, no_terms, more_terms, nodes_of}
-use Rattle.sql_tree.specs.declared.node.SqlNode.{SqlNode}
+use Rattle.sql_tree.specs.declared.sql_node.SqlNode.{SqlNode}
 use Rattle.sql_tree.specs.declared.parameter.Parameter.{Parameter}
-use Rattle.sql_tree.specs.declared.path.Path.{Path}
+use Rattle.sql_tree.specs.declared.json_path.Path.{Path}
 use Rattle.sql_draft.specs.declared.draft.Draft.{Draft}
 use Rattle.sql_draft.specs.Growth.{Grows, GrowsBy, IsFront}
 use Rattle.sql_tree.specs.Numbered.{AreNumbered, named_by, parameters_of}

@@ -3,8 +3,8 @@ use Rattle.std.proofs.Common.{◌≡◌, ◌<◌, ◌+◌, ◌∙◌, [], ℕ, L
 use Rattle.edm_values.specs.Val.{Val}
 use Rattle.odata_filter_operations.specs.Outcome.{gives}
 use Rattle.sql_meaning.specs.PlaceGives.{PlaceGives}
-use Rattle.sql_tree.specs.declared.node.SqlNode.{SqlNode}
-use Rattle.sql_tree.specs.declared.path.Path.{Path}
+use Rattle.sql_tree.specs.declared.sql_node.SqlNode.{SqlNode}
+use Rattle.sql_tree.specs.declared.json_path.Path.{Path}
 use Rattle.sql_draft.specs.declared.draft.Draft.{Draft}
 use Rattle.sql_draft.specs.Growth.{Grows, IsFront}
 use Rattle.sql_draft.specs.Paths.{IsPathTo}

@@ -13,9 +13,9 @@ use Rattle.odata_eval.proofs.walking.Parts.{found_there, there_found}
 use Rattle.odata_filter_operations.specs.Outcome.{gives}
 use Rattle.odata_ranges.specs.Owners.{IsOwnerAt, NamesSlotOf}
 use Rattle.sql_meaning.specs.PlaceGives.{BaseGives, PathGives, SlotGives, StepsGive}
-use Rattle.sql_tree.specs.declared.path.Base.{Base}
-use Rattle.sql_tree.specs.declared.path.Path.{Path}
-use Rattle.sql_tree.specs.declared.path.Step.{Step}
+use Rattle.sql_tree.specs.declared.json_path.Base.{Base}
+use Rattle.sql_tree.specs.declared.json_path.Path.{Path}
+use Rattle.sql_tree.specs.declared.json_path.Step.{Step}
 use Rattle.sql_draft.specs.declared.draft.Draft.{Draft}
 use Rattle.std.specs.declared.alloc.AllocError.{AllocError}
 use Rattle.sql_draft.specs.Growth.{GrowsBy, IsFront}

@@ -5,8 +5,8 @@ use Rattle.odata_signatures.specs.declared.edm_type.EdmType.{EdmType}
 use Rattle.odata_signatures.specs.declared.edm_type.ValueType.{ValueType}
 use Rattle.sql_draft.specs.declared.sql_context.Kind.{Kind}
 use Rattle.sql_meaning.specs.SqlTypeHolds.{IsOfType, type_of_primitive}
-use Rattle.sql_tree.specs.declared.node.FieldType.{FieldType}
-use Rattle.sql_tree.specs.declared.node.SqlType.{SqlType}
+use Rattle.sql_tree.specs.declared.sql_node.FieldType.{FieldType}
+use Rattle.sql_tree.specs.declared.sql_node.SqlType.{SqlType}
 
 abbrev pub kind_of_single : ValueType → Kind
 kind_of_single (ValueType.Prim p) = Kind.Value (type_of_primitive p)

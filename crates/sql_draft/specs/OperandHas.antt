@@ -14,11 +14,11 @@ use Rattle.sql_meaning.specs.FaultsGive.{without_fault}
 use Rattle.sql_meaning.specs.OperatorsGive.{GivesIsNull}
 use Rattle.sql_meaning.specs.PlaceGives.{PlaceGives}
 use Rattle.sql_meaning.specs.SqlMeans.{FieldGives}
-use Rattle.sql_tree.specs.declared.node.Carrier.{Carrier}
-use Rattle.sql_tree.specs.declared.node.SqlType.{SqlType}
+use Rattle.sql_tree.specs.declared.sql_node.Carrier.{Carrier}
+use Rattle.sql_tree.specs.declared.sql_node.SqlType.{SqlType}
 use Rattle.sql_draft.specs.Rows.{IsFault}
-use Rattle.sql_draft.specs.declared.operand.Operand.{Operand}
-use Rattle.sql_draft.specs.declared.operand.Source.{Source}
+use Rattle.sql_draft.specs.declared.sql_operand.Operand.{Operand}
+use Rattle.sql_draft.specs.declared.sql_operand.Source.{Source}
 use Rattle.sql_draft.specs.declared.sql_context.Kind.{Kind}
 use Rattle.sql_draft.specs.Kinds.{IsOfKind, kind_of_type}
 use Rattle.sql_draft.specs.World.{Has, OfPlace, World}

@@ -7,8 +7,8 @@ use Rattle.odata_checked_filter.specs.declared.checked_node.NodeKind.{NodeKind}
 use Rattle.odata_filter_operations.specs.Outcome.{gives}
 use Rattle.sql_meaning.specs.PlaceGives.{BaseGives, PlaceGives, StepsGive}
 use Rattle.sql_meaning.specs.Table.{Asked, Bound}
-use Rattle.sql_tree.specs.declared.path.Base.{Base}
-use Rattle.sql_tree.specs.declared.path.Step.{Step}
+use Rattle.sql_tree.specs.declared.json_path.Base.{Base}
+use Rattle.sql_tree.specs.declared.json_path.Step.{Step}
 use Rattle.sql_draft.specs.declared.draft.Draft.{Draft}
 use Rattle.sql_draft.specs.Growth.{Grows, IsFront}
 use Rattle.sql_draft.specs.World.{IsWorldOf, OfPlace, Question, World}

@@ -15,8 +15,8 @@ use Rattle.odata_ranges.specs.Within.{IsWithin}
 use Rattle.odata_ranges.specs.declared.range.Range.{Range}
 use Rattle.sql_meaning.specs.ParameterGives.{HoldsNul}
 use Rattle.sql_meaning.specs.SqlTypeHolds.{type_of_field}
-use Rattle.sql_tree.specs.declared.node.FieldType.{FieldType}
-use Rattle.sql_tree.specs.declared.node.SqlType.{SqlType}
+use Rattle.sql_tree.specs.declared.sql_node.FieldType.{FieldType}
+use Rattle.sql_tree.specs.declared.sql_node.SqlType.{SqlType}
 use Rattle.sql_draft.specs.declared.sql_context.Kind.{Kind}
 use Rattle.sql_draft.specs.declared.sql_context.SqlContext.{SqlContext}
 use Rattle.sql_draft.specs.Kinds.{kind_of_type}

@@ -1,7 +1,7 @@
 ghost use Rattle.std.specs.Prelude.{◌≡◌, ◌⊎◌, ◌∷◌, [], ◌<◌, ◌≤◌, ℕ, IfErr, IfOk, OnOk, Some, length, slice_get};
-ghost use Rattle.sql_tree.specs.declared.node.SqlNode.{SqlNode};
+ghost use Rattle.sql_tree.specs.declared.sql_node.SqlNode.{SqlNode};
 ghost use Rattle.sql_tree.specs.declared.parameter.Parameter.{Parameter};
-ghost use Rattle.sql_tree.specs.declared.path.Path.{Path};
+ghost use Rattle.sql_tree.specs.declared.json_path.Path.{Path};
 ghost use Rattle.sql_draft.specs.Growth.{GrowsBy, IsDeeper};
 
 use sql_tree::{Digit, Parameter, Path, SqlNode, SqlTree, SqlType};

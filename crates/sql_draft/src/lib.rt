@@ -3,11 +3,11 @@
 #![tactic(auto)]
 
 mod draft;
-mod operand;
 mod paths;
 mod sql_context;
+mod sql_operand;
 
 pub use draft::Draft;
-pub use operand::{Operand, Source};
 pub use paths::{put_member_path, put_path};
 pub use sql_context::{Kind, SqlContext, kind_of, type_of_field};
+pub use sql_operand::{Operand, Source};

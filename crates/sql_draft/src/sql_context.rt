@@ -1,7 +1,7 @@
 ghost use Rattle.std.specs.Prelude.{◌≡◌, ◌↔◌, ◌<◌, ◌+◌, ℤ, IfNone, IfSome, IsTrue, Some, IsSomeAnd, length, slice_get};
 ghost use Rattle.edm_values.specs.declared.value.Value.{Value};
 ghost use Rattle.odata_signatures.specs.declared.edm_type.EdmType.{EdmType};
-ghost use Rattle.sql_tree.specs.declared.node.FieldType.{FieldType};
+ghost use Rattle.sql_tree.specs.declared.sql_node.FieldType.{FieldType};
 ghost use Rattle.sql_draft.specs.declared.sql_context.Kind.{Kind};
 ghost use Rattle.sql_draft.specs.Kinds.{kind_of_single, kind_of_type, single_of};
 ghost use Rattle.sql_draft.specs.Translated.{IsOfTypeAt};

@@ -109,8 +109,8 @@ pub use Rattle.sql_draft.specs.Rows.{IsFault}
 pub use Rattle.sql_draft.specs.Translated.{AreRanges, HasFieldType, IsBooleanAt, IsCarriedKind, IsFaultless, IsKindAt, IsOfTypeAt, IsOtherKind, IsPathAt, IsPlainAt, IsStep, IsTruthAt, IsTruthKind, IsValuedAt, question_of}
 pub use Rattle.sql_draft.specs.World.{Has, IsAskedOf, IsWorldOf, OfPlace, Puts, PutsAll, Question, Says, StandsAt, World, extended}
 pub use Rattle.sql_draft.specs.declared.draft.Draft.{Draft}
-pub use Rattle.sql_draft.specs.declared.operand.Operand.{Operand}
-pub use Rattle.sql_draft.specs.declared.operand.Source.{Source}
+pub use Rattle.sql_draft.specs.declared.sql_operand.Operand.{Operand}
+pub use Rattle.sql_draft.specs.declared.sql_operand.Source.{Source}
 pub use Rattle.sql_draft.specs.declared.sql_context.Kind.{Kind}
 pub use Rattle.sql_meaning.specs.Codes.{IsCoded, OneLooked, TwoLooked, code_of}
 pub use Rattle.sql_meaning.specs.FaultsGive.{FaultOfCode, fault_code, outcome_of_fault, without_fault}
@@ -131,15 +131,15 @@ pub use Rattle.sql_tree.specs.Shapes.{AreShaped, IsShaped, arity, arity_of_funct
 pub use Rattle.sql_tree.specs.Term.{Term, Terms, more_terms, no_terms, nodes_of, nodes_of_all, term}
 pub use Rattle.sql_tree.specs.TreeText.{IsWhole, count_of}
 pub use Rattle.sql_tree.specs.declared.look_up.LookUp.{LookUp}
-pub use Rattle.sql_tree.specs.declared.node.Carrier.{Carrier}
-pub use Rattle.sql_tree.specs.declared.node.Digit.{Digit}
-pub use Rattle.sql_tree.specs.declared.node.FieldType.{FieldType}
-pub use Rattle.sql_tree.specs.declared.node.SqlFunction.{SqlFunction}
-pub use Rattle.sql_tree.specs.declared.node.SqlNode.{SqlNode}
-pub use Rattle.sql_tree.specs.declared.node.SqlType.{SqlType}
+pub use Rattle.sql_tree.specs.declared.sql_node.Carrier.{Carrier}
+pub use Rattle.sql_tree.specs.declared.sql_node.Digit.{Digit}
+pub use Rattle.sql_tree.specs.declared.sql_node.FieldType.{FieldType}
+pub use Rattle.sql_tree.specs.declared.sql_node.SqlFunction.{SqlFunction}
+pub use Rattle.sql_tree.specs.declared.sql_node.SqlNode.{SqlNode}
+pub use Rattle.sql_tree.specs.declared.sql_node.SqlType.{SqlType}
 pub use Rattle.sql_tree.specs.declared.parameter.Parameter.{Parameter}
-pub use Rattle.sql_tree.specs.declared.path.Base.{Base}
-pub use Rattle.sql_tree.specs.declared.path.Path.{Path}
+pub use Rattle.sql_tree.specs.declared.json_path.Base.{Base}
+pub use Rattle.sql_tree.specs.declared.json_path.Path.{Path}
 pub use Rattle.sql_tree.specs.declared.tree.SqlTree.{SqlTree}
 pub use Rattle.std.proofs.Common.{Bool, Err, IfOk, IsTrue, List, None, Ok, OnOk, Option, Result, Some, String, Vec, [], ap, append-nil, append_assoc, arith, drop, false, get_or, inl, inr, is_some, length, length-append, length-drop, length-take-le, lit<, map, max, negsuc, not, pos, refl, reverse, rules, slice_index_or, subst, suc, sym, take, take-append-drop, true, zero, ℕ, ℤ, ◌*◌, ◌++◌, ◌+◌, ◌-◌, ◌/◌, ◌<ℤ◌, ◌<◌, ◌==◌, ◌^◌, ◌↔◌, ◌∙◌, ◌∷◌, ◌≡◌, ◌≢◌, ◌≤ℤ◌, ◌≤◌, ◌⊎◌}
 pub use Rattle.std.proofs.Math.Nat.{le-max_left, le-max_right, max-le}

@@ -10,13 +10,13 @@ ghost use Rattle.sql_forms.specs.private.Lists.{AsCode, FaultyOrNull};
 ghost use Rattle.sql_draft.specs.Translated.{IsTranslated, IsTruthAt, question_of};
 ghost use Rattle.sql_draft.specs.World.{OfPlace, Puts};
 
-use super::calls::put_call_code;
-use super::comparison::put_comparison;
+use super::call_forms::put_call_code;
+use super::comparison_forms::put_comparison;
 use super::in_path::put_in_path_code;
 use super::lambda::put_lambda_code;
 use super::lift::bind_operands;
-use super::list::put_list_code;
-use super::operand::put_operand;
+use super::list_forms::put_list_code;
+use super::operand_forms::put_operand;
 use super::terms::{Form, connective_at, put_joined, terms_of};
 use super::truth::{compared_at, put_truth};
 use odata_checked_filter::NodeKind;

@@ -2,8 +2,8 @@
 ghost use Rattle.std.specs.Prelude.{◌≡◌, ◌+◌, ◌∷◌, [], IsSomeAnd, OnOk, false, slice_get};
 ghost use Rattle.odata_signatures.specs.declared.edm_type.EdmType.{EdmType};
 ghost use Rattle.odata_signatures.specs.declared.edm_type.ValueType.{ValueType};
-ghost use Rattle.sql_tree.specs.declared.node.SqlNode.{SqlNode};
-ghost use Rattle.sql_tree.specs.declared.node.SqlType.{SqlType};
+ghost use Rattle.sql_tree.specs.declared.sql_node.SqlNode.{SqlNode};
+ghost use Rattle.sql_tree.specs.declared.sql_node.SqlType.{SqlType};
 ghost use Rattle.odata_checked_filter.specs.declared.checked_node.NodeKind.{NodeKind};
 ghost use Rattle.sql_forms.specs.declared.terms.Form.{Form};
 ghost use Rattle.sql_forms.specs.Forms.{IsInForm};
@@ -19,10 +19,10 @@ ghost use Rattle.sql_draft.specs.Translated.{IsBooleanAt, IsFaultless, IsKindAt,
 ghost use Rattle.sql_draft.specs.World.{OfPlace, Puts};
 
 use super::code::put_code;
-use super::comparison::put_kept_comparison;
+use super::comparison_forms::put_kept_comparison;
 use super::lambda::put_unless_missing;
-use super::list::{is_value, lifted_left};
-use super::operand::put_operand;
+use super::list_forms::{is_value, lifted_left};
+use super::operand_forms::put_operand;
 use odata_functions::comparisons_are_decided;
 use odata_meaning::typed_trees_end_once_on_entities;
 use odata_ranges::Range;

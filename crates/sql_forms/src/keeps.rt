@@ -2,8 +2,8 @@
 ghost use Rattle.std.specs.Prelude.{◌≡◌, ◌<◌, ◌≤◌, ◌∷◌, [], ℕ, OnOk, Some, length, slice_get};
 ghost use Rattle.std.specs.List.{AllByRecursion};
 ghost use Rattle.odata_syntax.specs.declared.binary_operator.ComparisonOperator.{ComparisonOperator};
-ghost use Rattle.sql_tree.specs.declared.node.SqlNode.{SqlNode};
-ghost use Rattle.sql_tree.specs.declared.node.SqlType.{SqlType};
+ghost use Rattle.sql_tree.specs.declared.sql_node.SqlNode.{SqlNode};
+ghost use Rattle.sql_tree.specs.declared.sql_node.SqlType.{SqlType};
 ghost use Rattle.sql_forms.specs.declared.terms.Form.{Form};
 ghost use Rattle.sql_forms.specs.private.Chains.{ChainHas, IsJoin};
 ghost use Rattle.sql_forms.specs.Forms.{IsInForm};
@@ -12,12 +12,12 @@ ghost use Rattle.sql_draft.specs.Growth.{GrowsBy};
 ghost use Rattle.sql_draft.specs.Translated.{IsFaultless, IsTranslated, IsTruthAt, question_of};
 ghost use Rattle.sql_draft.specs.World.{OfPlace, Puts};
 
-use super::calls::is_kind;
+use super::call_forms::is_kind;
 use super::code::{code_join, put_code};
-use super::comparison::{put_denied_comparison, put_kept_comparison};
+use super::comparison_forms::{put_denied_comparison, put_kept_comparison};
 use super::in_path::put_kept_in_path;
 use super::lambda::put_kept_lambda;
-use super::list::put_kept_list;
+use super::list_forms::put_kept_list;
 use super::terms::{Form, connective_at, put_form, put_joined, terms_of};
 use super::truth::{compared_at, put_truth};
 use odata_checked_filter::NodeKind;

@@ -7,20 +7,20 @@
 //! ```
 #![tactic(auto)]
 
-mod arithmetic;
-mod calls;
+mod arithmetic_forms;
+mod call_forms;
 mod code;
-mod comparison;
+mod comparison_forms;
 mod in_path;
 mod keeps;
 mod lambda;
 mod lift;
-mod list;
-mod operand;
+mod list_forms;
+mod operand_forms;
 mod path_value;
 mod terms;
 mod truth;
-mod value;
+mod value_forms;
 
 pub use code::put_code;
 pub use keeps::put_keeps;

@@ -8,7 +8,7 @@ ghost use Rattle.sql_draft.specs.OperandHas.{IsInside, IsPut};
 ghost use Rattle.sql_draft.specs.Translated.{IsTranslated, question_of};
 ghost use Rattle.sql_draft.specs.World.{PutsAll};
 
-use super::operand::put_operand;
+use super::operand_forms::put_operand;
 use sql_draft::{Draft, Operand, SqlContext};
 use sql_tree::{Carrier, SqlNode};
 use std::alloc::AllocError;

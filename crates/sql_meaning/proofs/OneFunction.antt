@@ -9,7 +9,7 @@ use Rattle.odata_filter_operations.specs.ArgumentValues.{OfMoment, OfText, OfTex
 use Rattle.odata_filter_operations.specs.CallGives.{UnlessNull, has_null}
 use Rattle.odata_filter_operations.specs.Outcome.{Outcome, gives, overflow, divides_by_zero}
 use Rattle.odata_functions.specs.Texts.{IsPlaceOf}
-use Rattle.sql_tree.specs.declared.node.SqlFunction.{SqlFunction}
+use Rattle.sql_tree.specs.declared.sql_node.SqlFunction.{SqlFunction}
 use Rattle.odata_signatures.specs.declared.function.Function.{Function}
 use Rattle.sql_meaning.specs.SqlFunctionGives.{OfDateAlone, OfGiven, OfMomentAlone, SqlFunctionGives, function_of}
 use Rattle.sql_meaning.specs.SqlMeans.{AreValues, CalledGives}

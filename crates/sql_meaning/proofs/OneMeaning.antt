@@ -6,8 +6,8 @@ use Rattle.odata_filter_operations.specs.Outcome.{Outcome, gives}
 use Rattle.odata_functions.specs.Connectives.{and3, not3, or3}
 use Rattle.odata_syntax.specs.declared.binary_operator.ComparisonOperator.{ComparisonOperator}
 use Rattle.sql_tree.specs.Digits.{number_of}
-use Rattle.sql_tree.specs.declared.node.SqlFunction.{SqlFunction}
-use Rattle.sql_tree.specs.declared.node.SqlNode.{SqlNode}
+use Rattle.sql_tree.specs.declared.sql_node.SqlFunction.{SqlFunction}
+use Rattle.sql_tree.specs.declared.sql_node.SqlNode.{SqlNode}
 use Rattle.sql_meaning.specs.FaultsGive.{FaultOfCode, fault_code, outcome_of_fault, without_fault}
 use Rattle.sql_meaning.specs.OperatorsGive.{code_of_truth, is_true, truth}
 use Rattle.sql_meaning.specs.ParameterGives.{ParameterGives}

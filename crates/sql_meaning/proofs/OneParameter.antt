@@ -7,7 +7,7 @@ use Rattle.edm_values.specs.MomentLiteral.{MomentValue}
 use Rattle.edm_values.specs.MomentParts.{MomentParts}
 use Rattle.edm_values.specs.Val.{whole, text, date, moment, guid, member}
 use Rattle.odata_filter_operations.specs.Outcome.{gives}
-use Rattle.sql_tree.specs.declared.node.SqlType.{SqlType}
+use Rattle.sql_tree.specs.declared.sql_node.SqlType.{SqlType}
 use Rattle.sql_tree.specs.declared.parameter.Parameter.{Parameter}
 use Rattle.sql_meaning.specs.ParameterGives.{ParameterGives}
 use Rattle.sql_meaning.proofs.OneStep.{AtMostOne, same_one}

@@ -8,12 +8,12 @@ use Rattle.odata_meaning.specs.NameGives.{StepGives}
 use Rattle.odata_filter_operations.specs.Outcome.{Outcome, gives, overflow, divides_by_zero}
 use Rattle.odata_syntax.specs.declared.binary_operator.ComparisonOperator.{ComparisonOperator}
 use Rattle.odata_syntax.specs.declared.node.Quantifier.{Quantifier}
-use Rattle.sql_tree.specs.declared.path.Base.{Base}
-use Rattle.sql_tree.specs.declared.path.Path.{Path}
-use Rattle.sql_tree.specs.declared.path.Step.{Step}
+use Rattle.sql_tree.specs.declared.json_path.Base.{Base}
+use Rattle.sql_tree.specs.declared.json_path.Path.{Path}
+use Rattle.sql_tree.specs.declared.json_path.Step.{Step}
 use Rattle.sql_meaning.specs.MembersGive.{AtEach, DecidedGives, LeastOf, SomeTrue, decision_at, decisions, least}
 use Rattle.sql_meaning.specs.PlaceGives.{AreMembers, BaseGives, GivesMissing, PathGives, PlaceGives, SlotGives, StepsGive}
-use Rattle.sql_tree.specs.declared.node.FieldType.{FieldType}
+use Rattle.sql_tree.specs.declared.sql_node.FieldType.{FieldType}
 use Rattle.sql_meaning.specs.SqlMeans.{AmongGives, CountGives, CountedGives, EachEqual, FieldGives, GivesExists, GivesLeast, MissingGives, OverMembers}
 use Rattle.sql_meaning.specs.Table.{Asked, Bound, BoundValue}
 use Rattle.sql_meaning.proofs.OneStep.{AtMostOne, IsSomeAnd-one, OneEach, same_one}

@@ -19,7 +19,7 @@ use Rattle.odata_filter_operations.specs.Outcome.{Outcome, gives, overflow, divi
 use Rattle.odata_meaning.specs.OneOutcome.{ValuesHaveOneOutcome}
 use Rattle.sql_tree.specs.TableDigits.{digits_of}
 use Rattle.sql_tree.specs.declared.look_up.LookUp.{LookUp}
-use Rattle.sql_tree.specs.declared.node.SqlType.{SqlType}
+use Rattle.sql_tree.specs.declared.sql_node.SqlType.{SqlType}
 use Rattle.sql_meaning.specs.Codes.{DigitGives, OneLooked, TwoLooked}
 use Rattle.sql_meaning.specs.FaultsGive.{FaultOfCode}
 use Rattle.sql_meaning.specs.Operands.{BothNumbers, OfMember, OfNumber, OfTruth, OfValue, Over}

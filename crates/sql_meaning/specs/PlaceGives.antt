@@ -5,9 +5,9 @@ use Rattle.csdl_schema.specs.SchemaModel.{SchemaModel, properties_at}
 use Rattle.odata_filter_operations.specs.CollectionGives.{members_of}
 use Rattle.odata_meaning.specs.NameGives.{StepGives}
 use Rattle.odata_filter_operations.specs.Outcome.{Outcome, gives}
-use Rattle.sql_tree.specs.declared.path.Base.{Base}
-use Rattle.sql_tree.specs.declared.path.Path.{Path}
-use Rattle.sql_tree.specs.declared.path.Step.{Step}
+use Rattle.sql_tree.specs.declared.json_path.Base.{Base}
+use Rattle.sql_tree.specs.declared.json_path.Path.{Path}
+use Rattle.sql_tree.specs.declared.json_path.Step.{Step}
 use Rattle.sql_meaning.specs.Table.{Asked, Bound}
 
 -- the value of the property at a slot of a type, of a value of that type; of null it is null

@@ -11,7 +11,7 @@ use Rattle.odata_filter_operations.specs.ArgumentValues.{OfMoment, OfText, OfTex
 use Rattle.odata_filter_operations.specs.CallGives.{UnlessNull, has_null}
 use Rattle.odata_filter_operations.specs.FunctionGives.{FunctionGives}
 use Rattle.odata_filter_operations.specs.Outcome.{Outcome, gives}
-use Rattle.sql_tree.specs.declared.node.SqlFunction.{SqlFunction}
+use Rattle.sql_tree.specs.declared.sql_node.SqlFunction.{SqlFunction}
 
 -- the filter's function of that meaning
 abbrev pub function_of : SqlFunction → Function

@@ -9,9 +9,9 @@ use Rattle.odata_filter_operations.specs.Outcome.{Outcome, gives}
 use Rattle.odata_functions.specs.Connectives.{and3, not3, or3}
 use Rattle.odata_syntax.specs.declared.binary_operator.ComparisonOperator.TheVariants.{Eq}
 use Rattle.sql_tree.specs.Digits.{number_of}
-use Rattle.sql_tree.specs.declared.node.FieldType.{FieldType}
-use Rattle.sql_tree.specs.declared.node.SqlFunction.{SqlFunction}
-use Rattle.sql_tree.specs.declared.node.SqlNode.{SqlNode}
+use Rattle.sql_tree.specs.declared.sql_node.FieldType.{FieldType}
+use Rattle.sql_tree.specs.declared.sql_node.SqlFunction.{SqlFunction}
+use Rattle.sql_tree.specs.declared.sql_node.SqlNode.{SqlNode}
 use Rattle.sql_meaning.specs.Codes.{OneLooked, TwoLooked}
 use Rattle.sql_meaning.specs.FaultsGive.{FaultOfCode, fault_code, outcome_of_fault, without_fault}
 use Rattle.sql_meaning.specs.MembersGive.{AtEach, DecidedGives, LeastOf, SomeTrue}

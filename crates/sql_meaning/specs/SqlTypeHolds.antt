@@ -3,8 +3,8 @@
 use Rattle.edm_values.specs.Val.{Val, null, boolean, whole, text, date, moment, guid, member}
 use Rattle.edm_values.specs.declared.primitive.PrimitiveType.{PrimitiveType}
 use Rattle.odata_filter_operations.specs.Outcome.{Outcome}
-use Rattle.sql_tree.specs.declared.node.FieldType.{FieldType}
-use Rattle.sql_tree.specs.declared.node.SqlType.{SqlType}
+use Rattle.sql_tree.specs.declared.sql_node.FieldType.{FieldType}
+use Rattle.sql_tree.specs.declared.sql_node.SqlType.{SqlType}
 
 -- a value of the type, or null
 abbrev pub IsOfType : SqlType → Val → Type 0

@@ -5,7 +5,7 @@ use Rattle.edm_values.specs.MomentParts.{MomentParts}
 use Rattle.edm_values.specs.Val.{Val}
 use Rattle.odata_filter_operations.specs.Outcome.{Outcome, gives}
 use Rattle.sql_tree.specs.declared.parameter.Parameter.{Parameter}
-use Rattle.sql_tree.specs.declared.path.Path.{Path}
+use Rattle.sql_tree.specs.declared.json_path.Path.{Path}
 
 -- the schema and the index of the entity's type in it; the entity that the row keeps; the paths of the statement, its
 -- parameters, and the moment of the evaluation

@@ -3,8 +3,8 @@ use Rattle.std.specs.Prelude.{ℕ, pos}
 use Rattle.edm_values.specs.Val.{whole}
 use Rattle.odata_filter_operations.specs.Outcome.{Outcome, gives}
 use Rattle.odata_syntax.specs.declared.binary_operator.ArithmeticOperator.{ArithmeticOperator}
-use Rattle.sql_tree.specs.declared.node.Digit.{Digit}
-use Rattle.sql_tree.specs.declared.node.SqlNode.{SqlNode}
+use Rattle.sql_tree.specs.declared.sql_node.Digit.{Digit}
+use Rattle.sql_tree.specs.declared.sql_node.SqlNode.{SqlNode}
 use Rattle.sql_meaning.specs.SqlMeans.{SqlMeans}
 use Rattle.sql_meaning.specs.Table.{Asked, Bound}
 use Rattle.sql_tree.specs.Term.{Term, term, no_terms, more_terms}

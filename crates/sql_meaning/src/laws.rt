@@ -5,7 +5,7 @@ ghost use Rattle.sql_meaning.specs.OneMeaning.{HaveOneMeaning};
 ghost use Rattle.sql_meaning.specs.Tables.{IsAssociative, IsTableBesideNull, IsTableOf, IsTableOfComparison, IsTableOfNot};
 ghost use Rattle.sql_meaning.specs.Worked.{HasNoMeaning, MeansNumber, number_term, one_by_zero};
 ghost use Rattle.sql_tree.specs.declared.look_up.LookUp.{LookUp};
-ghost use Rattle.sql_tree.specs.declared.node.Digit.{Digit};
+ghost use Rattle.sql_tree.specs.declared.sql_node.Digit.{Digit};
 
 use edm_values::texts_have_one_value;
 use odata_functions::{divisions_are_unique, texts_have_one_answer};

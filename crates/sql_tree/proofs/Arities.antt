@@ -8,10 +8,10 @@ use Rattle.sql_tree.specs.TableDigits.{arity_of_table}
 use Rattle.sql_tree.specs.TableModel.{TableModel}
 use Rattle.sql_tree.specs.declared.dialect.Dialect.{Dialect}
 use Rattle.sql_tree.specs.declared.look_up.LookUp.{LookUp}
-use Rattle.sql_tree.specs.declared.node.SqlNode.{SqlNode}
-use Rattle.sql_tree.specs.declared.path.Path.{Path}
+use Rattle.sql_tree.specs.declared.sql_node.SqlNode.{SqlNode}
+use Rattle.sql_tree.specs.declared.json_path.Path.{Path}
 use Rattle.sql_tree.specs.declared.piece_texts.Pieces.{Pieces}
-use Rattle.sql_tree.specs.private.Frames.{HasArity}
+use Rattle.sql_tree.specs.private.PrinterFrames.{HasArity}
 
 around_length : (n : ℕ) (p : Pieces) → 0 < n → n < 4 → length (pieces_around n p) ≡ n + 1
 around_length zero p some few = absurd (omega (arith, some))

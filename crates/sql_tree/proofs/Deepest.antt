@@ -8,10 +8,10 @@ use Rattle.sql_tree.specs.TableModel.{TableModel}
 use Rattle.sql_tree.specs.Term.{Term, Terms, term, no_terms, more_terms, nodes_of, nodes_of_all}
 use Rattle.sql_tree.specs.TreeText.{AreWhole, IsWhole, count_of}
 use Rattle.sql_tree.specs.declared.dialect.Dialect.{Dialect}
-use Rattle.sql_tree.specs.declared.node.FieldType.{FieldType}
-use Rattle.sql_tree.specs.declared.node.SqlFunction.{SqlFunction}
-use Rattle.sql_tree.specs.declared.node.SqlNode.{SqlNode}
-use Rattle.sql_tree.specs.declared.path.Path.{Path}
+use Rattle.sql_tree.specs.declared.sql_node.FieldType.{FieldType}
+use Rattle.sql_tree.specs.declared.sql_node.SqlFunction.{SqlFunction}
+use Rattle.sql_tree.specs.declared.sql_node.SqlNode.{SqlNode}
+use Rattle.sql_tree.specs.declared.json_path.Path.{Path}
 use Rattle.sql_tree.specs.private.Depths.{AreDepths, joined}
 
 -- ---- what a number is taken from

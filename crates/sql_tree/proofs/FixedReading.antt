@@ -10,9 +10,9 @@ use Rattle.sql_tree.specs.NodePieces.{pieces_for_codes}
 use Rattle.sql_tree.specs.TableDigits.{arity_of_table}
 use Rattle.sql_tree.specs.declared.dialect.Dialect.{Dialect}
 use Rattle.sql_tree.specs.declared.look_up.LookUp.{LookUp}
-use Rattle.sql_tree.specs.declared.node.Carrier.{Carrier}
-use Rattle.sql_tree.specs.declared.node.SqlFunction.{SqlFunction}
-use Rattle.sql_tree.specs.declared.node.SqlType.{SqlType}
+use Rattle.sql_tree.specs.declared.sql_node.Carrier.{Carrier}
+use Rattle.sql_tree.specs.declared.sql_node.SqlFunction.{SqlFunction}
+use Rattle.sql_tree.specs.declared.sql_node.SqlType.{SqlType}
 use Rattle.sql_tree.proofs.Reading.{IsQuiet, WeavesQuietly, quiet_both}
 
 -- ---- signs between operands

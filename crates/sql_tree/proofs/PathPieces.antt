@@ -8,10 +8,10 @@ use Rattle.sql_tree.specs.PiecesView.{piece_at}
 use Rattle.sql_tree.specs.TableModel.{TableModel}
 use Rattle.sql_tree.specs.TreeText.{NamesWhatIs}
 use Rattle.sql_tree.specs.declared.dialect.Dialect.{Dialect}
-use Rattle.sql_tree.specs.declared.node.SqlNode.{SqlNode}
-use Rattle.sql_tree.specs.declared.path.Base.{Base}
-use Rattle.sql_tree.specs.declared.path.Path.{Path}
-use Rattle.sql_tree.specs.declared.path.Step.{Step}
+use Rattle.sql_tree.specs.declared.sql_node.SqlNode.{SqlNode}
+use Rattle.sql_tree.specs.declared.json_path.Base.{Base}
+use Rattle.sql_tree.specs.declared.json_path.Path.{Path}
+use Rattle.sql_tree.specs.declared.json_path.Step.{Step}
 use Rattle.sql_tree.proofs.Written.{all_from}
 
 -- what is said of the path at an index is said of the one that stands there

@@ -14,13 +14,13 @@ use Rattle.sql_tree.specs.PathText.{arrow_text, arrows_text, base_text, dot_text
 use Rattle.sql_tree.specs.QuotedName.{quoted_name}
 use Rattle.sql_tree.specs.TableModel.{TableModel, column_name, column_text, document_name, document_text}
 use Rattle.sql_tree.specs.declared.dialect.Dialect.{Dialect}
-use Rattle.sql_tree.specs.declared.node.Digit.{Digit}
-use Rattle.sql_tree.specs.declared.node.Carrier.{Carrier}
-use Rattle.sql_tree.specs.declared.node.FieldType.{FieldType}
-use Rattle.sql_tree.specs.declared.node.SqlType.{SqlType}
-use Rattle.sql_tree.specs.declared.path.Base.{Base}
-use Rattle.sql_tree.specs.declared.path.Path.{Path}
-use Rattle.sql_tree.specs.declared.path.Step.{Step}
+use Rattle.sql_tree.specs.declared.sql_node.Digit.{Digit}
+use Rattle.sql_tree.specs.declared.sql_node.Carrier.{Carrier}
+use Rattle.sql_tree.specs.declared.sql_node.FieldType.{FieldType}
+use Rattle.sql_tree.specs.declared.sql_node.SqlType.{SqlType}
+use Rattle.sql_tree.specs.declared.json_path.Base.{Base}
+use Rattle.sql_tree.specs.declared.json_path.Path.{Path}
+use Rattle.sql_tree.specs.declared.json_path.Step.{Step}
 use Rattle.sql_tree.proofs.Reading.{IsQuiet, both, decimal_quiet, in_text_still, quiet_both, quoted_quiet, signed_quiet}
 
 -- a text within parentheses

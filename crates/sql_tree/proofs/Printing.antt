@@ -10,10 +10,10 @@ use Rattle.sql_tree.specs.TableModel.{TableModel}
 use Rattle.sql_tree.specs.Term.{Term, term, no_terms, more_terms, nodes_of, nodes_of_all}
 use Rattle.sql_tree.specs.TreeText.{CountsFit, IsWhole, NamesWhatIs, text_of, woven}
 use Rattle.sql_tree.specs.declared.dialect.Dialect.{Dialect}
-use Rattle.sql_tree.specs.declared.frames.Frame.{Frame}
-use Rattle.sql_tree.specs.declared.node.SqlNode.{SqlNode}
-use Rattle.sql_tree.specs.declared.path.Path.{Path}
-use Rattle.sql_tree.specs.private.Printer.{Adds, Completed, Expecting, GoesOn}
+use Rattle.sql_tree.specs.declared.printer_frames.Frame.{Frame}
+use Rattle.sql_tree.specs.declared.sql_node.SqlNode.{SqlNode}
+use Rattle.sql_tree.specs.declared.json_path.Path.{Path}
+use Rattle.sql_tree.specs.private.SqlPrinter.{Adds, Completed, Expecting, GoesOn}
 
 -- the pieces from one on
 pieces_from : (pieces : PieceTexts) (k : ℕ) → k < length pieces → drop k pieces ≡ piece_at pieces k ∷ drop (suc k) pieces

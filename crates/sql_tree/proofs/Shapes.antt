@@ -16,11 +16,11 @@ use Rattle.sql_tree.specs.Term.{Term, Terms, term, no_terms, more_terms, nodes_o
 use Rattle.sql_tree.specs.TreeText.{AreWhole, IsWhole, NamesWhatIs}
 use Rattle.sql_tree.specs.declared.dialect.Dialect.{Dialect}
 use Rattle.sql_tree.specs.declared.look_up.LookUp.{LookUp}
-use Rattle.sql_tree.specs.declared.node.Carrier.{Carrier}
-use Rattle.sql_tree.specs.declared.node.SqlFunction.{SqlFunction}
-use Rattle.sql_tree.specs.declared.node.SqlNode.{SqlNode}
-use Rattle.sql_tree.specs.declared.node.SqlType.{SqlType}
-use Rattle.sql_tree.specs.declared.path.Path.{Path}
+use Rattle.sql_tree.specs.declared.sql_node.Carrier.{Carrier}
+use Rattle.sql_tree.specs.declared.sql_node.SqlFunction.{SqlFunction}
+use Rattle.sql_tree.specs.declared.sql_node.SqlNode.{SqlNode}
+use Rattle.sql_tree.specs.declared.sql_node.SqlType.{SqlType}
+use Rattle.sql_tree.specs.declared.json_path.Path.{Path}
 use Rattle.sql_tree.specs.Shapes.{AreShaped, BindsSome, IsShaped, IsThere, arity, arity_of_function}
 
 -- ---- how many pieces

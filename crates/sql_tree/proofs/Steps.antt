@@ -4,7 +4,7 @@ use Rattle.std.specs.Prelude.{codes, slice_get}
 use Rattle.std.specs.List.{AllByRecursion}
 use Rattle.sql_tree.specs.PathText.{arrow_text, arrows_text, each_text, scalar_arrows}
 use Rattle.sql_tree.specs.TableModel.{TableModel}
-use Rattle.sql_tree.specs.declared.path.Step.{Step}
+use Rattle.sql_tree.specs.declared.json_path.Step.{Step}
 
 same_step : (x y : Step) → Some x ≡ Some y → x ≡ y
 same_step x y is = cc

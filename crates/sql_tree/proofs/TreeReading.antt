@@ -12,8 +12,8 @@ use Rattle.sql_tree.specs.TableModel.{TableModel}
 use Rattle.sql_tree.specs.Term.{Term, Terms, more_terms, no_terms, term}
 use Rattle.sql_tree.specs.TreeText.{AreWhole, IsWhole, NamesWhatIs, count_of, text_of, woven}
 use Rattle.sql_tree.specs.declared.dialect.Dialect.{Dialect}
-use Rattle.sql_tree.specs.declared.node.SqlNode.{SqlNode}
-use Rattle.sql_tree.specs.declared.path.Path.{Path}
+use Rattle.sql_tree.specs.declared.sql_node.SqlNode.{SqlNode}
+use Rattle.sql_tree.specs.declared.json_path.Path.{Path}
 use Rattle.sql_tree.proofs.FixedReading.{carried_weaves, collation_quiet, comparison_weaves, fault_code_weaves, fault_weaves, function_weaves, plain_weaves, range_weaves, sameness_weaves, table_weaves, unfault_weaves, wide_weaves}
 use Rattle.sql_tree.proofs.PathReading.{column_quiet, count_quiet, fault_quiet, field_quiet, members_quiet, missing_quiet, null_quiet, number_quiet, parameter_quiet, truth_quiet}
 use Rattle.sql_tree.proofs.Reading.{IsQuiet, Weaves, WeavesQuietly, both, decimal_quiet, quiet_both}

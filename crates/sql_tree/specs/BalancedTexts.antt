@@ -6,7 +6,7 @@ use Rattle.sql_tree.specs.TableModel.{TableModel}
 use Rattle.sql_tree.specs.Term.{Term}
 use Rattle.sql_tree.specs.TreeText.{IsWhole, text_of}
 use Rattle.sql_tree.specs.declared.dialect.Dialect.{Dialect}
-use Rattle.sql_tree.specs.declared.path.Path.{Path}
+use Rattle.sql_tree.specs.declared.json_path.Path.{Path}
 
 -- they are balanced in the text of each tree that can be written over a table of a schema that some document stands
 -- for; the table's columns may have any names

@@ -1,6 +1,6 @@
 -- The numbers that a tree of SQL itself has: codes, and bits of a code.
 use Rattle.std.specs.Prelude.{ℤ, pos}
-use Rattle.sql_tree.specs.declared.node.Digit.{Digit}
+use Rattle.sql_tree.specs.declared.sql_node.Digit.{Digit}
 
 abbrev pub number_of : Digit → ℤ
 number_of Digit.Zero = pos 0

@@ -3,7 +3,7 @@
 use Rattle.std.specs.Prelude.{◌++◌, codes}
 use Rattle.sql_tree.specs.FixedPieces.{PieceTexts, among, around, between}
 use Rattle.sql_tree.specs.declared.dialect.Dialect.{Dialect}
-use Rattle.sql_tree.specs.declared.node.SqlFunction.{SqlFunction}
+use Rattle.sql_tree.specs.declared.sql_node.SqlFunction.{SqlFunction}
 
 -- functions of PostgreSQL 15, and those of the schema odf
 abbrev pub postgres_function : SqlFunction → PieceTexts

@@ -9,11 +9,11 @@ use Rattle.odata_functions.specs.declared.arithmetic.ArithFault.{ArithFault}
 use Rattle.sql_tree.specs.PathText.{json_text, value_text}
 use Rattle.sql_tree.specs.TableModel.{TableModel}
 use Rattle.sql_tree.specs.declared.dialect.Dialect.{Dialect}
-use Rattle.sql_tree.specs.declared.node.Digit.{Digit}
-use Rattle.sql_tree.specs.declared.node.Carrier.{Carrier}
-use Rattle.sql_tree.specs.declared.node.FieldType.{FieldType}
-use Rattle.sql_tree.specs.declared.node.SqlType.{SqlType}
-use Rattle.sql_tree.specs.declared.path.Path.{Path}
+use Rattle.sql_tree.specs.declared.sql_node.Digit.{Digit}
+use Rattle.sql_tree.specs.declared.sql_node.Carrier.{Carrier}
+use Rattle.sql_tree.specs.declared.sql_node.FieldType.{FieldType}
+use Rattle.sql_tree.specs.declared.sql_node.SqlType.{SqlType}
+use Rattle.sql_tree.specs.declared.json_path.Path.{Path}
 
 -- the name of a type in PostgreSQL
 abbrev pub postgres_type : SqlType → List ℕ

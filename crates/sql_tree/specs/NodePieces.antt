@@ -10,8 +10,8 @@ use Rattle.sql_tree.specs.TableDigits.{arity_of_table, table_text}
 use Rattle.sql_tree.specs.TableModel.{TableModel, column_text}
 use Rattle.sql_tree.specs.declared.dialect.Dialect.{Dialect}
 use Rattle.sql_tree.specs.declared.look_up.LookUp.{LookUp}
-use Rattle.sql_tree.specs.declared.node.SqlNode.{SqlNode}
-use Rattle.sql_tree.specs.declared.path.Path.{Path}
+use Rattle.sql_tree.specs.declared.sql_node.SqlNode.{SqlNode}
+use Rattle.sql_tree.specs.declared.json_path.Path.{Path}
 
 -- ---- tables of codes
 

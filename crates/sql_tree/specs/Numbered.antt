@@ -1,6 +1,6 @@
 -- The numbers of the parameters that the nodes of a tree name.
 use Rattle.std.specs.Prelude.{◌≡◌, ℕ, ◌+◌, List, [], ◌∷◌, ◌++◌}
-use Rattle.sql_tree.specs.declared.node.SqlNode.{SqlNode}
+use Rattle.sql_tree.specs.declared.sql_node.SqlNode.{SqlNode}
 
 -- the parameter that a node names, if it is one
 abbrev pub named_by : SqlNode → List ℕ

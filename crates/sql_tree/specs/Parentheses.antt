@@ -5,7 +5,7 @@ use Rattle.csdl_schema.specs.EnumerationText.{members_in}
 use Rattle.csdl_schema.specs.SchemaModel.{enumeration_at}
 use Rattle.sql_tree.specs.PathText.{step_name}
 use Rattle.sql_tree.specs.TableModel.{TableModel}
-use Rattle.sql_tree.specs.declared.path.Step.{Step}
+use Rattle.sql_tree.specs.declared.json_path.Step.{Step}
 
 -- what has been read of a text: it is outside quotes, within a text or within a name, with so many parentheses open; or
 -- one has been closed that was not open

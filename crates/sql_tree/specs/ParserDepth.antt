@@ -3,9 +3,9 @@
 use Rattle.std.specs.Prelude.{ℕ, zero, suc, ◌+◌, ◌-◌, ◌*◌, max, min}
 use Rattle.edm_values.specs.declared.primitive.PrimitiveType.{PrimitiveType}
 use Rattle.sql_tree.specs.Term.{Term, Terms, term, no_terms, more_terms}
-use Rattle.sql_tree.specs.declared.node.FieldType.{FieldType}
-use Rattle.sql_tree.specs.declared.node.SqlFunction.{SqlFunction}
-use Rattle.sql_tree.specs.declared.node.SqlNode.{SqlNode}
+use Rattle.sql_tree.specs.declared.sql_node.FieldType.{FieldType}
+use Rattle.sql_tree.specs.declared.sql_node.SqlFunction.{SqlFunction}
+use Rattle.sql_tree.specs.declared.sql_node.SqlNode.{SqlNode}
 
 -- ---- of a node itself, apart from its children
 

@@ -5,9 +5,9 @@ use Rattle.std.specs.List.{AllByRecursion}
 use Rattle.csdl_schema.specs.SchemaModel.{properties_at}
 use Rattle.sql_tree.specs.TableModel.{HasColumn, HasDocument, TableModel, column_text, document_text}
 use Rattle.sql_tree.specs.declared.dialect.Dialect.{Dialect}
-use Rattle.sql_tree.specs.declared.path.Base.{Base}
-use Rattle.sql_tree.specs.declared.path.Path.{Path}
-use Rattle.sql_tree.specs.declared.path.Step.{Step}
+use Rattle.sql_tree.specs.declared.json_path.Base.{Base}
+use Rattle.sql_tree.specs.declared.json_path.Path.{Path}
+use Rattle.sql_tree.specs.declared.json_path.Step.{Step}
 
 -- ---- where a path leads
 

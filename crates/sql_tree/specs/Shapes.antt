@@ -4,9 +4,9 @@ use Rattle.sql_tree.specs.TableDigits.{arity_of_table}
 use Rattle.sql_tree.specs.TableModel.{TableModel}
 use Rattle.sql_tree.specs.Term.{Term, Terms, term, no_terms, more_terms}
 use Rattle.sql_tree.specs.TreeText.{CountsFit, NamesWhatIs, count_of}
-use Rattle.sql_tree.specs.declared.node.SqlFunction.{SqlFunction}
-use Rattle.sql_tree.specs.declared.node.SqlNode.{SqlNode}
-use Rattle.sql_tree.specs.declared.path.Path.{Path}
+use Rattle.sql_tree.specs.declared.sql_node.SqlFunction.{SqlFunction}
+use Rattle.sql_tree.specs.declared.sql_node.SqlNode.{SqlNode}
+use Rattle.sql_tree.specs.declared.json_path.Path.{Path}
 
 abbrev pub arity_of_function : SqlFunction → ℕ
 arity_of_function SqlFunction.Contains = 2

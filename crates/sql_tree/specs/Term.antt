@@ -1,6 +1,6 @@
 -- A tree of SQL, and the list of its nodes in pre-order.
 use Rattle.std.specs.Prelude.{List, [], ◌∷◌, ◌++◌}
-use Rattle.sql_tree.specs.declared.node.SqlNode.{SqlNode}
+use Rattle.sql_tree.specs.declared.sql_node.SqlNode.{SqlNode}
 
 mutual
   -- a node with its children

@@ -6,8 +6,8 @@ use Rattle.sql_tree.specs.PathText.{IsPathOf}
 use Rattle.sql_tree.specs.TableModel.{HasColumn, TableModel}
 use Rattle.sql_tree.specs.Term.{Term, Terms, term, no_terms, more_terms}
 use Rattle.sql_tree.specs.declared.dialect.Dialect.{Dialect}
-use Rattle.sql_tree.specs.declared.node.SqlNode.{SqlNode}
-use Rattle.sql_tree.specs.declared.path.Path.{Path}
+use Rattle.sql_tree.specs.declared.sql_node.SqlNode.{SqlNode}
+use Rattle.sql_tree.specs.declared.json_path.Path.{Path}
 
 abbrev mutual
   pub text_of : Dialect → TableModel → List Path → Term → List ℕ

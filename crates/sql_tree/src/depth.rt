@@ -7,12 +7,12 @@ ghost use Rattle.sql_tree.specs.TableModel.{TableModel};
 ghost use Rattle.sql_tree.specs.Term.{Term, Terms, term};
 ghost use Rattle.sql_tree.specs.TreeText.{IsWhole};
 ghost use Rattle.sql_tree.specs.declared.dialect.Dialect.{Dialect};
-ghost use Rattle.sql_tree.specs.declared.path.Path.{Path};
+ghost use Rattle.sql_tree.specs.declared.json_path.Path.{Path};
 ghost use Rattle.sql_tree.specs.private.Depths.{AreDepths, joined};
 
 use super::dialect::Dialect;
-use super::frames::arity_of;
-use super::node::{FieldType, SqlFunction, SqlNode};
+use super::printer_frames::arity_of;
+use super::sql_node::{FieldType, SqlFunction, SqlNode};
 use super::tree::SqlTree;
 use edm_values::Prim;
 use std::alloc::{AllocError, Global};

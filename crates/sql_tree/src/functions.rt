@@ -5,9 +5,9 @@ ghost use Rattle.sql_tree.specs.PiecesView.{pieces_in};
 ghost use Rattle.sql_tree.specs.private.Functions.{IsOfTime, number_function};
 
 use super::dialect::Dialect;
-use super::node::SqlFunction;
+use super::node_pieces::{one, three, two};
 use super::piece_texts::Pieces;
-use super::pieces::{one, three, two};
+use super::sql_node::SqlFunction;
 
 pub(crate) fn function_pieces(dialect: Dialect, function: SqlFunction) -> Pieces
     ensures texts { pieces_in result ≡ function_texts dialect function }

@@ -10,9 +10,9 @@ ghost use Rattle.sql_tree.specs.TableModel.{table_in};
 ghost use Rattle.sql_tree.specs.private.LeafText.{case_piece, name_piece, number_piece};
 
 use super::dialect::Dialect;
-use super::node::{Carrier, Digit, FieldType, SqlType};
-use super::path::Path;
+use super::json_path::Path;
 use super::path_text::{write_json, write_value};
+use super::sql_node::{Carrier, Digit, FieldType, SqlType};
 use super::storage::Table;
 use csdl_schema::{EnumId, Schema};
 use edm_values::Prim;

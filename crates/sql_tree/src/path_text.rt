@@ -6,7 +6,7 @@ ghost use Rattle.sql_tree.specs.PathText.{extracted_text, json_text, members_tex
 ghost use Rattle.sql_tree.specs.TableModel.{table_in};
 
 use super::dialect::Dialect;
-use super::path::{Base, Path, Step};
+use super::json_path::{Base, Path, Step};
 use super::storage::{Storage, Table, write_column, write_document};
 use std::alloc::AllocError;
 

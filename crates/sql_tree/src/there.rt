@@ -8,8 +8,8 @@ ghost use Rattle.sql_tree.specs.Term.{Term, nodes_of};
 ghost use Rattle.sql_tree.specs.TreeText.{IsWhole};
 ghost use Rattle.sql_tree.specs.declared.dialect.Dialect.{Dialect};
 
-use super::node::SqlNode;
-use super::path::{Base, Path, Step};
+use super::json_path::{Base, Path, Step};
+use super::sql_node::SqlNode;
 use super::storage::{Storage, Table};
 use super::tree::SqlTree;
 

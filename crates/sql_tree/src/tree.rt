@@ -1,8 +1,8 @@
 ghost use Rattle.std.specs.Prelude.{◌≡◌, ◌∷◌, [], ◌++◌, OnOk};
 
-use super::node::SqlNode;
+use super::json_path::Path;
 use super::parameter::Parameter;
-use super::path::Path;
+use super::sql_node::SqlNode;
 use std::alloc::{AllocError, Global};
 
 /// A tree of SQL as one list of its nodes in pre-order, with its paths and its parameters.

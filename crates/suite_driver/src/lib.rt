@@ -20,6 +20,6 @@ pub mod spelled_literals;
 mod spelled_numbers;
 pub mod spelled_texts;
 pub mod token_pieces;
-mod tree;
+mod tree_line;
 pub mod trouble;
 mod values;

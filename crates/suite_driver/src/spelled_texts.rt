@@ -1,5 +1,5 @@
 //! What is read of texts: tokens, trees, canonical texts.
-use crate::tree::push_tree;
+use crate::tree_line::push_tree;
 use crate::trouble::{Trouble, owned};
 use odata_syntax::{Expr, SyntaxFault, normal, parse, print};
 use odata_text::{TextFault, Token, tokens, tokens_are_spelled};

@@ -14,7 +14,7 @@ use Rattle.edm_entities.specs.FitsPrimitive.{IsPrimitiveFlaw, IsTextValue, wrong
 use Rattle.edm_entities.specs.Row.{val_of}
 use Rattle.edm_entities.specs.private.Scalars.{IsScalar}
 use Rattle.edm_entities.specs.declared.scalar.Scalar.TheVariants.{Other}
-use Rattle.spare_values.specs.Texts.{HoldsText}
+use Rattle.spare_values.specs.StoredTexts.{HoldsText}
 
 -- what is no truth value, number or text is of no primitive type's kind
 pub other_flaw : (type : PrimitiveType) (json : Data) → IsScalar Other json → IsPrimitiveFlaw type json wrong_kind

@@ -4,7 +4,7 @@ use Rattle.edm_values.specs.MomentParts.{MomentParts}
 use Rattle.csdl_schema.specs.SchemaModel.{slots_of, type_name_at}
 use Rattle.edm_entities.specs.Row.{Row, value_of}
 use Rattle.odata_checked_filter.specs.Filter.{Filter, IsFilter, tree_of_filter}
-use Rattle.odata_filter_operations.specs.declared.fault.EvalFault.{EvalFault}
+use Rattle.odata_filter_operations.specs.declared.eval_fault.EvalFault.{EvalFault}
 use Rattle.odata_meaning.specs.Costs.{Costs}
 use Rattle.odata_eval.specs.CostsOn.{CostsOn, IsWithin, KeepsBound}
 use Rattle.odata_meaning.specs.Environment.{Environment}

@@ -6,7 +6,7 @@ use Rattle.csdl_schema.specs.ExprType.{ExprType}
 use Rattle.csdl_schema.specs.SchemaModel.{slots_of}
 use Rattle.odata_filter_operations.specs.FaultView.{fault_outcome}
 use Rattle.odata_filter_operations.specs.Outcome.{Outcome, overflow, divides_by_zero}
-use Rattle.odata_filter_operations.specs.declared.fault.EvalFault.{EvalFault}
+use Rattle.odata_filter_operations.specs.declared.eval_fault.EvalFault.{EvalFault}
 use Rattle.std.specs.List.{AllByRecursion}
 use Rattle.odata_signatures.specs.Sides.{sides_of}
 use Rattle.odata_signatures.specs.CollectionTyped.{IsItemFor}

@@ -8,7 +8,7 @@ use Rattle.edm_entities.specs.Row.{val_of, value_of}
 use Rattle.odata_filter_operations.specs.Outcome.{gives, overflow, divides_by_zero}
 use Rattle.odata_filter_operations.specs.QuantifierGives.{IsUndecided}
 use Rattle.odata_filter_operations.specs.TruthGives.{truth_val}
-use Rattle.odata_filter_operations.specs.declared.fault.EvalFault.{EvalFault}
+use Rattle.odata_filter_operations.specs.declared.eval_fault.EvalFault.{EvalFault}
 use Rattle.odata_syntax.specs.Tree.{Tree}
 use Rattle.odata_syntax.specs.declared.node.Quantifier.{Quantifier}
 use Rattle.odata_meaning.specs.Costs.{CostAfter, Costs, MembersCost, OthersCost}

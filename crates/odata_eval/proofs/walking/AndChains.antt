@@ -9,7 +9,7 @@ use Rattle.odata_signatures.specs.ExprTypes.{IsBooleanOrNull}
 use Rattle.odata_syntax.specs.declared.binary_operator.LogicalOperator.{LogicalOperator}
 use Rattle.odata_checked_filter.specs.FlatTree.{FlatTree}
 use Rattle.odata_filter_operations.specs.TruthGives.{joined, truth_val}
-use Rattle.odata_filter_operations.specs.declared.fault.EvalFault.{EvalFault}
+use Rattle.odata_filter_operations.specs.declared.eval_fault.EvalFault.{EvalFault}
 use Rattle.odata_eval.specs.declared.walk_operand.WalkClass.{WalkClass}
 use Rattle.odata_eval.specs.private.Place.{HasOperator, IsClassAt, IsRightOf, OperandStands, PartStands, TruthStands}
 use Rattle.odata_eval.specs.private.ContextModel.{ContextModel}

@@ -15,11 +15,11 @@ use Rattle.odata_signatures.specs.declared.argument_kind.ArgumentKind.{ArgumentK
 use Rattle.odata_signatures.specs.declared.function.Function.{Function}
 use Rattle.odata_checked_filter.specs.Calls.{TakesMemory}
 use Rattle.odata_checked_filter.specs.declared.checked_node.NodeKind.{NodeKind}
-use Rattle.odata_filter_operations.specs.declared.fault.EvalFault.{EvalFault}
+use Rattle.odata_filter_operations.specs.declared.eval_fault.EvalFault.{EvalFault}
 use Rattle.odata_filter_operations.specs.CallGives.{CallGives}
 use Rattle.odata_filter_operations.specs.Outcome.{Outcome, gives}
 use Rattle.odata_filter_operations.specs.FaultView.{fault_outcome}
-use Rattle.odata_filter_operations.specs.Calls.{Applies, AreArguments, IsArgument, MakesText}
+use Rattle.odata_filter_operations.specs.FunctionCalls.{Applies, AreArguments, IsArgument, MakesText}
 use Rattle.odata_filter_operations.specs.DatumView.{answer_outcome, reading_at}
 use Rattle.odata_eval.specs.private.Place.{HasKind, IsStopOf, PartStands}
 use Rattle.odata_eval.specs.private.EvalContext.{EndsOnceHere, MeansHere, StandsHere, TypedHere}

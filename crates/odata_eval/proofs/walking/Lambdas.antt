@@ -27,7 +27,7 @@ use Rattle.odata_meaning.specs.Means.{Means}
 use Rattle.odata_meaning.specs.OneByOne.{MembersGo}
 use Rattle.odata_filter_operations.specs.Outcome.{Outcome, gives}
 use Rattle.odata_filter_operations.specs.TruthGives.{truth_val}
-use Rattle.odata_filter_operations.specs.declared.fault.EvalFault.{EvalFault}
+use Rattle.odata_filter_operations.specs.declared.eval_fault.EvalFault.{EvalFault}
 use Rattle.odata_eval.specs.declared.frames.RangeVariable.{RangeVariable}
 use Rattle.odata_filter_operations.specs.DatumView.{answer_outcome, reading_at}
 use Rattle.odata_eval.specs.private.Lambda.{AnswersMembers, BodyIsThere, BodyMeans, IsOverMembers, IsVariableOf, Suits, body_scope, type_of_variable, vals_of}

@@ -22,7 +22,7 @@ use Rattle.odata_checked_filter.specs.declared.checked_node.NodeKind.{NodeKind}
 use Rattle.odata_filter_operations.specs.Outcome.{Outcome, gives}
 use Rattle.odata_filter_operations.specs.FaultView.{fault_outcome}
 use Rattle.odata_filter_operations.specs.Reports.{Reports}
-use Rattle.odata_filter_operations.specs.declared.fault.EvalFault.{EvalFault}
+use Rattle.odata_filter_operations.specs.declared.eval_fault.EvalFault.{EvalFault}
 use Rattle.edm_entities.specs.Row.{value_of}
 use Rattle.odata_meaning.specs.Environment.{scope_of}
 use Rattle.odata_meaning.specs.OneByOne.{ItemAlone}

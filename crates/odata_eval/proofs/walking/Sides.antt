@@ -14,7 +14,7 @@ use Rattle.odata_signatures.specs.Reads.{ReadsNone, ReadsNumber}
 use Rattle.odata_signatures.specs.Sides.{quoted_text}
 use Rattle.odata_checked_filter.specs.Calls.{TakesMemory}
 use Rattle.odata_checked_filter.specs.declared.checked_node.NodeKind.{NodeKind}
-use Rattle.odata_filter_operations.specs.declared.fault.EvalFault.{EvalFault}
+use Rattle.odata_filter_operations.specs.declared.eval_fault.EvalFault.{EvalFault}
 use Rattle.odata_filter_operations.specs.HasGives.{HasGives}
 use Rattle.odata_filter_operations.specs.LambdaGives.{InGives}
 use Rattle.odata_filter_operations.specs.LeftFirst.{After}

@@ -9,7 +9,7 @@ use Rattle.odata_checked_filter.specs.Filter.{Filter, IsFilter, tree_of_filter}
 use Rattle.odata_checked_filter.specs.FlatTree.{FlatTree}
 use Rattle.odata_checked_filter.specs.Stands.{Stands}
 use Rattle.odata_signatures.specs.Typed.{Typed}
-use Rattle.odata_filter_operations.specs.declared.fault.EvalFault.{EvalFault}
+use Rattle.odata_filter_operations.specs.declared.eval_fault.EvalFault.{EvalFault}
 use Rattle.odata_meaning.specs.Environment.{Environment, scope_of}
 use Rattle.odata_meaning.specs.Means.{Means}
 use Rattle.odata_meaning.specs.MeansOn.{IsTheOutcome, MeansOn}

@@ -20,7 +20,7 @@ use Rattle.odata_signatures.specs.ExprTypes.{boolean_type}
 use Rattle.odata_signatures.specs.OperatorTyped.{IsEquality, OperatorByTypes}
 use Rattle.odata_signatures.specs.Reads.{OfEquality, ReadsNone}
 use Rattle.odata_signatures.specs.Sides.{quoted_text, side_of}
-use Rattle.odata_filter_operations.specs.declared.fault.EvalFault.{EvalFault}
+use Rattle.odata_filter_operations.specs.declared.eval_fault.EvalFault.{EvalFault}
 use Rattle.odata_filter_operations.specs.CalculationGives.{CalculationGives, NegatedGives, number_val}
 use Rattle.odata_filter_operations.specs.CompareGives.{CompareGives}
 use Rattle.odata_meaning.specs.Environment.{scope_of}

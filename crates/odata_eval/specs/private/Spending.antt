@@ -7,7 +7,7 @@ use Rattle.csdl_schema.specs.SchemaModel.{slots_of, type_name_at}
 use Rattle.edm_entities.specs.Row.{value_of}
 use Rattle.odata_syntax.specs.Tree.{Tree}
 use Rattle.odata_syntax.specs.declared.node.Quantifier.{Quantifier}
-use Rattle.odata_filter_operations.specs.declared.fault.EvalFault.{EvalFault}
+use Rattle.odata_filter_operations.specs.declared.eval_fault.EvalFault.{EvalFault}
 use Rattle.odata_meaning.specs.Costs.{Costs, MembersCost}
 use Rattle.odata_meaning.specs.CostsOnce.{CostsOnce}
 use Rattle.odata_meaning.specs.Environment.{bound_over}

@@ -9,7 +9,7 @@ use Rattle.edm_entities.specs.Row.{val_of}
 use Rattle.odata_functions.specs.DatumVal.{datum_val}
 use Rattle.odata_syntax.specs.Tree.{Tree}
 use Rattle.odata_checked_filter.specs.Calls.{TakesMemory}
-use Rattle.odata_filter_operations.specs.declared.fault.EvalFault.{EvalFault}
+use Rattle.odata_filter_operations.specs.declared.eval_fault.EvalFault.{EvalFault}
 use Rattle.odata_eval.specs.declared.walk_operand.WalkOperand.{WalkOperand}
 use Rattle.odata_eval.specs.declared.walk_operand.WalkClass.{WalkClass}
 use Rattle.odata_filter_operations.specs.CalculationGives.{number_val}

@@ -19,7 +19,7 @@ use Rattle.odata_meaning.specs.Means.{Means}
 use Rattle.odata_meaning.specs.MeansOn.{IsTheOutcome}
 use Rattle.odata_filter_operations.specs.Outcome.{Outcome, gives, overflow, divides_by_zero}
 use Rattle.odata_eval.specs.VerdictView.{reported_outcome, verdict_val}
-use Rattle.odata_filter_operations.specs.declared.fault.EvalFault.{EvalFault}
+use Rattle.odata_filter_operations.specs.declared.eval_fault.EvalFault.{EvalFault}
 use Rattle.odata_eval.specs.declared.verdict.Verdict.{Verdict}
 use Rattle.line_filter.specs.Kept.{Filters, IsFaultless, Passes, SiftedItem, kept_text}
 use Rattle.line_filter.specs.LineItems.{IsFoundOf, line_sieve}

@@ -13,11 +13,11 @@ use Rattle.odata_functions.specs.DatumVal.{Reading, datum_val}
 use Rattle.odata_functions.specs.Texts.{part_from, rest_from}
 use Rattle.odata_signatures.specs.declared.argument_kind.ArgumentKind.{ArgumentKind}
 use Rattle.odata_signatures.specs.declared.function.Function.{Function}
-use Rattle.odata_filter_operations.specs.declared.fault.EvalFault.{EvalFault}
+use Rattle.odata_filter_operations.specs.declared.eval_fault.EvalFault.{EvalFault}
 use Rattle.odata_filter_operations.specs.CallGives.{CallGives, UnlessNull, has_null}
 use Rattle.odata_filter_operations.specs.FunctionGives.{FunctionGives, GivesCount, GivesText}
 use Rattle.odata_filter_operations.specs.Outcome.{Outcome, gives}
-use Rattle.odata_filter_operations.specs.Calls.{Applies, IsArgument}
+use Rattle.odata_filter_operations.specs.FunctionCalls.{Applies, IsArgument}
 use Rattle.odata_filter_operations.specs.DatumView.{answer_outcome}
 use Rattle.odata_filter_operations.specs.Reports.{Reports}
 use Rattle.odata_filter_operations.proofs.values.Holding.{goes_there}

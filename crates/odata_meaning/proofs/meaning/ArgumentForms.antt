@@ -4,7 +4,7 @@ use Rattle.edm_values.specs.MomentParts.{MomentParts}
 use Rattle.edm_values.specs.Val.{Val, null, whole, text, date, moment}
 use Rattle.odata_signatures.specs.declared.argument_kind.ArgumentKind.TheVariants.{Text, Number, DateOrMoment, Moment}
 use Rattle.odata_filter_operations.specs.CallGives.{has_null}
-use Rattle.odata_filter_operations.specs.Calls.{AreArguments, IsArgument}
+use Rattle.odata_filter_operations.specs.FunctionCalls.{AreArguments, IsArgument}
 
 -- ---- one value of a kind that is not null
 

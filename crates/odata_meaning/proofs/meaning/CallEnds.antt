@@ -14,7 +14,7 @@ use Rattle.odata_signatures.specs.declared.function.Function.{Function}
 use Rattle.odata_filter_operations.specs.CallGives.{CallGives, UnlessNull, has_null}
 use Rattle.odata_filter_operations.specs.FunctionGives.{FunctionGives}
 use Rattle.odata_filter_operations.specs.Outcome.{Outcome, gives}
-use Rattle.odata_filter_operations.specs.Calls.{Applies, AreArguments, IsArgument}
+use Rattle.odata_filter_operations.specs.FunctionCalls.{Applies, AreArguments, IsArgument}
 use Rattle.odata_meaning.proofs.meaning.Ends.{Ends}
 use Rattle.odata_meaning.proofs.meaning.FunctionEnds.{function_ends}
 use Rattle.odata_meaning.proofs.meaning.Kinds.{number_kind}

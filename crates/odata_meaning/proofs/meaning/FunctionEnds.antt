@@ -22,7 +22,7 @@ use Rattle.odata_filter_operations.specs.CallGives.{has_null}
 use Rattle.odata_filter_operations.specs.CompareGives.{GivesTruth}
 use Rattle.odata_filter_operations.specs.FunctionGives.{FunctionGives, GivesCount, GivesText}
 use Rattle.odata_filter_operations.specs.Outcome.{Outcome, gives}
-use Rattle.odata_filter_operations.specs.Calls.{Applies, AreArguments}
+use Rattle.odata_filter_operations.specs.FunctionCalls.{Applies, AreArguments}
 use Rattle.odata_meaning.proofs.meaning.ArgumentForms.{IsDated, IsPartAsked, one_dated, one_moment, one_text, part_asked, two_texts}
 use Rattle.odata_meaning.proofs.meaning.Ends.{Ends}
 use Rattle.odata_meaning.specs.private.LawsBelow.{SomeEach}

@@ -9,7 +9,7 @@ use Rattle.sql_tree.specs.Term.{Term, nodes_of}
 use Rattle.sql_tree.specs.declared.dialect.Dialect.{Dialect}
 use Rattle.sql_tree.specs.declared.tree.SqlTree.{SqlTree}
 use Rattle.odata_sql.specs.Refusals.{NestsTooDeeply, TreeWith, fewest_nodes}
-use Rattle.odata_sql.specs.declared.fault.SqlFault.{SqlFault}
+use Rattle.odata_sql.specs.declared.sql_fault.SqlFault.{SqlFault}
 
 -- a tree of the code with as many children as its nodes take is such a one, of a filter of so many nodes
 abbrev pub IsRefusedTree : Dialect → SqlTree → ℕ → SqlFault → Type 0

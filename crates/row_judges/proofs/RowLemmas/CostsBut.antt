@@ -17,7 +17,7 @@ use Rattle.odata_filter_operations.specs.Outcome.{Outcome}
 use Rattle.odata_meaning.specs.Costs.{Costs}
 use Rattle.odata_eval.specs.CostsOn.{CostsOn, KeepsBound}
 use Rattle.odata_meaning.specs.Means.{Means}
-use Rattle.odata_filter_operations.specs.declared.fault.EvalFault.{EvalFault}
+use Rattle.odata_filter_operations.specs.declared.eval_fault.EvalFault.{EvalFault}
 use Rattle.odata_eval.specs.declared.verdict.Verdict.{Verdict}
 use Rattle.std.specs.Prelude.{Option, Result}
 use Rattle.row_judges.specs.RowAnswer.{PassesNone}

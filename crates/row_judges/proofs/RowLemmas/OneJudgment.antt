@@ -15,7 +15,7 @@ use Rattle.edm_entities.specs.declared.row_fault.RowFault.{RowFault}
 use Rattle.odata_filter_operations.specs.Outcome.{Outcome, gives}
 use Rattle.odata_filter_operations.specs.FaultView.{fault_outcome}
 use Rattle.odata_eval.specs.VerdictView.{verdict_val}
-use Rattle.odata_filter_operations.specs.declared.fault.EvalFault.{EvalFault}
+use Rattle.odata_filter_operations.specs.declared.eval_fault.EvalFault.{EvalFault}
 use Rattle.odata_eval.specs.declared.verdict.Verdict.{Verdict}
 use Rattle.odata_checked_filter.specs.Filter.{Filter, slots_for_filter}
 use Rattle.line_filter.specs.declared.judge.Judgment.{Judgment}

@@ -23,7 +23,7 @@ use Rattle.odata_meaning.specs.NameGives.{FieldGives, StepGives}
 use Rattle.odata_filter_operations.specs.Outcome.{Outcome, gives, overflow, divides_by_zero}
 use Rattle.odata_eval.specs.VerdictView.{reported_outcome, verdict_val}
 use Rattle.odata_filter_operations.specs.FaultView.{fault_outcome}
-use Rattle.odata_filter_operations.specs.declared.fault.EvalFault.{EvalFault}
+use Rattle.odata_filter_operations.specs.declared.eval_fault.EvalFault.{EvalFault}
 use Rattle.odata_eval.specs.declared.verdict.Verdict.{Verdict}
 use Rattle.row_judges.specs.RowAnswer.{PassesNone}
 use Rattle.row_judges.specs.RowJudgment.{HasOutcome}

@@ -26,7 +26,7 @@ use Rattle.odata_eval.specs.CostsOn.{KeepsBound}
 use Rattle.odata_eval.specs.VerdictView.{outcome_reported, reported_outcome}
 use Rattle.odata_eval.specs.declared.verdict.Verdict.{Verdict}
 use Rattle.odata_filter_operations.specs.Outcome.{Outcome, gives}
-use Rattle.odata_filter_operations.specs.declared.fault.EvalFault.{EvalFault}
+use Rattle.odata_filter_operations.specs.declared.eval_fault.EvalFault.{EvalFault}
 use Rattle.row_judges.specs.RowAnswer.{PassesNone, ReportsRow, judgment_reported}
 use Rattle.row_judges.specs.declared.bad_row.BadRow.{BadRow}
 use Rattle.row_judges.specs.RowCosts.{ReportsRowWithin}

@@ -56,261 +56,261 @@ use Rattle.sql_forms.specs.private.Compared.{IsCoded}
 use Rattle.odata_syntax.specs.contracts.binary_operator.ComparisonOperator.{the_type}
 use Rattle.odata_syntax.specs.contracts.node.Quantifier.{the_type as of_quantifier_the_type}
 use Rattle.std.specs.declared.alloc.AllocError.{AllocError}
-use Rattle.sql_tree.specs.contracts.node.SqlType.{the_type as of_sql_type_the_type}
+use Rattle.sql_tree.specs.contracts.sql_node.SqlType.{the_type as of_sql_type_the_type}
 use Rattle.std.proofs.lemmas.List.Elements.{All-get_or}
 use denote.Enum.Bare.{same_true, true_same}
-use Rattle.sql_forms.proofs.+put.Goals.{arithmetic::put_checked-else-by_zero, arithmetic::put_checked-then-by_zero+in_ok-put+in_ok-put-2+in_ok-put_is_zero+in_ok-put-3+in_ok-put-4+in_ok-put_operand+in_ok-put_fault, calls::put_called-then-not-is_counting-via-else-not-is_counting+then-not-may_exceed_int32, calls::put_called-then-not-is_counting-via-then-not-is_counting, keeps::put_denies-in-And, keeps::put_denies-in-Or, keeps::put_keeps-in-And, keeps::put_keeps-in-Or, lambda::put_kept_lambda-else-eq-via-else-eq, lambda::put_kept_lambda-else-eq-via-then-eq+else-range, list::put_list-else-left, list::put_list-then-left+in_ok-put}
+use Rattle.sql_forms.proofs.+put.Goals.{arithmetic_forms::put_checked-else-by_zero, arithmetic_forms::put_checked-then-by_zero+in_ok-put+in_ok-put-2+in_ok-put_is_zero+in_ok-put-3+in_ok-put-4+in_ok-put_operand+in_ok-put_fault, call_forms::put_called-then-not-is_counting-via-else-not-is_counting+then-not-may_exceed_int32, call_forms::put_called-then-not-is_counting-via-then-not-is_counting, keeps::put_denies-in-And, keeps::put_denies-in-Or, keeps::put_keeps-in-And, keeps::put_keeps-in-Or, lambda::put_kept_lambda-else-eq-via-else-eq, lambda::put_kept_lambda-else-eq-via-then-eq+else-range, list_forms::put_list-else-left, list_forms::put_list-then-left+in_ok-put}
 use Rattle.sql_forms.proofs.+put.Goals as goal
 
--- ---- arithmetic::put_calculated
+-- ---- arithmetic_forms::put_calculated
 
-pub arithmetic::put_calculated-number_type-prim-requires-clause-number : goal.arithmetic::put_calculated-number_type-prim-requires-clause-number
-arithmetic::put_calculated-number_type-prim-requires-clause-number t c = c.requires.number
+pub arithmetic_forms::put_calculated-number_type-prim-requires-clause-number : goal.arithmetic_forms::put_calculated-number_type-prim-requires-clause-number
+arithmetic_forms::put_calculated-number_type-prim-requires-clause-number t c = c.requires.number
 
-pub arithmetic::put_calculated-is_safe-safe-requires-clause-number : goal.arithmetic::put_calculated-is_safe-safe-requires-clause-number
-arithmetic::put_calculated-is_safe-safe-requires-clause-number t c = c.number_type-prim.ensures.0
+pub arithmetic_forms::put_calculated-is_safe-safe-requires-clause-number : goal.arithmetic_forms::put_calculated-is_safe-safe-requires-clause-number
+arithmetic_forms::put_calculated-is_safe-safe-requires-clause-number t c = c.number_type-prim.ensures.0
 
-pub arithmetic::put_calculated-bind_operands-requires-clause-inside : goal.arithmetic::put_calculated-bind_operands-requires-clause-inside
-arithmetic::put_calculated-bind_operands-requires-clause-inside t c =
+pub arithmetic_forms::put_calculated-bind_operands-requires-clause-inside : goal.arithmetic_forms::put_calculated-bind_operands-requires-clause-inside
+arithmetic_forms::put_calculated-bind_operands-requires-clause-inside t c =
     each (λ (operand : Operand). IsInside c.args.context.now.checked.now operand.source) (c.args.left.now ∷ c.args.right.now ∷ []) (put_inside c.args.context.now.checked.now c.args.context.now.ranges.now c.args.left.now c.requires.left, (put_inside c.args.context.now.checked.now c.args.context.now.ranges.now c.args.right.now c.requires.right, tt))
 
-pub arithmetic::put_calculated-bind_operands-requires-clause-valued : goal.arithmetic::put_calculated-bind_operands-requires-clause-valued
-arithmetic::put_calculated-bind_operands-requires-clause-valued t c = λ all. (c.requires.left.valued, (c.requires.right.valued, tt))
+pub arithmetic_forms::put_calculated-bind_operands-requires-clause-valued : goal.arithmetic_forms::put_calculated-bind_operands-requires-clause-valued
+arithmetic_forms::put_calculated-bind_operands-requires-clause-valued t c = λ all. (c.requires.left.valued, (c.requires.right.valued, tt))
 
-pub arithmetic::put_calculated-first-first-requires : goal.arithmetic::put_calculated-first-first-requires
-arithmetic::put_calculated-first-first-requires t c =
+pub arithmetic_forms::put_calculated-first-first-requires : goal.arithmetic_forms::put_calculated-first-first-requires
+arithmetic_forms::put_calculated-first-first-requires t c =
     let two : length c.in_ok-lifted.lifted.inner.items ≡ 2 = inner_length (c.args.left.now ∷ c.args.right.now ∷ []) c.args.draft.now.depth c.in_ok-lifted.lifted c.in_ok-lifted.ensures in
     omega (arith, two)
 
-pub arithmetic::put_calculated-second-second-requires : goal.arithmetic::put_calculated-second-second-requires
-arithmetic::put_calculated-second-second-requires t c =
+pub arithmetic_forms::put_calculated-second-second-requires : goal.arithmetic_forms::put_calculated-second-second-requires
+arithmetic_forms::put_calculated-second-second-requires t c =
     let two : length c.in_ok-lifted.lifted.inner.items ≡ 2 = inner_length (c.args.left.now ∷ c.args.right.now ∷ []) c.args.draft.now.depth c.in_ok-lifted.lifted c.in_ok-lifted.ensures in
     omega (arith, two)
 
-pub arithmetic::put_calculated-put_faults-requires : goal.arithmetic::put_calculated-put_faults-requires
-arithmetic::put_calculated-put_faults-requires t c = c.in_ok-lifted.ensures.few
+pub arithmetic_forms::put_calculated-put_faults-requires : goal.arithmetic_forms::put_calculated-put_faults-requires
+arithmetic_forms::put_calculated-put_faults-requires t c = c.in_ok-lifted.ensures.few
 
-pub arithmetic::put_calculated-returns-then-safe : goal.arithmetic::put_calculated-returns-then-safe
-arithmetic::put_calculated-returns-then-safe t c =
+pub arithmetic_forms::put_calculated-returns-then-safe : goal.arithmetic_forms::put_calculated-returns-then-safe
+arithmetic_forms::put_calculated-returns-then-safe t c =
     ok_safe (question_of c.args.context.now) c.args.operator c.args.place c.number_type-prim.result c.number_type-prim.ensures c.args.left.now c.args.right.now c.first-first.result c.second-second.result c.in_ok-lifted.lifted c.args.draft.now c.open.new.draft c.put_faults.new.draft c.put_operand-then-safe.new.draft c.close.new.draft c.in_ok-lifted.ensures c.in_ok-open.ensures c.in_ok-put_faults.ensures c.first-first.ensures c.second-second.ensures c.close.result c.close.ensures.values c.close.ensures.idle (c.is_safe-safe.ensures c.if-safe.true)
     c.put.new.self c.put_operand.new.draft c.in_ok-put.ensures.ok c.in_ok-put_operand.ensures c.in_ok-put_operand-2.ensures
 
-pub arithmetic::put_calculated-returns : goal.arithmetic::put_calculated-returns
-arithmetic::put_calculated-returns t c =
+pub arithmetic_forms::put_calculated-returns : goal.arithmetic_forms::put_calculated-returns
+arithmetic_forms::put_calculated-returns t c =
     ok_checked (question_of c.args.context.now) c.args.operator c.args.place c.number_type-prim.result c.number_type-prim.ensures c.args.left.now c.args.right.now c.first-first.result c.second-second.result c.in_ok-lifted.lifted c.args.draft.now c.open.new.draft c.put_faults.new.draft c.put_checked.new.draft c.close-2.new.draft c.in_ok-lifted.ensures c.in_ok-open.ensures c.in_ok-put_faults.ensures c.first-first.ensures c.second-second.ensures c.close-2.result c.close-2.ensures.values c.close-2.ensures.idle c.in_ok-put_checked.ensures
 
-pub arithmetic::put_calculated-put_operand-requires : goal.arithmetic::put_calculated-put_operand-requires
-arithmetic::put_calculated-put_operand-requires t c = (
+pub arithmetic_forms::put_calculated-put_operand-requires : goal.arithmetic_forms::put_calculated-put_operand-requires
+arithmetic_forms::put_calculated-put_operand-requires t c = (
   omega (arith, down_to c.args.context.now.checked.now (left_of c.args.context.now.checked.now c.first-first.result) (left_in c.args.context.now.checked.now (c.args.left.now ∷ c.args.right.now ∷ [])) 10 14 (lifted_one_left c.args.context.now.checked.now (c.args.left.now ∷ c.args.right.now ∷ []) c.args.draft.now.depth c.in_ok-lifted.lifted c.in_ok-lifted.ensures 0 c.first-first.result c.first-first.ensures) (omega arith)),
   (c.requires.translated, put_in c.args.context.now.checked.now c.args.context.now.ranges.now c.args.left.now c.args.right.now c.args.draft.now.depth c.in_ok-lifted.lifted 0 c.first-first.result c.in_ok-lifted.ensures c.requires.left c.requires.right c.first-first.ensures),
 )
 
-pub arithmetic::put_calculated-put_operand-requires-then-safe : goal.arithmetic::put_calculated-put_operand-requires-then-safe
-arithmetic::put_calculated-put_operand-requires-then-safe t c = (
+pub arithmetic_forms::put_calculated-put_operand-requires-then-safe : goal.arithmetic_forms::put_calculated-put_operand-requires-then-safe
+arithmetic_forms::put_calculated-put_operand-requires-then-safe t c = (
   omega (arith, down_to c.args.context.now.checked.now (left_of c.args.context.now.checked.now c.second-second.result) (left_in c.args.context.now.checked.now (c.args.left.now ∷ c.args.right.now ∷ [])) 10 14 (lifted_one_left c.args.context.now.checked.now (c.args.left.now ∷ c.args.right.now ∷ []) c.args.draft.now.depth c.in_ok-lifted.lifted c.in_ok-lifted.ensures 1 c.second-second.result c.second-second.ensures) (omega arith)),
   (c.requires.translated, put_in c.args.context.now.checked.now c.args.context.now.ranges.now c.args.left.now c.args.right.now c.args.draft.now.depth c.in_ok-lifted.lifted 1 c.second-second.result c.in_ok-lifted.ensures c.requires.left c.requires.right c.second-second.ensures),
 )
 
-pub arithmetic::put_calculated-close-requires : goal.arithmetic::put_calculated-close-requires
-arithmetic::put_calculated-close-requires t c = (
+pub arithmetic_forms::put_calculated-close-requires : goal.arithmetic_forms::put_calculated-close-requires
+arithmetic_forms::put_calculated-close-requires t c = (
   omega (arith, down_to c.args.context.now.checked.now (left_in c.args.context.now.checked.now c.in_ok-lifted.lifted.bound.items) (left_in c.args.context.now.checked.now (c.args.left.now ∷ c.args.right.now ∷ [])) 11 14 (lifted_bound_left c.args.context.now.checked.now (c.args.left.now ∷ c.args.right.now ∷ []) c.args.draft.now.depth c.in_ok-lifted.lifted c.in_ok-lifted.ensures) (omega arith)),
   (c.requires.translated, (all_put c.args.context.now.checked.now c.args.context.now.ranges.now c.args.left.now c.args.right.now c.args.draft.now.depth c.in_ok-lifted.lifted c.in_ok-lifted.ensures c.requires.left c.requires.right, omega (arith, c.in_ok-open.ensures.depth, c.in_ok-put_faults.ensures.depth, c.in_ok-put.ensures.ok.depth, c.in_ok-put_operand.ensures.grows.depth, c.in_ok-put_operand-2.ensures.grows.depth))),
 )
 
-pub arithmetic::put_calculated-put_checked-requires : goal.arithmetic::put_calculated-put_checked-requires
-arithmetic::put_calculated-put_checked-requires t c = (
+pub arithmetic_forms::put_calculated-put_checked-requires : goal.arithmetic_forms::put_calculated-put_checked-requires
+arithmetic_forms::put_calculated-put_checked-requires t c = (
   omega (arith, down_to c.args.context.now.checked.now (left_in c.args.context.now.checked.now (c.first-first.result ∷ c.second-second.result ∷ [])) (left_in c.args.context.now.checked.now (c.args.left.now ∷ c.args.right.now ∷ [])) 13 14 (lifted_two_left c.args.context.now.checked.now (c.args.left.now ∷ c.args.right.now ∷ []) c.args.draft.now.depth c.in_ok-lifted.lifted c.in_ok-lifted.ensures c.first-first.result c.second-second.result c.first-first.ensures c.second-second.ensures) (omega arith)),
   (c.requires.translated, (put_in c.args.context.now.checked.now c.args.context.now.ranges.now c.args.left.now c.args.right.now c.args.draft.now.depth c.in_ok-lifted.lifted 0 c.first-first.result c.in_ok-lifted.ensures c.requires.left c.requires.right c.first-first.ensures, (put_in c.args.context.now.checked.now c.args.context.now.ranges.now c.args.left.now c.args.right.now c.args.draft.now.depth c.in_ok-lifted.lifted 1 c.second-second.result c.in_ok-lifted.ensures c.requires.left c.requires.right c.second-second.ensures, c.number_type-prim.ensures.0))),
 )
 
-pub arithmetic::put_calculated-close-requires-2 : goal.arithmetic::put_calculated-close-requires-2
-arithmetic::put_calculated-close-requires-2 t c = (
+pub arithmetic_forms::put_calculated-close-requires-2 : goal.arithmetic_forms::put_calculated-close-requires-2
+arithmetic_forms::put_calculated-close-requires-2 t c = (
   omega (arith, down_to c.args.context.now.checked.now (left_in c.args.context.now.checked.now c.in_ok-lifted.lifted.bound.items) (left_in c.args.context.now.checked.now (c.args.left.now ∷ c.args.right.now ∷ [])) 11 14 (lifted_bound_left c.args.context.now.checked.now (c.args.left.now ∷ c.args.right.now ∷ []) c.args.draft.now.depth c.in_ok-lifted.lifted c.in_ok-lifted.ensures) (omega arith)),
   (c.requires.translated, (all_put c.args.context.now.checked.now c.args.context.now.ranges.now c.args.left.now c.args.right.now c.args.draft.now.depth c.in_ok-lifted.lifted c.in_ok-lifted.ensures c.requires.left c.requires.right, omega (arith, c.in_ok-open.ensures.depth, c.in_ok-put_faults.ensures.depth, c.in_ok-put_checked.ensures.grows.depth))),
 )
 
--- ---- arithmetic::put_checked
+-- ---- arithmetic_forms::put_checked
 
-pub arithmetic::put_checked-returns : goal.arithmetic::put_checked-returns
-arithmetic::put_checked-returns t c =
+pub arithmetic_forms::put_checked-returns : goal.arithmetic_forms::put_checked-returns
+arithmetic_forms::put_checked-returns t c =
     elim c.if-by_zero.branch [
-      | arithmetic::put_checked-then-by_zero+in_ok-put+in_ok-put-2+in_ok-put_is_zero+in_ok-put-3+in_ok-put-4+in_ok-put_operand+in_ok-put_fault w ↦
+      | arithmetic_forms::put_checked-then-by_zero+in_ok-put+in_ok-put-2+in_ok-put_is_zero+in_ok-put-3+in_ok-put-4+in_ok-put_operand+in_ok-put_fault w ↦
           ok_divided (question_of c.args.context.now) c.args.operator c.args.left.now c.args.right.now (record { there = c.divisions_are_unique.ensures.there; by_zero = c.divisions_are_unique.ensures.zero; one = record { quotient = c.divisions_are_unique.ensures.quotient; remainder = c.divisions_are_unique.ensures.remainder } }) c.args.prim c.may_divide_by_zero-by_zero.result c.args.draft.now w.put.new.self w.put-then-by_zero.new.self w.put_is_zero.new.draft w.put-then-by_zero-2.new.self w.put-then-by_zero-3.new.self w.put_operand.new.draft c.if-by_zero.draft c.put-2.new.self c.put-3.new.self c.put-4.new.self c.put_unbounded.new.draft c.put_fault-2.new.draft c.put_unbounded-2.new.draft c.put_unbounded-2.result w.if-by_zero.true
           (c.may_divide_by_zero-by_zero.ensures.0 w.if-by_zero.true).0 w.in_ok-put.ensures.ok w.in_ok-put-2.ensures.ok w.in_ok-put_is_zero.ensures w.in_ok-put-3.ensures.ok w.in_ok-put-4.ensures.ok w.in_ok-put_operand.ensures
           (subst (λ (d : Draft). Grows w.put_operand.new.draft d (SqlNode.Fault Carrier.Number ArithFault.DivideByZero ∷ [])) (sym w.draft-is) w.in_ok-put_fault.ensures) c.in_ok-put-5.ensures.ok c.in_ok-put-6.ensures.ok c.in_ok-put-7.ensures.ok c.in_ok-put_unbounded.ensures c.in_ok-put_fault-2.ensures c.put_unbounded-2.ensures
-      | arithmetic::put_checked-else-by_zero w ↦
+      | arithmetic_forms::put_checked-else-by_zero w ↦
           subst (λ (d : Draft). OnOk c.put_unbounded-2.result (Puts (question_of c.args.context.now) d c.put_unbounded-2.new.draft (CheckedHas c.args.context.now.checked.now c.args.operator c.args.prim c.args.left.now c.args.right.now) Itself)) w.draft-is
           (ok_undivided (question_of c.args.context.now) c.args.operator c.args.left.now c.args.right.now (record { there = c.divisions_are_unique.ensures.there; by_zero = c.divisions_are_unique.ensures.zero; one = record { quotient = c.divisions_are_unique.ensures.quotient; remainder = c.divisions_are_unique.ensures.remainder } }) c.args.prim c.may_divide_by_zero-by_zero.result c.if-by_zero.draft c.put-2.new.self c.put-3.new.self c.put-4.new.self c.put_unbounded.new.draft c.put_fault-2.new.draft c.put_unbounded-2.new.draft c.put_unbounded-2.result w.if-by_zero.false (λ divides zero. c.may_divide_by_zero-by_zero.ensures.1 (divides, zero)) c.in_ok-put-5.ensures.ok c.in_ok-put-6.ensures.ok c.in_ok-put-7.ensures.ok c.in_ok-put_unbounded.ensures c.in_ok-put_fault-2.ensures c.put_unbounded-2.ensures)
     ]
 
-pub arithmetic::put_checked-put_is_zero-requires : goal.arithmetic::put_checked-put_is_zero-requires
-arithmetic::put_checked-put_is_zero-requires t c = (
+pub arithmetic_forms::put_checked-put_is_zero-requires : goal.arithmetic_forms::put_checked-put_is_zero-requires
+arithmetic_forms::put_checked-put_is_zero-requires t c = (
   omega (arith, down_to c.args.context.now.checked.now (left_of c.args.context.now.checked.now c.args.right.now) (left_in c.args.context.now.checked.now (c.args.left.now ∷ c.args.right.now ∷ [])) 11 13 (one_left c.args.context.now.checked.now (c.args.left.now ∷ c.args.right.now ∷ []) 1 c.args.right.now refl) (omega arith)),
   (c.requires.translated, c.requires.right),
 )
 
-pub arithmetic::put_checked-put_operand-requires : goal.arithmetic::put_checked-put_operand-requires
-arithmetic::put_checked-put_operand-requires t c = (
+pub arithmetic_forms::put_checked-put_operand-requires : goal.arithmetic_forms::put_checked-put_operand-requires
+arithmetic_forms::put_checked-put_operand-requires t c = (
   omega (arith, down_to c.args.context.now.checked.now (left_of c.args.context.now.checked.now c.args.left.now) (left_in c.args.context.now.checked.now (c.args.left.now ∷ c.args.right.now ∷ [])) 10 13 (one_left c.args.context.now.checked.now (c.args.left.now ∷ c.args.right.now ∷ []) 0 c.args.left.now refl) (omega arith)),
   (c.requires.translated, c.requires.left),
 )
 
-pub arithmetic::put_checked-put_unbounded-requires : goal.arithmetic::put_checked-put_unbounded-requires
-arithmetic::put_checked-put_unbounded-requires t c = (omega arith, (c.requires.translated, (c.requires.left, c.requires.right)))
+pub arithmetic_forms::put_checked-put_unbounded-requires : goal.arithmetic_forms::put_checked-put_unbounded-requires
+arithmetic_forms::put_checked-put_unbounded-requires t c = (omega arith, (c.requires.translated, (c.requires.left, c.requires.right)))
 
-pub arithmetic::put_checked-put_unbounded-requires-2 : goal.arithmetic::put_checked-put_unbounded-requires-2
-arithmetic::put_checked-put_unbounded-requires-2 t c = (omega arith, (c.requires.translated, (c.requires.left, c.requires.right)))
+pub arithmetic_forms::put_checked-put_unbounded-requires-2 : goal.arithmetic_forms::put_checked-put_unbounded-requires-2
+arithmetic_forms::put_checked-put_unbounded-requires-2 t c = (omega arith, (c.requires.translated, (c.requires.left, c.requires.right)))
 
--- ---- arithmetic::put_is_zero
+-- ---- arithmetic_forms::put_is_zero
 
-pub arithmetic::put_is_zero-returns : goal.arithmetic::put_is_zero-returns
-arithmetic::put_is_zero-returns t c =
+pub arithmetic_forms::put_is_zero-returns : goal.arithmetic_forms::put_is_zero-returns
+arithmetic_forms::put_is_zero-returns t c =
     ok_is_zero (question_of c.args.context.now) c.args.operand.now c.args.draft.now c.put.new.self c.put_operand.new.draft c.put_number.new.self c.put_number.result c.in_ok-put.ensures.ok c.in_ok-put_operand.ensures c.put_number.ensures.ok
 
-pub arithmetic::put_is_zero-put_operand-requires : goal.arithmetic::put_is_zero-put_operand-requires
-arithmetic::put_is_zero-put_operand-requires t c = (omega arith, (c.requires.translated, c.requires.put))
+pub arithmetic_forms::put_is_zero-put_operand-requires : goal.arithmetic_forms::put_is_zero-put_operand-requires
+arithmetic_forms::put_is_zero-put_operand-requires t c = (omega arith, (c.requires.translated, c.requires.put))
 
--- ---- arithmetic::put_unbounded
+-- ---- arithmetic_forms::put_unbounded
 
-pub arithmetic::put_unbounded-returns-then-by_zero : goal.arithmetic::put_unbounded-returns-then-by_zero
-arithmetic::put_unbounded-returns-then-by_zero t c =
+pub arithmetic_forms::put_unbounded-returns-then-by_zero : goal.arithmetic_forms::put_unbounded-returns-then-by_zero
+arithmetic_forms::put_unbounded-returns-then-by_zero t c =
     ok_wide_zero (question_of c.args.context.now) c.args.operator c.args.left.now c.args.right.now c.args.by_zero c.args.draft.now c.put.new.self c.put_operand.new.draft c.put-then-by_zero.new.self c.put_is_zero.new.draft c.put-then-by_zero-2.new.self c.put_operand-then-by_zero.new.draft c.put_operand-then-by_zero.result c.if-by_zero.true
     c.in_ok-put.ensures.ok c.in_ok-put_operand.ensures c.in_ok-put-2.ensures.ok c.in_ok-put_is_zero.ensures c.in_ok-put-3.ensures.ok c.put_operand-then-by_zero.ensures
 
-pub arithmetic::put_unbounded-returns : goal.arithmetic::put_unbounded-returns
-arithmetic::put_unbounded-returns t c =
+pub arithmetic_forms::put_unbounded-returns : goal.arithmetic_forms::put_unbounded-returns
+arithmetic_forms::put_unbounded-returns t c =
     ok_wide (question_of c.args.context.now) c.args.operator c.args.left.now c.args.right.now c.args.by_zero c.args.draft.now c.put.new.self c.put_operand.new.draft c.put_operand-2.new.draft c.put_operand-2.result c.if-by_zero.false c.in_ok-put.ensures.ok c.in_ok-put_operand.ensures c.put_operand-2.ensures
 
-pub arithmetic::put_unbounded-put_operand-requires : goal.arithmetic::put_unbounded-put_operand-requires
-arithmetic::put_unbounded-put_operand-requires t c = (
+pub arithmetic_forms::put_unbounded-put_operand-requires : goal.arithmetic_forms::put_unbounded-put_operand-requires
+arithmetic_forms::put_unbounded-put_operand-requires t c = (
   omega (arith, down_to c.args.context.now.checked.now (left_of c.args.context.now.checked.now c.args.left.now) (left_in c.args.context.now.checked.now (c.args.left.now ∷ c.args.right.now ∷ [])) 10 12 (one_left c.args.context.now.checked.now (c.args.left.now ∷ c.args.right.now ∷ []) 0 c.args.left.now refl) (omega arith)),
   (c.requires.translated, c.requires.left),
 )
 
-pub arithmetic::put_unbounded-put_is_zero-requires : goal.arithmetic::put_unbounded-put_is_zero-requires
-arithmetic::put_unbounded-put_is_zero-requires t c = (
+pub arithmetic_forms::put_unbounded-put_is_zero-requires : goal.arithmetic_forms::put_unbounded-put_is_zero-requires
+arithmetic_forms::put_unbounded-put_is_zero-requires t c = (
   omega (arith, down_to c.args.context.now.checked.now (left_of c.args.context.now.checked.now c.args.right.now) (left_in c.args.context.now.checked.now (c.args.left.now ∷ c.args.right.now ∷ [])) 11 12 (one_left c.args.context.now.checked.now (c.args.left.now ∷ c.args.right.now ∷ []) 1 c.args.right.now refl) (omega arith)),
   (c.requires.translated, c.requires.right),
 )
 
-pub arithmetic::put_unbounded-put_operand-requires-then-by_zero : goal.arithmetic::put_unbounded-put_operand-requires-then-by_zero
-arithmetic::put_unbounded-put_operand-requires-then-by_zero t c = (
+pub arithmetic_forms::put_unbounded-put_operand-requires-then-by_zero : goal.arithmetic_forms::put_unbounded-put_operand-requires-then-by_zero
+arithmetic_forms::put_unbounded-put_operand-requires-then-by_zero t c = (
   omega (arith, down_to c.args.context.now.checked.now (left_of c.args.context.now.checked.now c.args.right.now) (left_in c.args.context.now.checked.now (c.args.left.now ∷ c.args.right.now ∷ [])) 10 12 (one_left c.args.context.now.checked.now (c.args.left.now ∷ c.args.right.now ∷ []) 1 c.args.right.now refl) (omega arith)),
   (c.requires.translated, c.requires.right),
 )
 
-pub arithmetic::put_unbounded-put_operand-requires-2 : goal.arithmetic::put_unbounded-put_operand-requires-2
-arithmetic::put_unbounded-put_operand-requires-2 t c = (
+pub arithmetic_forms::put_unbounded-put_operand-requires-2 : goal.arithmetic_forms::put_unbounded-put_operand-requires-2
+arithmetic_forms::put_unbounded-put_operand-requires-2 t c = (
   omega (arith, down_to c.args.context.now.checked.now (left_of c.args.context.now.checked.now c.args.right.now) (left_in c.args.context.now.checked.now (c.args.left.now ∷ c.args.right.now ∷ [])) 10 12 (one_left c.args.context.now.checked.now (c.args.left.now ∷ c.args.right.now ∷ []) 1 c.args.right.now refl) (omega arith)),
   (c.requires.translated, c.requires.right),
 )
 
--- ---- calls::put_call
+-- ---- call_forms::put_call
 
-pub calls::put_call-bind_operands-requires-clause-inside : goal.calls::put_call-bind_operands-requires-clause-inside
-calls::put_call-bind_operands-requires-clause-inside t c =
+pub call_forms::put_call-bind_operands-requires-clause-inside : goal.call_forms::put_call-bind_operands-requires-clause-inside
+call_forms::put_call-bind_operands-requires-clause-inside t c =
     let n = some_there (λ (found : CheckedNode). found.kind ≡ NodeKind.Call c.args.function) (slice_get c.args.context.now.checked.now.list.nodes c.args.place) c.requires.kind in
     let given = arguments_given c.args.context.now.checked.now c.requires.translated.right c.trees_have_one_type.ensures c.calls_have_one_type.ensures.named c.args.context.now.ranges.now c.args.place n.0 n.1.0 c.args.function n.1.1 c.as_slice.result.now (subst (AreArgumentsOf c.args.context.now.checked.now c.args.context.now.ranges.now c.args.place) (sym c.as_slice.ensures.value) c.in_ok-operands.ensures) in
     each (λ (operand : Operand). IsInside c.args.context.now.checked.now operand.source) c.as_slice.result.now (all_inside c.args.context.now.checked.now c.args.context.now.ranges.now c.as_slice.result.now given.put)
 
-pub calls::put_call-bind_operands-requires-clause-valued : goal.calls::put_call-bind_operands-requires-clause-valued
-calls::put_call-bind_operands-requires-clause-valued t c = λ all. let never : false ≡ true = all in absurd (cc)
+pub call_forms::put_call-bind_operands-requires-clause-valued : goal.call_forms::put_call-bind_operands-requires-clause-valued
+call_forms::put_call-bind_operands-requires-clause-valued t c = λ all. let never : false ≡ true = all in absurd (cc)
 
-pub calls::put_call-put_carried_faults-requires : goal.calls::put_call-put_carried_faults-requires
-calls::put_call-put_carried_faults-requires t c = c.in_ok-lifted.ensures.few
+pub call_forms::put_call-put_carried_faults-requires : goal.call_forms::put_call-put_carried_faults-requires
+call_forms::put_call-put_carried_faults-requires t c = c.in_ok-lifted.ensures.few
 
-pub calls::put_call-returns : goal.calls::put_call-returns
-calls::put_call-returns t c =
+pub call_forms::put_call-returns : goal.call_forms::put_call-returns
+call_forms::put_call-returns t c =
     ok_call (question_of c.args.context.now) c.trees_have_one_type.ensures c.typed_trees_end_once_on_entities.ensures c.requires.translated.moment c.calls_have_one_type.ensures.named c.args.context.now.ranges.now c.requires.translated.ranges c.requires.translated.right c.args.place c.args.function c.requires.kind c.as_slice.result.now (subst (AreArgumentsOf c.args.context.now.checked.now c.args.context.now.ranges.now c.args.place) (sym c.as_slice.ensures.value) c.in_ok-operands.ensures) c.in_ok-lifted.lifted c.args.draft.now c.in_ok-lifted.ensures c.close.result c.open.new.draft c.put_carried_faults.new.draft c.put_called.new.draft c.close.new.draft c.in_ok-open.ensures c.close.ensures.values c.close.ensures.idle
     c.carrier_of-carrier.result c.carrier_of-carrier.ensures.none c.requires.plain c.in_ok-put_carried_faults.ensures (subst (λ (xs : List Operand). Puts (question_of c.args.context.now) c.put_carried_faults.new.draft c.put_called.new.draft (CalledHas c.args.context.now.checked.now c.args.function xs) Itself) c.as_slice-2.ensures.value c.in_ok-put_called.ensures)
 
-pub calls::put_call-arguments_of-requires-clause-call : goal.calls::put_call-arguments_of-requires-clause-call
-calls::put_call-arguments_of-requires-clause-call t c = (c.args.function, c.requires.kind)
+pub call_forms::put_call-arguments_of-requires-clause-call : goal.call_forms::put_call-arguments_of-requires-clause-call
+call_forms::put_call-arguments_of-requires-clause-call t c = (c.args.function, c.requires.kind)
 
-pub calls::put_call-own_carrier-own-requires : goal.calls::put_call-own_carrier-own-requires
-calls::put_call-own_carrier-own-requires t c =
+pub call_forms::put_call-own_carrier-own-requires : goal.call_forms::put_call-own_carrier-own-requires
+call_forms::put_call-own_carrier-own-requires t c =
     has_range (question_of c.args.context.now) c.args.context.now.ranges.now c.requires.translated.ranges c.args.place (kind_inside c.args.context.now.checked.now c.args.place (NodeKind.Call c.args.function) c.requires.kind)
 
-pub calls::put_call-put_called-requires : goal.calls::put_call-put_called-requires
-calls::put_call-put_called-requires t c = (
+pub call_forms::put_call-put_called-requires : goal.call_forms::put_call-put_called-requires
+call_forms::put_call-put_called-requires t c = (
   omega (arith, on_from c.args.context.now.checked.now (left_in c.args.context.now.checked.now c.as_slice-2.result.now) (left_from c.args.context.now.checked.now c.args.place) 12 3 (omega (arith, arguments_left c.args.context.now.checked.now c.args.place (kind_inside c.args.context.now.checked.now c.args.place (NodeKind.Call c.args.function) c.requires.kind) c.args.context.now.ranges.now c.as_slice.result.now (subst (AreArgumentsOf c.args.context.now.checked.now c.args.context.now.ranges.now c.args.place) (sym c.as_slice.ensures.value) c.in_ok-operands.ensures), lifted_inner_left c.args.context.now.checked.now c.as_slice.result.now c.args.draft.now.depth c.in_ok-lifted.lifted c.in_ok-lifted.ensures, ap (left_in c.args.context.now.checked.now) c.as_slice-2.ensures.value)) (omega arith)),
   (c.requires.translated, ((let n = some_there (λ (found : CheckedNode). found.kind ≡ NodeKind.Call c.args.function) (slice_get c.args.context.now.checked.now.list.nodes c.args.place) c.requires.kind in let given = arguments_given c.args.context.now.checked.now c.requires.translated.right c.trees_have_one_type.ensures c.calls_have_one_type.ensures.named c.args.context.now.ranges.now c.args.place n.0 n.1.0 c.args.function n.1.1 c.as_slice.result.now (subst (AreArgumentsOf c.args.context.now.checked.now c.args.context.now.ranges.now c.args.place) (sym c.as_slice.ensures.value) c.in_ok-operands.ensures) in subst (All (IsPut c.args.context.now.checked.now c.args.context.now.ranges.now)) (sym c.as_slice-2.ensures.value) (holds_inside (IsPut c.args.context.now.checked.now c.args.context.now.ranges.now) (put_bound c.args.context.now.checked.now c.args.context.now.ranges.now) c.as_slice.result.now c.args.draft.now.depth c.in_ok-lifted.lifted c.in_ok-lifted.ensures given.put)), ((let n = some_there (λ (found : CheckedNode). found.kind ≡ NodeKind.Call c.args.function) (slice_get c.args.context.now.checked.now.list.nodes c.args.place) c.requires.kind in let given = arguments_given c.args.context.now.checked.now c.requires.translated.right c.trees_have_one_type.ensures c.calls_have_one_type.ensures.named c.args.context.now.ranges.now c.args.place n.0 n.1.0 c.args.function n.1.1 c.as_slice.result.now (subst (AreArgumentsOf c.args.context.now.checked.now c.args.context.now.ranges.now c.args.place) (sym c.as_slice.ensures.value) c.in_ok-operands.ensures) in let many : length c.in_ok-lifted.lifted.inner.items ≡ length c.as_slice.result.now = inner_length c.as_slice.result.now c.args.draft.now.depth c.in_ok-lifted.lifted c.in_ok-lifted.ensures in let some : 0 < length c.as_slice.result.now = given.some in let same : length c.as_slice-2.result.now ≡ length c.in_ok-lifted.lifted.inner.items = ap length c.as_slice-2.ensures.value in omega (arith, many, some, same)), ((let n = some_there (λ (found : CheckedNode). found.kind ≡ NodeKind.Call c.args.function) (slice_get c.args.context.now.checked.now.list.nodes c.args.place) c.requires.kind in let given = arguments_given c.args.context.now.checked.now c.requires.translated.right c.trees_have_one_type.ensures c.calls_have_one_type.ensures.named c.args.context.now.ranges.now c.args.place n.0 n.1.0 c.args.function n.1.1 c.as_slice.result.now (subst (AreArgumentsOf c.args.context.now.checked.now c.args.context.now.ranges.now c.args.place) (sym c.as_slice.ensures.value) c.in_ok-operands.ensures) in let many : length c.in_ok-lifted.lifted.inner.items ≡ length c.as_slice.result.now = inner_length c.as_slice.result.now c.args.draft.now.depth c.in_ok-lifted.lifted c.in_ok-lifted.ensures in let same : length c.as_slice-2.result.now ≡ length c.in_ok-lifted.lifted.inner.items = ap length c.as_slice-2.ensures.value in subst (TakesCount c.args.function) (sym (same ∙ many)) given.counted), own_carried c.args.function c.carrier_of-carrier.result c.own_carrier-own.result c.carrier_of-carrier.ensures.some c.own_carrier-own.ensures)))),
 )
 
-pub calls::put_call-close-requires : goal.calls::put_call-close-requires
-calls::put_call-close-requires t c = (
+pub call_forms::put_call-close-requires : goal.call_forms::put_call-close-requires
+call_forms::put_call-close-requires t c = (
   omega (arith, on_from c.args.context.now.checked.now (left_in c.args.context.now.checked.now c.in_ok-lifted.lifted.bound.items) (left_from c.args.context.now.checked.now c.args.place) 11 3 (omega (arith, arguments_left c.args.context.now.checked.now c.args.place (kind_inside c.args.context.now.checked.now c.args.place (NodeKind.Call c.args.function) c.requires.kind) c.args.context.now.ranges.now c.as_slice.result.now (subst (AreArgumentsOf c.args.context.now.checked.now c.args.context.now.ranges.now c.args.place) (sym c.as_slice.ensures.value) c.in_ok-operands.ensures), lifted_bound_left c.args.context.now.checked.now c.as_slice.result.now c.args.draft.now.depth c.in_ok-lifted.lifted c.in_ok-lifted.ensures)) (omega arith)),
   (c.requires.translated, ((let n = some_there (λ (found : CheckedNode). found.kind ≡ NodeKind.Call c.args.function) (slice_get c.args.context.now.checked.now.list.nodes c.args.place) c.requires.kind in let given = arguments_given c.args.context.now.checked.now c.requires.translated.right c.trees_have_one_type.ensures c.calls_have_one_type.ensures.named c.args.context.now.ranges.now c.args.place n.0 n.1.0 c.args.function n.1.1 c.as_slice.result.now (subst (AreArgumentsOf c.args.context.now.checked.now c.args.context.now.ranges.now c.args.place) (sym c.as_slice.ensures.value) c.in_ok-operands.ensures) in holds_of_bound (IsPut c.args.context.now.checked.now c.args.context.now.ranges.now) c.as_slice.result.now c.args.draft.now.depth c.in_ok-lifted.lifted c.in_ok-lifted.ensures given.put), omega (arith, c.in_ok-open.ensures.depth, c.in_ok-put_carried_faults.ensures.depth, c.in_ok-put_called.ensures.grows.depth))),
 )
 
--- ---- calls::put_call_code
+-- ---- call_forms::put_call_code
 
-pub calls::put_call_code-bind_operands-requires-clause-inside : goal.calls::put_call_code-bind_operands-requires-clause-inside
-calls::put_call_code-bind_operands-requires-clause-inside t c =
+pub call_forms::put_call_code-bind_operands-requires-clause-inside : goal.call_forms::put_call_code-bind_operands-requires-clause-inside
+call_forms::put_call_code-bind_operands-requires-clause-inside t c =
     let n = some_there (λ (found : CheckedNode). found.kind ≡ NodeKind.Call c.args.function) (slice_get c.args.context.now.checked.now.list.nodes c.args.place) c.requires.kind in
     let given = arguments_given c.args.context.now.checked.now c.requires.translated.right c.trees_have_one_type.ensures c.calls_have_one_type.ensures.named c.args.context.now.ranges.now c.args.place n.0 n.1.0 c.args.function n.1.1 c.as_slice.result.now (subst (AreArgumentsOf c.args.context.now.checked.now c.args.context.now.ranges.now c.args.place) (sym c.as_slice.ensures.value) c.in_ok-operands.ensures) in
     each (λ (operand : Operand). IsInside c.args.context.now.checked.now operand.source) c.as_slice.result.now (all_inside c.args.context.now.checked.now c.args.context.now.ranges.now c.as_slice.result.now given.put)
 
-pub calls::put_call_code-bind_operands-requires-clause-valued : goal.calls::put_call_code-bind_operands-requires-clause-valued
-calls::put_call_code-bind_operands-requires-clause-valued t c = λ all. let never : false ≡ true = all in absurd (cc)
+pub call_forms::put_call_code-bind_operands-requires-clause-valued : goal.call_forms::put_call_code-bind_operands-requires-clause-valued
+call_forms::put_call_code-bind_operands-requires-clause-valued t c = λ all. let never : false ≡ true = all in absurd (cc)
 
-pub calls::put_call_code-put_faults-requires : goal.calls::put_call_code-put_faults-requires
-calls::put_call_code-put_faults-requires t c = c.in_ok-lifted.ensures.few
+pub call_forms::put_call_code-put_faults-requires : goal.call_forms::put_call_code-put_faults-requires
+call_forms::put_call_code-put_faults-requires t c = c.in_ok-lifted.ensures.few
 
-pub calls::put_call_code-returns : goal.calls::put_call_code-returns
-calls::put_call_code-returns t c =
+pub call_forms::put_call_code-returns : goal.call_forms::put_call_code-returns
+call_forms::put_call_code-returns t c =
     ok_call_code (question_of c.args.context.now) c.trees_have_one_type.ensures c.typed_trees_end_once_on_entities.ensures c.requires.translated.moment c.calls_have_one_type.ensures.named c.args.context.now.ranges.now c.requires.translated.ranges c.requires.translated.right c.args.place c.args.function c.requires.kind c.as_slice.result.now (subst (AreArgumentsOf c.args.context.now.checked.now c.args.context.now.ranges.now c.args.place) (sym c.as_slice.ensures.value) c.in_ok-operands.ensures) c.in_ok-lifted.lifted c.args.draft.now c.in_ok-lifted.ensures c.close.result c.open.new.draft c.put_faults.new.draft c.put_called.new.draft c.close.new.draft c.in_ok-open.ensures c.close.ensures.values c.close.ensures.idle
     c.requires.truth c.in_ok-put_faults.ensures c.put.new.self c.in_ok-put.ensures.ok (subst (λ (xs : List Operand). Puts (question_of c.args.context.now) c.put.new.self c.put_called.new.draft (CalledHas c.args.context.now.checked.now c.args.function xs) Itself) c.as_slice-2.ensures.value c.in_ok-put_called.ensures)
 
-pub calls::put_call_code-arguments_of-requires-clause-call : goal.calls::put_call_code-arguments_of-requires-clause-call
-calls::put_call_code-arguments_of-requires-clause-call t c = (c.args.function, c.requires.kind)
+pub call_forms::put_call_code-arguments_of-requires-clause-call : goal.call_forms::put_call_code-arguments_of-requires-clause-call
+call_forms::put_call_code-arguments_of-requires-clause-call t c = (c.args.function, c.requires.kind)
 
-pub calls::put_call_code-put_called-requires : goal.calls::put_call_code-put_called-requires
-calls::put_call_code-put_called-requires t c = (
+pub call_forms::put_call_code-put_called-requires : goal.call_forms::put_call_code-put_called-requires
+call_forms::put_call_code-put_called-requires t c = (
   omega (arith, on_from c.args.context.now.checked.now (left_in c.args.context.now.checked.now c.as_slice-2.result.now) (left_from c.args.context.now.checked.now c.args.place) 12 3 (omega (arith, arguments_left c.args.context.now.checked.now c.args.place (kind_inside c.args.context.now.checked.now c.args.place (NodeKind.Call c.args.function) c.requires.kind) c.args.context.now.ranges.now c.as_slice.result.now (subst (AreArgumentsOf c.args.context.now.checked.now c.args.context.now.ranges.now c.args.place) (sym c.as_slice.ensures.value) c.in_ok-operands.ensures), lifted_inner_left c.args.context.now.checked.now c.as_slice.result.now c.args.draft.now.depth c.in_ok-lifted.lifted c.in_ok-lifted.ensures, ap (left_in c.args.context.now.checked.now) c.as_slice-2.ensures.value)) (omega arith)),
   (c.requires.translated, ((let n = some_there (λ (found : CheckedNode). found.kind ≡ NodeKind.Call c.args.function) (slice_get c.args.context.now.checked.now.list.nodes c.args.place) c.requires.kind in let given = arguments_given c.args.context.now.checked.now c.requires.translated.right c.trees_have_one_type.ensures c.calls_have_one_type.ensures.named c.args.context.now.ranges.now c.args.place n.0 n.1.0 c.args.function n.1.1 c.as_slice.result.now (subst (AreArgumentsOf c.args.context.now.checked.now c.args.context.now.ranges.now c.args.place) (sym c.as_slice.ensures.value) c.in_ok-operands.ensures) in subst (All (IsPut c.args.context.now.checked.now c.args.context.now.ranges.now)) (sym c.as_slice-2.ensures.value) (holds_inside (IsPut c.args.context.now.checked.now c.args.context.now.ranges.now) (put_bound c.args.context.now.checked.now c.args.context.now.ranges.now) c.as_slice.result.now c.args.draft.now.depth c.in_ok-lifted.lifted c.in_ok-lifted.ensures given.put)), ((let n = some_there (λ (found : CheckedNode). found.kind ≡ NodeKind.Call c.args.function) (slice_get c.args.context.now.checked.now.list.nodes c.args.place) c.requires.kind in let given = arguments_given c.args.context.now.checked.now c.requires.translated.right c.trees_have_one_type.ensures c.calls_have_one_type.ensures.named c.args.context.now.ranges.now c.args.place n.0 n.1.0 c.args.function n.1.1 c.as_slice.result.now (subst (AreArgumentsOf c.args.context.now.checked.now c.args.context.now.ranges.now c.args.place) (sym c.as_slice.ensures.value) c.in_ok-operands.ensures) in let many : length c.in_ok-lifted.lifted.inner.items ≡ length c.as_slice.result.now = inner_length c.as_slice.result.now c.args.draft.now.depth c.in_ok-lifted.lifted c.in_ok-lifted.ensures in let some : 0 < length c.as_slice.result.now = given.some in let same : length c.as_slice-2.result.now ≡ length c.in_ok-lifted.lifted.inner.items = ap length c.as_slice-2.ensures.value in omega (arith, many, some, same)), ((let n = some_there (λ (found : CheckedNode). found.kind ≡ NodeKind.Call c.args.function) (slice_get c.args.context.now.checked.now.list.nodes c.args.place) c.requires.kind in let given = arguments_given c.args.context.now.checked.now c.requires.translated.right c.trees_have_one_type.ensures c.calls_have_one_type.ensures.named c.args.context.now.ranges.now c.args.place n.0 n.1.0 c.args.function n.1.1 c.as_slice.result.now (subst (AreArgumentsOf c.args.context.now.checked.now c.args.context.now.ranges.now c.args.place) (sym c.as_slice.ensures.value) c.in_ok-operands.ensures) in let many : length c.in_ok-lifted.lifted.inner.items ≡ length c.as_slice.result.now = inner_length c.as_slice.result.now c.args.draft.now.depth c.in_ok-lifted.lifted c.in_ok-lifted.ensures in let same : length c.as_slice-2.result.now ≡ length c.in_ok-lifted.lifted.inner.items = ap length c.as_slice-2.ensures.value in subst (TakesCount c.args.function) (sym (same ∙ many)) given.counted), tt)))),
 )
 
-pub calls::put_call_code-close-requires : goal.calls::put_call_code-close-requires
-calls::put_call_code-close-requires t c = (
+pub call_forms::put_call_code-close-requires : goal.call_forms::put_call_code-close-requires
+call_forms::put_call_code-close-requires t c = (
   omega (arith, on_from c.args.context.now.checked.now (left_in c.args.context.now.checked.now c.in_ok-lifted.lifted.bound.items) (left_from c.args.context.now.checked.now c.args.place) 11 3 (omega (arith, arguments_left c.args.context.now.checked.now c.args.place (kind_inside c.args.context.now.checked.now c.args.place (NodeKind.Call c.args.function) c.requires.kind) c.args.context.now.ranges.now c.as_slice.result.now (subst (AreArgumentsOf c.args.context.now.checked.now c.args.context.now.ranges.now c.args.place) (sym c.as_slice.ensures.value) c.in_ok-operands.ensures), lifted_bound_left c.args.context.now.checked.now c.as_slice.result.now c.args.draft.now.depth c.in_ok-lifted.lifted c.in_ok-lifted.ensures)) (omega arith)),
   (c.requires.translated, ((let n = some_there (λ (found : CheckedNode). found.kind ≡ NodeKind.Call c.args.function) (slice_get c.args.context.now.checked.now.list.nodes c.args.place) c.requires.kind in let given = arguments_given c.args.context.now.checked.now c.requires.translated.right c.trees_have_one_type.ensures c.calls_have_one_type.ensures.named c.args.context.now.ranges.now c.args.place n.0 n.1.0 c.args.function n.1.1 c.as_slice.result.now (subst (AreArgumentsOf c.args.context.now.checked.now c.args.context.now.ranges.now c.args.place) (sym c.as_slice.ensures.value) c.in_ok-operands.ensures) in holds_of_bound (IsPut c.args.context.now.checked.now c.args.context.now.ranges.now) c.as_slice.result.now c.args.draft.now.depth c.in_ok-lifted.lifted c.in_ok-lifted.ensures given.put), omega (arith, c.in_ok-open.ensures.depth, c.in_ok-put_faults.ensures.depth, c.in_ok-put.ensures.ok.depth, c.in_ok-put_called.ensures.grows.depth))),
 )
 
--- ---- calls::put_called
+-- ---- call_forms::put_called
 
-pub calls::put_called-returns-then-not-is_counting : goal.calls::put_called-returns-then-not-is_counting
-calls::put_called-returns-then-not-is_counting t c =
+pub call_forms::put_called-returns-then-not-is_counting : goal.call_forms::put_called-returns-then-not-is_counting
+call_forms::put_called-returns-then-not-is_counting t c =
     elim c.then-not-is_counting.branch [
-      | calls::put_called-then-not-is_counting-via-then-not-is_counting w ↦ ok_called (question_of c.args.context.now) c.args.function c.args.operands.now (inl (not_so c.is_counting.result c.is_counting.ensures.1 w.if-not-is_counting.true)) c.put_function.result c.args.carrier c.requires.carried c.args.draft.now c.put_carried.new.draft c.put_function.new.draft
+      | call_forms::put_called-then-not-is_counting-via-then-not-is_counting w ↦ ok_called (question_of c.args.context.now) c.args.function c.args.operands.now (inl (not_so c.is_counting.result c.is_counting.ensures.1 w.if-not-is_counting.true)) c.put_function.result c.args.carrier c.requires.carried c.args.draft.now c.put_carried.new.draft c.put_function.new.draft
           c.in_ok-put_carried.ensures c.put_function.ensures
-      | calls::put_called-then-not-is_counting-via-else-not-is_counting+then-not-may_exceed_int32 w ↦ ok_called (question_of c.args.context.now) c.args.function c.args.operands.now (small_of c.args.function c.args.operands.now w.index-operands-0.result (slice_get_read c.args.operands.now (length c.args.operands.now) 0 w.index-operands-0.result refl c.requires.some w.index-operands-0.is) (subst (λ (o : Operand). pos 2_147_483_647 <ℤ o.range.high → ⊥) (sym w.index-operands-0.is) (not_so w.may_exceed_int32.result w.may_exceed_int32.ensures.1 w.if-not-may_exceed_int32.true))) c.put_function.result c.args.carrier c.requires.carried c.args.draft.now c.put_carried.new.draft c.put_function.new.draft
+      | call_forms::put_called-then-not-is_counting-via-else-not-is_counting+then-not-may_exceed_int32 w ↦ ok_called (question_of c.args.context.now) c.args.function c.args.operands.now (small_of c.args.function c.args.operands.now w.index-operands-0.result (slice_get_read c.args.operands.now (length c.args.operands.now) 0 w.index-operands-0.result refl c.requires.some w.index-operands-0.is) (subst (λ (o : Operand). pos 2_147_483_647 <ℤ o.range.high → ⊥) (sym w.index-operands-0.is) (not_so w.may_exceed_int32.result w.may_exceed_int32.ensures.1 w.if-not-may_exceed_int32.true))) c.put_function.result c.args.carrier c.requires.carried c.args.draft.now c.put_carried.new.draft c.put_function.new.draft
           c.in_ok-put_carried.ensures c.put_function.ensures
     ]
 
-pub calls::put_called-returns : goal.calls::put_called-returns
-calls::put_called-returns t c =
+pub call_forms::put_called-returns : goal.call_forms::put_called-returns
+call_forms::put_called-returns t c =
     ok_counted (question_of c.args.context.now) c.args.function c.args.operands.now (c.is_counting.ensures.0 c.if-not-is_counting.false) c.put_function-2.result c.in_ok-level.level c.args.draft.now c.put.new.self c.put-2.new.self c.put-3.new.self c.put-4.new.self c.put-5.new.self c.put-6.new.self c.put-7.new.self c.put-8.new.self c.put_function-2.new.draft
     c.in_ok-level.ensures.ok.0 c.in_ok-put.ensures.ok c.in_ok-put-2.ensures.ok c.in_ok-put-3.ensures.ok c.in_ok-put-4.ensures.ok c.in_ok-put-5.ensures.ok c.in_ok-put-6.ensures.ok c.in_ok-put-7.ensures.ok c.in_ok-put-8.ensures.ok c.put_function-2.ensures
 
-pub calls::put_called-put_function-requires : goal.calls::put_called-put_function-requires
-calls::put_called-put_function-requires t c = (omega arith, (c.requires.translated, (c.requires.put, (c.requires.some, c.requires.counted))))
+pub call_forms::put_called-put_function-requires : goal.call_forms::put_called-put_function-requires
+call_forms::put_called-put_function-requires t c = (omega arith, (c.requires.translated, (c.requires.put, (c.requires.some, c.requires.counted))))
 
-pub calls::put_called-put_function-requires-2 : goal.calls::put_called-put_function-requires-2
-calls::put_called-put_function-requires-2 t c = (omega arith, (c.requires.translated, (c.requires.put, (c.requires.some, c.requires.counted))))
+pub call_forms::put_called-put_function-requires-2 : goal.call_forms::put_called-put_function-requires-2
+call_forms::put_called-put_function-requires-2 t c = (omega arith, (c.requires.translated, (c.requires.put, (c.requires.some, c.requires.counted))))
 
--- ---- calls::put_function
+-- ---- call_forms::put_function
 
-pub calls::put_function-loop-place-init : goal.calls::put_function-loop-place-init
-calls::put_function-loop-place-init t c =
+pub call_forms::put_function-loop-place-init : goal.call_forms::put_function-loop-place-init
+call_forms::put_function-loop-place-init t c =
     record {
       so =
           function_starts (question_of c.args.context.now) c.args.function c.args.operands.now c.args.draft.now c.function_of.result c.put.new.self c.function_of.ensures.is c.function_of.ensures.many
           (by_node c.args.draft.now c.put.new.self (SqlNode.Function c.function_of.result) refl c.in_ok-put.ensures.ok);
     }
 
-pub calls::put_function-loop-place-preserved : goal.calls::put_function-loop-place-preserved
-calls::put_function-loop-place-preserved t c =
+pub call_forms::put_function-loop-place-preserved : goal.call_forms::put_function-loop-place-preserved
+call_forms::put_function-loop-place-preserved t c =
     let operands = c.args.operands.now in
     let at = slice_get_read operands (length operands) c.loop-place.place c.index-operands-place.result refl (omega arith) c.index-operands-place.is in
     record {
@@ -319,15 +319,15 @@ calls::put_function-loop-place-preserved t c =
           c.loop-place.invariant.so c.in_ok-put_operand.ensures;
     }
 
-pub calls::put_function-returns : goal.calls::put_function-returns
-calls::put_function-returns t c =
+pub call_forms::put_function-returns : goal.call_forms::put_function-returns
+call_forms::put_function-returns t c =
     let operands = c.args.operands.now in
     let end : c.loop-place.place ≡ length operands = omega arith in
     function_ends (question_of c.args.context.now) c.args.function operands c.args.draft.now c.loop-place.draft c.requires.some
     (subst (λ (n : ℕ). FunctionSoFar (question_of c.args.context.now) c.args.function operands c.args.draft.now c.loop-place.draft n) end c.loop-place.invariant.so)
 
-pub calls::put_function-put_operand-requires : goal.calls::put_function-put_operand-requires
-calls::put_function-put_operand-requires t c = (
+pub call_forms::put_function-put_operand-requires : goal.call_forms::put_function-put_operand-requires
+call_forms::put_function-put_operand-requires t c = (
   omega (arith, down_to c.args.context.now.checked.now (left_of c.args.context.now.checked.now c.index-operands-place.result) (left_in c.args.context.now.checked.now c.args.operands.now) 10 11 (one_left c.args.context.now.checked.now c.args.operands.now c.loop-place.place c.index-operands-place.result (slice_get_read c.args.operands.now (length c.args.operands.now) c.loop-place.place c.index-operands-place.result refl (omega arith) c.index-operands-place.is)) (omega arith)),
   (c.requires.translated, subst (IsPut c.args.context.now.checked.now c.args.context.now.ranges.now) (sym c.index-operands-place.is) (All-get_or (IsPut c.args.context.now.checked.now c.args.context.now.ranges.now) c.args.operands.now c.loop-place.place c.index-operands-place.result (omega arith) c.requires.put)),
 )
@@ -521,241 +521,241 @@ pub code::put_operand_code-put_operand-requires : goal.code::put_operand_code-pu
 code::put_operand_code-put_operand-requires t c =
     absurd (not_coded c.args.context.now.checked.now c.args.operand.now.source c.requires.coded (λ place is. c.in_default.not-Node place is) (λ level is. c.in_default.not-Bound level is))
 
--- ---- comparison::put_beside_null
+-- ---- comparison_forms::put_beside_null
 
-pub comparison::put_beside_null-returns-in-Gt : goal.comparison::put_beside_null-returns-in-Gt
-comparison::put_beside_null-returns-in-Gt t c =
+pub comparison_forms::put_beside_null-returns-in-Gt : goal.comparison_forms::put_beside_null-returns-in-Gt
+comparison_forms::put_beside_null-returns-in-Gt t c =
     ok_beside_false (question_of c.args.context.now) c.args.operand.now c.args.operator c.args.draft.now c.put.new.self c.put.result (order_of c.args.operator c.in-Gt.is) c.put.ensures.ok
 
-pub comparison::put_beside_null-returns-in_ok-put-in-Ne : goal.comparison::put_beside_null-returns-in_ok-put-in-Ne
-comparison::put_beside_null-returns-in_ok-put-in-Ne t c =
+pub comparison_forms::put_beside_null-returns-in_ok-put-in-Ne : goal.comparison_forms::put_beside_null-returns-in_ok-put-in-Ne
+comparison_forms::put_beside_null-returns-in_ok-put-in-Ne t c =
     ok_beside_not (question_of c.args.context.now) c.args.operand.now c.args.operator c.args.draft.now c.put-in-Ne.new.self c.put_is_null.new.draft c.put_is_null.result c.in-Ne.is c.in_ok-put-in-Ne.ensures.ok
     c.put_is_null.ensures
 
-pub comparison::put_beside_null-returns-in_default : goal.comparison::put_beside_null-returns-in_default
-comparison::put_beside_null-returns-in_default t c =
+pub comparison_forms::put_beside_null-returns-in_default : goal.comparison_forms::put_beside_null-returns-in_default
+comparison_forms::put_beside_null-returns-in_default t c =
     ok_beside_null (question_of c.args.context.now) c.args.operand.now c.args.operator c.args.draft.now c.put_is_null-in_default.new.draft c.put_is_null-in_default.result c.in_default.not-Ne
     (true_of_nulls c.args.operator c.in_default.not-Ne c.in_default.not-Gt c.in_default.not-Lt) c.put_is_null-in_default.ensures
 
-pub comparison::put_beside_null-put_is_null-requires : goal.comparison::put_beside_null-put_is_null-requires
-comparison::put_beside_null-put_is_null-requires t c = (omega arith, (c.requires.translated, c.requires.tested))
+pub comparison_forms::put_beside_null-put_is_null-requires : goal.comparison_forms::put_beside_null-put_is_null-requires
+comparison_forms::put_beside_null-put_is_null-requires t c = (omega arith, (c.requires.translated, c.requires.tested))
 
-pub comparison::put_beside_null-put_is_null-requires-in_default : goal.comparison::put_beside_null-put_is_null-requires-in_default
-comparison::put_beside_null-put_is_null-requires-in_default t c = (omega arith, (c.requires.translated, c.requires.tested))
+pub comparison_forms::put_beside_null-put_is_null-requires-in_default : goal.comparison_forms::put_beside_null-put_is_null-requires-in_default
+comparison_forms::put_beside_null-put_is_null-requires-in_default t c = (omega arith, (c.requires.translated, c.requires.tested))
 
--- ---- comparison::put_comparison
+-- ---- comparison_forms::put_comparison
 
-pub comparison::put_comparison-returns-then-is_null : goal.comparison::put_comparison-returns-then-is_null
-comparison::put_comparison-returns-then-is_null t c =
+pub comparison_forms::put_comparison-returns-then-is_null : goal.comparison_forms::put_comparison-returns-then-is_null
+comparison_forms::put_comparison-returns-then-is_null t c =
     ok_left_null (question_of c.args.context.now) c.args.left.now c.args.right.now c.args.operator c.args.draft.now c.put_beside_null.new.draft c.put_beside_null.result (c.is_null.ensures.0 c.if-is_null.true) c.put_beside_null.ensures
 
-pub comparison::put_comparison-returns-then-is_null-2 : goal.comparison::put_comparison-returns-then-is_null-2
-comparison::put_comparison-returns-then-is_null-2 t c =
+pub comparison_forms::put_comparison-returns-then-is_null-2 : goal.comparison_forms::put_comparison-returns-then-is_null-2
+comparison_forms::put_comparison-returns-then-is_null-2 t c =
     ok_right_null (question_of c.args.context.now) c.args.left.now c.args.right.now c.args.operator c.args.draft.now c.put_beside_null-then-is_null-2.new.draft c.put_beside_null-then-is_null-2.result (c.is_null-2.ensures.0 c.if-is_null-2.true) c.put_beside_null-then-is_null-2.ensures
 
-pub comparison::put_comparison-returns : goal.comparison::put_comparison-returns
-comparison::put_comparison-returns t c =
+pub comparison_forms::put_comparison-returns : goal.comparison_forms::put_comparison-returns
+comparison_forms::put_comparison-returns t c =
     ok_given (question_of c.args.context.now) c.args.left.now c.args.right.now c.args.operator c.args.draft.now c.put_strict.new.draft c.put_strict.result c.if-left.false c.if-right-2.false c.put_strict.ensures
 
-pub comparison::put_comparison-put_beside_null-requires : goal.comparison::put_comparison-put_beside_null-requires
-comparison::put_comparison-put_beside_null-requires t c = (
+pub comparison_forms::put_comparison-put_beside_null-requires : goal.comparison_forms::put_comparison-put_beside_null-requires
+comparison_forms::put_comparison-put_beside_null-requires t c = (
   omega (arith, down_to c.args.context.now.checked.now (left_of c.args.context.now.checked.now c.args.right.now) (left_in c.args.context.now.checked.now (c.args.left.now ∷ c.args.right.now ∷ [])) 12 16 (one_left c.args.context.now.checked.now (c.args.left.now ∷ c.args.right.now ∷ []) 1 c.args.right.now refl) (omega arith)),
   (c.requires.translated, c.requires.right),
 )
 
-pub comparison::put_comparison-put_beside_null-requires-then-is_null-2 : goal.comparison::put_comparison-put_beside_null-requires-then-is_null-2
-comparison::put_comparison-put_beside_null-requires-then-is_null-2 t c = (
+pub comparison_forms::put_comparison-put_beside_null-requires-then-is_null-2 : goal.comparison_forms::put_comparison-put_beside_null-requires-then-is_null-2
+comparison_forms::put_comparison-put_beside_null-requires-then-is_null-2 t c = (
   omega (arith, down_to c.args.context.now.checked.now (left_of c.args.context.now.checked.now c.args.left.now) (left_in c.args.context.now.checked.now (c.args.left.now ∷ c.args.right.now ∷ [])) 12 16 (one_left c.args.context.now.checked.now (c.args.left.now ∷ c.args.right.now ∷ []) 0 c.args.left.now refl) (omega arith)),
   (c.requires.translated, c.requires.left),
 )
 
-pub comparison::put_comparison-put_of_nullable-requires : goal.comparison::put_comparison-put_of_nullable-requires
-comparison::put_comparison-put_of_nullable-requires t c =
+pub comparison_forms::put_comparison-put_of_nullable-requires : goal.comparison_forms::put_comparison-put_of_nullable-requires
+comparison_forms::put_comparison-put_of_nullable-requires t c =
     (omega arith, (c.requires.translated, ((let alike = alike_of c.args.left.now.kind c.args.right.now.kind c.requires.compared (not_so c.is_null.result c.is_null.ensures.1 c.if-is_null.false) (not_so c.is_null-2.result c.is_null-2.ensures.1 c.if-is_null-2.false) in tested_put c.args.context.now.checked.now c.args.context.now.ranges.now c.args.left.now alike.type_of alike.left_is c.requires.left), ((let alike = alike_of c.args.left.now.kind c.args.right.now.kind c.requires.compared (not_so c.is_null.result c.is_null.ensures.1 c.if-is_null.false) (not_so c.is_null-2.result c.is_null-2.ensures.1 c.if-is_null-2.false) in tested_put c.args.context.now.checked.now c.args.context.now.ranges.now c.args.right.now alike.type_of alike.right_is c.requires.right), alike_of c.args.left.now.kind c.args.right.now.kind c.requires.compared (not_so c.is_null.result c.is_null.ensures.1 c.if-is_null.false) (not_so c.is_null-2.result c.is_null-2.ensures.1 c.if-is_null-2.false)))))
 
-pub comparison::put_comparison-put_of_one-requires : goal.comparison::put_comparison-put_of_one-requires
-comparison::put_comparison-put_of_one-requires t c =
+pub comparison_forms::put_comparison-put_of_one-requires : goal.comparison_forms::put_comparison-put_of_one-requires
+comparison_forms::put_comparison-put_of_one-requires t c =
     (omega arith, (c.requires.translated, ((let alike = alike_of c.args.left.now.kind c.args.right.now.kind c.requires.compared (not_so c.is_null.result c.is_null.ensures.1 c.if-is_null.false) (not_so c.is_null-2.result c.is_null-2.ensures.1 c.if-is_null-2.false) in tested_put c.args.context.now.checked.now c.args.context.now.ranges.now c.args.left.now alike.type_of alike.left_is c.requires.left), ((let alike = alike_of c.args.left.now.kind c.args.right.now.kind c.requires.compared (not_so c.is_null.result c.is_null.ensures.1 c.if-is_null.false) (not_so c.is_null-2.result c.is_null-2.ensures.1 c.if-is_null-2.false) in tested_put c.args.context.now.checked.now c.args.context.now.ranges.now c.args.right.now alike.type_of alike.right_is c.requires.right), (alike_of c.args.left.now.kind c.args.right.now.kind c.requires.compared (not_so c.is_null.result c.is_null.ensures.1 c.if-is_null.false) (not_so c.is_null-2.result c.is_null-2.ensures.1 c.if-is_null-2.false), inr c.if-right.false)))))
 
-pub comparison::put_comparison-put_of_one-requires-then-right-2 : goal.comparison::put_comparison-put_of_one-requires-then-right-2
-comparison::put_comparison-put_of_one-requires-then-right-2 t c =
+pub comparison_forms::put_comparison-put_of_one-requires-then-right-2 : goal.comparison_forms::put_comparison-put_of_one-requires-then-right-2
+comparison_forms::put_comparison-put_of_one-requires-then-right-2 t c =
     (omega arith, (c.requires.translated, ((let alike = alike_of c.args.left.now.kind c.args.right.now.kind c.requires.compared (not_so c.is_null.result c.is_null.ensures.1 c.if-is_null.false) (not_so c.is_null-2.result c.is_null-2.ensures.1 c.if-is_null-2.false) in tested_put c.args.context.now.checked.now c.args.context.now.ranges.now c.args.left.now alike.type_of alike.left_is c.requires.left), ((let alike = alike_of c.args.left.now.kind c.args.right.now.kind c.requires.compared (not_so c.is_null.result c.is_null.ensures.1 c.if-is_null.false) (not_so c.is_null-2.result c.is_null-2.ensures.1 c.if-is_null-2.false) in tested_put c.args.context.now.checked.now c.args.context.now.ranges.now c.args.right.now alike.type_of alike.right_is c.requires.right), (alike_of c.args.left.now.kind c.args.right.now.kind c.requires.compared (not_so c.is_null.result c.is_null.ensures.1 c.if-is_null.false) (not_so c.is_null-2.result c.is_null-2.ensures.1 c.if-is_null-2.false), inl c.if-left.false)))))
 
-pub comparison::put_comparison-put_strict-requires : goal.comparison::put_comparison-put_strict-requires
-comparison::put_comparison-put_strict-requires t c =
+pub comparison_forms::put_comparison-put_strict-requires : goal.comparison_forms::put_comparison-put_strict-requires
+comparison_forms::put_comparison-put_strict-requires t c =
     (omega arith, (c.requires.translated, ((let alike = alike_of c.args.left.now.kind c.args.right.now.kind c.requires.compared (not_so c.is_null.result c.is_null.ensures.1 c.if-is_null.false) (not_so c.is_null-2.result c.is_null-2.ensures.1 c.if-is_null-2.false) in tested_put c.args.context.now.checked.now c.args.context.now.ranges.now c.args.left.now alike.type_of alike.left_is c.requires.left), ((let alike = alike_of c.args.left.now.kind c.args.right.now.kind c.requires.compared (not_so c.is_null.result c.is_null.ensures.1 c.if-is_null.false) (not_so c.is_null-2.result c.is_null-2.ensures.1 c.if-is_null-2.false) in tested_put c.args.context.now.checked.now c.args.context.now.ranges.now c.args.right.now alike.type_of alike.right_is c.requires.right), alike_of c.args.left.now.kind c.args.right.now.kind c.requires.compared (not_so c.is_null.result c.is_null.ensures.1 c.if-is_null.false) (not_so c.is_null-2.result c.is_null-2.ensures.1 c.if-is_null-2.false)))))
 
--- ---- comparison::put_denied_comparison
+-- ---- comparison_forms::put_denied_comparison
 
-pub comparison::put_denied_comparison-returns-then-not-is_null-2 : goal.comparison::put_denied_comparison-returns-then-not-is_null-2
-comparison::put_denied_comparison-returns-then-not-is_null-2 t c =
+pub comparison_forms::put_denied_comparison-returns-then-not-is_null-2 : goal.comparison_forms::put_denied_comparison-returns-then-not-is_null-2
+comparison_forms::put_denied_comparison-returns-then-not-is_null-2 t c =
     ok_opposite (question_of c.args.context.now) c.args.left.now c.args.right.now c.args.operator c.opposite.result c.opposite.ensures c.if-not-left.true c.if-not-right.true c.args.draft.now c.put_strict.new.draft c.put_strict.result c.put_strict.ensures
 
-pub comparison::put_denied_comparison-returns : goal.comparison::put_denied_comparison-returns
-comparison::put_denied_comparison-returns t c =
+pub comparison_forms::put_denied_comparison-returns : goal.comparison_forms::put_denied_comparison-returns
+comparison_forms::put_denied_comparison-returns t c =
     ok_denied (question_of c.args.context.now) c.args.left.now c.args.right.now c.args.operator c.args.draft.now c.put.new.self c.put_comparison.new.draft c.put_comparison.result c.in_ok-put.ensures.ok c.put_comparison.ensures
 
-pub comparison::put_denied_comparison-put_strict-requires : goal.comparison::put_denied_comparison-put_strict-requires
-comparison::put_denied_comparison-put_strict-requires t c =
+pub comparison_forms::put_denied_comparison-put_strict-requires : goal.comparison_forms::put_denied_comparison-put_strict-requires
+comparison_forms::put_denied_comparison-put_strict-requires t c =
     (omega arith, (c.requires.translated, ((let alike = alike_of c.args.left.now.kind c.args.right.now.kind c.requires.compared (not_so c.is_null.result c.is_null.ensures.1 c.if-not-is_null.true) (not_so c.is_null-then-not-is_null.result c.is_null-then-not-is_null.ensures.1 c.if-not-is_null-2.true) in tested_put c.args.context.now.checked.now c.args.context.now.ranges.now c.args.left.now alike.type_of alike.left_is c.requires.left), ((let alike = alike_of c.args.left.now.kind c.args.right.now.kind c.requires.compared (not_so c.is_null.result c.is_null.ensures.1 c.if-not-is_null.true) (not_so c.is_null-then-not-is_null.result c.is_null-then-not-is_null.ensures.1 c.if-not-is_null-2.true) in tested_put c.args.context.now.checked.now c.args.context.now.ranges.now c.args.right.now alike.type_of alike.right_is c.requires.right), alike_of c.args.left.now.kind c.args.right.now.kind c.requires.compared (not_so c.is_null.result c.is_null.ensures.1 c.if-not-is_null.true) (not_so c.is_null-then-not-is_null.result c.is_null-then-not-is_null.ensures.1 c.if-not-is_null-2.true)))))
 
-pub comparison::put_denied_comparison-put_comparison-requires : goal.comparison::put_denied_comparison-put_comparison-requires
-comparison::put_denied_comparison-put_comparison-requires t c = (omega arith, (c.requires.translated, (c.requires.left, (c.requires.right, c.requires.compared))))
+pub comparison_forms::put_denied_comparison-put_comparison-requires : goal.comparison_forms::put_denied_comparison-put_comparison-requires
+comparison_forms::put_denied_comparison-put_comparison-requires t c = (omega arith, (c.requires.translated, (c.requires.left, (c.requires.right, c.requires.compared))))
 
--- ---- comparison::put_kept_comparison
+-- ---- comparison_forms::put_kept_comparison
 
-pub comparison::put_kept_comparison-returns-then-is_strict_enough : goal.comparison::put_kept_comparison-returns-then-is_strict_enough
-comparison::put_kept_comparison-returns-then-is_strict_enough t c =
+pub comparison_forms::put_kept_comparison-returns-then-is_strict_enough : goal.comparison_forms::put_kept_comparison-returns-then-is_strict_enough
+comparison_forms::put_kept_comparison-returns-then-is_strict_enough t c =
     let enough = c.is_strict_enough.ensures c.if-is_strict_enough.true in
     ok_kept_strict (question_of c.args.context.now) c.args.left.now c.args.right.now c.args.operator c.args.draft.now c.put_strict.new.draft c.put_strict.result (reported_enough (question_of c.args.context.now) c.args.left.now c.args.right.now c.args.operator enough.2) c.put_strict.ensures
 
-pub comparison::put_kept_comparison-returns-else-is_strict_enough : goal.comparison::put_kept_comparison-returns-else-is_strict_enough
-comparison::put_kept_comparison-returns-else-is_strict_enough t c =
+pub comparison_forms::put_kept_comparison-returns-else-is_strict_enough : goal.comparison_forms::put_kept_comparison-returns-else-is_strict_enough
+comparison_forms::put_kept_comparison-returns-else-is_strict_enough t c =
     ok_kept (question_of c.args.context.now) c.args.left.now c.args.right.now c.args.operator c.args.draft.now c.put_comparison.new.draft c.put_comparison.result c.put_comparison.ensures
 
-pub comparison::put_kept_comparison-put_strict-requires : goal.comparison::put_kept_comparison-put_strict-requires
-comparison::put_kept_comparison-put_strict-requires t c =
+pub comparison_forms::put_kept_comparison-put_strict-requires : goal.comparison_forms::put_kept_comparison-put_strict-requires
+comparison_forms::put_kept_comparison-put_strict-requires t c =
     (omega arith, (c.requires.translated, ((let alike = alike_of c.args.left.now.kind c.args.right.now.kind c.requires.compared (c.is_strict_enough.ensures c.if-is_strict_enough.true).0 (c.is_strict_enough.ensures c.if-is_strict_enough.true).1 in tested_put c.args.context.now.checked.now c.args.context.now.ranges.now c.args.left.now alike.type_of alike.left_is c.requires.left), ((let alike = alike_of c.args.left.now.kind c.args.right.now.kind c.requires.compared (c.is_strict_enough.ensures c.if-is_strict_enough.true).0 (c.is_strict_enough.ensures c.if-is_strict_enough.true).1 in tested_put c.args.context.now.checked.now c.args.context.now.ranges.now c.args.right.now alike.type_of alike.right_is c.requires.right), (let enough = c.is_strict_enough.ensures c.if-is_strict_enough.true in alike_of c.args.left.now.kind c.args.right.now.kind c.requires.compared (enough.0) (enough.1))))))
 
-pub comparison::put_kept_comparison-put_comparison-requires : goal.comparison::put_kept_comparison-put_comparison-requires
-comparison::put_kept_comparison-put_comparison-requires t c = (omega arith, (c.requires.translated, (c.requires.left, (c.requires.right, c.requires.compared))))
+pub comparison_forms::put_kept_comparison-put_comparison-requires : goal.comparison_forms::put_kept_comparison-put_comparison-requires
+comparison_forms::put_kept_comparison-put_comparison-requires t c = (omega arith, (c.requires.translated, (c.requires.left, (c.requires.right, c.requires.compared))))
 
--- ---- comparison::put_of_nullable
+-- ---- comparison_forms::put_of_nullable
 
-pub comparison::put_of_nullable-returns-in_ok-put-in-Ne : goal.comparison::put_of_nullable-returns-in_ok-put-in-Ne
-comparison::put_of_nullable-returns-in_ok-put-in-Ne t c =
+pub comparison_forms::put_of_nullable-returns-in_ok-put-in-Ne : goal.comparison_forms::put_of_nullable-returns-in_ok-put-in-Ne
+comparison_forms::put_of_nullable-returns-in_ok-put-in-Ne t c =
     ok_unequal (question_of c.args.context.now) c.args.left.now c.args.right.now c.args.operator c.args.draft.now c.put.new.self c.put_same-in-Ne.new.draft c.put_same-in-Ne.result c.in-Ne.is
     (λ v w. let d = c.comparisons_are_decided.ensures.decided ComparisonOperator.Eq v w in (d.0, d.1.0, d.1.1)) c.in_ok-put-in-Ne.ensures.ok c.put_same-in-Ne.ensures
 
-pub comparison::put_of_nullable-returns-in_ok-put-in-Gt : goal.comparison::put_of_nullable-returns-in_ok-put-in-Gt
-comparison::put_of_nullable-returns-in_ok-put-in-Gt t c =
+pub comparison_forms::put_of_nullable-returns-in_ok-put-in-Gt : goal.comparison_forms::put_of_nullable-returns-in_ok-put-in-Gt
+comparison_forms::put_of_nullable-returns-in_ok-put-in-Gt t c =
     ok_is_true (question_of c.args.context.now) c.args.left.now c.args.right.now c.args.operator c.args.draft.now c.put-in-Gt.new.self c.put_strict.new.draft c.put_strict.result
     (reported_order (question_of c.args.context.now) c.args.left.now c.args.right.now c.args.operator (order_of c.args.operator c.in-Gt.is)) c.in_ok-put-in-Gt.ensures.ok c.put_strict.ensures
 
-pub comparison::put_of_nullable-returns-in-Eq : goal.comparison::put_of_nullable-returns-in-Eq
-comparison::put_of_nullable-returns-in-Eq t c =
+pub comparison_forms::put_of_nullable-returns-in-Eq : goal.comparison_forms::put_of_nullable-returns-in-Eq
+comparison_forms::put_of_nullable-returns-in-Eq t c =
     subst (λ (o : ComparisonOperator). OnOk c.put_same.result (Puts (question_of c.args.context.now) c.args.draft.now c.put_same.new.draft (ComparisonHas c.args.context.now.checked.now o c.args.left.now c.args.right.now) (OrTruth Itself))) (sym c.in-Eq.is) c.put_same.ensures
 
-pub comparison::put_of_nullable-put_same-requires : goal.comparison::put_of_nullable-put_same-requires
-comparison::put_of_nullable-put_same-requires t c = (omega arith, (c.requires.translated, (c.requires.left, (c.requires.right, c.requires.alike))))
+pub comparison_forms::put_of_nullable-put_same-requires : goal.comparison_forms::put_of_nullable-put_same-requires
+comparison_forms::put_of_nullable-put_same-requires t c = (omega arith, (c.requires.translated, (c.requires.left, (c.requires.right, c.requires.alike))))
 
-pub comparison::put_of_nullable-put_same-requires-in-Ne : goal.comparison::put_of_nullable-put_same-requires-in-Ne
-comparison::put_of_nullable-put_same-requires-in-Ne t c = (omega arith, (c.requires.translated, (c.requires.left, (c.requires.right, c.requires.alike))))
+pub comparison_forms::put_of_nullable-put_same-requires-in-Ne : goal.comparison_forms::put_of_nullable-put_same-requires-in-Ne
+comparison_forms::put_of_nullable-put_same-requires-in-Ne t c = (omega arith, (c.requires.translated, (c.requires.left, (c.requires.right, c.requires.alike))))
 
-pub comparison::put_of_nullable-put_strict-requires : goal.comparison::put_of_nullable-put_strict-requires
-comparison::put_of_nullable-put_strict-requires t c = (omega arith, (c.requires.translated, (c.requires.left, (c.requires.right, c.requires.alike))))
+pub comparison_forms::put_of_nullable-put_strict-requires : goal.comparison_forms::put_of_nullable-put_strict-requires
+comparison_forms::put_of_nullable-put_strict-requires t c = (omega arith, (c.requires.translated, (c.requires.left, (c.requires.right, c.requires.alike))))
 
-pub comparison::put_of_nullable-put_or_nulls-requires : goal.comparison::put_of_nullable-put_or_nulls-requires
-comparison::put_of_nullable-put_or_nulls-requires t c =
+pub comparison_forms::put_of_nullable-put_or_nulls-requires : goal.comparison_forms::put_of_nullable-put_or_nulls-requires
+comparison_forms::put_of_nullable-put_or_nulls-requires t c =
     (omega arith, (c.requires.translated, (c.requires.left, (c.requires.right, (c.requires.alike, ((or_equal c.args.operator c.in-Ge.is).0, (or_equal c.args.operator c.in-Ge.is).1))))))
 
--- ---- comparison::put_of_one
+-- ---- comparison_forms::put_of_one
 
-pub comparison::put_of_one-returns-then-eq : goal.comparison::put_of_one-returns-then-eq
-comparison::put_of_one-returns-then-eq t c =
+pub comparison_forms::put_of_one-returns-then-eq : goal.comparison_forms::put_of_one-returns-then-eq
+comparison_forms::put_of_one-returns-then-eq t c =
     ok_not_equal (question_of c.args.context.now) c.args.left.now c.args.right.now c.args.operator c.args.draft.now c.put.new.self c.put-then-eq.new.self c.put_strict.new.draft c.put_strict.result (same_true the_type tt c.args.operator ComparisonOperator.Ne (sym c.eq.ensures ∙ c.if-eq.true)) (λ v w. let d = c.comparisons_are_decided.ensures.decided ComparisonOperator.Eq v w in (d.0, d.1.0, d.1.1))
     c.requires.one c.in_ok-put.ensures.ok c.in_ok-put-2.ensures.ok c.put_strict.ensures
 
-pub comparison::put_of_one-returns : goal.comparison::put_of_one-returns
-comparison::put_of_one-returns t c =
+pub comparison_forms::put_of_one-returns : goal.comparison_forms::put_of_one-returns
+comparison_forms::put_of_one-returns t c =
     ok_is_true (question_of c.args.context.now) c.args.left.now c.args.right.now c.args.operator c.args.draft.now c.put-2.new.self c.put_strict-2.new.draft c.put_strict-2.result (reported_one (question_of c.args.context.now) c.args.left.now c.args.right.now c.args.operator (λ same. let reported : c.eq.result ≡ true = c.eq.ensures ∙ true_same the_type c.args.operator ComparisonOperator.Ne same in let clash : false ≡ true = sym c.if-eq.false ∙ reported in absurd (cc)) c.requires.one) c.in_ok-put-3.ensures.ok c.put_strict-2.ensures
 
-pub comparison::put_of_one-put_strict-requires : goal.comparison::put_of_one-put_strict-requires
-comparison::put_of_one-put_strict-requires t c = (omega arith, (c.requires.translated, (c.requires.left, (c.requires.right, c.requires.alike))))
+pub comparison_forms::put_of_one-put_strict-requires : goal.comparison_forms::put_of_one-put_strict-requires
+comparison_forms::put_of_one-put_strict-requires t c = (omega arith, (c.requires.translated, (c.requires.left, (c.requires.right, c.requires.alike))))
 
-pub comparison::put_of_one-put_strict-requires-2 : goal.comparison::put_of_one-put_strict-requires-2
-comparison::put_of_one-put_strict-requires-2 t c = (omega arith, (c.requires.translated, (c.requires.left, (c.requires.right, c.requires.alike))))
+pub comparison_forms::put_of_one-put_strict-requires-2 : goal.comparison_forms::put_of_one-put_strict-requires-2
+comparison_forms::put_of_one-put_strict-requires-2 t c = (omega arith, (c.requires.translated, (c.requires.left, (c.requires.right, c.requires.alike))))
 
--- ---- comparison::put_or_nulls
+-- ---- comparison_forms::put_or_nulls
 
-pub comparison::put_or_nulls-first-first-requires : goal.comparison::put_or_nulls-first-first-requires
-comparison::put_or_nulls-first-first-requires t c =
+pub comparison_forms::put_or_nulls-first-first-requires : goal.comparison_forms::put_or_nulls-first-first-requires
+comparison_forms::put_or_nulls-first-first-requires t c =
     let two : length c.in_ok-lifted.lifted.inner.items ≡ 2 = inner_length (c.args.left.now ∷ c.args.right.now ∷ []) c.args.draft.now.depth c.in_ok-lifted.lifted c.in_ok-lifted.ensures in
     omega (arith, two)
 
-pub comparison::put_or_nulls-second-second-requires : goal.comparison::put_or_nulls-second-second-requires
-comparison::put_or_nulls-second-second-requires t c =
+pub comparison_forms::put_or_nulls-second-second-requires : goal.comparison_forms::put_or_nulls-second-second-requires
+comparison_forms::put_or_nulls-second-second-requires t c =
     let two : length c.in_ok-lifted.lifted.inner.items ≡ 2 = inner_length (c.args.left.now ∷ c.args.right.now ∷ []) c.args.draft.now.depth c.in_ok-lifted.lifted c.in_ok-lifted.ensures in
     omega (arith, two)
 
-pub comparison::put_or_nulls-returns : goal.comparison::put_or_nulls-returns
-comparison::put_or_nulls-returns t c =
+pub comparison_forms::put_or_nulls-returns : goal.comparison_forms::put_or_nulls-returns
+comparison_forms::put_or_nulls-returns t c =
     ok_or_nulls (question_of c.args.context.now) c.args.operator c.args.left.now c.args.right.now c.first-first.result c.second-second.result c.in_ok-lifted.lifted c.args.draft.now c.in_ok-lifted.ensures
     c.first-first.ensures c.second-second.ensures c.open.new.draft c.put.new.self c.put-2.new.self c.put_strict.new.draft c.put-3.new.self c.put_is_null.new.draft c.put_is_null-2.new.draft c.close.new.draft
     c.in_ok-open.ensures c.requires.other c.requires.of_nulls c.in_ok-put.ensures.ok c.in_ok-put-2.ensures.ok c.in_ok-put_strict.ensures c.in_ok-put-3.ensures.ok c.in_ok-put_is_null.ensures
     c.in_ok-put_is_null-2.ensures c.close.result c.close.ensures.values c.close.ensures.idle
 
-pub comparison::put_or_nulls-bind_operands-requires-clause-inside : goal.comparison::put_or_nulls-bind_operands-requires-clause-inside
-comparison::put_or_nulls-bind_operands-requires-clause-inside t c =
+pub comparison_forms::put_or_nulls-bind_operands-requires-clause-inside : goal.comparison_forms::put_or_nulls-bind_operands-requires-clause-inside
+comparison_forms::put_or_nulls-bind_operands-requires-clause-inside t c =
     each (λ (operand : Operand). IsInside c.args.context.now.checked.now operand.source) (c.args.left.now ∷ c.args.right.now ∷ []) (put_inside c.args.context.now.checked.now c.args.context.now.ranges.now c.args.left.now c.requires.left, (put_inside c.args.context.now.checked.now c.args.context.now.ranges.now c.args.right.now c.requires.right, tt))
 
-pub comparison::put_or_nulls-bind_operands-requires-clause-valued : goal.comparison::put_or_nulls-bind_operands-requires-clause-valued
-comparison::put_or_nulls-bind_operands-requires-clause-valued t c = λ all. (c.requires.left.valued, (c.requires.right.valued, tt))
+pub comparison_forms::put_or_nulls-bind_operands-requires-clause-valued : goal.comparison_forms::put_or_nulls-bind_operands-requires-clause-valued
+comparison_forms::put_or_nulls-bind_operands-requires-clause-valued t c = λ all. (c.requires.left.valued, (c.requires.right.valued, tt))
 
-pub comparison::put_or_nulls-put_strict-requires : goal.comparison::put_or_nulls-put_strict-requires
-comparison::put_or_nulls-put_strict-requires t c = (
+pub comparison_forms::put_or_nulls-put_strict-requires : goal.comparison_forms::put_or_nulls-put_strict-requires
+comparison_forms::put_or_nulls-put_strict-requires t c = (
   omega (arith, down_to c.args.context.now.checked.now (left_in c.args.context.now.checked.now (c.first-first.result ∷ c.second-second.result ∷ [])) (left_in c.args.context.now.checked.now (c.args.left.now ∷ c.args.right.now ∷ [])) 13 14 (lifted_two_left c.args.context.now.checked.now (c.args.left.now ∷ c.args.right.now ∷ []) c.args.draft.now.depth c.in_ok-lifted.lifted c.in_ok-lifted.ensures c.first-first.result c.second-second.result c.first-first.ensures c.second-second.ensures) (omega arith)),
   (c.requires.translated, (put_in c.args.context.now.checked.now c.args.context.now.ranges.now c.args.left.now c.args.right.now c.args.draft.now.depth c.in_ok-lifted.lifted 0 c.first-first.result c.in_ok-lifted.ensures c.requires.left c.requires.right c.first-first.ensures, (put_in c.args.context.now.checked.now c.args.context.now.ranges.now c.args.left.now c.args.right.now c.args.draft.now.depth c.in_ok-lifted.lifted 1 c.second-second.result c.in_ok-lifted.ensures c.requires.left c.requires.right c.second-second.ensures, alike_in c.args.left.now c.args.right.now c.first-first.result c.second-second.result c.args.draft.now.depth c.in_ok-lifted.lifted c.in_ok-lifted.ensures c.requires.alike c.first-first.ensures c.second-second.ensures))),
 )
 
-pub comparison::put_or_nulls-put_is_null-requires : goal.comparison::put_or_nulls-put_is_null-requires
-comparison::put_or_nulls-put_is_null-requires t c = (
+pub comparison_forms::put_or_nulls-put_is_null-requires : goal.comparison_forms::put_or_nulls-put_is_null-requires
+comparison_forms::put_or_nulls-put_is_null-requires t c = (
   omega (arith, down_to c.args.context.now.checked.now (left_of c.args.context.now.checked.now c.first-first.result) (left_in c.args.context.now.checked.now (c.args.left.now ∷ c.args.right.now ∷ [])) 11 14 (lifted_one_left c.args.context.now.checked.now (c.args.left.now ∷ c.args.right.now ∷ []) c.args.draft.now.depth c.in_ok-lifted.lifted c.in_ok-lifted.ensures 0 c.first-first.result c.first-first.ensures) (omega arith)),
   (c.requires.translated, tested_value c.args.context.now.checked.now c.args.context.now.ranges.now c.first-first.result c.requires.alike.type_of (put_in c.args.context.now.checked.now c.args.context.now.ranges.now c.args.left.now c.args.right.now c.args.draft.now.depth c.in_ok-lifted.lifted 0 c.first-first.result c.in_ok-lifted.ensures c.requires.left c.requires.right c.first-first.ensures) (kind_in c.args.left.now c.args.right.now c.requires.alike.type_of c.args.draft.now.depth c.in_ok-lifted.lifted 0 c.first-first.result c.in_ok-lifted.ensures c.requires.alike.left_is c.requires.alike.right_is c.first-first.ensures)),
 )
 
-pub comparison::put_or_nulls-put_is_null-requires-2 : goal.comparison::put_or_nulls-put_is_null-requires-2
-comparison::put_or_nulls-put_is_null-requires-2 t c = (
+pub comparison_forms::put_or_nulls-put_is_null-requires-2 : goal.comparison_forms::put_or_nulls-put_is_null-requires-2
+comparison_forms::put_or_nulls-put_is_null-requires-2 t c = (
   omega (arith, down_to c.args.context.now.checked.now (left_of c.args.context.now.checked.now c.second-second.result) (left_in c.args.context.now.checked.now (c.args.left.now ∷ c.args.right.now ∷ [])) 11 14 (lifted_one_left c.args.context.now.checked.now (c.args.left.now ∷ c.args.right.now ∷ []) c.args.draft.now.depth c.in_ok-lifted.lifted c.in_ok-lifted.ensures 1 c.second-second.result c.second-second.ensures) (omega arith)),
   (c.requires.translated, tested_value c.args.context.now.checked.now c.args.context.now.ranges.now c.second-second.result c.requires.alike.type_of (put_in c.args.context.now.checked.now c.args.context.now.ranges.now c.args.left.now c.args.right.now c.args.draft.now.depth c.in_ok-lifted.lifted 1 c.second-second.result c.in_ok-lifted.ensures c.requires.left c.requires.right c.second-second.ensures) (kind_in c.args.left.now c.args.right.now c.requires.alike.type_of c.args.draft.now.depth c.in_ok-lifted.lifted 1 c.second-second.result c.in_ok-lifted.ensures c.requires.alike.left_is c.requires.alike.right_is c.second-second.ensures)),
 )
 
-pub comparison::put_or_nulls-close-requires : goal.comparison::put_or_nulls-close-requires
-comparison::put_or_nulls-close-requires t c = (
+pub comparison_forms::put_or_nulls-close-requires : goal.comparison_forms::put_or_nulls-close-requires
+comparison_forms::put_or_nulls-close-requires t c = (
   omega (arith, down_to c.args.context.now.checked.now (left_in c.args.context.now.checked.now c.in_ok-lifted.lifted.bound.items) (left_in c.args.context.now.checked.now (c.args.left.now ∷ c.args.right.now ∷ [])) 11 14 (lifted_bound_left c.args.context.now.checked.now (c.args.left.now ∷ c.args.right.now ∷ []) c.args.draft.now.depth c.in_ok-lifted.lifted c.in_ok-lifted.ensures) (omega arith)),
   (c.requires.translated, (all_put c.args.context.now.checked.now c.args.context.now.ranges.now c.args.left.now c.args.right.now c.args.draft.now.depth c.in_ok-lifted.lifted c.in_ok-lifted.ensures c.requires.left c.requires.right, omega (arith, c.in_ok-open.ensures.depth, c.in_ok-put.ensures.ok.depth, c.in_ok-put-2.ensures.ok.depth, c.in_ok-put_strict.ensures.grows.depth, c.in_ok-put-3.ensures.ok.depth, c.in_ok-put_is_null.ensures.grows.depth, c.in_ok-put_is_null-2.ensures.grows.depth))),
 )
 
--- ---- comparison::put_same
+-- ---- comparison_forms::put_same
 
-pub comparison::put_same-returns : goal.comparison::put_same-returns
-comparison::put_same-returns t c =
+pub comparison_forms::put_same-returns : goal.comparison_forms::put_same-returns
+comparison_forms::put_same-returns t c =
     ok_same (question_of c.args.context.now) c.args.left.now c.args.right.now c.compared_type.result c.args.draft.now c.put.new.self c.put_compared.new.draft c.put_compared-2.new.draft c.put_compared-2.result
     c.requires.alike c.compared_type.ensures (λ v w. let d = c.comparisons_are_decided.ensures.decided ComparisonOperator.Eq v w in (d.0, d.1.0, d.1.1)) c.in_ok-put.ensures.ok c.in_ok-put_compared.ensures c.put_compared-2.ensures
 
-pub comparison::put_same-compared_type-requires : goal.comparison::put_same-compared_type-requires
-comparison::put_same-compared_type-requires t c = (c.requires.alike.type_of, c.requires.alike.left_is)
+pub comparison_forms::put_same-compared_type-requires : goal.comparison_forms::put_same-compared_type-requires
+comparison_forms::put_same-compared_type-requires t c = (c.requires.alike.type_of, c.requires.alike.left_is)
 
-pub comparison::put_same-put_compared-requires : goal.comparison::put_same-put_compared-requires
-comparison::put_same-put_compared-requires t c = (
+pub comparison_forms::put_same-put_compared-requires : goal.comparison_forms::put_same-put_compared-requires
+comparison_forms::put_same-put_compared-requires t c = (
   omega (arith, down_to c.args.context.now.checked.now (left_of c.args.context.now.checked.now c.args.left.now) (left_in c.args.context.now.checked.now (c.args.left.now ∷ c.args.right.now ∷ [])) 12 13 (one_left c.args.context.now.checked.now (c.args.left.now ∷ c.args.right.now ∷ []) 0 c.args.left.now refl) (omega arith)),
   (c.requires.translated, (c.requires.left, (c.requires.alike.type_of, c.requires.alike.left_is))),
 )
 
-pub comparison::put_same-put_compared-requires-2 : goal.comparison::put_same-put_compared-requires-2
-comparison::put_same-put_compared-requires-2 t c = (
+pub comparison_forms::put_same-put_compared-requires-2 : goal.comparison_forms::put_same-put_compared-requires-2
+comparison_forms::put_same-put_compared-requires-2 t c = (
   omega (arith, down_to c.args.context.now.checked.now (left_of c.args.context.now.checked.now c.args.right.now) (left_in c.args.context.now.checked.now (c.args.left.now ∷ c.args.right.now ∷ [])) 12 13 (one_left c.args.context.now.checked.now (c.args.left.now ∷ c.args.right.now ∷ []) 1 c.args.right.now refl) (omega arith)),
   (c.requires.translated, (c.requires.right, (c.requires.alike.type_of, c.requires.alike.right_is))),
 )
 
--- ---- comparison::put_strict
+-- ---- comparison_forms::put_strict
 
-pub comparison::put_strict-returns : goal.comparison::put_strict-returns
-comparison::put_strict-returns t c =
+pub comparison_forms::put_strict-returns : goal.comparison_forms::put_strict-returns
+comparison_forms::put_strict-returns t c =
     ok_strict (question_of c.args.context.now) c.args.left.now c.args.right.now c.args.operator c.compared_type.result c.args.draft.now c.put.new.self c.put_compared.new.draft c.put_compared-2.new.draft
     c.put_compared-2.result c.requires.alike c.compared_type.ensures c.in_ok-put.ensures.ok c.in_ok-put_compared.ensures c.put_compared-2.ensures
 
-pub comparison::put_strict-compared_type-requires : goal.comparison::put_strict-compared_type-requires
-comparison::put_strict-compared_type-requires t c = (c.requires.alike.type_of, c.requires.alike.left_is)
+pub comparison_forms::put_strict-compared_type-requires : goal.comparison_forms::put_strict-compared_type-requires
+comparison_forms::put_strict-compared_type-requires t c = (c.requires.alike.type_of, c.requires.alike.left_is)
 
-pub comparison::put_strict-put_compared-requires : goal.comparison::put_strict-put_compared-requires
-comparison::put_strict-put_compared-requires t c = (
+pub comparison_forms::put_strict-put_compared-requires : goal.comparison_forms::put_strict-put_compared-requires
+comparison_forms::put_strict-put_compared-requires t c = (
   omega (arith, down_to c.args.context.now.checked.now (left_of c.args.context.now.checked.now c.args.left.now) (left_in c.args.context.now.checked.now (c.args.left.now ∷ c.args.right.now ∷ [])) 12 13 (one_left c.args.context.now.checked.now (c.args.left.now ∷ c.args.right.now ∷ []) 0 c.args.left.now refl) (omega arith)),
   (c.requires.translated, (c.requires.left, (c.requires.alike.type_of, c.requires.alike.left_is))),
 )
 
-pub comparison::put_strict-put_compared-requires-2 : goal.comparison::put_strict-put_compared-requires-2
-comparison::put_strict-put_compared-requires-2 t c = (
+pub comparison_forms::put_strict-put_compared-requires-2 : goal.comparison_forms::put_strict-put_compared-requires-2
+comparison_forms::put_strict-put_compared-requires-2 t c = (
   omega (arith, down_to c.args.context.now.checked.now (left_of c.args.context.now.checked.now c.args.right.now) (left_in c.args.context.now.checked.now (c.args.left.now ∷ c.args.right.now ∷ [])) 12 13 (one_left c.args.context.now.checked.now (c.args.left.now ∷ c.args.right.now ∷ []) 1 c.args.right.now refl) (omega arith)),
   (c.requires.translated, (c.requires.right, (c.requires.alike.type_of, c.requires.alike.right_is))),
 )
@@ -1550,18 +1550,18 @@ lift::Lifted::close-put_operand-requires t c = (
   (c.requires.translated, subst (IsPut c.args.context.now.checked.now c.args.context.now.ranges.now) (sym c.index.ensures) (c.requires.put c.loop-place.place c.index.result.now (omega arith))),
 )
 
--- ---- list::put_among
+-- ---- list_forms::put_among
 
-pub list::put_among-loop-place-init : goal.list::put_among-loop-place-init
-list::put_among-loop-place-init t c =
+pub list_forms::put_among-loop-place-init : goal.list_forms::put_among-loop-place-init
+list_forms::put_among-loop-place-init t c =
     record {
       so =
           among_starts (question_of c.args.context.now) c.args.left.now c.args.items.now c.args.draft.now c.compared_type.result c.put.new.self c.put_compared.new.draft c.compared_type.ensures
           (by_node c.args.draft.now c.put.new.self (SqlNode.Among (length c.args.items.now) c.compared_type.result) refl c.in_ok-put.ensures.ok) c.in_ok-put_compared.ensures;
     }
 
-pub list::put_among-loop-place-preserved : goal.list::put_among-loop-place-preserved
-list::put_among-loop-place-preserved t c =
+pub list_forms::put_among-loop-place-preserved : goal.list_forms::put_among-loop-place-preserved
+list_forms::put_among-loop-place-preserved t c =
     let items = c.args.items.now in
     let at = slice_get_read items (length items) c.loop-place.place c.index-items-place.result refl (omega arith) c.index-items-place.is in
     record {
@@ -1570,353 +1570,353 @@ list::put_among-loop-place-preserved t c =
           c.loop-place.invariant.so c.in_ok-put_compared-2.ensures;
     }
 
-pub list::put_among-returns : goal.list::put_among-returns
-list::put_among-returns t c =
+pub list_forms::put_among-returns : goal.list_forms::put_among-returns
+list_forms::put_among-returns t c =
     let items = c.args.items.now in
     let end : c.loop-place.place ≡ length items = omega arith in
     among_ends (question_of c.args.context.now) c.args.left.now items c.args.draft.now c.requires.constants.type_of c.loop-place.draft c.requires.constants.left_is c.requires.beside.compared
     (subst (λ (n : ℕ). AmongSoFar (question_of c.args.context.now) c.args.left.now items c.args.draft.now c.loop-place.draft n) end c.loop-place.invariant.so)
 
-pub list::put_among-compared_type-requires : goal.list::put_among-compared_type-requires
-list::put_among-compared_type-requires t c = (c.requires.constants.type_of, c.requires.constants.left_is)
+pub list_forms::put_among-compared_type-requires : goal.list_forms::put_among-compared_type-requires
+list_forms::put_among-compared_type-requires t c = (c.requires.constants.type_of, c.requires.constants.left_is)
 
-pub list::put_among-put_compared-requires : goal.list::put_among-put_compared-requires
-list::put_among-put_compared-requires t c = (
+pub list_forms::put_among-put_compared-requires : goal.list_forms::put_among-put_compared-requires
+list_forms::put_among-put_compared-requires t c = (
   omega (arith, down_to c.args.context.now.checked.now (left_of c.args.context.now.checked.now c.args.left.now) (left_in c.args.context.now.checked.now (c.args.left.now ∷ c.args.items.now)) 12 13 (one_left c.args.context.now.checked.now (c.args.left.now ∷ c.args.items.now) 0 c.args.left.now refl) (omega arith)),
   (c.requires.translated, (left_put c.args.context.now.checked.now c.args.context.now.ranges.now c.args.left.now c.args.items.now c.requires.constants c.requires.beside, (c.requires.constants.type_of, c.requires.constants.left_is))),
 )
 
-pub list::put_among-put_compared-requires-in-loop-place : goal.list::put_among-put_compared-requires-in-loop-place
-list::put_among-put_compared-requires-in-loop-place t c = (
+pub list_forms::put_among-put_compared-requires-in-loop-place : goal.list_forms::put_among-put_compared-requires-in-loop-place
+list_forms::put_among-put_compared-requires-in-loop-place t c = (
   omega (arith, down_to c.args.context.now.checked.now (left_of c.args.context.now.checked.now c.index-items-place.result) (left_in c.args.context.now.checked.now (c.args.left.now ∷ c.args.items.now)) 12 13 (one_left c.args.context.now.checked.now (c.args.left.now ∷ c.args.items.now) (suc c.loop-place.place) c.index-items-place.result (slice_get_read c.args.items.now (length c.args.items.now) c.loop-place.place c.index-items-place.result refl (omega arith) c.index-items-place.is)) (omega arith)),
   (c.requires.translated, ((let items = c.args.items.now in let at = slice_get_read items (length items) c.loop-place.place c.index-items-place.result refl (omega arith) c.index-items-place.is in item_put c.args.context.now.checked.now c.args.context.now.ranges.now c.args.left.now items c.requires.constants c.requires.beside c.loop-place.place c.index-items-place.result at), (let items = c.args.items.now in let at = slice_get_read items (length items) c.loop-place.place c.index-items-place.result refl (omega arith) c.index-items-place.is in (c.requires.constants.type_of, item_value c.args.context.now.checked.now c.args.context.now.ranges.now c.args.left.now items c.requires.constants c.requires.beside c.loop-place.place c.index-items-place.result at)))),
 )
 
--- ---- list::put_codes
+-- ---- list_forms::put_codes
 
-pub list::put_codes-returns-then-is_empty : goal.list::put_codes-returns-then-is_empty
-list::put_codes-returns-then-is_empty t c =
+pub list_forms::put_codes-returns-then-is_empty : goal.list_forms::put_codes-returns-then-is_empty
+list_forms::put_codes-returns-then-is_empty t c =
     ok_same_items c.put_number.result (λ (xs : List Operand). Puts (question_of c.args.context.now) c.args.draft.now c.put_number.new.self (EqualCodesOrNull c.args.context.now.checked.now c.args.left.now xs) AsCode) c.args.items.now [] (nil_from_length c.args.items.now (empty_length c.args.items.now c.is_empty.result c.is_empty.ensures c.if-is_empty.true))
     (ok_no_code (question_of c.args.context.now) c.args.left.now c.put_number.result c.args.draft.now c.put_number.new.self c.put_number.ensures.ok)
 
-pub list::put_codes-returns : goal.list::put_codes-returns
-list::put_codes-returns t c = c.put_equal_codes.ensures
+pub list_forms::put_codes-returns : goal.list_forms::put_codes-returns
+list_forms::put_codes-returns t c = c.put_equal_codes.ensures
 
-pub list::put_codes-put_equal_codes-requires : goal.list::put_codes-put_equal_codes-requires
-list::put_codes-put_equal_codes-requires t c =
+pub list_forms::put_codes-put_equal_codes-requires : goal.list_forms::put_codes-put_equal_codes-requires
+list_forms::put_codes-put_equal_codes-requires t c =
     (omega arith, (c.requires.translated, (c.requires.left, (c.requires.items, (c.requires.compared, some_length c.args.items.now c.is_empty.result c.is_empty.ensures c.if-is_empty.false)))))
 
--- ---- list::put_equal_codes
+-- ---- list_forms::put_equal_codes
 
-pub list::put_equal_codes-split_at-requires : goal.list::put_equal_codes-split_at-requires
-list::put_equal_codes-split_at-requires t c = omega arith
+pub list_forms::put_equal_codes-split_at-requires : goal.list_forms::put_equal_codes-split_at-requires
+list_forms::put_equal_codes-split_at-requires t c = omega arith
 
-pub list::put_equal_codes-returns-then-items-eq1 : goal.list::put_equal_codes-returns-then-items-eq1
-list::put_equal_codes-returns-then-items-eq1 t c =
+pub list_forms::put_equal_codes-returns-then-items-eq1 : goal.list_forms::put_equal_codes-returns-then-items-eq1
+list_forms::put_equal_codes-returns-then-items-eq1 t c =
     ok_one_code (question_of c.args.context.now) c.args.left.now c.args.items.now c.index-items-0.result (omega (arith, c.if-items-eq1.true)) (slice_get_read c.args.items.now (length c.args.items.now) 0 c.index-items-0.result refl (omega (arith, c.if-items-eq1.true)) c.index-items-0.is) c.put_compared_code.result c.args.draft.now c.put_compared_code.new.draft c.put_compared_code.ensures
 
-pub list::put_equal_codes-returns : goal.list::put_equal_codes-returns
-list::put_equal_codes-returns t c =
+pub list_forms::put_equal_codes-returns : goal.list_forms::put_equal_codes-returns
+list_forms::put_equal_codes-returns t c =
     ok_same_items c.put_equal_codes-2.result (λ (xs : List Operand). Puts (question_of c.args.context.now) c.args.draft.now c.put_equal_codes-2.new.draft (EqualCodesOrNull c.args.context.now.checked.now c.args.left.now xs) AsCode) c.args.items.now (c.split_at.result.0.now ++ c.split_at.result.1.now) (both_parts c.args.items.now c.split_at.result.0.now c.split_at.result.1.now (length c.args.items.now / 2) c.split_at.ensures.front c.split_at.ensures.back)
     (ok_both_codes (question_of c.args.context.now) c.args.left.now c.put_equal_codes-2.result c.tables_are_connectives.ensures.or c.split_at.result.0.now c.split_at.result.1.now (rest_some c.args.items.now c.split_at.result.0.now c.split_at.result.1.now (length c.args.items.now / 2) c.split_at.ensures.front c.split_at.ensures.back (omega (arith, c.requires.some, c.if-items-eq1.false))) c.args.draft.now c.put.new.self c.put_equal_codes.new.draft c.put_equal_codes-2.new.draft
     c.in_ok-put.ensures.ok c.in_ok-put_equal_codes.ensures c.put_equal_codes-2.ensures)
 
-pub list::put_equal_codes-put_compared_code-requires : goal.list::put_equal_codes-put_compared_code-requires
-list::put_equal_codes-put_compared_code-requires t c = (
+pub list_forms::put_equal_codes-put_compared_code-requires : goal.list_forms::put_equal_codes-put_compared_code-requires
+list_forms::put_equal_codes-put_compared_code-requires t c = (
   omega (arith, down_to c.args.context.now.checked.now (left_in c.args.context.now.checked.now (c.args.left.now ∷ c.index-items-0.result ∷ [])) (left_in c.args.context.now.checked.now (c.args.left.now ∷ c.args.items.now)) 17 (18 + length c.args.items.now) (item_left c.args.context.now.checked.now c.args.left.now c.args.items.now 0 c.index-items-0.result (slice_get_read c.args.items.now (length c.args.items.now) 0 c.index-items-0.result refl (omega (arith, c.if-items-eq1.true)) c.index-items-0.is)) (omega arith)),
   (c.requires.translated, (c.requires.left, (at_all (IsFaulty c.args.context.now.checked.now c.args.context.now.ranges.now) c.args.items.now 0 c.index-items-0.result c.requires.items (slice_get_read c.args.items.now (length c.args.items.now) 0 c.index-items-0.result refl (omega (arith, c.if-items-eq1.true)) c.index-items-0.is), at_all (λ (item : Operand). AreCompared c.args.left.now.kind item.kind) c.args.items.now 0 c.index-items-0.result c.requires.compared (slice_get_read c.args.items.now (length c.args.items.now) 0 c.index-items-0.result refl (omega (arith, c.if-items-eq1.true)) c.index-items-0.is)))),
 )
 
-pub list::put_equal_codes-put_equal_codes-requires : goal.list::put_equal_codes-put_equal_codes-requires
-list::put_equal_codes-put_equal_codes-requires t c = (
+pub list_forms::put_equal_codes-put_equal_codes-requires : goal.list_forms::put_equal_codes-put_equal_codes-requires
+list_forms::put_equal_codes-put_equal_codes-requires t c = (
   omega (arith, down_to c.args.context.now.checked.now (left_in c.args.context.now.checked.now (c.args.left.now ∷ c.split_at.result.0.now)) (left_in c.args.context.now.checked.now (c.args.left.now ∷ c.args.items.now)) (18 + length c.split_at.result.0.now) (18 + length c.args.items.now) (front_left c.args.context.now.checked.now c.args.left.now c.args.items.now c.split_at.result.0.now c.split_at.result.1.now (both_parts c.args.items.now c.split_at.result.0.now c.split_at.result.1.now (length c.args.items.now / 2) c.split_at.ensures.front c.split_at.ensures.back)) (omega (arith, parts_length c.args.items.now c.split_at.result.0.now c.split_at.result.1.now (both_parts c.args.items.now c.split_at.result.0.now c.split_at.result.1.now (length c.args.items.now / 2) c.split_at.ensures.front c.split_at.ensures.back), rest_some c.args.items.now c.split_at.result.0.now c.split_at.result.1.now (length c.args.items.now / 2) c.split_at.ensures.front c.split_at.ensures.back (omega (arith, c.requires.some, c.if-items-eq1.false))))),
   (c.requires.translated, (c.requires.left, (of_front c.args.items.now c.split_at.result.0.now c.split_at.result.1.now (length c.args.items.now / 2) c.split_at.ensures.front c.split_at.ensures.back (λ (item : Operand). IsFaulty c.args.context.now.checked.now c.args.context.now.ranges.now item) c.requires.items, (of_front c.args.items.now c.split_at.result.0.now c.split_at.result.1.now (length c.args.items.now / 2) c.split_at.ensures.front c.split_at.ensures.back (λ (item : Operand). AreCompared c.args.left.now.kind item.kind) c.requires.compared, front_some c.args.items.now c.split_at.result.0.now c.split_at.result.1.now (length c.args.items.now / 2) c.split_at.ensures.front c.split_at.ensures.back (omega (arith, c.requires.some, c.if-items-eq1.false)) (omega (arith, c.requires.some, c.if-items-eq1.false)))))),
 )
 
-pub list::put_equal_codes-put_equal_codes-requires-2 : goal.list::put_equal_codes-put_equal_codes-requires-2
-list::put_equal_codes-put_equal_codes-requires-2 t c = (
+pub list_forms::put_equal_codes-put_equal_codes-requires-2 : goal.list_forms::put_equal_codes-put_equal_codes-requires-2
+list_forms::put_equal_codes-put_equal_codes-requires-2 t c = (
   omega (arith, down_to c.args.context.now.checked.now (left_in c.args.context.now.checked.now (c.args.left.now ∷ c.split_at.result.1.now)) (left_in c.args.context.now.checked.now (c.args.left.now ∷ c.args.items.now)) (18 + length c.split_at.result.1.now) (18 + length c.args.items.now) (rest_left c.args.context.now.checked.now c.args.left.now c.args.items.now c.split_at.result.0.now c.split_at.result.1.now (both_parts c.args.items.now c.split_at.result.0.now c.split_at.result.1.now (length c.args.items.now / 2) c.split_at.ensures.front c.split_at.ensures.back)) (omega (arith, parts_length c.args.items.now c.split_at.result.0.now c.split_at.result.1.now (both_parts c.args.items.now c.split_at.result.0.now c.split_at.result.1.now (length c.args.items.now / 2) c.split_at.ensures.front c.split_at.ensures.back), front_some c.args.items.now c.split_at.result.0.now c.split_at.result.1.now (length c.args.items.now / 2) c.split_at.ensures.front c.split_at.ensures.back (omega (arith, c.requires.some, c.if-items-eq1.false)) (omega (arith, c.requires.some, c.if-items-eq1.false))))),
   (c.requires.translated, (c.requires.left, (of_rest c.args.items.now c.split_at.result.0.now c.split_at.result.1.now (length c.args.items.now / 2) c.split_at.ensures.front c.split_at.ensures.back (λ (item : Operand). IsFaulty c.args.context.now.checked.now c.args.context.now.ranges.now item) c.requires.items, (of_rest c.args.items.now c.split_at.result.0.now c.split_at.result.1.now (length c.args.items.now / 2) c.split_at.ensures.front c.split_at.ensures.back (λ (item : Operand). AreCompared c.args.left.now.kind item.kind) c.requires.compared, rest_some c.args.items.now c.split_at.result.0.now c.split_at.result.1.now (length c.args.items.now / 2) c.split_at.ensures.front c.split_at.ensures.back (omega (arith, c.requires.some, c.if-items-eq1.false)))))),
 )
 
--- ---- list::put_equal_to_one
+-- ---- list_forms::put_equal_to_one
 
-pub list::put_equal_to_one-split_at-requires : goal.list::put_equal_to_one-split_at-requires
-list::put_equal_to_one-split_at-requires t c = omega arith
+pub list_forms::put_equal_to_one-split_at-requires : goal.list_forms::put_equal_to_one-split_at-requires
+list_forms::put_equal_to_one-split_at-requires t c = omega arith
 
-pub list::put_equal_to_one-returns-then-is_empty : goal.list::put_equal_to_one-returns-then-is_empty
-list::put_equal_to_one-returns-then-is_empty t c =
+pub list_forms::put_equal_to_one-returns-then-is_empty : goal.list_forms::put_equal_to_one-returns-then-is_empty
+list_forms::put_equal_to_one-returns-then-is_empty t c =
     ok_same_items c.put.result (λ (xs : List Operand). Puts (question_of c.args.context.now) c.args.draft.now c.put.new.self (EqualsHas c.args.context.now.checked.now c.args.left.now xs) (IsInForm (kept_form c.args.kept))) c.args.items.now [] (nil_from_length c.args.items.now (empty_length c.args.items.now c.is_empty.result c.is_empty.ensures c.if-is_empty.true))
     (ok_none_equal (question_of c.args.context.now) c.args.left.now c.put.result c.args.kept c.args.draft.now c.put.new.self c.put.ensures.ok)
 
-pub list::put_equal_to_one-returns-then-kept : goal.list::put_equal_to_one-returns-then-kept
-list::put_equal_to_one-returns-then-kept t c =
+pub list_forms::put_equal_to_one-returns-then-kept : goal.list_forms::put_equal_to_one-returns-then-kept
+list_forms::put_equal_to_one-returns-then-kept t c =
     ok_one_equal (question_of c.args.context.now) c.args.left.now c.args.items.now c.index-items-0.result (omega (arith, c.if-items-eq1.true)) (slice_get_read c.args.items.now (length c.args.items.now) 0 c.index-items-0.result refl (omega (arith, c.if-items-eq1.true)) c.index-items-0.is) c.put_kept_comparison.result c.args.draft.now c.put_kept_comparison.new.draft c.args.kept true c.if-kept.true c.put_kept_comparison.ensures
 
-pub list::put_equal_to_one-returns-else-kept : goal.list::put_equal_to_one-returns-else-kept
-list::put_equal_to_one-returns-else-kept t c =
+pub list_forms::put_equal_to_one-returns-else-kept : goal.list_forms::put_equal_to_one-returns-else-kept
+list_forms::put_equal_to_one-returns-else-kept t c =
     ok_one_equal (question_of c.args.context.now) c.args.left.now c.args.items.now c.index-items-0-else-kept.result (omega (arith, c.if-items-eq1.true)) (slice_get_read c.args.items.now (length c.args.items.now) 0 c.index-items-0-else-kept.result refl (omega (arith, c.if-items-eq1.true)) c.index-items-0-else-kept.is) c.put_comparison.result c.args.draft.now c.put_comparison.new.draft c.args.kept false c.if-kept.false c.put_comparison.ensures
 
-pub list::put_equal_to_one-returns : goal.list::put_equal_to_one-returns
-list::put_equal_to_one-returns t c =
+pub list_forms::put_equal_to_one-returns : goal.list_forms::put_equal_to_one-returns
+list_forms::put_equal_to_one-returns t c =
     ok_same_items c.put_equal_to_one-2.result (λ (xs : List Operand). Puts (question_of c.args.context.now) c.args.draft.now c.put_equal_to_one-2.new.draft (EqualsHas c.args.context.now.checked.now c.args.left.now xs) (IsInForm (kept_form c.args.kept))) c.args.items.now (c.split_at.result.0.now ++ c.split_at.result.1.now) (both_parts c.args.items.now c.split_at.result.0.now c.split_at.result.1.now (length c.args.items.now / 2) c.split_at.ensures.front c.split_at.ensures.back)
     (ok_both_equal (question_of c.args.context.now) c.args.left.now c.put_equal_to_one-2.result c.args.kept c.split_at.result.0.now c.split_at.result.1.now c.args.draft.now c.put-2.new.self c.put_equal_to_one.new.draft c.put_equal_to_one-2.new.draft c.in_ok-put.ensures.ok
     c.in_ok-put_equal_to_one.ensures c.put_equal_to_one-2.ensures)
 
-pub list::put_equal_to_one-put_kept_comparison-requires : goal.list::put_equal_to_one-put_kept_comparison-requires
-list::put_equal_to_one-put_kept_comparison-requires t c = (
+pub list_forms::put_equal_to_one-put_kept_comparison-requires : goal.list_forms::put_equal_to_one-put_kept_comparison-requires
+list_forms::put_equal_to_one-put_kept_comparison-requires t c = (
   omega (arith, down_to c.args.context.now.checked.now (left_in c.args.context.now.checked.now (c.args.left.now ∷ c.index-items-0.result ∷ [])) (left_in c.args.context.now.checked.now (c.args.left.now ∷ c.args.items.now)) 17 (18 + length c.args.items.now) (item_left c.args.context.now.checked.now c.args.left.now c.args.items.now 0 c.index-items-0.result (slice_get_read c.args.items.now (length c.args.items.now) 0 c.index-items-0.result refl (omega (arith, c.if-items-eq1.true)) c.index-items-0.is)) (omega arith)),
   (c.requires.translated, (c.requires.beside.left_tested, (at_all (IsTested c.args.context.now.checked.now c.args.context.now.ranges.now) c.args.items.now 0 c.index-items-0.result c.requires.beside.tested (slice_get_read c.args.items.now (length c.args.items.now) 0 c.index-items-0.result refl (omega (arith, c.if-items-eq1.true)) c.index-items-0.is), at_all (λ (item : Operand). AreCompared c.args.left.now.kind item.kind) c.args.items.now 0 c.index-items-0.result c.requires.beside.compared (slice_get_read c.args.items.now (length c.args.items.now) 0 c.index-items-0.result refl (omega (arith, c.if-items-eq1.true)) c.index-items-0.is)))),
 )
 
-pub list::put_equal_to_one-put_comparison-requires : goal.list::put_equal_to_one-put_comparison-requires
-list::put_equal_to_one-put_comparison-requires t c = (
+pub list_forms::put_equal_to_one-put_comparison-requires : goal.list_forms::put_equal_to_one-put_comparison-requires
+list_forms::put_equal_to_one-put_comparison-requires t c = (
   omega (arith, down_to c.args.context.now.checked.now (left_in c.args.context.now.checked.now (c.args.left.now ∷ c.index-items-0-else-kept.result ∷ [])) (left_in c.args.context.now.checked.now (c.args.left.now ∷ c.args.items.now)) 16 (18 + length c.args.items.now) (item_left c.args.context.now.checked.now c.args.left.now c.args.items.now 0 c.index-items-0-else-kept.result (slice_get_read c.args.items.now (length c.args.items.now) 0 c.index-items-0-else-kept.result refl (omega (arith, c.if-items-eq1.true)) c.index-items-0-else-kept.is)) (omega arith)),
   (c.requires.translated, (c.requires.beside.left_tested, (at_all (IsTested c.args.context.now.checked.now c.args.context.now.ranges.now) c.args.items.now 0 c.index-items-0-else-kept.result c.requires.beside.tested (slice_get_read c.args.items.now (length c.args.items.now) 0 c.index-items-0-else-kept.result refl (omega (arith, c.if-items-eq1.true)) c.index-items-0-else-kept.is), at_all (λ (item : Operand). AreCompared c.args.left.now.kind item.kind) c.args.items.now 0 c.index-items-0-else-kept.result c.requires.beside.compared (slice_get_read c.args.items.now (length c.args.items.now) 0 c.index-items-0-else-kept.result refl (omega (arith, c.if-items-eq1.true)) c.index-items-0-else-kept.is)))),
 )
 
-pub list::put_equal_to_one-put_equal_to_one-requires : goal.list::put_equal_to_one-put_equal_to_one-requires
-list::put_equal_to_one-put_equal_to_one-requires t c = (
+pub list_forms::put_equal_to_one-put_equal_to_one-requires : goal.list_forms::put_equal_to_one-put_equal_to_one-requires
+list_forms::put_equal_to_one-put_equal_to_one-requires t c = (
   omega (arith, down_to c.args.context.now.checked.now (left_in c.args.context.now.checked.now (c.args.left.now ∷ c.split_at.result.0.now)) (left_in c.args.context.now.checked.now (c.args.left.now ∷ c.args.items.now)) (18 + length c.split_at.result.0.now) (18 + length c.args.items.now) (front_left c.args.context.now.checked.now c.args.left.now c.args.items.now c.split_at.result.0.now c.split_at.result.1.now (both_parts c.args.items.now c.split_at.result.0.now c.split_at.result.1.now (length c.args.items.now / 2) c.split_at.ensures.front c.split_at.ensures.back)) (omega (arith, parts_length c.args.items.now c.split_at.result.0.now c.split_at.result.1.now (both_parts c.args.items.now c.split_at.result.0.now c.split_at.result.1.now (length c.args.items.now / 2) c.split_at.ensures.front c.split_at.ensures.back), rest_some c.args.items.now c.split_at.result.0.now c.split_at.result.1.now (length c.args.items.now / 2) c.split_at.ensures.front c.split_at.ensures.back (omega (arith, some_length c.args.items.now c.is_empty.result c.is_empty.ensures c.if-is_empty.false, c.if-items-eq1.false))))),
   (c.requires.translated, front_beside c.args.context.now.checked.now c.args.context.now.ranges.now c.args.left.now c.args.items.now c.split_at.result.0.now c.split_at.result.1.now (length c.args.items.now / 2) c.split_at.ensures.front c.split_at.ensures.back c.requires.beside),
 )
 
-pub list::put_equal_to_one-put_equal_to_one-requires-2 : goal.list::put_equal_to_one-put_equal_to_one-requires-2
-list::put_equal_to_one-put_equal_to_one-requires-2 t c = (
+pub list_forms::put_equal_to_one-put_equal_to_one-requires-2 : goal.list_forms::put_equal_to_one-put_equal_to_one-requires-2
+list_forms::put_equal_to_one-put_equal_to_one-requires-2 t c = (
   omega (arith, down_to c.args.context.now.checked.now (left_in c.args.context.now.checked.now (c.args.left.now ∷ c.split_at.result.1.now)) (left_in c.args.context.now.checked.now (c.args.left.now ∷ c.args.items.now)) (18 + length c.split_at.result.1.now) (18 + length c.args.items.now) (rest_left c.args.context.now.checked.now c.args.left.now c.args.items.now c.split_at.result.0.now c.split_at.result.1.now (both_parts c.args.items.now c.split_at.result.0.now c.split_at.result.1.now (length c.args.items.now / 2) c.split_at.ensures.front c.split_at.ensures.back)) (omega (arith, parts_length c.args.items.now c.split_at.result.0.now c.split_at.result.1.now (both_parts c.args.items.now c.split_at.result.0.now c.split_at.result.1.now (length c.args.items.now / 2) c.split_at.ensures.front c.split_at.ensures.back), front_some c.args.items.now c.split_at.result.0.now c.split_at.result.1.now (length c.args.items.now / 2) c.split_at.ensures.front c.split_at.ensures.back (omega (arith, some_length c.args.items.now c.is_empty.result c.is_empty.ensures c.if-is_empty.false, c.if-items-eq1.false)) (omega (arith, some_length c.args.items.now c.is_empty.result c.is_empty.ensures c.if-is_empty.false, c.if-items-eq1.false))))),
   (c.requires.translated, rest_beside c.args.context.now.checked.now c.args.context.now.ranges.now c.args.left.now c.args.items.now c.split_at.result.0.now c.split_at.result.1.now (length c.args.items.now / 2) c.split_at.ensures.front c.split_at.ensures.back c.requires.beside),
 )
 
--- ---- list::put_kept_list
+-- ---- list_forms::put_kept_list
 
-pub list::put_kept_list-at-left-requires-clause-there : goal.list::put_kept_list-at-left-requires-clause-there
-list::put_kept_list-at-left-requires-clause-there t c = list_child c.args.context.now.checked.now c.requires.translated.right c.args.place c.requires.list
+pub list_forms::put_kept_list-at-left-requires-clause-there : goal.list_forms::put_kept_list-at-left-requires-clause-there
+list_forms::put_kept_list-at-left-requires-clause-there t c = list_child c.args.context.now.checked.now c.requires.translated.right c.args.place c.requires.list
 
-pub list::put_kept_list-at-left-requires-clause-ranged : goal.list::put_kept_list-at-left-requires-clause-ranged
-list::put_kept_list-at-left-requires-clause-ranged t c =
+pub list_forms::put_kept_list-at-left-requires-clause-ranged : goal.list_forms::put_kept_list-at-left-requires-clause-ranged
+list_forms::put_kept_list-at-left-requires-clause-ranged t c =
     has_range (question_of c.args.context.now) c.args.context.now.ranges.now c.requires.translated.ranges (c.args.place + 1) (list_child c.args.context.now.checked.now c.requires.translated.right c.args.place c.requires.list)
 
-pub list::put_kept_list-is_of_constants-requires-clause-items : goal.list::put_kept_list-is_of_constants-requires-clause-items
-list::put_kept_list-is_of_constants-requires-clause-items t c =
+pub list_forms::put_kept_list-is_of_constants-requires-clause-items : goal.list_forms::put_kept_list-is_of_constants-requires-clause-items
+list_forms::put_kept_list-is_of_constants-requires-clause-items t c =
     (c.args.place, c.requires.list, subst (AreItemsOf c.args.context.now.checked.now c.args.context.now.ranges.now c.args.place) (sym c.as_slice.ensures.value) c.in_ok-items.ensures.items)
 
-pub list::put_kept_list-returns-then-is_of_constants : goal.list::put_kept_list-returns-then-is_of_constants
-list::put_kept_list-returns-then-is_of_constants t c =
+pub list_forms::put_kept_list-returns-then-is_of_constants : goal.list_forms::put_kept_list-returns-then-is_of_constants
+list_forms::put_kept_list-returns-then-is_of_constants t c =
     let left_is = node_operand c.args.context.now.checked.now c.args.context.now.ranges.now c.at-left.result (c.args.place + 1) c.at-left.ensures.kind c.at-left.ensures.range in
     ok_among_kept (question_of c.args.context.now) c.args.context.now.ranges.now c.requires.translated.ranges c.requires.translated.right c.trees_have_one_type.ensures c.typed_trees_end_once_on_entities.ensures c.requires.translated.moment c.quoted_texts_have_one_number.ensures c.comparisons_are_decided.ensures.decided c.args.place c.requires.list c.at-left.result c.at-left.ensures.source left_is c.as_slice-then-is_of_constants.result.now (subst (AreItemsOf c.args.context.now.checked.now c.args.context.now.ranges.now c.args.place) (sym c.as_slice-then-is_of_constants.ensures.value) c.in_ok-items.ensures.items) c.requires.faultless c.put_among.result c.args.draft.now c.put_among.new.draft (subst (AreConstants c.args.context.now.checked.now c.at-left.result) (c.as_slice.ensures.value ∙ sym c.as_slice-then-is_of_constants.ensures.value) (c.is_of_constants.ensures c.if-is_of_constants.true)) c.put_among.ensures
 
-pub list::put_kept_list-returns : goal.list::put_kept_list-returns
-list::put_kept_list-returns t c =
+pub list_forms::put_kept_list-returns : goal.list_forms::put_kept_list-returns
+list_forms::put_kept_list-returns t c =
     let left_is = node_operand c.args.context.now.checked.now c.args.context.now.ranges.now c.at-left.result (c.args.place + 1) c.at-left.ensures.kind c.at-left.ensures.range in
     ok_list (question_of c.args.context.now) c.args.context.now.ranges.now c.requires.translated.ranges c.requires.translated.right c.trees_have_one_type.ensures c.typed_trees_end_once_on_entities.ensures c.requires.translated.moment c.quoted_texts_have_one_number.ensures c.comparisons_are_decided.ensures.decided c.args.place c.requires.list c.at-left.result c.at-left.ensures.source left_is c.as_slice-2.result.now (subst (AreItemsOf c.args.context.now.checked.now c.args.context.now.ranges.now c.args.place) (sym c.as_slice-2.ensures.value) c.in_ok-items.ensures.items) c.requires.faultless c.put_over_left.result c.args.draft.now c.put_over_left.new.draft (IsInForm Form.Keeps) c.put_over_left.ensures
 
-pub list::put_kept_list-items_of-requires-clause-list : goal.list::put_kept_list-items_of-requires-clause-list
-list::put_kept_list-items_of-requires-clause-list t c = c.requires.list
+pub list_forms::put_kept_list-items_of-requires-clause-list : goal.list_forms::put_kept_list-items_of-requires-clause-list
+list_forms::put_kept_list-items_of-requires-clause-list t c = c.requires.list
 
-pub list::put_kept_list-put_among-requires : goal.list::put_kept_list-put_among-requires
-list::put_kept_list-put_among-requires t c = (
+pub list_forms::put_kept_list-put_among-requires : goal.list_forms::put_kept_list-put_among-requires
+list_forms::put_kept_list-put_among-requires t c = (
   omega (arith, on_from c.args.context.now.checked.now (left_in c.args.context.now.checked.now (c.at-left.result ∷ c.as_slice-then-is_of_constants.result.now)) (left_from c.args.context.now.checked.now c.args.place) 13 2 (items_on c.args.context.now.checked.now c.args.place (kind_inside c.args.context.now.checked.now c.args.place NodeKind.InList c.requires.list) c.requires.translated.right c.args.context.now.ranges.now c.at-left.result c.as_slice-then-is_of_constants.result.now (at_on c.args.context.now.checked.now c.args.place (kind_inside c.args.context.now.checked.now c.args.place NodeKind.InList c.requires.list) c.at-left.result (c.args.place + 1) c.at-left.ensures.source (omega arith)) (subst (AreItemsOf c.args.context.now.checked.now c.args.context.now.ranges.now c.args.place) (sym c.as_slice-then-is_of_constants.ensures.value) c.in_ok-items.ensures.items)) (omega arith)),
   (c.requires.translated, (subst (AreConstants c.args.context.now.checked.now c.at-left.result) (c.as_slice.ensures.value ∙ sym c.as_slice-then-is_of_constants.ensures.value) (c.is_of_constants.ensures c.if-is_of_constants.true), (let left_is = node_operand c.args.context.now.checked.now c.args.context.now.ranges.now c.at-left.result (c.args.place + 1) c.at-left.ensures.kind c.at-left.ensures.range in of_list_answers_beside (question_of c.args.context.now) c.args.context.now.ranges.now c.requires.translated.ranges c.requires.translated.right c.trees_have_one_type.ensures c.typed_trees_end_once_on_entities.ensures c.requires.translated.moment c.quoted_texts_have_one_number.ensures c.comparisons_are_decided.ensures.decided c.args.place c.requires.list c.at-left.result c.at-left.ensures.source left_is c.as_slice-then-is_of_constants.result.now (subst (AreItemsOf c.args.context.now.checked.now c.args.context.now.ranges.now c.args.place) (sym c.as_slice-then-is_of_constants.ensures.value) c.in_ok-items.ensures.items) c.requires.faultless))),
 )
 
-pub list::put_kept_list-put_over_left-requires : goal.list::put_kept_list-put_over_left-requires
-list::put_kept_list-put_over_left-requires t c = (
+pub list_forms::put_kept_list-put_over_left-requires : goal.list_forms::put_kept_list-put_over_left-requires
+list_forms::put_kept_list-put_over_left-requires t c = (
   omega (arith, on_from c.args.context.now.checked.now (left_in c.args.context.now.checked.now (c.at-left.result ∷ c.as_slice-2.result.now)) (left_from c.args.context.now.checked.now c.args.place) (19 + length c.as_slice-2.result.now) 2 (items_on c.args.context.now.checked.now c.args.place (kind_inside c.args.context.now.checked.now c.args.place NodeKind.InList c.requires.list) c.requires.translated.right c.args.context.now.ranges.now c.at-left.result c.as_slice-2.result.now (at_on c.args.context.now.checked.now c.args.place (kind_inside c.args.context.now.checked.now c.args.place NodeKind.InList c.requires.list) c.at-left.result (c.args.place + 1) c.at-left.ensures.source (omega arith)) (subst (AreItemsOf c.args.context.now.checked.now c.args.context.now.ranges.now c.args.place) (sym c.as_slice-2.ensures.value) c.in_ok-items.ensures.items)) (omega (arith, c.in_ok-items.ensures.few, ap length c.as_slice-2.ensures.value))),
   (c.requires.translated, ((let left_is = node_operand c.args.context.now.checked.now c.args.context.now.ranges.now c.at-left.result (c.args.place + 1) c.at-left.ensures.kind c.at-left.ensures.range in of_list_answers_beside (question_of c.args.context.now) c.args.context.now.ranges.now c.requires.translated.ranges c.requires.translated.right c.trees_have_one_type.ensures c.typed_trees_end_once_on_entities.ensures c.requires.translated.moment c.quoted_texts_have_one_number.ensures c.comparisons_are_decided.ensures.decided c.args.place c.requires.list c.at-left.result c.at-left.ensures.source left_is c.as_slice-2.result.now (subst (AreItemsOf c.args.context.now.checked.now c.args.context.now.ranges.now c.args.place) (sym c.as_slice-2.ensures.value) c.in_ok-items.ensures.items) c.requires.faultless), (subst (IsInside c.args.context.now.checked.now) (sym c.at-left.ensures.source) (list_child c.args.context.now.checked.now c.requires.translated.right c.args.place c.requires.list), (let left_is = node_operand c.args.context.now.checked.now c.args.context.now.ranges.now c.at-left.result (c.args.place + 1) c.at-left.ensures.kind c.at-left.ensures.range in of_list_answers_left_faultless (question_of c.args.context.now) c.args.context.now.ranges.now c.requires.translated.ranges c.requires.translated.right c.trees_have_one_type.ensures c.typed_trees_end_once_on_entities.ensures c.requires.translated.moment c.quoted_texts_have_one_number.ensures c.comparisons_are_decided.ensures.decided c.args.place c.requires.list c.at-left.result c.at-left.ensures.source left_is c.as_slice-2.result.now (subst (AreItemsOf c.args.context.now.checked.now c.args.context.now.ranges.now c.args.place) (sym c.as_slice-2.ensures.value) c.in_ok-items.ensures.items) c.requires.faultless)))),
 )
 
--- ---- list::put_list
+-- ---- list_forms::put_list
 
-pub list::put_list-at-left-requires-clause-there : goal.list::put_list-at-left-requires-clause-there
-list::put_list-at-left-requires-clause-there t c = list_child c.args.context.now.checked.now c.requires.translated.right c.args.place c.requires.list
+pub list_forms::put_list-at-left-requires-clause-there : goal.list_forms::put_list-at-left-requires-clause-there
+list_forms::put_list-at-left-requires-clause-there t c = list_child c.args.context.now.checked.now c.requires.translated.right c.args.place c.requires.list
 
-pub list::put_list-at-left-requires-clause-ranged : goal.list::put_list-at-left-requires-clause-ranged
-list::put_list-at-left-requires-clause-ranged t c =
+pub list_forms::put_list-at-left-requires-clause-ranged : goal.list_forms::put_list-at-left-requires-clause-ranged
+list_forms::put_list-at-left-requires-clause-ranged t c =
     has_range (question_of c.args.context.now) c.args.context.now.ranges.now c.requires.translated.ranges (c.args.place + 1) (list_child c.args.context.now.checked.now c.requires.translated.right c.args.place c.requires.list)
 
-pub list::put_list-is_of_constants-requires-clause-items : goal.list::put_list-is_of_constants-requires-clause-items
-list::put_list-is_of_constants-requires-clause-items t c =
+pub list_forms::put_list-is_of_constants-requires-clause-items : goal.list_forms::put_list-is_of_constants-requires-clause-items
+list_forms::put_list-is_of_constants-requires-clause-items t c =
     (c.args.place, c.requires.list, subst (AreItemsOf c.args.context.now.checked.now c.args.context.now.ranges.now c.args.place) (sym c.as_slice.ensures.value) c.in_ok-items.ensures.items)
 
-pub list::put_list-returns-then-is_of_constants : goal.list::put_list-returns-then-is_of_constants
-list::put_list-returns-then-is_of_constants t c =
+pub list_forms::put_list-returns-then-is_of_constants : goal.list_forms::put_list-returns-then-is_of_constants
+list_forms::put_list-returns-then-is_of_constants t c =
     let left_is = node_operand c.args.context.now.checked.now c.args.context.now.ranges.now c.at-left.result (c.args.place + 1) c.at-left.ensures.kind c.at-left.ensures.range in
     elim c.if-left.branch [
-      | list::put_list-then-left+in_ok-put w ↦ ok_among_truth (question_of c.args.context.now) c.args.context.now.ranges.now c.requires.translated.ranges c.requires.translated.right c.trees_have_one_type.ensures c.typed_trees_end_once_on_entities.ensures c.requires.translated.moment c.quoted_texts_have_one_number.ensures c.comparisons_are_decided.ensures.decided c.args.place c.requires.list c.at-left.result c.at-left.ensures.source left_is c.as_slice-then-is_of_constants.result.now (subst (AreItemsOf c.args.context.now.checked.now c.args.context.now.ranges.now c.args.place) (sym c.as_slice-then-is_of_constants.ensures.value) c.in_ok-items.ensures.items) c.requires.faultless c.put_among.result c.args.draft.now c.put_among.new.draft (subst (AreConstants c.args.context.now.checked.now c.at-left.result) (c.as_slice.ensures.value ∙ sym c.as_slice-then-is_of_constants.ensures.value) (c.is_of_constants.ensures c.if-is_of_constants.true)) c.if-left.draft (subst (λ (d : Draft). GrowsBy c.args.draft.now d (SqlNode.IsTrue ∷ []) [] []) (sym w.draft-is) w.in_ok-put.ensures.ok) c.put_among.ensures
-      | list::put_list-else-left w ↦ ok_among_plain (question_of c.args.context.now) c.args.context.now.ranges.now c.requires.translated.ranges c.requires.translated.right c.trees_have_one_type.ensures c.typed_trees_end_once_on_entities.ensures c.requires.translated.moment c.quoted_texts_have_one_number.ensures c.comparisons_are_decided.ensures.decided c.args.place c.requires.list c.at-left.result c.at-left.ensures.source left_is c.as_slice-then-is_of_constants.result.now (subst (AreItemsOf c.args.context.now.checked.now c.args.context.now.ranges.now c.args.place) (sym c.as_slice-then-is_of_constants.ensures.value) c.in_ok-items.ensures.items) c.requires.faultless c.put_among.result c.args.draft.now c.put_among.new.draft (subst (AreConstants c.args.context.now.checked.now c.at-left.result) (c.as_slice.ensures.value ∙ sym c.as_slice-then-is_of_constants.ensures.value) (c.is_of_constants.ensures c.if-is_of_constants.true)) w.if-left.false (subst (λ (d : Draft). OnOk c.put_among.result (Puts (question_of c.args.context.now) d c.put_among.new.draft (AmongHas c.args.context.now.checked.now c.at-left.result c.as_slice-then-is_of_constants.result.now) Itself)) w.draft-is c.put_among.ensures)
+      | list_forms::put_list-then-left+in_ok-put w ↦ ok_among_truth (question_of c.args.context.now) c.args.context.now.ranges.now c.requires.translated.ranges c.requires.translated.right c.trees_have_one_type.ensures c.typed_trees_end_once_on_entities.ensures c.requires.translated.moment c.quoted_texts_have_one_number.ensures c.comparisons_are_decided.ensures.decided c.args.place c.requires.list c.at-left.result c.at-left.ensures.source left_is c.as_slice-then-is_of_constants.result.now (subst (AreItemsOf c.args.context.now.checked.now c.args.context.now.ranges.now c.args.place) (sym c.as_slice-then-is_of_constants.ensures.value) c.in_ok-items.ensures.items) c.requires.faultless c.put_among.result c.args.draft.now c.put_among.new.draft (subst (AreConstants c.args.context.now.checked.now c.at-left.result) (c.as_slice.ensures.value ∙ sym c.as_slice-then-is_of_constants.ensures.value) (c.is_of_constants.ensures c.if-is_of_constants.true)) c.if-left.draft (subst (λ (d : Draft). GrowsBy c.args.draft.now d (SqlNode.IsTrue ∷ []) [] []) (sym w.draft-is) w.in_ok-put.ensures.ok) c.put_among.ensures
+      | list_forms::put_list-else-left w ↦ ok_among_plain (question_of c.args.context.now) c.args.context.now.ranges.now c.requires.translated.ranges c.requires.translated.right c.trees_have_one_type.ensures c.typed_trees_end_once_on_entities.ensures c.requires.translated.moment c.quoted_texts_have_one_number.ensures c.comparisons_are_decided.ensures.decided c.args.place c.requires.list c.at-left.result c.at-left.ensures.source left_is c.as_slice-then-is_of_constants.result.now (subst (AreItemsOf c.args.context.now.checked.now c.args.context.now.ranges.now c.args.place) (sym c.as_slice-then-is_of_constants.ensures.value) c.in_ok-items.ensures.items) c.requires.faultless c.put_among.result c.args.draft.now c.put_among.new.draft (subst (AreConstants c.args.context.now.checked.now c.at-left.result) (c.as_slice.ensures.value ∙ sym c.as_slice-then-is_of_constants.ensures.value) (c.is_of_constants.ensures c.if-is_of_constants.true)) w.if-left.false (subst (λ (d : Draft). OnOk c.put_among.result (Puts (question_of c.args.context.now) d c.put_among.new.draft (AmongHas c.args.context.now.checked.now c.at-left.result c.as_slice-then-is_of_constants.result.now) Itself)) w.draft-is c.put_among.ensures)
     ]
 
-pub list::put_list-returns : goal.list::put_list-returns
-list::put_list-returns t c =
+pub list_forms::put_list-returns : goal.list_forms::put_list-returns
+list_forms::put_list-returns t c =
     let left_is = node_operand c.args.context.now.checked.now c.args.context.now.ranges.now c.at-left.result (c.args.place + 1) c.at-left.ensures.kind c.at-left.ensures.range in
     ok_list (question_of c.args.context.now) c.args.context.now.ranges.now c.requires.translated.ranges c.requires.translated.right c.trees_have_one_type.ensures c.typed_trees_end_once_on_entities.ensures c.requires.translated.moment c.quoted_texts_have_one_number.ensures c.comparisons_are_decided.ensures.decided c.args.place c.requires.list c.at-left.result c.at-left.ensures.source left_is c.as_slice-2.result.now (subst (AreItemsOf c.args.context.now.checked.now c.args.context.now.ranges.now c.args.place) (sym c.as_slice-2.ensures.value) c.in_ok-items.ensures.items) c.requires.faultless c.put_over_left.result c.args.draft.now c.put_over_left.new.draft (IsInForm Form.Truth) c.put_over_left.ensures
 
-pub list::put_list-items_of-requires-clause-list : goal.list::put_list-items_of-requires-clause-list
-list::put_list-items_of-requires-clause-list t c = c.requires.list
+pub list_forms::put_list-items_of-requires-clause-list : goal.list_forms::put_list-items_of-requires-clause-list
+list_forms::put_list-items_of-requires-clause-list t c = c.requires.list
 
-pub list::put_list-put_among-requires : goal.list::put_list-put_among-requires
-list::put_list-put_among-requires t c = (
+pub list_forms::put_list-put_among-requires : goal.list_forms::put_list-put_among-requires
+list_forms::put_list-put_among-requires t c = (
   omega (arith, on_from c.args.context.now.checked.now (left_in c.args.context.now.checked.now (c.at-left.result ∷ c.as_slice-then-is_of_constants.result.now)) (left_from c.args.context.now.checked.now c.args.place) 13 2 (items_on c.args.context.now.checked.now c.args.place (kind_inside c.args.context.now.checked.now c.args.place NodeKind.InList c.requires.list) c.requires.translated.right c.args.context.now.ranges.now c.at-left.result c.as_slice-then-is_of_constants.result.now (at_on c.args.context.now.checked.now c.args.place (kind_inside c.args.context.now.checked.now c.args.place NodeKind.InList c.requires.list) c.at-left.result (c.args.place + 1) c.at-left.ensures.source (omega arith)) (subst (AreItemsOf c.args.context.now.checked.now c.args.context.now.ranges.now c.args.place) (sym c.as_slice-then-is_of_constants.ensures.value) c.in_ok-items.ensures.items)) (omega arith)),
   (c.requires.translated, (subst (AreConstants c.args.context.now.checked.now c.at-left.result) (c.as_slice.ensures.value ∙ sym c.as_slice-then-is_of_constants.ensures.value) (c.is_of_constants.ensures c.if-is_of_constants.true), (let left_is = node_operand c.args.context.now.checked.now c.args.context.now.ranges.now c.at-left.result (c.args.place + 1) c.at-left.ensures.kind c.at-left.ensures.range in of_list_answers_beside (question_of c.args.context.now) c.args.context.now.ranges.now c.requires.translated.ranges c.requires.translated.right c.trees_have_one_type.ensures c.typed_trees_end_once_on_entities.ensures c.requires.translated.moment c.quoted_texts_have_one_number.ensures c.comparisons_are_decided.ensures.decided c.args.place c.requires.list c.at-left.result c.at-left.ensures.source left_is c.as_slice-then-is_of_constants.result.now (subst (AreItemsOf c.args.context.now.checked.now c.args.context.now.ranges.now c.args.place) (sym c.as_slice-then-is_of_constants.ensures.value) c.in_ok-items.ensures.items) c.requires.faultless))),
 )
 
-pub list::put_list-put_over_left-requires : goal.list::put_list-put_over_left-requires
-list::put_list-put_over_left-requires t c = (
+pub list_forms::put_list-put_over_left-requires : goal.list_forms::put_list-put_over_left-requires
+list_forms::put_list-put_over_left-requires t c = (
   omega (arith, on_from c.args.context.now.checked.now (left_in c.args.context.now.checked.now (c.at-left.result ∷ c.as_slice-2.result.now)) (left_from c.args.context.now.checked.now c.args.place) (19 + length c.as_slice-2.result.now) 2 (items_on c.args.context.now.checked.now c.args.place (kind_inside c.args.context.now.checked.now c.args.place NodeKind.InList c.requires.list) c.requires.translated.right c.args.context.now.ranges.now c.at-left.result c.as_slice-2.result.now (at_on c.args.context.now.checked.now c.args.place (kind_inside c.args.context.now.checked.now c.args.place NodeKind.InList c.requires.list) c.at-left.result (c.args.place + 1) c.at-left.ensures.source (omega arith)) (subst (AreItemsOf c.args.context.now.checked.now c.args.context.now.ranges.now c.args.place) (sym c.as_slice-2.ensures.value) c.in_ok-items.ensures.items)) (omega (arith, c.in_ok-items.ensures.few, ap length c.as_slice-2.ensures.value))),
   (c.requires.translated, ((let left_is = node_operand c.args.context.now.checked.now c.args.context.now.ranges.now c.at-left.result (c.args.place + 1) c.at-left.ensures.kind c.at-left.ensures.range in of_list_answers_beside (question_of c.args.context.now) c.args.context.now.ranges.now c.requires.translated.ranges c.requires.translated.right c.trees_have_one_type.ensures c.typed_trees_end_once_on_entities.ensures c.requires.translated.moment c.quoted_texts_have_one_number.ensures c.comparisons_are_decided.ensures.decided c.args.place c.requires.list c.at-left.result c.at-left.ensures.source left_is c.as_slice-2.result.now (subst (AreItemsOf c.args.context.now.checked.now c.args.context.now.ranges.now c.args.place) (sym c.as_slice-2.ensures.value) c.in_ok-items.ensures.items) c.requires.faultless), (subst (IsInside c.args.context.now.checked.now) (sym c.at-left.ensures.source) (list_child c.args.context.now.checked.now c.requires.translated.right c.args.place c.requires.list), (let left_is = node_operand c.args.context.now.checked.now c.args.context.now.ranges.now c.at-left.result (c.args.place + 1) c.at-left.ensures.kind c.at-left.ensures.range in of_list_answers_left_faultless (question_of c.args.context.now) c.args.context.now.ranges.now c.requires.translated.ranges c.requires.translated.right c.trees_have_one_type.ensures c.typed_trees_end_once_on_entities.ensures c.requires.translated.moment c.quoted_texts_have_one_number.ensures c.comparisons_are_decided.ensures.decided c.args.place c.requires.list c.at-left.result c.at-left.ensures.source left_is c.as_slice-2.result.now (subst (AreItemsOf c.args.context.now.checked.now c.args.context.now.ranges.now c.args.place) (sym c.as_slice-2.ensures.value) c.in_ok-items.ensures.items) c.requires.faultless)))),
 )
 
--- ---- list::put_list_code
+-- ---- list_forms::put_list_code
 
-pub list::put_list_code-at-left-requires-clause-there : goal.list::put_list_code-at-left-requires-clause-there
-list::put_list_code-at-left-requires-clause-there t c = list_child c.args.context.now.checked.now c.requires.translated.right c.args.place c.requires.list
+pub list_forms::put_list_code-at-left-requires-clause-there : goal.list_forms::put_list_code-at-left-requires-clause-there
+list_forms::put_list_code-at-left-requires-clause-there t c = list_child c.args.context.now.checked.now c.requires.translated.right c.args.place c.requires.list
 
-pub list::put_list_code-at-left-requires-clause-ranged : goal.list::put_list_code-at-left-requires-clause-ranged
-list::put_list_code-at-left-requires-clause-ranged t c =
+pub list_forms::put_list_code-at-left-requires-clause-ranged : goal.list_forms::put_list_code-at-left-requires-clause-ranged
+list_forms::put_list_code-at-left-requires-clause-ranged t c =
     has_range (question_of c.args.context.now) c.args.context.now.ranges.now c.requires.translated.ranges (c.args.place + 1) (list_child c.args.context.now.checked.now c.requires.translated.right c.args.place c.requires.list)
 
-pub list::put_list_code-lifted_left-requires-clause-value : goal.list::put_list_code-lifted_left-requires-clause-value
-list::put_list_code-lifted_left-requires-clause-value t c = c.is_value.ensures.0 c.if-not-is_value.false
+pub list_forms::put_list_code-lifted_left-requires-clause-value : goal.list_forms::put_list_code-lifted_left-requires-clause-value
+list_forms::put_list_code-lifted_left-requires-clause-value t c = c.is_value.ensures.0 c.if-not-is_value.false
 
-pub list::put_list_code-put_faults-requires : goal.list::put_list_code-put_faults-requires
-list::put_list_code-put_faults-requires t c = c.in_ok-lifted.ensures.few
+pub list_forms::put_list_code-put_faults-requires : goal.list_forms::put_list_code-put_faults-requires
+list_forms::put_list_code-put_faults-requires t c = c.in_ok-lifted.ensures.few
 
-pub list::put_list_code-first-requires : goal.list::put_list_code-first-requires
-list::put_list_code-first-requires t c =
+pub list_forms::put_list_code-first-requires : goal.list_forms::put_list_code-first-requires
+list_forms::put_list_code-first-requires t c =
     let one : length c.in_ok-lifted.lifted.inner.items ≡ 1 = inner_length (c.at-left.result ∷ []) c.args.draft.now.depth c.in_ok-lifted.lifted c.in_ok-lifted.ensures in
     omega (arith, one)
 
-pub list::put_list_code-returns-then-is_truth : goal.list::put_list_code-returns-then-is_truth
-list::put_list_code-returns-then-is_truth t c = c.put_truth_list_code.ensures
+pub list_forms::put_list_code-returns-then-is_truth : goal.list_forms::put_list_code-returns-then-is_truth
+list_forms::put_list_code-returns-then-is_truth t c = c.put_truth_list_code.ensures
 
-pub list::put_list_code-returns-then-not-is_value : goal.list::put_list_code-returns-then-not-is_value
-list::put_list_code-returns-then-not-is_value t c =
+pub list_forms::put_list_code-returns-then-not-is_value : goal.list_forms::put_list_code-returns-then-not-is_value
+list_forms::put_list_code-returns-then-not-is_value t c =
     let left_is = node_operand c.args.context.now.checked.now c.args.context.now.ranges.now c.at-left.result (c.args.place + 1) c.at-left.ensures.kind c.at-left.ensures.range in
     ok_list_plain_code (question_of c.args.context.now) c.args.context.now.ranges.now c.requires.translated.ranges c.requires.translated.right c.trees_have_one_type.ensures c.typed_trees_end_once_on_entities.ensures c.requires.translated.moment c.quoted_texts_have_one_number.ensures c.comparisons_are_decided.ensures.decided c.args.place c.requires.list c.at-left.result c.at-left.ensures.source left_is c.as_slice-then-not-is_value.result.now (subst (AreItemsOf c.args.context.now.checked.now c.args.context.now.ranges.now c.args.place) (sym c.as_slice-then-not-is_value.ensures.value) c.in_ok-items.ensures.items) c.put_codes.result (not_so c.is_truth.result c.is_truth.ensures.1 c.if-is_truth.false) c.args.draft.now c.put_codes.new.draft (λ type is. not_so c.is_value.result c.is_value.ensures.1 c.if-not-is_value.true (type, is)) c.put_codes.ensures
 
-pub list::put_list_code-returns : goal.list::put_list_code-returns
-list::put_list_code-returns t c =
+pub list_forms::put_list_code-returns : goal.list_forms::put_list_code-returns
+list_forms::put_list_code-returns t c =
     let left_is = node_operand c.args.context.now.checked.now c.args.context.now.ranges.now c.at-left.result (c.args.place + 1) c.at-left.ensures.kind c.at-left.ensures.range in
     ok_list_code (question_of c.args.context.now) c.args.context.now.ranges.now c.requires.translated.ranges c.requires.translated.right c.trees_have_one_type.ensures c.typed_trees_end_once_on_entities.ensures c.requires.translated.moment c.quoted_texts_have_one_number.ensures c.comparisons_are_decided.ensures.decided c.args.place c.requires.list c.at-left.result c.at-left.ensures.source left_is c.as_slice-2.result.now (subst (AreItemsOf c.args.context.now.checked.now c.args.context.now.ranges.now c.args.place) (sym c.as_slice-2.ensures.value) c.in_ok-items.ensures.items) c.close.result (not_so c.is_truth.result c.is_truth.ensures.1 c.if-is_truth.false) c.args.draft.now c.close.new.draft c.first.result c.in_ok-lifted.lifted c.in_ok-lifted.ensures c.first.ensures c.open.new.draft c.put_faults.new.draft c.put_codes-2.new.draft c.in_ok-open.ensures
     c.in_ok-put_faults.ensures c.in_ok-put_codes.ensures c.close.ensures.values c.close.ensures.idle
 
-pub list::put_list_code-items_of-requires-clause-list : goal.list::put_list_code-items_of-requires-clause-list
-list::put_list_code-items_of-requires-clause-list t c = c.requires.list
+pub list_forms::put_list_code-items_of-requires-clause-list : goal.list_forms::put_list_code-items_of-requires-clause-list
+list_forms::put_list_code-items_of-requires-clause-list t c = c.requires.list
 
-pub list::put_list_code-put_truth_list_code-requires : goal.list::put_list_code-put_truth_list_code-requires
-list::put_list_code-put_truth_list_code-requires t c =
+pub list_forms::put_list_code-put_truth_list_code-requires : goal.list_forms::put_list_code-put_truth_list_code-requires
+list_forms::put_list_code-put_truth_list_code-requires t c =
     (omega arith, (c.requires.translated, ((c.requires.list, subst (AreItemsOf c.args.context.now.checked.now c.args.context.now.ranges.now c.args.place) (sym c.as_slice.ensures.value) c.in_ok-items.ensures.items), (let left_is = node_operand c.args.context.now.checked.now c.args.context.now.ranges.now c.at-left.result (c.args.place + 1) c.at-left.ensures.kind c.at-left.ensures.range in of_list_answers_left_boolean (question_of c.args.context.now) c.args.context.now.ranges.now c.requires.translated.ranges c.requires.translated.right c.trees_have_one_type.ensures c.typed_trees_end_once_on_entities.ensures c.requires.translated.moment c.quoted_texts_have_one_number.ensures c.comparisons_are_decided.ensures.decided c.args.place c.requires.list c.at-left.result c.at-left.ensures.source left_is c.as_slice.result.now (subst (AreItemsOf c.args.context.now.checked.now c.args.context.now.ranges.now c.args.place) (sym c.as_slice.ensures.value) c.in_ok-items.ensures.items) (c.is_truth.ensures.0 c.if-is_truth.true)))))
 
-pub list::put_list_code-put_codes-requires : goal.list::put_list_code-put_codes-requires
-list::put_list_code-put_codes-requires t c = (
+pub list_forms::put_list_code-put_codes-requires : goal.list_forms::put_list_code-put_codes-requires
+list_forms::put_list_code-put_codes-requires t c = (
   omega (arith, on_from c.args.context.now.checked.now (left_in c.args.context.now.checked.now (c.at-left.result ∷ c.as_slice-then-not-is_value.result.now)) (left_from c.args.context.now.checked.now c.args.place) (19 + length c.as_slice-then-not-is_value.result.now) 2 (items_on c.args.context.now.checked.now c.args.place (kind_inside c.args.context.now.checked.now c.args.place NodeKind.InList c.requires.list) c.requires.translated.right c.args.context.now.ranges.now c.at-left.result c.as_slice-then-not-is_value.result.now (at_on c.args.context.now.checked.now c.args.place (kind_inside c.args.context.now.checked.now c.args.place NodeKind.InList c.requires.list) c.at-left.result (c.args.place + 1) c.at-left.ensures.source (omega arith)) (subst (AreItemsOf c.args.context.now.checked.now c.args.context.now.ranges.now c.args.place) (sym c.as_slice-then-not-is_value.ensures.value) c.in_ok-items.ensures.items)) (omega (arith, c.in_ok-items.ensures.few, ap length c.as_slice-then-not-is_value.ensures.value))),
   (c.requires.translated, ((let left_is = node_operand c.args.context.now.checked.now c.args.context.now.ranges.now c.at-left.result (c.args.place + 1) c.at-left.ensures.kind c.at-left.ensures.range in left_faulty (question_of c.args.context.now) c.args.context.now.ranges.now c.requires.translated.ranges c.requires.translated.right c.trees_have_one_type.ensures c.typed_trees_end_once_on_entities.ensures c.requires.translated.moment c.quoted_texts_have_one_number.ensures c.comparisons_are_decided.ensures.decided c.args.place c.requires.list c.at-left.result c.at-left.ensures.source left_is c.as_slice-then-not-is_value.result.now (subst (AreItemsOf c.args.context.now.checked.now c.args.context.now.ranges.now c.args.place) (sym c.as_slice-then-not-is_value.ensures.value) c.in_ok-items.ensures.items)), ((let left_is = node_operand c.args.context.now.checked.now c.args.context.now.ranges.now c.at-left.result (c.args.place + 1) c.at-left.ensures.kind c.at-left.ensures.range in items_faulty (question_of c.args.context.now) c.args.context.now.ranges.now c.requires.translated.ranges c.requires.translated.right c.trees_have_one_type.ensures c.typed_trees_end_once_on_entities.ensures c.requires.translated.moment c.quoted_texts_have_one_number.ensures c.comparisons_are_decided.ensures.decided c.args.place c.requires.list c.at-left.result c.at-left.ensures.source left_is c.as_slice-then-not-is_value.result.now (subst (AreItemsOf c.args.context.now.checked.now c.args.context.now.ranges.now c.args.place) (sym c.as_slice-then-not-is_value.ensures.value) c.in_ok-items.ensures.items)), (let left_is = node_operand c.args.context.now.checked.now c.args.context.now.ranges.now c.at-left.result (c.args.place + 1) c.at-left.ensures.kind c.at-left.ensures.range in items_compared (question_of c.args.context.now) c.args.context.now.ranges.now c.requires.translated.ranges c.requires.translated.right c.trees_have_one_type.ensures c.typed_trees_end_once_on_entities.ensures c.requires.translated.moment c.quoted_texts_have_one_number.ensures c.comparisons_are_decided.ensures.decided c.args.place c.requires.list c.at-left.result c.at-left.ensures.source left_is c.as_slice-then-not-is_value.result.now (subst (AreItemsOf c.args.context.now.checked.now c.args.context.now.ranges.now c.args.place) (sym c.as_slice-then-not-is_value.ensures.value) c.in_ok-items.ensures.items))))),
 )
 
-pub list::put_list_code-put_codes-requires-2 : goal.list::put_list_code-put_codes-requires-2
-list::put_list_code-put_codes-requires-2 t c = (
+pub list_forms::put_list_code-put_codes-requires-2 : goal.list_forms::put_list_code-put_codes-requires-2
+list_forms::put_list_code-put_codes-requires-2 t c = (
   omega (arith, on_from c.args.context.now.checked.now (left_in c.args.context.now.checked.now (c.first.result ∷ c.as_slice-2.result.now)) (left_from c.args.context.now.checked.now c.args.place) (19 + length c.as_slice-2.result.now) 2 (omega (arith, swap_left c.args.context.now.checked.now c.first.result c.at-left.result c.as_slice-2.result.now (lifted_left_left c.args.context.now.checked.now c.at-left.result c.args.draft.now.depth c.in_ok-lifted.lifted c.in_ok-lifted.ensures c.first.result c.first.ensures), (items_on c.args.context.now.checked.now c.args.place (kind_inside c.args.context.now.checked.now c.args.place NodeKind.InList c.requires.list) c.requires.translated.right c.args.context.now.ranges.now c.at-left.result c.as_slice-2.result.now (at_on c.args.context.now.checked.now c.args.place (kind_inside c.args.context.now.checked.now c.args.place NodeKind.InList c.requires.list) c.at-left.result (c.args.place + 1) c.at-left.ensures.source (omega arith)) (subst (AreItemsOf c.args.context.now.checked.now c.args.context.now.ranges.now c.args.place) (sym c.as_slice-2.ensures.value) c.in_ok-items.ensures.items)))) (omega (arith, c.in_ok-items.ensures.few, ap length c.as_slice-2.ensures.value))),
   (c.requires.translated, ((let left_is = node_operand c.args.context.now.checked.now c.args.context.now.ranges.now c.at-left.result (c.args.place + 1) c.at-left.ensures.kind c.at-left.ensures.range in let value = c.is_value.ensures.0 c.if-not-is_value.false in faulty_first c.args.context.now.checked.now c.args.context.now.ranges.now c.at-left.result c.first.result value.0 value.1 c.in_ok-lifted.lifted c.args.draft.now.depth c.in_ok-lifted.ensures c.first.ensures (not_so c.is_truth.result c.is_truth.ensures.1 c.if-is_truth.false) (kind_first c.args.context.now.checked.now c.args.context.now.ranges.now c.at-left.result c.first.result value.0 value.1 c.in_ok-lifted.lifted c.args.draft.now.depth c.in_ok-lifted.ensures c.first.ensures) (left_faulty (question_of c.args.context.now) c.args.context.now.ranges.now c.requires.translated.ranges c.requires.translated.right c.trees_have_one_type.ensures c.typed_trees_end_once_on_entities.ensures c.requires.translated.moment c.quoted_texts_have_one_number.ensures c.comparisons_are_decided.ensures.decided c.args.place c.requires.list c.at-left.result c.at-left.ensures.source left_is c.as_slice-2.result.now (subst (AreItemsOf c.args.context.now.checked.now c.args.context.now.ranges.now c.args.place) (sym c.as_slice-2.ensures.value) c.in_ok-items.ensures.items))), ((let left_is = node_operand c.args.context.now.checked.now c.args.context.now.ranges.now c.at-left.result (c.args.place + 1) c.at-left.ensures.kind c.at-left.ensures.range in let value = c.is_value.ensures.0 c.if-not-is_value.false in items_faulty (question_of c.args.context.now) c.args.context.now.ranges.now c.requires.translated.ranges c.requires.translated.right c.trees_have_one_type.ensures c.typed_trees_end_once_on_entities.ensures c.requires.translated.moment c.quoted_texts_have_one_number.ensures c.comparisons_are_decided.ensures.decided c.args.place c.requires.list c.at-left.result c.at-left.ensures.source left_is c.as_slice-2.result.now (subst (AreItemsOf c.args.context.now.checked.now c.args.context.now.ranges.now c.args.place) (sym c.as_slice-2.ensures.value) c.in_ok-items.ensures.items)), (let left_is = node_operand c.args.context.now.checked.now c.args.context.now.ranges.now c.at-left.result (c.args.place + 1) c.at-left.ensures.kind c.at-left.ensures.range in let value = c.is_value.ensures.0 c.if-not-is_value.false in subst (λ (k : Kind). AllByRecursion (λ (item : Operand). AreCompared k item.kind) c.as_slice-2.result.now) (sym (kind_first c.args.context.now.checked.now c.args.context.now.ranges.now c.at-left.result c.first.result value.0 value.1 c.in_ok-lifted.lifted c.args.draft.now.depth c.in_ok-lifted.ensures c.first.ensures)) (items_compared (question_of c.args.context.now) c.args.context.now.ranges.now c.requires.translated.ranges c.requires.translated.right c.trees_have_one_type.ensures c.typed_trees_end_once_on_entities.ensures c.requires.translated.moment c.quoted_texts_have_one_number.ensures c.comparisons_are_decided.ensures.decided c.args.place c.requires.list c.at-left.result c.at-left.ensures.source left_is c.as_slice-2.result.now (subst (AreItemsOf c.args.context.now.checked.now c.args.context.now.ranges.now c.args.place) (sym c.as_slice-2.ensures.value) c.in_ok-items.ensures.items)))))),
 )
 
-pub list::put_list_code-close-requires : goal.list::put_list_code-close-requires
-list::put_list_code-close-requires t c = (
+pub list_forms::put_list_code-close-requires : goal.list_forms::put_list_code-close-requires
+list_forms::put_list_code-close-requires t c = (
   omega (arith, on_from c.args.context.now.checked.now (left_in c.args.context.now.checked.now c.in_ok-lifted.lifted.bound.items) (left_from c.args.context.now.checked.now c.args.place) 11 2 (omega (arith, bound_left_left c.args.context.now.checked.now c.at-left.result c.args.draft.now.depth c.in_ok-lifted.lifted c.in_ok-lifted.ensures, (at_on c.args.context.now.checked.now c.args.place (kind_inside c.args.context.now.checked.now c.args.place NodeKind.InList c.requires.list) c.at-left.result (c.args.place + 1) c.at-left.ensures.source (omega arith)))) (omega arith)),
   (c.requires.translated, ((let left_is = node_operand c.args.context.now.checked.now c.args.context.now.ranges.now c.at-left.result (c.args.place + 1) c.at-left.ensures.kind c.at-left.ensures.range in bound_may_be_put c.args.context.now.checked.now c.args.context.now.ranges.now (c.at-left.result ∷ []) c.args.draft.now.depth c.in_ok-lifted.lifted c.in_ok-lifted.ensures (untrue_tested c.args.context.now.checked.now c.args.context.now.ranges.now c.at-left.result (not_so c.is_truth.result c.is_truth.ensures.1 c.if-is_truth.false) (left_faulty (question_of c.args.context.now) c.args.context.now.ranges.now c.requires.translated.ranges c.requires.translated.right c.trees_have_one_type.ensures c.typed_trees_end_once_on_entities.ensures c.requires.translated.moment c.quoted_texts_have_one_number.ensures c.comparisons_are_decided.ensures.decided c.args.place c.requires.list c.at-left.result c.at-left.ensures.source left_is c.as_slice-2.result.now (subst (AreItemsOf c.args.context.now.checked.now c.args.context.now.ranges.now c.args.place) (sym c.as_slice-2.ensures.value) c.in_ok-items.ensures.items)), tt)), omega (arith, c.in_ok-open.ensures.depth, c.in_ok-put_faults.ensures.depth, c.in_ok-put_codes.ensures.grows.depth))),
 )
 
--- ---- list::put_over_left
+-- ---- list_forms::put_over_left
 
-pub list::put_over_left-lifted_left-requires-clause-value : goal.list::put_over_left-lifted_left-requires-clause-value
-list::put_over_left-lifted_left-requires-clause-value t c = c.is_value.ensures.0 c.if-not-is_value.false
+pub list_forms::put_over_left-lifted_left-requires-clause-value : goal.list_forms::put_over_left-lifted_left-requires-clause-value
+list_forms::put_over_left-lifted_left-requires-clause-value t c = c.is_value.ensures.0 c.if-not-is_value.false
 
-pub list::put_over_left-first-requires : goal.list::put_over_left-first-requires
-list::put_over_left-first-requires t c =
+pub list_forms::put_over_left-first-requires : goal.list_forms::put_over_left-first-requires
+list_forms::put_over_left-first-requires t c =
     let one : length c.in_ok-lifted.lifted.inner.items ≡ 1 = inner_length (c.args.left.now ∷ []) c.args.draft.now.depth c.in_ok-lifted.lifted c.in_ok-lifted.ensures in
     omega (arith, one)
 
-pub list::put_over_left-returns : goal.list::put_over_left-returns
-list::put_over_left-returns t c =
+pub list_forms::put_over_left-returns : goal.list_forms::put_over_left-returns
+list_forms::put_over_left-returns t c =
     ok_over_left (question_of c.args.context.now) c.args.left.now c.first.result c.args.items.now c.in_ok-lifted.lifted c.args.draft.now c.in_ok-lifted.ensures c.first.ensures (IsInForm (kept_form c.args.kept)) c.open.new.draft c.put_equal_to_one-2.new.draft c.close.new.draft c.in_ok-open.ensures c.close.result
     c.in_ok-put_equal_to_one.ensures c.close.ensures.values c.close.ensures.idle
 
-pub list::put_over_left-put_equal_to_one-requires : goal.list::put_over_left-put_equal_to_one-requires
-list::put_over_left-put_equal_to_one-requires t c = (omega arith, (c.requires.translated, c.requires.beside))
+pub list_forms::put_over_left-put_equal_to_one-requires : goal.list_forms::put_over_left-put_equal_to_one-requires
+list_forms::put_over_left-put_equal_to_one-requires t c = (omega arith, (c.requires.translated, c.requires.beside))
 
-pub list::put_over_left-put_equal_to_one-requires-2 : goal.list::put_over_left-put_equal_to_one-requires-2
-list::put_over_left-put_equal_to_one-requires-2 t c = (
+pub list_forms::put_over_left-put_equal_to_one-requires-2 : goal.list_forms::put_over_left-put_equal_to_one-requires-2
+list_forms::put_over_left-put_equal_to_one-requires-2 t c = (
   omega (arith, down_to c.args.context.now.checked.now (left_in c.args.context.now.checked.now (c.first.result ∷ c.args.items.now)) (left_in c.args.context.now.checked.now (c.args.left.now ∷ c.args.items.now)) (18 + length c.args.items.now) (19 + length c.args.items.now) (swap_left c.args.context.now.checked.now c.first.result c.args.left.now c.args.items.now (lifted_left_left c.args.context.now.checked.now c.args.left.now c.args.draft.now.depth c.in_ok-lifted.lifted c.in_ok-lifted.ensures c.first.result c.first.ensures)) (omega arith)),
   (c.requires.translated, (let value = c.is_value.ensures.0 c.if-not-is_value.false in beside_first c.args.context.now.checked.now c.args.context.now.ranges.now c.args.left.now c.first.result value.0 value.1 c.args.items.now c.in_ok-lifted.lifted c.args.draft.now.depth c.in_ok-lifted.ensures c.first.ensures c.requires.beside)),
 )
 
-pub list::put_over_left-close-requires : goal.list::put_over_left-close-requires
-list::put_over_left-close-requires t c = (
+pub list_forms::put_over_left-close-requires : goal.list_forms::put_over_left-close-requires
+list_forms::put_over_left-close-requires t c = (
   omega (arith, down_to c.args.context.now.checked.now (left_in c.args.context.now.checked.now c.in_ok-lifted.lifted.bound.items) (left_in c.args.context.now.checked.now (c.args.left.now ∷ c.args.items.now)) 11 (19 + length c.args.items.now) (bound_beside_left c.args.context.now.checked.now c.args.left.now c.args.draft.now.depth c.in_ok-lifted.lifted c.in_ok-lifted.ensures c.args.items.now) (omega arith)),
   (c.requires.translated, (bound_may_be_put c.args.context.now.checked.now c.args.context.now.ranges.now (c.args.left.now ∷ []) c.args.draft.now.depth c.in_ok-lifted.lifted c.in_ok-lifted.ensures (c.requires.beside.left_tested, tt), omega (arith, c.in_ok-open.ensures.depth, c.in_ok-put_equal_to_one.ensures.grows.depth))),
 )
 
--- ---- list::put_truth_list_code
+-- ---- list_forms::put_truth_list_code
 
-pub list::put_truth_list_code-range-requires : goal.list::put_truth_list_code-range-requires
-list::put_truth_list_code-range-requires t c =
+pub list_forms::put_truth_list_code-range-requires : goal.list_forms::put_truth_list_code-range-requires
+list_forms::put_truth_list_code-range-requires t c =
     has_range (question_of c.args.context.now) c.args.context.now.ranges.now c.requires.translated.ranges (c.args.place + 1) (list_child c.args.context.now.checked.now c.requires.translated.right c.args.place c.requires.list.0)
 
-pub list::put_truth_list_code-overflow_sub-draft : goal.list::put_truth_list_code-overflow_sub-draft
-list::put_truth_list_code-overflow_sub-draft t c =
+pub list_forms::put_truth_list_code-overflow_sub-draft : goal.list_forms::put_truth_list_code-overflow_sub-draft
+list_forms::put_truth_list_code-overflow_sub-draft t c =
     let deep : c.deepen.new.self.depth ≡ c.put-2.new.self.depth + 1 = c.in_ok-deepen.ensures.ok.depth in
     let kept : c.put_equal_codes.new.draft.depth ≡ c.deepen.new.self.depth = c.in_ok-put_equal_codes.ensures.grows.depth in
     omega (arith, deep, kept)
 
-pub list::put_truth_list_code-returns-then-is_empty : goal.list::put_truth_list_code-returns-then-is_empty
-list::put_truth_list_code-returns-then-is_empty t c =
+pub list_forms::put_truth_list_code-returns-then-is_empty : goal.list_forms::put_truth_list_code-returns-then-is_empty
+list_forms::put_truth_list_code-returns-then-is_empty t c =
     let ranged = at_place c.args.context.now.ranges.now (c.args.place + 1) (has_range (question_of c.args.context.now) c.args.context.now.ranges.now c.requires.translated.ranges (c.args.place + 1) (list_child c.args.context.now.checked.now c.requires.translated.right c.args.place c.requires.list.0)) in
     let left = truth_operand (c.args.place + 1) ranged.0 in
     let left_is = is_truth_operand c.args.context.now.checked.now c.args.context.now.ranges.now (c.args.place + 1) ranged.0 c.requires.truth ranged.1 in
     ok_never (question_of c.args.context.now) c.args.place left refl refl c.put_code.result c.args.draft.now c.put_code.new.draft c.args.items.now (of_list_answers_comes_so (question_of c.args.context.now) c.args.context.now.ranges.now c.requires.translated.ranges c.requires.translated.right c.trees_have_one_type.ensures c.typed_trees_end_once_on_entities.ensures c.requires.translated.moment c.quoted_texts_have_one_number.ensures c.comparisons_are_decided.ensures.decided c.args.place c.requires.list.0 left refl left_is c.args.items.now c.requires.list.1) (empty_length c.args.items.now c.is_empty.result c.is_empty.ensures c.if-is_empty.true) c.put.new.self c.in_ok-put.ensures.ok c.put_code.ensures
 
-pub list::put_truth_list_code-returns : goal.list::put_truth_list_code-returns
-list::put_truth_list_code-returns t c =
+pub list_forms::put_truth_list_code-returns : goal.list_forms::put_truth_list_code-returns
+list_forms::put_truth_list_code-returns t c =
     let left = truth_operand (c.args.place + 1) c.range.result in
     let left_is = is_truth_operand c.args.context.now.checked.now c.args.context.now.ranges.now (c.args.place + 1) c.range.result c.requires.truth c.range.ensures in
     let deep : c.deepen.new.self.depth ≡ c.put-2.new.self.depth + 1 = c.in_ok-deepen.ensures.ok.depth in
     let kept : c.put_equal_codes.new.draft.depth ≡ c.deepen.new.self.depth = c.in_ok-put_equal_codes.ensures.grows.depth in
     ok_truth_list (question_of c.args.context.now) c.args.place left refl refl c.put_code-2.result c.args.draft.now c.put_code-2.new.draft c.args.items.now (of_list_answers_comes_so (question_of c.args.context.now) c.args.context.now.ranges.now c.requires.translated.ranges c.requires.translated.right c.trees_have_one_type.ensures c.typed_trees_end_once_on_entities.ensures c.requires.translated.moment c.quoted_texts_have_one_number.ensures c.comparisons_are_decided.ensures.decided c.args.place c.requires.list.0 left refl left_is c.args.items.now c.requires.list.1) (some_length c.args.items.now c.is_empty.result c.is_empty.ensures c.if-is_empty.false) (record { source = Source.Bound c.args.draft.now.depth; kind = Kind.Value SqlType.Truth; range = c.range.result }) refl refl refl c.put-2.new.self c.deepen.new.self c.put_equal_codes.new.draft (record c.put_equal_codes.new.draft { depth = c.put_equal_codes.new.draft.depth - 1 }) c.in_ok-put-2.ensures.ok c.in_ok-deepen.ensures.ok c.in_ok-put_equal_codes.ensures refl refl (omega (arith, deep, kept)) c.put_code-2.ensures
 
-pub list::put_truth_list_code-overflow_add-place-2 : goal.list::put_truth_list_code-overflow_add-place-2
-list::put_truth_list_code-overflow_add-place-2 t c =
+pub list_forms::put_truth_list_code-overflow_add-place-2 : goal.list_forms::put_truth_list_code-overflow_add-place-2
+list_forms::put_truth_list_code-overflow_add-place-2 t c =
     let there = list_child c.args.context.now.checked.now c.requires.translated.right c.args.place c.requires.list.0 in
     search (rules, arith)
 
-pub list::put_truth_list_code-overflow_add-place-3 : goal.list::put_truth_list_code-overflow_add-place-3
-list::put_truth_list_code-overflow_add-place-3 t c =
+pub list_forms::put_truth_list_code-overflow_add-place-3 : goal.list_forms::put_truth_list_code-overflow_add-place-3
+list_forms::put_truth_list_code-overflow_add-place-3 t c =
     let there = list_child c.args.context.now.checked.now c.requires.translated.right c.args.place c.requires.list.0 in
     search (rules, arith)
 
-pub list::put_truth_list_code-put_code-requires : goal.list::put_truth_list_code-put_code-requires
-list::put_truth_list_code-put_code-requires t c = (
+pub list_forms::put_truth_list_code-put_code-requires : goal.list_forms::put_truth_list_code-put_code-requires
+list_forms::put_truth_list_code-put_code-requires t c = (
   omega (arith, on_from c.args.context.now.checked.now (left_from c.args.context.now.checked.now (c.args.place + 1)) (left_from c.args.context.now.checked.now c.args.place) 6 1 (next_on c.args.context.now.checked.now c.args.place (kind_inside c.args.context.now.checked.now c.args.place NodeKind.InList c.requires.list.0)) (omega arith)),
   (c.requires.translated, boolean_truth (question_of c.args.context.now) (c.args.place + 1) c.requires.truth),
 )
 
-pub list::put_truth_list_code-put_equal_codes-requires : goal.list::put_truth_list_code-put_equal_codes-requires
-list::put_truth_list_code-put_equal_codes-requires t c = (
+pub list_forms::put_truth_list_code-put_equal_codes-requires : goal.list_forms::put_truth_list_code-put_equal_codes-requires
+list_forms::put_truth_list_code-put_equal_codes-requires t c = (
   omega (arith, on_from c.args.context.now.checked.now (left_in c.args.context.now.checked.now ((record { source = Source.Bound c.args.draft.now.depth; kind = Kind.Value SqlType.Truth; range = c.range.result }) ∷ c.args.items.now)) (left_from c.args.context.now.checked.now c.args.place) (18 + length c.args.items.now) 1 (items_on c.args.context.now.checked.now c.args.place (kind_inside c.args.context.now.checked.now c.args.place NodeKind.InList c.requires.list.0) c.requires.translated.right c.args.context.now.ranges.now (record { source = Source.Bound c.args.draft.now.depth; kind = Kind.Value SqlType.Truth; range = c.range.result }) c.args.items.now (nothing_on c.args.context.now.checked.now c.args.place (kind_inside c.args.context.now.checked.now c.args.place NodeKind.InList c.requires.list.0)) c.requires.list.1) (omega (arith, items_few c.args.context.now.checked.now c.requires.translated.right c.args.context.now.ranges.now c.args.place c.args.items.now c.requires.list.1))),
   (c.requires.translated, (tt, ((let left = truth_operand (c.args.place + 1) c.range.result in let left_is = is_truth_operand c.args.context.now.checked.now c.args.context.now.ranges.now (c.args.place + 1) c.range.result c.requires.truth c.range.ensures in items_faulty (question_of c.args.context.now) c.args.context.now.ranges.now c.requires.translated.ranges c.requires.translated.right c.trees_have_one_type.ensures c.typed_trees_end_once_on_entities.ensures c.requires.translated.moment c.quoted_texts_have_one_number.ensures c.comparisons_are_decided.ensures.decided c.args.place c.requires.list.0 left refl left_is c.args.items.now c.requires.list.1), ((let left = truth_operand (c.args.place + 1) c.range.result in let left_is = is_truth_operand c.args.context.now.checked.now c.args.context.now.ranges.now (c.args.place + 1) c.range.result c.requires.truth c.range.ensures in items_compared (question_of c.args.context.now) c.args.context.now.ranges.now c.requires.translated.ranges c.requires.translated.right c.trees_have_one_type.ensures c.typed_trees_end_once_on_entities.ensures c.requires.translated.moment c.quoted_texts_have_one_number.ensures c.comparisons_are_decided.ensures.decided c.args.place c.requires.list.0 left refl left_is c.args.items.now c.requires.list.1), some_length c.args.items.now c.is_empty.result c.is_empty.ensures c.if-is_empty.false)))),
 )
 
-pub list::put_truth_list_code-put_code-requires-2 : goal.list::put_truth_list_code-put_code-requires-2
-list::put_truth_list_code-put_code-requires-2 t c = (
+pub list_forms::put_truth_list_code-put_code-requires-2 : goal.list_forms::put_truth_list_code-put_code-requires-2
+list_forms::put_truth_list_code-put_code-requires-2 t c = (
   omega (arith, on_from c.args.context.now.checked.now (left_from c.args.context.now.checked.now (c.args.place + 1)) (left_from c.args.context.now.checked.now c.args.place) 6 1 (next_on c.args.context.now.checked.now c.args.place (kind_inside c.args.context.now.checked.now c.args.place NodeKind.InList c.requires.list.0)) (omega arith)),
   (c.requires.translated, boolean_truth (question_of c.args.context.now) (c.args.place + 1) c.requires.truth),
 )
 
--- ---- operand::put_compared
+-- ---- operand_forms::put_compared
 
-pub operand::put_compared-returns-then-eq : goal.operand::put_compared-returns-then-eq
-operand::put_compared-returns-then-eq t c = c.put_instant.ensures
+pub operand_forms::put_compared-returns-then-eq : goal.operand_forms::put_compared-returns-then-eq
+operand_forms::put_compared-returns-then-eq t c = c.put_instant.ensures
 
-pub operand::put_compared-returns-else-eq : goal.operand::put_compared-returns-else-eq
-operand::put_compared-returns-else-eq t c =
+pub operand_forms::put_compared-returns-else-eq : goal.operand_forms::put_compared-returns-else-eq
+operand_forms::put_compared-returns-else-eq t c =
     ok_compared (question_of c.args.context.now) c.args.operand.now c.args.draft.now c.put_operand.new.draft c.put_operand.result c.wanted-value_type.result (c.requires.value.1 ∙ ap (λ (t : SqlType). Kind.Value t) (sym (c.wanted-value_type.ensures c.requires.value.0 c.requires.value.1)))
     (λ moment.
     let reported : c.eq.result ≡ true = c.eq.ensures ∙ true_same of_sql_type_the_type c.wanted-value_type.result SqlType.Moment moment in
@@ -1924,22 +1924,22 @@ operand::put_compared-returns-else-eq t c =
     absurd (cc))
     c.put_operand.ensures
 
-pub operand::put_compared-put_instant-requires : goal.operand::put_compared-put_instant-requires
-operand::put_compared-put_instant-requires t c =
+pub operand_forms::put_compared-put_instant-requires : goal.operand_forms::put_compared-put_instant-requires
+operand_forms::put_compared-put_instant-requires t c =
     (omega arith, (c.requires.translated, (c.requires.put, (let moment = same_true of_sql_type_the_type tt c.wanted-value_type.result SqlType.Moment (sym c.eq.ensures ∙ c.if-eq.true) in (c.requires.value.1 ∙ ap (λ (t : SqlType). Kind.Value t) (sym (c.wanted-value_type.ensures c.requires.value.0 c.requires.value.1))) ∙ ap (λ (t : SqlType). Kind.Value t) moment))))
 
-pub operand::put_compared-put_operand-requires : goal.operand::put_compared-put_operand-requires
-operand::put_compared-put_operand-requires t c = (omega arith, (c.requires.translated, c.requires.put))
+pub operand_forms::put_compared-put_operand-requires : goal.operand_forms::put_compared-put_operand-requires
+operand_forms::put_compared-put_operand-requires t c = (omega arith, (c.requires.translated, c.requires.put))
 
--- ---- operand::put_instant
+-- ---- operand_forms::put_instant
 
-pub operand::put_instant-returns-in-Now : goal.operand::put_instant-returns-in-Now
-operand::put_instant-returns-in-Now t c =
+pub operand_forms::put_instant-returns-in-Now : goal.operand_forms::put_instant-returns-in-Now
+operand_forms::put_instant-returns-in-Now t c =
     ok_now (question_of c.args.context.now) c.args.operand.now c.in-Node.place c.args.draft.now c.put_parameter.new.self c.put_parameter.result c.of_moment.result c.in-Node.is
     (there_found (λ (n : CheckedNode). n.kind ≡ NodeKind.Now) (slice_get c.args.context.now.checked.now.list.nodes c.in-Node.place) c.node.result c.node.ensures c.in-Now.is) c.of_moment.ensures c.put_parameter.ensures.ok
 
-pub operand::put_instant-offset_bounds-values-value : goal.operand::put_instant-offset_bounds-values-value
-operand::put_instant-offset_bounds-values-value t c =
+pub operand_forms::put_instant-offset_bounds-values-value : goal.operand_forms::put_instant-offset_bounds-values-value
+operand_forms::put_instant-offset_bounds-values-value t c =
     let here =
     there_found (λ (n : CheckedNode). n.kind ≡ NodeKind.Literal c.in-Literal.kind c.in-Literal.value) (slice_get c.args.context.now.checked.now.list.nodes c.in-Node.place) c.node.result c.node.ensures
     c.in-Literal.is in
@@ -1948,8 +1948,8 @@ operand::put_instant-offset_bounds-values-value t c =
     (literal_within c.args.context.now.checked.now c.in-Node.place c.in-Literal.kind c.in-Literal.value here c.requires.translated.right) in
     search (rules, arith)
 
-pub operand::put_instant-bounds-values-value : goal.operand::put_instant-bounds-values-value
-operand::put_instant-bounds-values-value t c =
+pub operand_forms::put_instant-bounds-values-value : goal.operand_forms::put_instant-bounds-values-value
+operand_forms::put_instant-bounds-values-value t c =
     let here =
     there_found (λ (n : CheckedNode). n.kind ≡ NodeKind.Literal c.in-Literal.kind c.in-Literal.value) (slice_get c.args.context.now.checked.now.list.nodes c.in-Node.place) c.node.result c.node.ensures
     c.in-Literal.is in
@@ -1958,8 +1958,8 @@ operand::put_instant-bounds-values-value t c =
     (literal_within c.args.context.now.checked.now c.in-Node.place c.in-Literal.kind c.in-Literal.value here c.requires.translated.right) in
     within
 
-pub operand::put_instant-returns-in-Moment : goal.operand::put_instant-returns-in-Moment
-operand::put_instant-returns-in-Moment t c =
+pub operand_forms::put_instant-returns-in-Moment : goal.operand_forms::put_instant-returns-in-Moment
+operand_forms::put_instant-returns-in-Moment t c =
     let here =
     there_found (λ (n : CheckedNode). n.kind ≡ NodeKind.Literal c.in-Literal.kind c.in-Literal.value) (slice_get c.args.context.now.checked.now.list.nodes c.in-Node.place) c.node.result c.node.ensures
     c.in-Literal.is in
@@ -1970,28 +1970,28 @@ operand::put_instant-returns-in-Moment t c =
     (literal_at c.args.context.now.checked.now.list.values c.values.result.now c.in-Literal.value c.index-values-value.result (Value.Moment c.in-Moment.moment) c.values.ensures within c.index-values-value.is c.in-Moment.is)
     c.of_moment-in-Moment.ensures c.put_parameter-in-Moment.ensures.ok
 
-pub operand::put_instant-returns : goal.operand::put_instant-returns
-operand::put_instant-returns t c =
+pub operand_forms::put_instant-returns : goal.operand_forms::put_instant-returns
+operand_forms::put_instant-returns t c =
     ok_of_moment (question_of c.args.context.now) c.args.operand.now c.args.draft.now c.put.new.self c.put_operand.new.draft c.put_operand.result c.requires.moment c.in_ok-put.ensures.ok c.put_operand.ensures
 
-pub operand::put_instant-node-requires : goal.operand::put_instant-node-requires
-operand::put_instant-node-requires t c = node_there c.args.context.now.checked.now c.args.context.now.ranges.now c.args.operand.now c.in-Node.place c.in-Node.is c.requires.put
+pub operand_forms::put_instant-node-requires : goal.operand_forms::put_instant-node-requires
+operand_forms::put_instant-node-requires t c = node_there c.args.context.now.checked.now c.args.context.now.ranges.now c.args.operand.now c.in-Node.place c.in-Node.is c.requires.put
 
-pub operand::put_instant-put_operand-requires : goal.operand::put_instant-put_operand-requires
-operand::put_instant-put_operand-requires t c = (omega arith, (c.requires.translated, c.requires.put))
+pub operand_forms::put_instant-put_operand-requires : goal.operand_forms::put_instant-put_operand-requires
+operand_forms::put_instant-put_operand-requires t c = (omega arith, (c.requires.translated, c.requires.put))
 
--- ---- operand::put_is_null
+-- ---- operand_forms::put_is_null
 
-pub operand::put_is_null-returns-then-not-operand : goal.operand::put_is_null-returns-then-not-operand
-operand::put_is_null-returns-then-not-operand t c =
+pub operand_forms::put_is_null-returns-then-not-operand : goal.operand_forms::put_is_null-returns-then-not-operand
+operand_forms::put_is_null-returns-then-not-operand t c =
     of_operand_answers_ok_never (question_of c.args.context.now) c.args.operand.now c.args.draft.now c.put.new.self c.put.result c.if-not-operand.true c.put.ensures.ok
 
-pub operand::put_is_null-returns-in-Place : goal.operand::put_is_null-returns-in-Place
-operand::put_is_null-returns-in-Place t c =
+pub operand_forms::put_is_null-returns-in-Place : goal.operand_forms::put_is_null-returns-in-Place
+operand_forms::put_is_null-returns-in-Place t c =
     ok_missing (question_of c.args.context.now) c.args.operand.now c.args.draft.now c.put-in-Place.new.self c.put-in-Place.result c.in-Place.path c.in-Place.is c.put-in-Place.ensures.ok
 
-pub operand::put_is_null-put_path-requires : goal.operand::put_is_null-put_path-requires
-operand::put_is_null-put_path-requires t c =
+pub operand_forms::put_is_null-put_path-requires : goal.operand_forms::put_is_null-put_path-requires
+operand_forms::put_is_null-put_path-requires t c =
     let tested = node_tested c.args.context.now.checked.now c.args.context.now.ranges.now c.args.operand.now c.in-Node.place c.in-Structured.is c.in-Node.is c.requires.tested in
     record {
       translated = c.requires.translated;
@@ -1999,61 +1999,61 @@ operand::put_is_null-put_path-requires t c =
           tested.at tested.range (sym tested.kind ∙ c.in-Structured.is) c.if-not-operand.false;
     }
 
-pub operand::put_is_null-returns-in-Null : goal.operand::put_is_null-returns-in-Null
-operand::put_is_null-returns-in-Null t c =
+pub operand_forms::put_is_null-returns-in-Null : goal.operand_forms::put_is_null-returns-in-Null
+operand_forms::put_is_null-returns-in-Null t c =
     ok_always (question_of c.args.context.now) c.args.operand.now c.args.draft.now c.put-in-Null.new.self c.put-in-Null.result c.in-Null.is c.put-in-Null.ensures.ok
 
-pub operand::put_is_null-returns-in_ok-put-in-Value : goal.operand::put_is_null-returns-in_ok-put-in-Value
-operand::put_is_null-returns-in_ok-put-in-Value t c =
+pub operand_forms::put_is_null-returns-in_ok-put-in-Value : goal.operand_forms::put_is_null-returns-in_ok-put-in-Value
+operand_forms::put_is_null-returns-in_ok-put-in-Value t c =
     ok_null (question_of c.args.context.now) c.args.operand.now c.args.draft.now c.put_operand.new.draft c.put_operand.result c.put-in-Value.new.self c.in_ok-put-in-Value.ensures.ok c.put_operand.ensures
 
-pub operand::put_is_null-returns-in_ok-path-in-Node : goal.operand::put_is_null-returns-in_ok-path-in-Node
-operand::put_is_null-returns-in_ok-path-in-Node t c =
+pub operand_forms::put_is_null-returns-in_ok-path-in-Node : goal.operand_forms::put_is_null-returns-in_ok-path-in-Node
+operand_forms::put_is_null-returns-in_ok-path-in-Node t c =
     ok_path (question_of c.args.context.now) c.args.operand.now c.args.draft.now c.put-in-Node.new.self c.put-in-Node.result c.put_path.new.draft c.in-Node.place c.in_ok-path-in-Node.path c.in-Node.is
     c.in_ok-path-in-Node.ensures c.put-in-Node.ensures.ok
 
-pub operand::put_is_null-returns-in_default-source : goal.operand::put_is_null-returns-in_default-source
-operand::put_is_null-returns-in_default-source t c =
+pub operand_forms::put_is_null-returns-in_default-source : goal.operand_forms::put_is_null-returns-in_default-source
+operand_forms::put_is_null-returns-in_default-source t c =
     absurd (not_testable c.args.context.now.checked.now c.args.context.now.ranges.now c.args.operand.now c.in-Structured.is c.requires.tested (λ path is. c.in_default.not-Place path is) (λ place is. c.in_default-source.not-Node place is))
 
-pub operand::put_is_null-put_operand-requires : goal.operand::put_is_null-put_operand-requires
-operand::put_is_null-put_operand-requires t c =
+pub operand_forms::put_is_null-put_operand-requires : goal.operand_forms::put_is_null-put_operand-requires
+operand_forms::put_is_null-put_operand-requires t c =
     (omega arith, (c.requires.translated, tested_put c.args.context.now.checked.now c.args.context.now.ranges.now c.args.operand.now c.in-Value.value_type c.in-Value.is c.requires.tested))
 
--- ---- operand::put_operand
+-- ---- operand_forms::put_operand
 
-pub operand::put_operand-returns-in-Node : goal.operand::put_operand-returns-in-Node
-operand::put_operand-returns-in-Node t c =
+pub operand_forms::put_operand-returns-in-Node : goal.operand_forms::put_operand-returns-in-Node
+operand_forms::put_operand-returns-in-Node t c =
     ok_node (question_of c.args.context.now) c.args.operand.now c.args.draft.now c.put_value.new.draft c.put_value.result c.in-Node.place c.in-Node.is c.put_value.ensures
 
-pub operand::put_operand-returns-in-Bound : goal.operand::put_operand-returns-in-Bound
-operand::put_operand-returns-in-Bound t c = ok_bound (question_of c.args.context.now) c.args.operand.now c.args.draft.now c.put.new.self c.put.result c.in-Bound.level c.in-Bound.is c.put.ensures.ok
+pub operand_forms::put_operand-returns-in-Bound : goal.operand_forms::put_operand-returns-in-Bound
+operand_forms::put_operand-returns-in-Bound t c = ok_bound (question_of c.args.context.now) c.args.operand.now c.args.draft.now c.put.new.self c.put.result c.in-Bound.level c.in-Bound.is c.put.ensures.ok
 
-pub operand::put_operand-returns-in_ok-put-in-Unfaulted : goal.operand::put_operand-returns-in_ok-put-in-Unfaulted
-operand::put_operand-returns-in_ok-put-in-Unfaulted t c =
+pub operand_forms::put_operand-returns-in_ok-put-in-Unfaulted : goal.operand_forms::put_operand-returns-in_ok-put-in-Unfaulted
+operand_forms::put_operand-returns-in_ok-put-in-Unfaulted t c =
     ok_unfaulted (question_of c.args.context.now) c.args.operand.now c.args.draft.now c.put-in-Unfaulted-2.new.self c.put-in-Unfaulted-2.result c.put-in-Unfaulted.new.self c.in-Unfaulted.level
     c.in-Unfaulted.carrier c.in-Unfaulted.is c.in_ok-put-in-Unfaulted.ensures.ok c.put-in-Unfaulted-2.ensures.ok
 
-pub operand::put_operand-returns-in-Field : goal.operand::put_operand-returns-in-Field
-operand::put_operand-returns-in-Field t c =
+pub operand_forms::put_operand-returns-in-Field : goal.operand_forms::put_operand-returns-in-Field
+operand_forms::put_operand-returns-in-Field t c =
     ok_field (question_of c.args.context.now) c.args.operand.now c.args.draft.now c.put-in-Field.new.self c.put-in-Field.result c.in-Field.path c.in-Field.value_type c.in-Field.is c.put-in-Field.ensures.ok
 
-pub operand::put_operand-returns-in-Number : goal.operand::put_operand-returns-in-Number
-operand::put_operand-returns-in-Number t c =
+pub operand_forms::put_operand-returns-in-Number : goal.operand_forms::put_operand-returns-in-Number
+operand_forms::put_operand-returns-in-Number t c =
     ok_number (question_of c.args.context.now) c.args.operand.now c.args.draft.now c.put_enumeration_number.new.draft c.put_enumeration_number.result c.in-Number.value c.in-Number.is c.put_enumeration_number.ensures
 
-pub operand::put_operand-returns-in-Zero : goal.operand::put_operand-returns-in-Zero
-operand::put_operand-returns-in-Zero t c = ok_zero (question_of c.args.context.now) c.args.operand.now c.args.draft.now c.put_number.new.self c.put_number.result c.in-Zero.is c.put_number.ensures.ok
+pub operand_forms::put_operand-returns-in-Zero : goal.operand_forms::put_operand-returns-in-Zero
+operand_forms::put_operand-returns-in-Zero t c = ok_zero (question_of c.args.context.now) c.args.operand.now c.args.draft.now c.put_number.new.self c.put_number.result c.in-Zero.is c.put_number.ensures.ok
 
-pub operand::put_operand-put_enumeration_number-requires : goal.operand::put_operand-put_enumeration_number-requires
-operand::put_operand-put_enumeration_number-requires t c = subst (IsSourceOf c.args.context.now.checked.now c.args.context.now.ranges.now c.args.operand.now) c.in-Number.is c.requires.put.source
+pub operand_forms::put_operand-put_enumeration_number-requires : goal.operand_forms::put_operand-put_enumeration_number-requires
+operand_forms::put_operand-put_enumeration_number-requires t c = subst (IsSourceOf c.args.context.now.checked.now c.args.context.now.ranges.now c.args.operand.now) c.in-Number.is c.requires.put.source
 
-pub operand::put_operand-returns-in-Place : goal.operand::put_operand-returns-in-Place
-operand::put_operand-returns-in-Place t c =
+pub operand_forms::put_operand-returns-in-Place : goal.operand_forms::put_operand-returns-in-Place
+operand_forms::put_operand-returns-in-Place t c =
     absurd (no_place c.args.context.now.checked.now c.args.context.now.ranges.now c.args.operand.now c.in-Place.path c.in-Place.is c.requires.put)
 
-pub operand::put_operand-put_value-requires : goal.operand::put_operand-put_value-requires
-operand::put_operand-put_value-requires t c = (
+pub operand_forms::put_operand-put_value-requires : goal.operand_forms::put_operand-put_value-requires
+operand_forms::put_operand-put_value-requires t c = (
   omega (arith, down_to c.args.context.now.checked.now (left_from c.args.context.now.checked.now c.in-Node.place) (left_of c.args.context.now.checked.now c.args.operand.now) 5 10 (node_left c.args.context.now.checked.now c.args.operand.now.source c.in-Node.place c.in-Node.is) (omega arith)),
   (c.requires.translated, (node_there c.args.context.now.checked.now c.args.context.now.ranges.now c.args.operand.now c.in-Node.place c.in-Node.is c.requires.put, (node_valued c.args.context.now.checked.now c.args.context.now.ranges.now c.args.operand.now c.in-Node.place c.in-Node.is c.requires.put, node_plain c.args.context.now.checked.now c.args.context.now.ranges.now c.args.operand.now c.in-Node.place c.in-Node.is c.requires.put))),
 )
@@ -2274,115 +2274,115 @@ pub truth::put_truth-put_other_truth-requires : goal.truth::put_truth-put_other_
 truth::put_truth-put_other_truth-requires t c =
     (omega arith, (c.requires.translated, (kind_here c.args.context.now.checked.now c.args.place c.node.result c.node.ensures c.node.result.kind refl, (other_kind c.args.context.now.checked.now c.requires.translated.right c.args.place c.node.result c.node.ensures (boolean_of c.args.context.now.checked.now c.args.place c.node.result c.node.ensures (boolean_there c.args.context.now.checked.now c.args.place c.kind.result c.kind.ensures (λ null. not_so c.is_kind.result c.is_kind.ensures.1 c.if-is_kind.false null) c.requires.truth)) c.node.result.kind refl (found_there (λ (n : CheckedNode). ComparesNothing n.kind) (slice_get c.args.context.now.checked.now.list.nodes c.args.place) c.node.result c.node.ensures c.in_default.ensures.none) (λ connective is. c.in_default-connective_at.ensures.none connective (connective_here c.args.context.now.checked.now c.args.place c.node.result c.node.ensures connective is)) (λ k value is. c.in_default-kind.not-Literal k value is) c.in_default-kind.not-Not (λ function is. c.in_default-kind.not-Call function is), (boolean_there c.args.context.now.checked.now c.args.place c.kind.result c.kind.ensures (λ null. not_so c.is_kind.result c.is_kind.ensures.1 c.if-is_kind.false null) c.requires.truth, c.requires.faultless)))))
 
--- ---- value::put_arithmetic
+-- ---- value_forms::put_arithmetic
 
-pub value::put_arithmetic-at-left-requires-clause-there : goal.value::put_arithmetic-at-left-requires-clause-there
-value::put_arithmetic-at-left-requires-clause-there t c =
+pub value_forms::put_arithmetic-at-left-requires-clause-there : goal.value_forms::put_arithmetic-at-left-requires-clause-there
+value_forms::put_arithmetic-at-left-requires-clause-there t c =
     first_child c.args.context.now.checked.now c.requires.translated.right c.args.place (NodeKind.Binary (BinaryOperator.Arithmetic c.args.operator)) (operator_inside c.args.context.now.checked.now c.requires.translated.right c.args.place (BinaryOperator.Arithmetic c.args.operator)) c.requires.kind
 
-pub value::put_arithmetic-at-left-requires-clause-ranged : goal.value::put_arithmetic-at-left-requires-clause-ranged
-value::put_arithmetic-at-left-requires-clause-ranged t c =
+pub value_forms::put_arithmetic-at-left-requires-clause-ranged : goal.value_forms::put_arithmetic-at-left-requires-clause-ranged
+value_forms::put_arithmetic-at-left-requires-clause-ranged t c =
     has_range (question_of c.args.context.now) c.args.context.now.ranges.now c.requires.translated.ranges (c.args.place + 1) (first_child c.args.context.now.checked.now c.requires.translated.right c.args.place (NodeKind.Binary (BinaryOperator.Arithmetic c.args.operator)) (operator_inside c.args.context.now.checked.now c.requires.translated.right c.args.place (BinaryOperator.Arithmetic c.args.operator)) c.requires.kind)
 
-pub value::put_arithmetic-second-requires : goal.value::put_arithmetic-second-requires
-value::put_arithmetic-second-requires t c =
+pub value_forms::put_arithmetic-second-requires : goal.value_forms::put_arithmetic-second-requires
+value_forms::put_arithmetic-second-requires t c =
     first_child c.args.context.now.checked.now c.requires.translated.right c.args.place (NodeKind.Binary (BinaryOperator.Arithmetic c.args.operator)) (operator_inside c.args.context.now.checked.now c.requires.translated.right c.args.place (BinaryOperator.Arithmetic c.args.operator)) c.requires.kind
 
-pub value::put_arithmetic-at-right-requires-clause-there : goal.value::put_arithmetic-at-right-requires-clause-there
-value::put_arithmetic-at-right-requires-clause-there t c =
+pub value_forms::put_arithmetic-at-right-requires-clause-there : goal.value_forms::put_arithmetic-at-right-requires-clause-there
+value_forms::put_arithmetic-at-right-requires-clause-there t c =
     second_child c.args.context.now.checked.now c.requires.translated.right c.args.place (NodeKind.Binary (BinaryOperator.Arithmetic c.args.operator)) (operator_inside c.args.context.now.checked.now c.requires.translated.right c.args.place (BinaryOperator.Arithmetic c.args.operator)) c.requires.kind c.second.result c.second.ensures
 
-pub value::put_arithmetic-at-right-requires-clause-ranged : goal.value::put_arithmetic-at-right-requires-clause-ranged
-value::put_arithmetic-at-right-requires-clause-ranged t c =
+pub value_forms::put_arithmetic-at-right-requires-clause-ranged : goal.value_forms::put_arithmetic-at-right-requires-clause-ranged
+value_forms::put_arithmetic-at-right-requires-clause-ranged t c =
     has_range (question_of c.args.context.now) c.args.context.now.ranges.now c.requires.translated.ranges c.second.result (second_child c.args.context.now.checked.now c.requires.translated.right c.args.place (NodeKind.Binary (BinaryOperator.Arithmetic c.args.operator)) (operator_inside c.args.context.now.checked.now c.requires.translated.right c.args.place (BinaryOperator.Arithmetic c.args.operator)) c.requires.kind c.second.result c.second.ensures)
 
-pub value::put_arithmetic-returns : goal.value::put_arithmetic-returns
-value::put_arithmetic-returns t c =
+pub value_forms::put_arithmetic-returns : goal.value_forms::put_arithmetic-returns
+value_forms::put_arithmetic-returns t c =
     let n = some_there (λ (found : CheckedNode). found.kind ≡ NodeKind.Binary (BinaryOperator.Arithmetic c.args.operator)) (slice_get c.args.context.now.checked.now.list.nodes c.args.place) c.requires.kind in
     let left_at = node_is_at c.args.context.now.checked.now c.args.context.now.ranges.now (c.args.place + 1) c.at-left.result c.at-left.ensures.source c.at-left.ensures.kind c.at-left.ensures.range in
     let right_at = node_is_at c.args.context.now.checked.now c.args.context.now.ranges.now c.second.result c.at-right.result c.at-right.ensures.source c.at-right.ensures.kind c.at-right.ensures.range in
     ok_calculated_value (question_of c.args.context.now) c.args.context.now.ranges.now c.requires.translated.ranges c.typed_trees_end_once_on_entities.ensures c.requires.translated.moment c.args.place c.put_calculated.result c.args.draft.now c.args.operator c.at-left.result c.at-right.result
     (calculated_node (question_of c.args.context.now) c.args.context.now.ranges.now c.requires.translated.ranges c.requires.translated.right c.typed_trees_end_once_on_entities.ensures c.requires.translated.moment c.trees_have_one_type.ensures c.args.place (inside (λ (found : CheckedNode). found.kind ≡ NodeKind.Binary (BinaryOperator.Arithmetic c.args.operator)) c.args.context.now.checked.now.list.nodes c.args.place c.requires.kind) c.requires.number.0 c.requires.number.1 c.args.operator c.second.result c.requires.kind c.at-left.result c.at-right.result left_at.is right_at.is (found_there (λ (found : CheckedNode). found.stop ≡ c.second.result) (slice_get c.args.context.now.checked.now.list.nodes (c.args.place + 1)) left_at.is.node left_at.is.at c.second.ensures) c.at-left.ensures.source c.at-right.ensures.source) c.put_calculated.new.draft c.put_calculated.ensures
 
-pub value::put_arithmetic-put_calculated-requires : goal.value::put_arithmetic-put_calculated-requires
-value::put_arithmetic-put_calculated-requires t c = (
+pub value_forms::put_arithmetic-put_calculated-requires : goal.value_forms::put_arithmetic-put_calculated-requires
+value_forms::put_arithmetic-put_calculated-requires t c = (
   omega (arith, on_from c.args.context.now.checked.now (left_in c.args.context.now.checked.now (c.at-left.result ∷ c.at-right.result ∷ [])) (left_from c.args.context.now.checked.now c.args.place) 14 3 (two_on c.args.context.now.checked.now c.args.place (kind_inside c.args.context.now.checked.now c.args.place (NodeKind.Binary (BinaryOperator.Arithmetic c.args.operator)) c.requires.kind) c.at-left.result c.at-right.result (at_on c.args.context.now.checked.now c.args.place (kind_inside c.args.context.now.checked.now c.args.place (NodeKind.Binary (BinaryOperator.Arithmetic c.args.operator)) c.requires.kind) c.at-left.result (c.args.place + 1) c.at-left.ensures.source (omega arith)) (at_on c.args.context.now.checked.now c.args.place (kind_inside c.args.context.now.checked.now c.args.place (NodeKind.Binary (BinaryOperator.Arithmetic c.args.operator)) c.requires.kind) c.at-right.result c.second.result c.at-right.ensures.source (second_after c.args.context.now.checked.now c.requires.translated.right c.args.place c.second.result c.second.ensures))) (omega arith)),
   (c.requires.translated, ((let n = some_there (λ (found : CheckedNode). found.kind ≡ NodeKind.Binary (BinaryOperator.Arithmetic c.args.operator)) (slice_get c.args.context.now.checked.now.list.nodes c.args.place) c.requires.kind in let left_at = node_is_at c.args.context.now.checked.now c.args.context.now.ranges.now (c.args.place + 1) c.at-left.result c.at-left.ensures.source c.at-left.ensures.kind c.at-left.ensures.range in first_put c.args.context.now.checked.now c.requires.translated.right c.trees_have_one_type.ensures c.args.context.now.ranges.now c.args.place n.0 n.1.0 c.args.operator n.1.1 c.at-left.result left_at), ((let n = some_there (λ (found : CheckedNode). found.kind ≡ NodeKind.Binary (BinaryOperator.Arithmetic c.args.operator)) (slice_get c.args.context.now.checked.now.list.nodes c.args.place) c.requires.kind in let left_at = node_is_at c.args.context.now.checked.now c.args.context.now.ranges.now (c.args.place + 1) c.at-left.result c.at-left.ensures.source c.at-left.ensures.kind c.at-left.ensures.range in second_put c.args.context.now.checked.now c.requires.translated.right c.trees_have_one_type.ensures c.args.context.now.ranges.now c.args.place n.0 n.1.0 c.args.operator n.1.1 c.at-left.result left_at c.second.result c.at-right.result (found_there (λ (found : CheckedNode). found.stop ≡ c.second.result) (slice_get c.args.context.now.checked.now.list.nodes (c.args.place + 1)) left_at.is.node left_at.is.at c.second.ensures) (node_is_at c.args.context.now.checked.now c.args.context.now.ranges.now c.second.result c.at-right.result c.at-right.ensures.source c.at-right.ensures.kind c.at-right.ensures.range)), (inside (λ (found : CheckedNode). found.kind ≡ NodeKind.Binary (BinaryOperator.Arithmetic c.args.operator)) c.args.context.now.checked.now.list.nodes c.args.place c.requires.kind, (c.requires.number, (c.requires.translated.ranges.bounded (c.args.place + 1) c.at-left.result.range c.at-left.ensures.range, c.requires.translated.ranges.bounded c.second.result c.at-right.result.range c.at-right.ensures.range)))))),
 )
 
--- ---- value::put_value
+-- ---- value_forms::put_value
 
-pub value::put_value-returns-in_default : goal.value::put_value-returns-in_default
-value::put_value-returns-in_default t c =
+pub value_forms::put_value-returns-in_default : goal.value_forms::put_value-returns-in_default
+value_forms::put_value-returns-in_default t c =
     let null = null_there c.args.context.now.checked.now c.args.place c.requires.valued c.in_default.ensures.none in
     ok_null_value (question_of c.args.context.now) c.args.context.now.ranges.now c.requires.translated.ranges c.typed_trees_end_once_on_entities.ensures c.requires.translated.moment c.args.place c.put.result c.args.draft.now null.0 null.1 c.args.wanted c.put.new.self c.put.ensures.ok
 
-pub value::put_value-put_literal-requires-clause-there : goal.value::put_value-put_literal-requires-clause-there
-value::put_value-put_literal-requires-clause-there t c =
+pub value_forms::put_value-put_literal-requires-clause-there : goal.value_forms::put_value-put_literal-requires-clause-there
+value_forms::put_value-put_literal-requires-clause-there t c =
     literal_within c.args.context.now.checked.now c.args.place c.in-Literal.kind c.in-Literal.value (kind_here c.args.context.now.checked.now c.args.place c.node.result c.node.ensures (NodeKind.Literal c.in-Literal.kind c.in-Literal.value) c.in-Literal.is) c.requires.translated.right
 
-pub value::put_value-put_literal-requires-clause-nul_free : goal.value::put_value-put_literal-requires-clause-nul_free
-value::put_value-put_literal-requires-clause-nul_free t c = c.requires.translated.nul_free c.in-Literal.value
+pub value_forms::put_value-put_literal-requires-clause-nul_free : goal.value_forms::put_value-put_literal-requires-clause-nul_free
+value_forms::put_value-put_literal-requires-clause-nul_free t c = c.requires.translated.nul_free c.in-Literal.value
 
-pub value::put_value-put_literal-requires-clause-spelled : goal.value::put_value-put_literal-requires-clause-spelled
-value::put_value-put_literal-requires-clause-spelled t c =
+pub value_forms::put_value-put_literal-requires-clause-spelled : goal.value_forms::put_value-put_literal-requires-clause-spelled
+value_forms::put_value-put_literal-requires-clause-spelled t c =
     literal_spelled c.args.context.now.checked.now c.args.place c.in-Literal.kind c.in-Literal.value (kind_here c.args.context.now.checked.now c.args.place c.node.result c.node.ensures (NodeKind.Literal c.in-Literal.kind c.in-Literal.value) c.in-Literal.is) c.requires.translated.right
 
-pub value::put_value-returns-in-Literal : goal.value::put_value-returns-in-Literal
-value::put_value-returns-in-Literal t c =
+pub value_forms::put_value-returns-in-Literal : goal.value_forms::put_value-returns-in-Literal
+value_forms::put_value-returns-in-Literal t c =
     ok_literal (question_of c.args.context.now) c.args.context.now.ranges.now c.requires.translated.ranges c.typed_trees_end_once_on_entities.ensures c.requires.translated.moment c.args.place c.put_literal.result c.literals_have_one_value.ensures c.in-Literal.kind c.in-Literal.value (kind_here c.args.context.now.checked.now c.args.place c.node.result c.node.ensures (NodeKind.Literal c.in-Literal.kind c.in-Literal.value) c.in-Literal.is) c.args.draft.now c.put_literal.new.draft c.put_literal.ensures
 
-pub value::put_value-returns-in-Now : goal.value::put_value-returns-in-Now
-value::put_value-returns-in-Now t c =
+pub value_forms::put_value-returns-in-Now : goal.value_forms::put_value-returns-in-Now
+value_forms::put_value-returns-in-Now t c =
     ok_now_value (question_of c.args.context.now) c.args.context.now.ranges.now c.requires.translated.ranges c.typed_trees_end_once_on_entities.ensures c.requires.translated.moment c.args.place c.put_moment.result c.args.draft.now (kind_here c.args.context.now.checked.now c.args.place c.node.result c.node.ensures NodeKind.Now c.in-Now.is) c.put_moment.new.draft c.put_moment.ensures
 
-pub value::put_value-put_path-requires-clause-path : goal.value::put_value-put_path-requires-clause-path
-value::put_value-put_path-requires-clause-path t c = counted_path c.args.context.now.checked.now c.requires.translated.right c.args.place c.node.result c.node.ensures c.in-Count.is
+pub value_forms::put_value-put_path-requires-clause-path : goal.value_forms::put_value-put_path-requires-clause-path
+value_forms::put_value-put_path-requires-clause-path t c = counted_path c.args.context.now.checked.now c.requires.translated.right c.args.place c.node.result c.node.ensures c.in-Count.is
 
-pub value::put_value-returns-in_ok-path-in-Count : goal.value::put_value-returns-in_ok-path-in-Count
-value::put_value-returns-in_ok-path-in-Count t c =
+pub value_forms::put_value-returns-in_ok-path-in-Count : goal.value_forms::put_value-returns-in_ok-path-in-Count
+value_forms::put_value-returns-in_ok-path-in-Count t c =
     ok_counted_value (question_of c.args.context.now) c.args.context.now.ranges.now c.requires.translated.ranges c.typed_trees_end_once_on_entities.ensures c.requires.translated.moment c.args.place c.put-in-Count.result c.args.draft.now (kind_here c.args.context.now.checked.now c.args.place c.node.result c.node.ensures NodeKind.Count c.in-Count.is) (quiet_faultless (question_of c.args.context.now) c.args.context.now.ranges.now c.requires.translated.ranges c.args.place c.node.result c.node.ensures (subst IsQuietKind (sym c.in-Count.is) tt)) c.put_path.new.draft c.put-in-Count.new.self c.in_ok-path-in-Count.path c.in_ok-path-in-Count.ensures c.put-in-Count.ensures.ok
 
-pub value::put_value-returns-in-Neg : goal.value::put_value-returns-in-Neg
-value::put_value-returns-in-Neg t c =
+pub value_forms::put_value-returns-in-Neg : goal.value_forms::put_value-returns-in-Neg
+value_forms::put_value-returns-in-Neg t c =
     let number = negation_computed c.args.context.now.checked.now c.requires.translated.right c.args.place c.node.result c.node.ensures c.in-Neg.is (not_null c.args.context.now.checked.now c.args.place c.node.result c.node.ensures c.in-Some.value_type c.in-Some.ensures.some) in
     ok_calculated_value (question_of c.args.context.now) c.args.context.now.ranges.now c.requires.translated.ranges c.typed_trees_end_once_on_entities.ensures c.requires.translated.moment c.args.place c.put_calculated.result c.args.draft.now ArithmeticOperator.Sub c.zero.result c.at-operand.result
     (negated_node (question_of c.args.context.now) c.args.context.now.ranges.now c.requires.translated.ranges c.requires.translated.right c.typed_trees_end_once_on_entities.ensures c.requires.translated.moment c.trees_have_one_type.ensures c.args.place c.requires.there number.0 number.1 (kind_here c.args.context.now.checked.now c.args.place c.node.result c.node.ensures NodeKind.Neg c.in-Neg.is) c.zero.result c.at-operand.result (node_is_at c.args.context.now.checked.now c.args.context.now.ranges.now (c.args.place + 1) c.at-operand.result c.at-operand.ensures.source c.at-operand.ensures.kind c.at-operand.ensures.range).is c.at-operand.ensures.source c.zero.ensures.source (zero_low c.zero.result.range c.zero.ensures.range) (zero_high c.zero.result.range c.zero.ensures.range)) c.put_calculated.new.draft c.put_calculated.ensures
 
-pub value::put_value-put_path_value-requires-clause-path : goal.value::put_value-put_path_value-requires-clause-path
-value::put_value-put_path_value-requires-clause-path t c =
+pub value_forms::put_value-put_path_value-requires-clause-path : goal.value_forms::put_value-put_path_value-requires-clause-path
+value_forms::put_value-put_path_value-requires-clause-path t c =
     path_here c.args.context.now.checked.now c.requires.translated.right c.args.place c.node.result c.node.ensures (λ truth. not_so c.is_kind.result c.is_kind.ensures.1 c.if-is_kind.false (kind_found c.args.context.now.checked.now c.args.place c.node.result c.node.ensures c.kind.result c.kind.ensures ∙ truth)) (found_there (λ (n : CheckedNode). kind_of_type n.edm_type ≢ Kind.Structured) (slice_get c.args.context.now.checked.now.list.nodes c.args.place) c.node.result c.node.ensures c.requires.valued) (record { no_literal = λ k value is. c.in_default-kind.not-Literal k value is; no_now = c.in_default-kind.not-Now; no_count = c.in_default-kind.not-Count; no_neg = c.in_default-kind.not-Neg; no_binary = λ operator is. c.in_default-kind.not-Binary operator is; no_call = λ function is. c.in_default-kind.not-Call function is })
 
-pub value::put_value-put_path_value-requires-clause-value : goal.value::put_value-put_path_value-requires-clause-value
-value::put_value-put_path_value-requires-clause-value t c = of_field c.args.context.now.checked.now c.args.place c.in-Some.value_type c.in-Some.ensures.some
+pub value_forms::put_value-put_path_value-requires-clause-value : goal.value_forms::put_value-put_path_value-requires-clause-value
+value_forms::put_value-put_path_value-requires-clause-value t c = of_field c.args.context.now.checked.now c.args.place c.in-Some.value_type c.in-Some.ensures.some
 
-pub value::put_value-at-operand-requires-clause-there : goal.value::put_value-at-operand-requires-clause-there
-value::put_value-at-operand-requires-clause-there t c = negated_child c.args.context.now.checked.now c.requires.translated.right c.args.place c.node.result c.node.ensures c.in-Neg.is
+pub value_forms::put_value-at-operand-requires-clause-there : goal.value_forms::put_value-at-operand-requires-clause-there
+value_forms::put_value-at-operand-requires-clause-there t c = negated_child c.args.context.now.checked.now c.requires.translated.right c.args.place c.node.result c.node.ensures c.in-Neg.is
 
-pub value::put_value-at-operand-requires-clause-ranged : goal.value::put_value-at-operand-requires-clause-ranged
-value::put_value-at-operand-requires-clause-ranged t c =
+pub value_forms::put_value-at-operand-requires-clause-ranged : goal.value_forms::put_value-at-operand-requires-clause-ranged
+value_forms::put_value-at-operand-requires-clause-ranged t c =
     has_range (question_of c.args.context.now) c.args.context.now.ranges.now c.requires.translated.ranges (c.args.place + 1) (negated_child c.args.context.now.checked.now c.requires.translated.right c.args.place c.node.result c.node.ensures c.in-Neg.is)
 
-pub value::put_value-put_truth-requires : goal.value::put_value-put_truth-requires
-value::put_value-put_truth-requires t c =
+pub value_forms::put_value-put_truth-requires : goal.value_forms::put_value-put_truth-requires
+value_forms::put_value-put_truth-requires t c =
     let s = some_there (λ (n : CheckedNode). kind_of_type n.edm_type ≢ Kind.Structured) (slice_get c.args.context.now.checked.now.list.nodes c.args.place) c.requires.valued in
     (omega arith, (c.requires.translated, (truth_at c.args.context.now.checked.now c.args.place c.kind.result c.kind.ensures (subst IsTruthKind (sym (c.is_kind.ensures.0 c.if-is_kind.true)) tt), plain_faultless (question_of c.args.context.now) c.args.context.now.ranges.now c.requires.translated.ranges c.args.place s.0 s.1.0 c.requires.plain (sym (kind_found c.args.context.now.checked.now c.args.place s.0 s.1.0 c.kind.result c.kind.ensures) ∙ (c.is_kind.ensures.0 c.if-is_kind.true)))))
 
-pub value::put_value-put_calculated-requires : goal.value::put_value-put_calculated-requires
-value::put_value-put_calculated-requires t c = (
+pub value_forms::put_value-put_calculated-requires : goal.value_forms::put_value-put_calculated-requires
+value_forms::put_value-put_calculated-requires t c = (
   omega (arith, on_from c.args.context.now.checked.now (left_in c.args.context.now.checked.now (c.zero.result ∷ c.at-operand.result ∷ [])) (left_from c.args.context.now.checked.now c.args.place) 14 5 (two_on c.args.context.now.checked.now c.args.place c.requires.there c.zero.result c.at-operand.result (subst (λ (s : Source). left_by c.args.context.now.checked.now s < left_from c.args.context.now.checked.now c.args.place) (sym c.zero.ensures.source) (nothing_on c.args.context.now.checked.now c.args.place c.requires.there)) (at_on c.args.context.now.checked.now c.args.place c.requires.there c.at-operand.result (c.args.place + 1) c.at-operand.ensures.source (omega arith))) (omega arith)),
   (c.requires.translated, (zero_may_be_put c.args.context.now.checked.now c.args.context.now.ranges.now c.zero.result c.zero.ensures.source c.zero.ensures.kind, (negated_put c.args.context.now.checked.now c.requires.translated.right c.trees_have_one_type.ensures c.args.context.now.ranges.now c.args.place c.node.result c.node.ensures c.in-Neg.is c.at-operand.result (node_is_at c.args.context.now.checked.now c.args.context.now.ranges.now (c.args.place + 1) c.at-operand.result c.at-operand.ensures.source c.at-operand.ensures.kind c.at-operand.ensures.range), (c.requires.there, (negation_computed c.args.context.now.checked.now c.requires.translated.right c.args.place c.node.result c.node.ensures c.in-Neg.is (not_null c.args.context.now.checked.now c.args.place c.node.result c.node.ensures c.in-Some.value_type c.in-Some.ensures.some), (zero_bounded c.zero.result.range c.zero.ensures.range, c.requires.translated.ranges.bounded (c.args.place + 1) c.at-operand.result.range c.at-operand.ensures.range)))))),
 )
 
-pub value::put_value-put_arithmetic-requires : goal.value::put_value-put_arithmetic-requires
-value::put_value-put_arithmetic-requires t c =
+pub value_forms::put_value-put_arithmetic-requires : goal.value_forms::put_value-put_arithmetic-requires
+value_forms::put_value-put_arithmetic-requires t c =
     (omega arith, (c.requires.translated, (kind_here c.args.context.now.checked.now c.args.place c.node.result c.node.ensures (NodeKind.Binary (BinaryOperator.Arithmetic c.in-Arithmetic.arithmetic)) (c.in-Binary.is ∙ ap NodeKind.Binary c.in-Arithmetic.is), operator_computed c.args.context.now.checked.now c.requires.translated.right c.args.place c.node.result c.node.ensures c.in-Binary.operator c.in-Binary.is (not_null c.args.context.now.checked.now c.args.place c.node.result c.node.ensures c.in-Some.value_type c.in-Some.ensures.some) (λ truth. not_so c.is_kind.result c.is_kind.ensures.1 c.if-is_kind.false (kind_found c.args.context.now.checked.now c.args.place c.node.result c.node.ensures c.kind.result c.kind.ensures ∙ truth)))))
 
-pub value::put_value-put_truth-requires-in_default-operator : goal.value::put_value-put_truth-requires-in_default-operator
-value::put_value-put_truth-requires-in_default-operator t c =
+pub value_forms::put_value-put_truth-requires-in_default-operator : goal.value_forms::put_value-put_truth-requires-in_default-operator
+value_forms::put_value-put_truth-requires-in_default-operator t c =
     let number = operator_computed c.args.context.now.checked.now c.requires.translated.right c.args.place c.node.result c.node.ensures c.in-Binary.operator c.in-Binary.is (not_null c.args.context.now.checked.now c.args.place c.node.result c.node.ensures c.in-Some.value_type c.in-Some.ensures.some) (λ truth. not_so c.is_kind.result c.is_kind.ensures.1 c.if-is_kind.false (kind_found c.args.context.now.checked.now c.args.place c.node.result c.node.ensures c.kind.result c.kind.ensures ∙ truth)) in
     absurd (computed_by c.args.context.now.checked.now c.requires.translated.right c.args.place c.node.result c.node.ensures c.in-Binary.operator number.0 c.in-Binary.is number.1 (λ arithmetic is. c.in_default-operator.not-Arithmetic arithmetic is))
 
-pub value::put_value-put_call-requires : goal.value::put_value-put_call-requires
-value::put_value-put_call-requires t c =
+pub value_forms::put_value-put_call-requires : goal.value_forms::put_value-put_call-requires
+value_forms::put_value-put_call-requires t c =
     (omega arith, (c.requires.translated, (kind_here c.args.context.now.checked.now c.args.place c.node.result c.node.ensures (NodeKind.Call c.in-Call.function) c.in-Call.is, c.requires.plain)))

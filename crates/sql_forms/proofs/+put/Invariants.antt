@@ -37,35 +37,35 @@ decreases-in_path::put_truth_in_path_code l = turn l.context.now.checked.now (le
 abbrev pub decreases-in_path::put_in_path_code : goal.decreases-in_path::put_in_path_code
 decreases-in_path::put_in_path_code l = turn l.context.now.checked.now (left_from l.context.now.checked.now l.place) 2
 
-abbrev pub decreases-list::put_list : goal.decreases-list::put_list
-decreases-list::put_list l = turn l.context.now.checked.now (left_from l.context.now.checked.now l.place) 2
+abbrev pub decreases-list_forms::put_list : goal.decreases-list_forms::put_list
+decreases-list_forms::put_list l = turn l.context.now.checked.now (left_from l.context.now.checked.now l.place) 2
 
-abbrev pub decreases-list::put_kept_list : goal.decreases-list::put_kept_list
-decreases-list::put_kept_list l = turn l.context.now.checked.now (left_from l.context.now.checked.now l.place) 2
+abbrev pub decreases-list_forms::put_kept_list : goal.decreases-list_forms::put_kept_list
+decreases-list_forms::put_kept_list l = turn l.context.now.checked.now (left_from l.context.now.checked.now l.place) 2
 
-abbrev pub decreases-list::put_truth_list_code : goal.decreases-list::put_truth_list_code
-decreases-list::put_truth_list_code l = turn l.context.now.checked.now (left_from l.context.now.checked.now l.place) 1
+abbrev pub decreases-list_forms::put_truth_list_code : goal.decreases-list_forms::put_truth_list_code
+decreases-list_forms::put_truth_list_code l = turn l.context.now.checked.now (left_from l.context.now.checked.now l.place) 1
 
-abbrev pub decreases-list::put_list_code : goal.decreases-list::put_list_code
-decreases-list::put_list_code l = turn l.context.now.checked.now (left_from l.context.now.checked.now l.place) 2
+abbrev pub decreases-list_forms::put_list_code : goal.decreases-list_forms::put_list_code
+decreases-list_forms::put_list_code l = turn l.context.now.checked.now (left_from l.context.now.checked.now l.place) 2
 
 abbrev pub decreases-truth::put_other_truth : goal.decreases-truth::put_other_truth
 decreases-truth::put_other_truth l = turn l.context.now.checked.now (left_from l.context.now.checked.now l.place) 3
 
-abbrev pub decreases-calls::put_call : goal.decreases-calls::put_call
-decreases-calls::put_call l = turn l.context.now.checked.now (left_from l.context.now.checked.now l.place) 3
+abbrev pub decreases-call_forms::put_call : goal.decreases-call_forms::put_call
+decreases-call_forms::put_call l = turn l.context.now.checked.now (left_from l.context.now.checked.now l.place) 3
 
-abbrev pub decreases-calls::put_call_code : goal.decreases-calls::put_call_code
-decreases-calls::put_call_code l = turn l.context.now.checked.now (left_from l.context.now.checked.now l.place) 3
+abbrev pub decreases-call_forms::put_call_code : goal.decreases-call_forms::put_call_code
+decreases-call_forms::put_call_code l = turn l.context.now.checked.now (left_from l.context.now.checked.now l.place) 3
 
-abbrev pub decreases-value::put_arithmetic : goal.decreases-value::put_arithmetic
-decreases-value::put_arithmetic l = turn l.context.now.checked.now (left_from l.context.now.checked.now l.place) 3
+abbrev pub decreases-value_forms::put_arithmetic : goal.decreases-value_forms::put_arithmetic
+decreases-value_forms::put_arithmetic l = turn l.context.now.checked.now (left_from l.context.now.checked.now l.place) 3
 
 abbrev pub decreases-truth::put_truth : goal.decreases-truth::put_truth
 decreases-truth::put_truth l = turn l.context.now.checked.now (left_from l.context.now.checked.now l.place) 4
 
-abbrev pub decreases-value::put_value : goal.decreases-value::put_value
-decreases-value::put_value l = turn l.context.now.checked.now (left_from l.context.now.checked.now l.place) 5
+abbrev pub decreases-value_forms::put_value : goal.decreases-value_forms::put_value
+decreases-value_forms::put_value l = turn l.context.now.checked.now (left_from l.context.now.checked.now l.place) 5
 
 abbrev pub decreases-code::put_code : goal.decreases-code::put_code
 decreases-code::put_code l = turn l.context.now.checked.now (left_from l.context.now.checked.now l.place) 6
@@ -82,20 +82,20 @@ decreases-keeps::put_denies l = turn l.context.now.checked.now (left_from l.cont
 abbrev pub decreases-terms::put_form : goal.decreases-terms::put_form
 decreases-terms::put_form l = turn l.context.now.checked.now (left_from l.context.now.checked.now l.place) 9
 
-abbrev pub decreases-operand::put_operand : goal.decreases-operand::put_operand
-decreases-operand::put_operand l = turn l.context.now.checked.now (left_of l.context.now.checked.now l.operand.now) 10
+abbrev pub decreases-operand_forms::put_operand : goal.decreases-operand_forms::put_operand
+decreases-operand_forms::put_operand l = turn l.context.now.checked.now (left_of l.context.now.checked.now l.operand.now) 10
 
-abbrev pub decreases-operand::put_instant : goal.decreases-operand::put_instant
-decreases-operand::put_instant l = turn l.context.now.checked.now (left_of l.context.now.checked.now l.operand.now) 11
+abbrev pub decreases-operand_forms::put_instant : goal.decreases-operand_forms::put_instant
+decreases-operand_forms::put_instant l = turn l.context.now.checked.now (left_of l.context.now.checked.now l.operand.now) 11
 
-abbrev pub decreases-operand::put_compared : goal.decreases-operand::put_compared
-decreases-operand::put_compared l = turn l.context.now.checked.now (left_of l.context.now.checked.now l.operand.now) 12
+abbrev pub decreases-operand_forms::put_compared : goal.decreases-operand_forms::put_compared
+decreases-operand_forms::put_compared l = turn l.context.now.checked.now (left_of l.context.now.checked.now l.operand.now) 12
 
-abbrev pub decreases-operand::put_is_null : goal.decreases-operand::put_is_null
-decreases-operand::put_is_null l = turn l.context.now.checked.now (left_of l.context.now.checked.now l.operand.now) 11
+abbrev pub decreases-operand_forms::put_is_null : goal.decreases-operand_forms::put_is_null
+decreases-operand_forms::put_is_null l = turn l.context.now.checked.now (left_of l.context.now.checked.now l.operand.now) 11
 
-abbrev pub decreases-arithmetic::put_is_zero : goal.decreases-arithmetic::put_is_zero
-decreases-arithmetic::put_is_zero l = turn l.context.now.checked.now (left_of l.context.now.checked.now l.operand.now) 11
+abbrev pub decreases-arithmetic_forms::put_is_zero : goal.decreases-arithmetic_forms::put_is_zero
+decreases-arithmetic_forms::put_is_zero l = turn l.context.now.checked.now (left_of l.context.now.checked.now l.operand.now) 11
 
 abbrev pub decreases-code::put_operand_code : goal.decreases-code::put_operand_code
 decreases-code::put_operand_code l = turn l.context.now.checked.now (left_of l.context.now.checked.now l.operand.now) 10
@@ -103,68 +103,68 @@ decreases-code::put_operand_code l = turn l.context.now.checked.now (left_of l.c
 abbrev pub decreases-truth::put_has : goal.decreases-truth::put_has
 decreases-truth::put_has l = turn l.context.now.checked.now (left_in l.context.now.checked.now (l.left.now ∷ l.right.now ∷ [])) 11
 
-abbrev pub decreases-arithmetic::put_unbounded : goal.decreases-arithmetic::put_unbounded
-decreases-arithmetic::put_unbounded l = turn l.context.now.checked.now (left_in l.context.now.checked.now (l.left.now ∷ l.right.now ∷ [])) 12
+abbrev pub decreases-arithmetic_forms::put_unbounded : goal.decreases-arithmetic_forms::put_unbounded
+decreases-arithmetic_forms::put_unbounded l = turn l.context.now.checked.now (left_in l.context.now.checked.now (l.left.now ∷ l.right.now ∷ [])) 12
 
-abbrev pub decreases-arithmetic::put_checked : goal.decreases-arithmetic::put_checked
-decreases-arithmetic::put_checked l = turn l.context.now.checked.now (left_in l.context.now.checked.now (l.left.now ∷ l.right.now ∷ [])) 13
+abbrev pub decreases-arithmetic_forms::put_checked : goal.decreases-arithmetic_forms::put_checked
+decreases-arithmetic_forms::put_checked l = turn l.context.now.checked.now (left_in l.context.now.checked.now (l.left.now ∷ l.right.now ∷ [])) 13
 
-abbrev pub decreases-arithmetic::put_calculated : goal.decreases-arithmetic::put_calculated
-decreases-arithmetic::put_calculated l = turn l.context.now.checked.now (left_in l.context.now.checked.now (l.left.now ∷ l.right.now ∷ [])) 14
+abbrev pub decreases-arithmetic_forms::put_calculated : goal.decreases-arithmetic_forms::put_calculated
+decreases-arithmetic_forms::put_calculated l = turn l.context.now.checked.now (left_in l.context.now.checked.now (l.left.now ∷ l.right.now ∷ [])) 14
 
 abbrev pub decreases-lift::Lifted::close : goal.decreases-lift::Lifted::close
 decreases-lift::Lifted::close l = turn l.context.now.checked.now (left_in l.context.now.checked.now l.self.now.bound.items) 11
 
-abbrev pub decreases-calls::put_function : goal.decreases-calls::put_function
-decreases-calls::put_function l = turn l.context.now.checked.now (left_in l.context.now.checked.now l.operands.now) 11
+abbrev pub decreases-call_forms::put_function : goal.decreases-call_forms::put_function
+decreases-call_forms::put_function l = turn l.context.now.checked.now (left_in l.context.now.checked.now l.operands.now) 11
 
-abbrev pub decreases-calls::put_called : goal.decreases-calls::put_called
-decreases-calls::put_called l = turn l.context.now.checked.now (left_in l.context.now.checked.now l.operands.now) 12
+abbrev pub decreases-call_forms::put_called : goal.decreases-call_forms::put_called
+decreases-call_forms::put_called l = turn l.context.now.checked.now (left_in l.context.now.checked.now l.operands.now) 12
 
-abbrev pub decreases-comparison::put_strict : goal.decreases-comparison::put_strict
-decreases-comparison::put_strict l = turn l.context.now.checked.now (left_in l.context.now.checked.now (l.left.now ∷ l.right.now ∷ [])) 13
+abbrev pub decreases-comparison_forms::put_strict : goal.decreases-comparison_forms::put_strict
+decreases-comparison_forms::put_strict l = turn l.context.now.checked.now (left_in l.context.now.checked.now (l.left.now ∷ l.right.now ∷ [])) 13
 
-abbrev pub decreases-comparison::put_same : goal.decreases-comparison::put_same
-decreases-comparison::put_same l = turn l.context.now.checked.now (left_in l.context.now.checked.now (l.left.now ∷ l.right.now ∷ [])) 13
+abbrev pub decreases-comparison_forms::put_same : goal.decreases-comparison_forms::put_same
+decreases-comparison_forms::put_same l = turn l.context.now.checked.now (left_in l.context.now.checked.now (l.left.now ∷ l.right.now ∷ [])) 13
 
-abbrev pub decreases-comparison::put_beside_null : goal.decreases-comparison::put_beside_null
-decreases-comparison::put_beside_null l = turn l.context.now.checked.now (left_of l.context.now.checked.now l.operand.now) 12
+abbrev pub decreases-comparison_forms::put_beside_null : goal.decreases-comparison_forms::put_beside_null
+decreases-comparison_forms::put_beside_null l = turn l.context.now.checked.now (left_of l.context.now.checked.now l.operand.now) 12
 
-abbrev pub decreases-comparison::put_of_one : goal.decreases-comparison::put_of_one
-decreases-comparison::put_of_one l = turn l.context.now.checked.now (left_in l.context.now.checked.now (l.left.now ∷ l.right.now ∷ [])) 14
+abbrev pub decreases-comparison_forms::put_of_one : goal.decreases-comparison_forms::put_of_one
+decreases-comparison_forms::put_of_one l = turn l.context.now.checked.now (left_in l.context.now.checked.now (l.left.now ∷ l.right.now ∷ [])) 14
 
-abbrev pub decreases-comparison::put_or_nulls : goal.decreases-comparison::put_or_nulls
-decreases-comparison::put_or_nulls l = turn l.context.now.checked.now (left_in l.context.now.checked.now (l.left.now ∷ l.right.now ∷ [])) 14
+abbrev pub decreases-comparison_forms::put_or_nulls : goal.decreases-comparison_forms::put_or_nulls
+decreases-comparison_forms::put_or_nulls l = turn l.context.now.checked.now (left_in l.context.now.checked.now (l.left.now ∷ l.right.now ∷ [])) 14
 
-abbrev pub decreases-comparison::put_of_nullable : goal.decreases-comparison::put_of_nullable
-decreases-comparison::put_of_nullable l = turn l.context.now.checked.now (left_in l.context.now.checked.now (l.left.now ∷ l.right.now ∷ [])) 15
+abbrev pub decreases-comparison_forms::put_of_nullable : goal.decreases-comparison_forms::put_of_nullable
+decreases-comparison_forms::put_of_nullable l = turn l.context.now.checked.now (left_in l.context.now.checked.now (l.left.now ∷ l.right.now ∷ [])) 15
 
-abbrev pub decreases-comparison::put_comparison : goal.decreases-comparison::put_comparison
-decreases-comparison::put_comparison l = turn l.context.now.checked.now (left_in l.context.now.checked.now (l.left.now ∷ l.right.now ∷ [])) 16
+abbrev pub decreases-comparison_forms::put_comparison : goal.decreases-comparison_forms::put_comparison
+decreases-comparison_forms::put_comparison l = turn l.context.now.checked.now (left_in l.context.now.checked.now (l.left.now ∷ l.right.now ∷ [])) 16
 
-abbrev pub decreases-comparison::put_kept_comparison : goal.decreases-comparison::put_kept_comparison
-decreases-comparison::put_kept_comparison l = turn l.context.now.checked.now (left_in l.context.now.checked.now (l.left.now ∷ l.right.now ∷ [])) 17
+abbrev pub decreases-comparison_forms::put_kept_comparison : goal.decreases-comparison_forms::put_kept_comparison
+decreases-comparison_forms::put_kept_comparison l = turn l.context.now.checked.now (left_in l.context.now.checked.now (l.left.now ∷ l.right.now ∷ [])) 17
 
-abbrev pub decreases-comparison::put_denied_comparison : goal.decreases-comparison::put_denied_comparison
-decreases-comparison::put_denied_comparison l = turn l.context.now.checked.now (left_in l.context.now.checked.now (l.left.now ∷ l.right.now ∷ [])) 17
+abbrev pub decreases-comparison_forms::put_denied_comparison : goal.decreases-comparison_forms::put_denied_comparison
+decreases-comparison_forms::put_denied_comparison l = turn l.context.now.checked.now (left_in l.context.now.checked.now (l.left.now ∷ l.right.now ∷ [])) 17
 
 abbrev pub decreases-code::put_compared_code : goal.decreases-code::put_compared_code
 decreases-code::put_compared_code l = turn l.context.now.checked.now (left_in l.context.now.checked.now (l.left.now ∷ l.right.now ∷ [])) 17
 
-abbrev pub decreases-list::put_among : goal.decreases-list::put_among
-decreases-list::put_among l = turn l.context.now.checked.now (left_in l.context.now.checked.now (l.left.now ∷ l.items.now)) 13
+abbrev pub decreases-list_forms::put_among : goal.decreases-list_forms::put_among
+decreases-list_forms::put_among l = turn l.context.now.checked.now (left_in l.context.now.checked.now (l.left.now ∷ l.items.now)) 13
 
-abbrev pub decreases-list::put_equal_to_one : goal.decreases-list::put_equal_to_one
-decreases-list::put_equal_to_one l = turn l.context.now.checked.now (left_in l.context.now.checked.now (l.left.now ∷ l.items.now)) (18 + length l.items.now)
+abbrev pub decreases-list_forms::put_equal_to_one : goal.decreases-list_forms::put_equal_to_one
+decreases-list_forms::put_equal_to_one l = turn l.context.now.checked.now (left_in l.context.now.checked.now (l.left.now ∷ l.items.now)) (18 + length l.items.now)
 
-abbrev pub decreases-list::put_over_left : goal.decreases-list::put_over_left
-decreases-list::put_over_left l = turn l.context.now.checked.now (left_in l.context.now.checked.now (l.left.now ∷ l.items.now)) (19 + length l.items.now)
+abbrev pub decreases-list_forms::put_over_left : goal.decreases-list_forms::put_over_left
+decreases-list_forms::put_over_left l = turn l.context.now.checked.now (left_in l.context.now.checked.now (l.left.now ∷ l.items.now)) (19 + length l.items.now)
 
-abbrev pub decreases-list::put_equal_codes : goal.decreases-list::put_equal_codes
-decreases-list::put_equal_codes l = turn l.context.now.checked.now (left_in l.context.now.checked.now (l.left.now ∷ l.items.now)) (18 + length l.items.now)
+abbrev pub decreases-list_forms::put_equal_codes : goal.decreases-list_forms::put_equal_codes
+decreases-list_forms::put_equal_codes l = turn l.context.now.checked.now (left_in l.context.now.checked.now (l.left.now ∷ l.items.now)) (18 + length l.items.now)
 
-abbrev pub decreases-list::put_codes : goal.decreases-list::put_codes
-decreases-list::put_codes l = turn l.context.now.checked.now (left_in l.context.now.checked.now (l.left.now ∷ l.items.now)) (19 + length l.items.now)
+abbrev pub decreases-list_forms::put_codes : goal.decreases-list_forms::put_codes
+decreases-list_forms::put_codes l = turn l.context.now.checked.now (left_in l.context.now.checked.now (l.left.now ∷ l.items.now)) (19 + length l.items.now)
 
 abbrev pub decreases-in_path::put_has_member : goal.decreases-in_path::put_has_member
 decreases-in_path::put_has_member l = turn l.context.now.checked.now (left_of l.context.now.checked.now l.left.now) 18
@@ -183,11 +183,11 @@ decreases-keeps::put_decided l = turn l.context.now.checked.now (left_among l.co
 
 -- ---- loops
 
-abbrev pub invariant-calls::put_function-loop-place : goal.invariant-calls::put_function-loop-place
-invariant-calls::put_function-loop-place l = record { so : FunctionSoFar (question_of l.context) l.function l.operands l.fn.draft l.draft l.place }
+abbrev pub invariant-call_forms::put_function-loop-place : goal.invariant-call_forms::put_function-loop-place
+invariant-call_forms::put_function-loop-place l = record { so : FunctionSoFar (question_of l.context) l.function l.operands l.fn.draft l.draft l.place }
 
-abbrev pub invariant-list::put_among-loop-place : goal.invariant-list::put_among-loop-place
-invariant-list::put_among-loop-place l = record { so : AmongSoFar (question_of l.context) l.left l.items l.fn.draft l.draft l.place }
+abbrev pub invariant-list_forms::put_among-loop-place : goal.invariant-list_forms::put_among-loop-place
+invariant-list_forms::put_among-loop-place l = record { so : AmongSoFar (question_of l.context) l.left l.items l.fn.draft l.draft l.place }
 
 abbrev pub invariant-lift::Lifted::close-loop-place : goal.invariant-lift::Lifted::close-loop-place
 invariant-lift::Lifted::close-loop-place l = record {

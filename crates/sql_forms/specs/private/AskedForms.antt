@@ -3,7 +3,7 @@ use Rattle.std.specs.Prelude.{◌≡◌, ℤ, Bool, Option}
 use Rattle.odata_filter_operations.specs.Outcome.{Outcome, gives}
 use Rattle.sql_meaning.specs.OperatorsGive.{truth}
 use Rattle.sql_tree.specs.Digits.{number_of}
-use Rattle.sql_tree.specs.declared.node.Digit.{Digit}
+use Rattle.sql_tree.specs.declared.sql_node.Digit.{Digit}
 use Rattle.sql_forms.specs.declared.terms.Form.{Form}
 
 -- the same outcome

@@ -17,7 +17,7 @@ use Rattle.odata_signatures.specs.declared.edm_type.EdmType.{EdmType}
 use Rattle.odata_signatures.specs.declared.edm_type.ValueType.{ValueType}
 use Rattle.sql_meaning.specs.Operands.{BothNumbers}
 use Rattle.sql_meaning.specs.OperatorsGive.{ChoiceGives, GivesWhole, GivesWithin64, StrictlyGives, truth}
-use Rattle.sql_draft.specs.declared.operand.Operand.{Operand}
+use Rattle.sql_draft.specs.declared.sql_operand.Operand.{Operand}
 use Rattle.sql_forms.specs.private.Lifts.{carrier_in}
 use Rattle.sql_draft.specs.OperandHas.{OperandHas}
 use Rattle.sql_draft.specs.World.{Has, World}

@@ -13,10 +13,10 @@ use Rattle.odata_ranges.specs.Within.{IsValueWithin}
 use Rattle.odata_ranges.specs.declared.range.Range.{Range}
 use Rattle.odata_signatures.specs.declared.function.Function.{Function}
 use Rattle.sql_meaning.specs.SqlFunctionGives.{SqlFunctionGives}
-use Rattle.sql_tree.specs.declared.node.Carrier.{Carrier}
-use Rattle.sql_tree.specs.declared.node.SqlFunction.{SqlFunction}
-use Rattle.sql_tree.specs.declared.node.SqlNode.{SqlNode}
-use Rattle.sql_draft.specs.declared.operand.Operand.{Operand}
+use Rattle.sql_tree.specs.declared.sql_node.Carrier.{Carrier}
+use Rattle.sql_tree.specs.declared.sql_node.SqlFunction.{SqlFunction}
+use Rattle.sql_tree.specs.declared.sql_node.SqlNode.{SqlNode}
+use Rattle.sql_draft.specs.declared.sql_operand.Operand.{Operand}
 use Rattle.sql_draft.specs.Kinds.{IsOfKind}
 use Rattle.sql_forms.specs.private.Lifts.{AllHave}
 use Rattle.sql_draft.specs.OperandHas.{IsNodeAt, OperandHas}

@@ -12,7 +12,7 @@ use Rattle.odata_syntax.specs.declared.binary_operator.BinaryOperator.{BinaryOpe
 use Rattle.sql_meaning.specs.Codes.{IsCoded}
 use Rattle.sql_meaning.specs.OperatorsGive.{truth}
 use Rattle.sql_tree.specs.declared.look_up.LookUp.{LookUp}
-use Rattle.sql_tree.specs.declared.node.SqlNode.{SqlNode}
+use Rattle.sql_tree.specs.declared.sql_node.SqlNode.{SqlNode}
 use Rattle.sql_forms.specs.declared.terms.Form.{Form}
 use Rattle.sql_draft.specs.Translated.{IsTruthAt}
 use Rattle.sql_draft.specs.World.{IsAskedOf, OfPlace, Question, World}

@@ -14,9 +14,9 @@ use Rattle.odata_ranges.specs.declared.range.Range.{Range}
 use Rattle.sql_meaning.specs.Codes.{code_of}
 use Rattle.sql_meaning.specs.OperatorsGive.{StrictlyGives}
 use Rattle.sql_draft.specs.Rows.{IsFault}
-use Rattle.sql_tree.specs.declared.node.SqlType.{SqlType}
-use Rattle.sql_draft.specs.declared.operand.Operand.{Operand}
-use Rattle.sql_draft.specs.declared.operand.Source.{Source}
+use Rattle.sql_tree.specs.declared.sql_node.SqlType.{SqlType}
+use Rattle.sql_draft.specs.declared.sql_operand.Operand.{Operand}
+use Rattle.sql_draft.specs.declared.sql_operand.Source.{Source}
 use Rattle.sql_draft.specs.declared.sql_context.Kind.{Kind}
 use Rattle.sql_forms.specs.private.Lifts.{carrier_in}
 use Rattle.sql_draft.specs.Kinds.{AreCompared}

@@ -4,11 +4,11 @@ use Rattle.edm_values.specs.Val.{Val}
 use Rattle.odata_checked_filter.specs.Filter.{Filter}
 use Rattle.odata_filter_operations.specs.Outcome.{Outcome, gives, overflow, divides_by_zero}
 use Rattle.sql_meaning.specs.FaultsGive.{without_fault}
-use Rattle.sql_tree.specs.declared.node.Carrier.{Carrier}
-use Rattle.sql_tree.specs.declared.node.SqlNode.{SqlNode}
+use Rattle.sql_tree.specs.declared.sql_node.Carrier.{Carrier}
+use Rattle.sql_tree.specs.declared.sql_node.SqlNode.{SqlNode}
 use Rattle.sql_draft.specs.declared.draft.Draft.{Draft}
 use Rattle.sql_forms.specs.declared.lift.Lifted.{Lifted}
-use Rattle.sql_draft.specs.declared.operand.Operand.{Operand}
+use Rattle.sql_draft.specs.declared.sql_operand.Operand.{Operand}
 use Rattle.sql_draft.specs.declared.sql_context.Kind.{Kind}
 use Rattle.sql_draft.specs.OperandHas.{OperandHas, bound_source, carrier_of}
 use Rattle.sql_draft.specs.World.{World}

@@ -16,8 +16,8 @@ use Rattle.odata_ranges.specs.Kept.{IsKept}
 use Rattle.sql_meaning.specs.Codes.{code_of}
 use Rattle.sql_meaning.specs.PlaceGives.{AreMembers}
 use Rattle.sql_meaning.specs.Table.{bound_member}
-use Rattle.sql_tree.specs.declared.node.SqlNode.{SqlNode}
-use Rattle.sql_tree.specs.declared.node.SqlType.{SqlType}
+use Rattle.sql_tree.specs.declared.sql_node.SqlNode.{SqlNode}
+use Rattle.sql_tree.specs.declared.sql_node.SqlType.{SqlType}
 use Rattle.sql_draft.specs.declared.draft.Draft.{Draft}
 use Rattle.sql_forms.specs.declared.terms.Form.{Form}
 use Rattle.sql_draft.specs.World.{Has, OfPlace, Puts, Question, StandsThere, World}

@@ -1,7 +1,7 @@
 -- For private clauses: functions of dates and moments.
 use Rattle.std.specs.Prelude.{codes}
 use Rattle.sql_tree.specs.FixedPieces.{PieceTexts, around}
-use Rattle.sql_tree.specs.declared.node.SqlFunction.{SqlFunction}
+use Rattle.sql_tree.specs.declared.sql_node.SqlFunction.{SqlFunction}
 
 -- functions of dates and moments
 abbrev pub IsOfTime : SqlFunction → Type 0

@@ -1,5 +1,5 @@
 use Rattle.std.proofs.Common.{refl}
-use Rattle.sql_tree.specs.declared.path.Base.{Base}
+use Rattle.sql_tree.specs.declared.json_path.Base.{Base}
 use Rattle.sql_draft.proofs.PathsPut.{member_path_ok}
 use Rattle.sql_draft.proofs.paths.put_member_path.Goals as goal
 

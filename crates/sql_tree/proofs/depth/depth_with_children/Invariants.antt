@@ -3,7 +3,7 @@ use Rattle.sql_tree.specs.TableModel.{TableModel}
 use Rattle.sql_tree.specs.Term.{Terms, term}
 use Rattle.sql_tree.specs.TreeText.{IsWhole}
 use Rattle.sql_tree.specs.declared.dialect.Dialect.{Dialect}
-use Rattle.sql_tree.specs.declared.path.Path.{Path}
+use Rattle.sql_tree.specs.declared.json_path.Path.{Path}
 use Rattle.sql_tree.specs.private.Depths.{AreDepths, joined}
 use Rattle.sql_tree.proofs.Deepest.{IsPartway}
 use Rattle.sql_tree.proofs.depth.depth_with_children.Given as goal

@@ -1,6 +1,6 @@
 use Rattle.std.proofs.Common.{◌≡◌, ◌∙◌, ◌<◌, ◌+◌, ◌-◌, ◌∷◌, [], ℕ, List, drop, length, reverse, sym, ap, subst, arith}
 use Rattle.std.proofs.lemmas.List.{drop_all}
-use Rattle.sql_tree.specs.declared.node.SqlNode.{SqlNode}
+use Rattle.sql_tree.specs.declared.sql_node.SqlNode.{SqlNode}
 use Rattle.sql_tree.proofs.Deepest.{AreCounted, none_counted, one_counted, pushed, whole_counted}
 use Rattle.sql_tree.proofs.Printing.{from_node}
 use Rattle.sql_tree.proofs.depth.parser_depth.Goals as goal

@@ -3,7 +3,7 @@ use Rattle.std.specs.Prelude.{codes}
 use Rattle.sql_tree.specs.PathText.{base_text, dots_text, extracted_text}
 use Rattle.sql_tree.specs.TableModel.{table_in}
 use Rattle.sql_tree.specs.declared.dialect.Dialect.{Dialect}
-use Rattle.sql_tree.specs.declared.path.Step.{Step}
+use Rattle.sql_tree.specs.declared.json_path.Step.{Step}
 use Rattle.sql_tree.proofs.PathPieces.{extracted_some}
 use Rattle.sql_tree.proofs.Written.{then_pushed, then_text}
 use Rattle.sql_tree.proofs.path_text.write_extracted.Goals as goal

@@ -3,7 +3,7 @@ use Rattle.std.specs.Prelude.{codes}
 use Rattle.sql_tree.specs.PathText.{arrows_text, base_text, json_text}
 use Rattle.sql_tree.specs.TableModel.{table_in}
 use Rattle.sql_tree.specs.declared.dialect.Dialect.{Dialect}
-use Rattle.sql_tree.specs.declared.path.Step.{Step}
+use Rattle.sql_tree.specs.declared.json_path.Step.{Step}
 use Rattle.sql_tree.proofs.Written.{all_from, then_pushed, then_text}
 use Rattle.sql_tree.proofs.path_text.write_json.Goals as goal
 

@@ -2,7 +2,7 @@ use Rattle.std.proofs.Common.{◌∙◌, List, sym, ap, string_bytes}
 use Rattle.std.specs.Prelude.{codes}
 use Rattle.sql_tree.specs.PathText.{arrow_text, arrows_text, scalar_arrows}
 use Rattle.sql_tree.specs.TableModel.{table_in}
-use Rattle.sql_tree.specs.declared.path.Step.{Step}
+use Rattle.sql_tree.specs.declared.json_path.Step.{Step}
 use Rattle.sql_tree.proofs.Steps.{scalar_last}
 use Rattle.sql_tree.proofs.Written.{written_more}
 use Rattle.sql_tree.proofs.path_text.write_scalar_arrows.Goals as goal

@@ -1,0 +1,55 @@
+-- For private clauses: a walk over a document, around the items of its member `value`.
+use Rattle.std.specs.Prelude.{◌≡◌, ◌≢◌, ℕ, ◌<◌, ◌≤◌, List, length, get_or, Bool, true, false, None, Some, codes}
+use Rattle.json.specs.Json.{after_end_array, read_key}
+use Rattle.serde_json.specs.Data.{Data, Items}
+use Rattle.serde_json.specs.View.{items_of}
+use Rattle.json_tokens.specs.declared.lexeme.Turn.TheVariants.{AfterComma, AfterValue, Fresh}
+use Rattle.json_room.specs.Lexemes.{EndsHere, tokens_at}
+use Rattle.edm_entities.specs.private.RowTokens.{ReadsItems}
+use Rattle.edm_rows.specs.private.Held.{PassesTo}
+use Rattle.edm_rows.specs.private.Members.{NamesTo}
+use Rattle.edm_rows.specs.private.MembersSoFar.{MembersUpTo}
+use Rattle.collection_items.specs.JudgedItems.{AreJudged, ItemJudge}
+use Rattle.collection_items.specs.declared.document_walk.After.{After}
+use Rattle.collection_items.specs.declared.document_walk.After.TheVariants.{Close, Comma}
+use Rattle.collection_items.specs.declared.document_walk.MemberName.{MemberName}
+
+-- a member's name stands there, and its value from the other offset on; whether the name is `value`
+pub record NamesMember (text : List ℕ) (from : ℕ) (member : MemberName) : Type 0 where
+  pub name : List ℕ
+  pub names : NamesTo text from name member.place
+  pub is : member.is_value ≡ true → name ≡ codes "value"
+  pub is_not : member.is_value ≡ false → name ≢ codes "value"
+
+-- after members of whatever names one of the name `value` has an array, whose bracket stands there
+pub record FindsArray (text : List ℕ) (from bracket : ℕ) : Type 0 where
+  pub key : ℕ
+  pub members : MembersUpTo 126 text from key (λ found. Unit {0})
+  pub names : NamesTo text key (codes "value") bracket
+  pub opens : (bracket < length text) × (get_or text bracket 32 ≡ 91)
+
+-- after a bracket stand an array's items, with the closing one; of each that is said
+pub record JudgesArray (judge : ItemJudge) (text : List ℕ) (from : ℕ) (flags : List Bool) (to : ℕ) : Type 0 where
+  pub items : List Data
+  pub bounds : PassesTo text from to
+  pub read : ReadsItems 125 (tokens_at Fresh text from) (tokens_at AfterValue text to)
+      (λ found. found ≡ items_of items)
+  pub judged : AreJudged judge items flags
+
+-- where an item ends at an offset, a comma or the array's bracket is passed up to the other
+abbrev pub EndsItem : List ℕ → ℕ → After → Type 0
+EndsItem text end (Comma next) =
+    (end < next) × (next ≤ length text) × EndsHere text end
+    × (tokens_at AfterComma text next ≡ tokens_at AfterValue text end)
+EndsItem text end (Close next) =
+    (end < next) × (next ≤ length text) × EndsHere text end
+    × (after_end_array (tokens_at AfterValue text end) ≡ Some (tokens_at AfterValue text next))
+
+-- the same of a member and the object's brace
+abbrev pub EndsPair : List ℕ → ℕ → After → Type 0
+EndsPair text end (Comma next) =
+    (end < next) × (next ≤ length text) × EndsHere text end
+    × (tokens_at AfterComma text next ≡ tokens_at AfterValue text end)
+EndsPair text end (Close next) =
+    (end < next) × (next ≤ length text) × EndsHere text end
+    × (read_key (tokens_at AfterValue text end) ≡ Some (None, tokens_at AfterValue text next))

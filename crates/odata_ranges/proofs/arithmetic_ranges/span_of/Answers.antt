@@ -1,0 +1,9 @@
+use Rattle.std.proofs.Common.{arith}
+use Rattle.std.proofs.lemmas.Int.{ints}
+use Rattle.odata_ranges.proofs.arithmetic_ranges.span_of.Goals as goal
+
+pub returns-clause-least : goal.returns-clause-least
+returns-clause-least c = (omega (arith, ints), omega (arith, ints), omega (arith, ints), omega (arith, ints))
+
+pub returns-clause-greatest : goal.returns-clause-greatest
+returns-clause-greatest c = (omega (arith, ints), omega (arith, ints), omega (arith, ints), omega (arith, ints))

@@ -1,9 +1,0 @@
-use Rattle.std.proofs.Common.{◌-◌}
-use Rattle.sql_forms.proofs.answers.AlongAnswers.{ArgumentsSoFar}
-use Rattle.sql_forms.proofs.calls.arguments_of.Given as goal
-
-abbrev pub invariant-loop-at : goal.invariant-loop-at
-invariant-loop-at l = record { so : ArgumentsSoFar l.context.checked.now l.context.ranges.now l.place l.at l.stop l.operands.items }
-
-abbrev pub decreases-loop-at : goal.decreases-loop-at
-decreases-loop-at l = l.stop - l.at
