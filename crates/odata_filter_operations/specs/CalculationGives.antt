@@ -1,5 +1,5 @@
 -- Arithmetic on two values, and negation of one (OData URL Conventions 4.01, section 5.1.1.2).
-use Rattle.std.specs.Prelude.{◌≡◌, ℤ, Option, Some, None, Result, Ok, Err}
+use Rattle.std.specs.Prelude.{◌≡◌, ℤ, Option, Some, Result, Ok, Err}
 use Rattle.edm_values.specs.Val.{Val, null, whole}
 use Rattle.edm_values.specs.declared.primitive.PrimitiveType.{PrimitiveType}
 use Rattle.csdl_schema.specs.ExprType.{ExprType, single, primitive}

@@ -16,18 +16,13 @@ use odata_functions::{ArithFault, arith, compare_values, negate};
 use odata_signatures::{EdmType, ValueType};
 use odata_syntax::{ArithmeticOperator, ComparisonOperator};
 
-/// Returns whether the comparison of two stored values is true. Numbers are compared at once.
+/// Returns whether the comparison of two stored values is true.
 #[inline(always)]
 pub fn compare_kept(comparison: ComparisonOperator, left: &Value, right: &Value) -> bool
     requires { (l r : Contents) → AreComparableBy comparison (kept_val l left.now) (kept_val r right.now) }
     ensures { (l r : Contents)
         → IsTrue result ↔ ComparesTrue comparison (kept_val l left.now) (kept_val r right.now) }
 {
-    if let Value::Int(l) = left {
-        if let Value::Int(r) = right {
-            return compare_numbers(comparison, Some(*l), Some(*r));
-        }
-    }
     compare_values(comparison, left, right)
 }
 

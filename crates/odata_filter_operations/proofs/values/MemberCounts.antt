@@ -7,7 +7,7 @@ use Rattle.edm_values.specs.Val.{boolean, whole, items}
 use Rattle.edm_values.specs.NumberTypes.{IsNumberOf}
 use Rattle.edm_values.specs.declared.primitive.PrimitiveType.{PrimitiveType}
 use Rattle.edm_values.specs.declared.value.Value.{Value}
-use Rattle.csdl_schema.specs.ExprType.{SingleType, collection}
+use Rattle.csdl_schema.specs.ExprType.{SingleType}
 use Rattle.csdl_schema.specs.SchemaModel.{Slots}
 use Rattle.edm_entities.specs.Row.{items_of, val_of}
 use Rattle.odata_functions.specs.declared.arithmetic.ArithFault.{ArithFault}
