@@ -19,6 +19,7 @@ pub mod Parts
 pub mod PassedSlots
 pub mod Readings
 pub mod Sides
+pub mod SievedComparisons
 pub mod SlotValue
 pub mod Spines
 pub mod TextArguments

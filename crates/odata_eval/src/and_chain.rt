@@ -12,7 +12,7 @@ use super::eval_context::EvalContext;
 use super::kept_arithmetic::arithmetic_compared_at;
 use super::kept_terms::{compared_with_literal, kept_truth_at};
 use super::logical::decides;
-use super::walk::term_at;
+use super::truth_walk::term_at;
 use super::walk_operand::{WalkClass, is_class_at, right_of};
 use odata_checked_filter::NodeKind;
 use odata_filter_operations::EvalFault;

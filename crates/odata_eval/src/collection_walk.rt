@@ -6,9 +6,9 @@ ghost use Rattle.odata_eval.specs.private.Spending.{CountedDatum, SpendsRest, da
 ghost use Rattle.odata_eval.specs.private.WalkAnswer.{AnswersDatum};
 
 use super::budget::{Counting, take_item};
+use super::datum_walk::{likely_stored_at, operand_at};
 use super::eval_context::EvalContext;
 use super::stop::EvalStop;
-use super::walk::{likely_stored_at, operand_at};
 use super::walk_operand::{right_of, stop_of};
 use edm_values::Datum;
 use odata_filter_operations::{EvalFault, among, flags_of};

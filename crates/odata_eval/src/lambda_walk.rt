@@ -14,7 +14,7 @@ use super::budget::Counting;
 use super::eval_context::EvalContext;
 use super::frames::RangeVariable;
 use super::stop::EvalStop;
-use super::walk::side_at;
+use super::truth_walk::side_at;
 use super::walk_operand::right_of;
 use edm_values::{Datum, Value};
 use odata_filter_operations::datum_of_truth;

@@ -13,6 +13,7 @@ mod and_chain;
 mod bounded_evaluator;
 mod budget;
 mod collection_walk;
+mod datum_walk;
 mod eval_context;
 mod evaluator;
 mod frames;
@@ -24,9 +25,9 @@ mod logical;
 mod number_walk;
 mod passed_tests;
 mod stop;
+mod truth_walk;
 mod value_tests;
 mod verdict;
-mod walk;
 mod walk_operand;
 
 pub use bounded_evaluator::evaluate_within;

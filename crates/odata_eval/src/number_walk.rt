@@ -4,8 +4,8 @@ ghost use Rattle.odata_eval.specs.private.Place.{HasOperator, IsClassAt, NumberS
 ghost use Rattle.odata_eval.specs.private.WalkAnswer.{AnswersNumber};
 
 use super::budget::Counting;
+use super::datum_walk::operand_at;
 use super::eval_context::EvalContext;
-use super::walk::operand_at;
 use super::walk_operand::{
     WalkClass, WalkOperand, arithmetic_operator, is_class_at, right_of, spine_bottom,
     walk_operand_at,

@@ -66,133 +66,133 @@ use Rattle.odata_eval.proofs.walking.Operands.{operand_inside, tree_of_class, tr
 use Rattle.odata_eval.proofs.walking.Measures.{measure_at, rank_counted, rank_eager, rank_made_number, rank_number_operand, rank_numbers, rank_operand, rank_plain, rank_rest, rank_step, rank_test, rank_truth}
 use Rattle.odata_eval.proofs.+evaluate.Goals as goal
 
-pub walk::truth_at-returns-clause-answers : goal.walk::truth_at-returns-clause-answers
-walk::truth_at-returns-clause-answers g t c = at_top (λ k. CountedTruth c.args.context.now k c.loop-at.answer) c.loop-at.at c.args.place c.loop-at.invariant.above (omega arith) c.loop-at.invariant.answers
+pub truth_walk::truth_at-returns-clause-answers : goal.truth_walk::truth_at-returns-clause-answers
+truth_walk::truth_at-returns-clause-answers g t c = at_top (λ k. CountedTruth c.args.context.now k c.loop-at.answer) c.loop-at.at c.args.place c.loop-at.invariant.above (omega arith) c.loop-at.invariant.answers
 
-pub walk::eager_at-returns-clause-answers : goal.walk::eager_at-returns-clause-answers
-walk::eager_at-returns-clause-answers g t c = at_top (λ k. CountedDatum c.args.context.now k c.loop-at.answer) c.loop-at.at c.args.place c.loop-at.invariant.above (omega arith) c.loop-at.invariant.answers
+pub datum_walk::eager_at-returns-clause-answers : goal.datum_walk::eager_at-returns-clause-answers
+datum_walk::eager_at-returns-clause-answers g t c = at_top (λ k. CountedDatum c.args.context.now k c.loop-at.answer) c.loop-at.at c.args.place c.loop-at.invariant.above (omega arith) c.loop-at.invariant.answers
 
-pub walk::made_truth_at-truth_of-requires : goal.walk::made_truth_at-truth_of-requires
-walk::made_truth_at-truth_of-requires g t c = λ reading.
+pub truth_walk::made_truth_at-truth_of-requires : goal.truth_walk::made_truth_at-truth_of-requires
+truth_walk::made_truth_at-truth_of-requires g t c = λ reading.
     value_there c.args.context.now c.args.place truth_values c.ends_once.ensures c.in-Ok.value c.requires.stands c.in-Ok.ensures.answers reading
 
-pub walk::made_truth_at-returns-in-Ok-clause-answers : goal.walk::made_truth_at-returns-in-Ok-clause-answers
-walk::made_truth_at-returns-in-Ok-clause-answers g t c =
+pub truth_walk::made_truth_at-returns-in-Ok-clause-answers : goal.truth_walk::made_truth_at-returns-in-Ok-clause-answers
+truth_walk::made_truth_at-returns-in-Ok-clause-answers g t c =
     read_value c.args.context.now c.args.place c.in-Ok.value (truth_val c.truth_of.result) c.in-Ok.ensures.answers c.truth_of.ensures
 
-pub walk::counted_at-returns-in-Leaf-clause-answers : goal.walk::counted_at-returns-in-Leaf-clause-answers
-walk::counted_at-returns-in-Leaf-clause-answers g t c = kept_datum c.args.context.now c.args.place c.in-Leaf.value.now c.datum_of.result c.in-Leaf.ensures.0 c.datum_of.ensures
+pub datum_walk::counted_at-returns-in-Leaf-clause-answers : goal.datum_walk::counted_at-returns-in-Leaf-clause-answers
+datum_walk::counted_at-returns-in-Leaf-clause-answers g t c = kept_datum c.args.context.now c.args.place c.in-Leaf.value.now c.datum_of.result c.in-Leaf.ensures.0 c.datum_of.ensures
 
-pub walk::counted_at-returns-in-Ok-clause-answers : goal.walk::counted_at-returns-in-Ok-clause-answers
-walk::counted_at-returns-in-Ok-clause-answers g t c = made_value c.args.context.now c.args.place c.datum_of_truth.result (truth_val c.in-Ok.truth) c.in-Ok.ensures.answers c.datum_of_truth.ensures
+pub datum_walk::counted_at-returns-in-Ok-clause-answers : goal.datum_walk::counted_at-returns-in-Ok-clause-answers
+datum_walk::counted_at-returns-in-Ok-clause-answers g t c = made_value c.args.context.now c.args.place c.datum_of_truth.result (truth_val c.in-Ok.truth) c.in-Ok.ensures.answers c.datum_of_truth.ensures
 
-pub walk::counted_at-returns-in-Ok-number_at-clause-answers : goal.walk::counted_at-returns-in-Ok-number_at-clause-answers
-walk::counted_at-returns-in-Ok-number_at-clause-answers g t c = made_value c.args.context.now c.args.place c.datum_of_number.result (number_val c.in-Ok-number_at.number) c.in-Ok-number_at.ensures c.datum_of_number.ensures
+pub datum_walk::counted_at-returns-in-Ok-number_at-clause-answers : goal.datum_walk::counted_at-returns-in-Ok-number_at-clause-answers
+datum_walk::counted_at-returns-in-Ok-number_at-clause-answers g t c = made_value c.args.context.now c.args.place c.datum_of_number.result (number_val c.in-Ok-number_at.number) c.in-Ok-number_at.ensures c.datum_of_number.ensures
 
-pub walk::truth_at-plain_truth_at-answer-requires : goal.walk::truth_at-plain_truth_at-answer-requires
-walk::truth_at-plain_truth_at-answer-requires g t c =
+pub truth_walk::truth_at-plain_truth_at-answer-requires : goal.truth_walk::truth_at-plain_truth_at-answer-requires
+truth_walk::truth_at-plain_truth_at-answer-requires g t c =
     let below : c.args.place ≤ c.spine_bottom-bottom.result = c.spine_bottom-bottom.ensures.below in
     let smaller : measure_at c.args.context.now.list.nodes c.spine_bottom-bottom.result rank_plain < measure_at c.args.context.now.list.nodes c.args.place rank_truth = omega arith in
     let stands : TruthStands c.args.context.now c.spine_bottom-bottom.result = typed_down c.args.context.now WalkClass.Logical (λ leaf. cc) c.args.place c.spine_bottom-bottom.result below c.requires.stands c.spine_bottom-bottom.ensures.spine in
     search rules
 
-pub walk::truth_at-logical_at-answer-requires : goal.walk::truth_at-logical_at-answer-requires
-walk::truth_at-logical_at-answer-requires g t c =
+pub truth_walk::truth_at-logical_at-answer-requires : goal.truth_walk::truth_at-logical_at-answer-requires
+truth_walk::truth_at-logical_at-answer-requires g t c =
     let l = c.loop-at in
     let above : c.args.place < l.at = omega arith in
     let smaller : measure_at c.args.context.now.list.nodes (l.at - 1) rank_step < measure_at c.args.context.now.list.nodes c.args.place rank_truth = omega arith in
     let up : StepUp c.args.context.now WalkClass.Logical (λ k. CountedTruth c.args.context.now k l.answer) l.at = step_up c.args.context.now WalkClass.Logical (λ leaf. cc) (λ k. CountedTruth c.args.context.now k l.answer) c.args.place l.at c.spine_bottom-bottom.result above l.invariant.within (typed_part c.args.context.now c.args.place IsBooleanOrNull c.requires.stands) c.spine_bottom-bottom.ensures.spine l.invariant.answers in
     search rules
 
-pub walk::eager_at-made_at-answer-requires : goal.walk::eager_at-made_at-answer-requires
-walk::eager_at-made_at-answer-requires g t c =
+pub datum_walk::eager_at-made_at-answer-requires : goal.datum_walk::eager_at-made_at-answer-requires
+datum_walk::eager_at-made_at-answer-requires g t c =
     let l = c.loop-at in
     let above : c.args.place < l.at = omega arith in
     let smaller : measure_at c.args.context.now.list.nodes (l.at - 1) rank_step < measure_at c.args.context.now.list.nodes c.args.place rank_eager = omega arith in
     let up : StepUp c.args.context.now WalkClass.Eager (λ k. CountedDatum c.args.context.now k l.answer) l.at = step_up c.args.context.now WalkClass.Eager (λ leaf. cc) (λ k. CountedDatum c.args.context.now k l.answer) c.args.place l.at c.spine_bottom-bottom.result above l.invariant.within c.requires.stands c.spine_bottom-bottom.ensures.spine l.invariant.answers in
     search rules
 
-pub walk::eager_at-likely_stored_at-answer-requires : goal.walk::eager_at-likely_stored_at-answer-requires
-walk::eager_at-likely_stored_at-answer-requires g t c =
+pub datum_walk::eager_at-likely_stored_at-answer-requires : goal.datum_walk::eager_at-likely_stored_at-answer-requires
+datum_walk::eager_at-likely_stored_at-answer-requires g t c =
     let inside : c.args.place < length c.args.context.now.list.nodes = part_inside c.args.context.now c.args.place c.requires.stands in
     let behind : c.args.place < c.spine_bottom-bottom.result = below_bottom c.args.context.now.list WalkClass.Eager c.args.place c.spine_bottom-bottom.result c.spine_bottom-bottom.ensures.below c.requires.eager c.spine_bottom-bottom.ensures.bottom in
     let smaller : measure_at c.args.context.now.list.nodes c.spine_bottom-bottom.result rank_operand < measure_at c.args.context.now.list.nodes c.args.place rank_eager = omega arith in
     let stands = part_down c.args.context.now WalkClass.Eager (λ leaf. cc) c.args.place c.spine_bottom-bottom.result c.spine_bottom-bottom.ensures.below c.requires.stands c.spine_bottom-bottom.ensures.spine in
     search rules
 
-pub walk::likely_stored_at-returns-in-Leaf-clause-answers : goal.walk::likely_stored_at-returns-in-Leaf-clause-answers
-walk::likely_stored_at-returns-in-Leaf-clause-answers g t c = kept_datum c.args.context.now c.args.place c.in-Leaf.value.now c.datum_of.result c.in-Leaf.ensures.0 c.datum_of.ensures
+pub datum_walk::likely_stored_at-returns-in-Leaf-clause-answers : goal.datum_walk::likely_stored_at-returns-in-Leaf-clause-answers
+datum_walk::likely_stored_at-returns-in-Leaf-clause-answers g t c = kept_datum c.args.context.now c.args.place c.in-Leaf.value.now c.datum_of.result c.in-Leaf.ensures.0 c.datum_of.ensures
 
-pub walk::likely_stored_at-returns-in-Leaf-clause-spent : goal.walk::likely_stored_at-returns-in-Leaf-clause-spent
-walk::likely_stored_at-returns-in-Leaf-clause-spent g t c =
+pub datum_walk::likely_stored_at-returns-in-Leaf-clause-spent : goal.datum_walk::likely_stored_at-returns-in-Leaf-clause-spent
+datum_walk::likely_stored_at-returns-in-Leaf-clause-spent g t c =
     free_spends c.args.context.now c.args.place None (g.B.Counting.left c.args.budget.now) (leaf_free c.args.context.now c.args.place c.in-Leaf.ensures.1) (takes_nothing (g.B.Counting.left c.args.budget.now))
 
 -- ---- a node of truth values
 
-pub walk::logical_at-returns-in-Err-clause-answers : goal.walk::logical_at-returns-in-Err-clause-answers
-walk::logical_at-returns-in-Err-clause-answers g t c = by_stop (λ s. CountedTruth c.args.context.now (c.args.place + 1) (Err s)) (λ s. CountedTruth c.args.context.now c.args.place (Err s)) (λ fault. first_faults c.args.context.now c.args.place WalkClass.Logical fault (λ leaf. cc) c.requires.logical) (λ is. tt) c.in-Err.stop
+pub truth_walk::logical_at-returns-in-Err-clause-answers : goal.truth_walk::logical_at-returns-in-Err-clause-answers
+truth_walk::logical_at-returns-in-Err-clause-answers g t c = by_stop (λ s. CountedTruth c.args.context.now (c.args.place + 1) (Err s)) (λ s. CountedTruth c.args.context.now c.args.place (Err s)) (λ fault. first_faults c.args.context.now c.args.place WalkClass.Logical fault (λ leaf. cc) c.requires.logical) (λ is. tt) c.in-Err.stop
     (subst (λ (r : Result (Option Bool) EvalStop). CountedTruth c.args.context.now (c.args.place + 1) r) c.in-Err.is c.requires.first)
 
-pub walk::logical_at-node-requires : goal.walk::logical_at-node-requires
-walk::logical_at-node-requires g t c = part_inside c.args.context.now c.args.place c.requires.stands
+pub truth_walk::logical_at-node-requires : goal.truth_walk::logical_at-node-requires
+truth_walk::logical_at-node-requires g t c = part_inside c.args.context.now c.args.place c.requires.stands
 
-pub walk::connected_at-returns-then-decides-clause-answers : goal.walk::connected_at-returns-then-decides-clause-answers
-walk::connected_at-returns-then-decides-clause-answers g t c = decided_answers c.args.context.now c.args.place c.args.operator c.requires.here c.args.left (c.decides.ensures.0 c.if-decides.true) c.requires.left
+pub truth_walk::connected_at-returns-then-decides-clause-answers : goal.truth_walk::connected_at-returns-then-decides-clause-answers
+truth_walk::connected_at-returns-then-decides-clause-answers g t c = decided_answers c.args.context.now c.args.place c.args.operator c.requires.here c.args.left (c.decides.ensures.0 c.if-decides.true) c.requires.left
 
-pub walk::connected_at-right_of-right_place-requires : goal.walk::connected_at-right_of-right_place-requires
-walk::connected_at-right_of-right_place-requires g t c = right_there c.args.context.now c.args.place (BinaryOperator.Logical c.args.operator) c.requires.here c.requires.stands
+pub truth_walk::connected_at-right_of-right_place-requires : goal.truth_walk::connected_at-right_of-right_place-requires
+truth_walk::connected_at-right_of-right_place-requires g t c = right_there c.args.context.now c.args.place (BinaryOperator.Logical c.args.operator) c.requires.here c.requires.stands
 
-pub walk::connected_at-side_at-requires : goal.walk::connected_at-side_at-requires
-walk::connected_at-side_at-requires g t c =
+pub truth_walk::connected_at-side_at-requires : goal.truth_walk::connected_at-side_at-requires
+truth_walk::connected_at-side_at-requires g t c =
     let inside : c.args.place < length c.args.context.now.list.nodes = part_inside c.args.context.now c.args.place c.requires.stands in
     let behind : c.args.place < c.right_of-right_place.result = right_further c.args.context.now c.args.place (BinaryOperator.Logical c.args.operator) c.requires.here c.requires.stands c.right_of-right_place.result c.right_of-right_place.ensures in
     let smaller : measure_at c.args.context.now.list.nodes c.right_of-right_place.result rank_counted < measure_at c.args.context.now.list.nodes c.args.place rank_rest = omega arith in
     let stands : TruthStands c.args.context.now c.right_of-right_place.result = right_typed c.args.context.now c.args.place (BinaryOperator.Logical c.args.operator) c.requires.here c.requires.stands c.right_of-right_place.result c.right_of-right_place.ensures WalkClass.Logical refl (λ same. cc) in
     search rules
 
-pub walk::connected_at-kept_truth_at-requires : goal.walk::connected_at-kept_truth_at-requires
-walk::connected_at-kept_truth_at-requires g t c = record {
+pub truth_walk::connected_at-kept_truth_at-requires : goal.truth_walk::connected_at-kept_truth_at-requires
+truth_walk::connected_at-kept_truth_at-requires g t c = record {
   stands = right_typed c.args.context.now c.args.place (BinaryOperator.Logical c.args.operator) c.requires.here c.requires.stands c.right_of-right_place.result c.right_of-right_place.ensures WalkClass.Logical refl (λ same. cc);
 }
 
-pub walk::connected_at-returns-in-Some-clause-answers : goal.walk::connected_at-returns-in-Some-clause-answers
-walk::connected_at-returns-in-Some-clause-answers g t c =
+pub truth_walk::connected_at-returns-in-Some-clause-answers : goal.truth_walk::connected_at-returns-in-Some-clause-answers
+truth_walk::connected_at-returns-in-Some-clause-answers g t c =
     subst (λ (r : Option Bool). AnswersTruth c.args.context.now c.args.place (Ok r)) (sym c.join.ensures) (joined_answers c.args.context.now c.args.place c.args.operator c.requires.here c.args.left c.right_of-right_place.result c.right_of-right_place.ensures
     (λ decided. let e = c.decides.ensures.1 decided in cc) c.requires.left (Some c.in-Some.right) c.in-Some.ensures.answers)
 
-pub walk::connected_at-returns-in-Some-clause-spent : goal.walk::connected_at-returns-in-Some-clause-spent
-walk::connected_at-returns-in-Some-clause-spent g t c =
+pub truth_walk::connected_at-returns-in-Some-clause-spent : goal.truth_walk::connected_at-returns-in-Some-clause-spent
+truth_walk::connected_at-returns-in-Some-clause-spent g t c =
     right_asked c.args.context.now c.args.place c.args.operator c.requires.here c.ends_once.ensures c.args.left c.requires.left (λ decided. let e = c.decides.ensures.1 decided in cc) c.right_of-right_place.result c.right_of-right_place.ensures (g.B.Counting.left c.args.budget.now) (g.B.Counting.left c.args.budget.now) None
     (c.in-Some.ensures.spent (g.B.Counting.left c.args.budget.now))
 
-pub walk::connected_at-returns-in-Ok-clause-answers : goal.walk::connected_at-returns-in-Ok-clause-answers
-walk::connected_at-returns-in-Ok-clause-answers g t c =
+pub truth_walk::connected_at-returns-in-Ok-clause-answers : goal.truth_walk::connected_at-returns-in-Ok-clause-answers
+truth_walk::connected_at-returns-in-Ok-clause-answers g t c =
     subst (λ (r : Option Bool). AnswersTruth c.args.context.now c.args.place (Ok r)) (sym c.join-in-Ok.ensures) (joined_answers c.args.context.now c.args.place c.args.operator c.requires.here c.args.left c.right_of-right_place.result c.right_of-right_place.ensures
     (λ decided. let e = c.decides.ensures.1 decided in cc) c.requires.left c.in-Ok.right c.in-Ok.ensures.answers)
 
-pub walk::connected_at-returns-in-Err-clause-answers : goal.walk::connected_at-returns-in-Err-clause-answers
-walk::connected_at-returns-in-Err-clause-answers g t c =
+pub truth_walk::connected_at-returns-in-Err-clause-answers : goal.truth_walk::connected_at-returns-in-Err-clause-answers
+truth_walk::connected_at-returns-in-Err-clause-answers g t c =
     by_stop (λ s. CountedTruth c.args.context.now c.right_of-right_place.result (Err s)) (λ s. CountedTruth c.args.context.now c.args.place (Err s))
     (λ fault. joined_faults c.args.context.now c.args.place c.args.operator c.requires.here c.args.left c.right_of-right_place.result c.right_of-right_place.ensures (λ decided. let e = c.decides.ensures.1 decided in cc) c.requires.left fault)
     (λ is. tt) c.in-Err.stop c.in-Err.ensures.answers
 
 -- ---- another node with operands
 
-pub walk::made_at-returns-in-Err-clause-answers : goal.walk::made_at-returns-in-Err-clause-answers
-walk::made_at-returns-in-Err-clause-answers g t c = by_stop (λ s. CountedDatum c.args.context.now (c.args.place + 1) (Err s)) (λ s. CountedDatum c.args.context.now c.args.place (Err s)) (λ fault. first_faults c.args.context.now c.args.place WalkClass.Eager fault (λ leaf. cc) c.requires.eager) (λ is. tt) c.in-Err.before
+pub datum_walk::made_at-returns-in-Err-clause-answers : goal.datum_walk::made_at-returns-in-Err-clause-answers
+datum_walk::made_at-returns-in-Err-clause-answers g t c = by_stop (λ s. CountedDatum c.args.context.now (c.args.place + 1) (Err s)) (λ s. CountedDatum c.args.context.now c.args.place (Err s)) (λ fault. first_faults c.args.context.now c.args.place WalkClass.Eager fault (λ leaf. cc) c.requires.eager) (λ is. tt) c.in-Err.before
     (subst (λ (r : Result Datum EvalStop). CountedDatum c.args.context.now (c.args.place + 1) r) c.in-Err.is c.requires.first)
 
-pub walk::made_at-node-requires : goal.walk::made_at-node-requires
-walk::made_at-node-requires g t c = part_inside c.args.context.now c.args.place c.requires.stands
+pub datum_walk::made_at-node-requires : goal.datum_walk::made_at-node-requires
+datum_walk::made_at-node-requires g t c = part_inside c.args.context.now c.args.place c.requires.stands
 
-pub walk::made_at-step-requires : goal.walk::made_at-step-requires
-walk::made_at-step-requires g t c =
+pub datum_walk::made_at-step-requires : goal.datum_walk::made_at-step-requires
+datum_walk::made_at-step-requires g t c =
     let first = subst (λ (r : Result Datum EvalStop). CountedDatum c.args.context.now (c.args.place + 1) r) c.in-Ok.is c.requires.first in
     let here = there_found (λ (f : CheckedNode). f.kind ≡ NodeKind.Member c.in-Member.slot) (slice_get c.args.context.now.list.nodes c.args.place) c.node.result.now c.node.ensures c.in-Member.is in
     step_slot c.trees_have_one_type.ensures c.args.context.now c.ends_once.ensures c.args.place c.in-Member.slot here c.in-Ok.first c.requires.stands first
 
-pub walk::made_at-returns-in-Member-clause-answers : goal.walk::made_at-returns-in-Member-clause-answers
-walk::made_at-returns-in-Member-clause-answers g t c =
+pub datum_walk::made_at-returns-in-Member-clause-answers : goal.datum_walk::made_at-returns-in-Member-clause-answers
+datum_walk::made_at-returns-in-Member-clause-answers g t c =
     let first = subst (λ (r : Result Datum EvalStop). CountedDatum c.args.context.now (c.args.place + 1) r) c.in-Ok.is c.requires.first in
     let here = there_found (λ (f : CheckedNode). f.kind ≡ NodeKind.Member c.in-Member.slot) (slice_get c.args.context.now.list.nodes c.args.place) c.node.result.now c.node.ensures c.in-Member.is in
     step_answers c.trees_have_one_type.ensures c.args.context.now c.ends_once.ensures c.args.place c.in-Member.slot here c.in-Ok.first c.step.result first c.step.ensures
@@ -235,113 +235,113 @@ number_walk::calculated_at-returns-in-Err g t c = both_faults c.args.context.now
 
 -- ---- a comparison of values that are made
 
-pub walk::compared_at-right_of-right_place-requires : goal.walk::compared_at-right_of-right_place-requires
-walk::compared_at-right_of-right_place-requires g t c =
+pub datum_walk::compared_at-right_of-right_place-requires : goal.datum_walk::compared_at-right_of-right_place-requires
+datum_walk::compared_at-right_of-right_place-requires g t c =
     right_there c.args.context.now c.args.place (BinaryOperator.Comparison c.args.comparison) c.requires.here c.requires.stands
 
-pub walk::compared_at-compare-requires : goal.walk::compared_at-compare-requires
-walk::compared_at-compare-requires g t c =
+pub datum_walk::compared_at-compare-requires : goal.datum_walk::compared_at-compare-requires
+datum_walk::compared_at-compare-requires g t c =
     may_compare c.args.context.now c.args.place c.args.comparison c.requires.here c.right_of-right_place.result c.right_of-right_place.ensures c.args.left c.datum_of.result c.requires.left
     (kept_datum c.args.context.now c.right_of-right_place.result c.in-Leaf.value.now c.datum_of.result c.in-Leaf.ensures.0 c.datum_of.ensures) c.ends_once.ensures c.comparisons_are_decided.ensures.any_reading c.requires.stands
 
-pub walk::compared_at-returns-in-Leaf-clause-answers : goal.walk::compared_at-returns-in-Leaf-clause-answers
-walk::compared_at-returns-in-Leaf-clause-answers g t c =
+pub datum_walk::compared_at-returns-in-Leaf-clause-answers : goal.datum_walk::compared_at-returns-in-Leaf-clause-answers
+datum_walk::compared_at-returns-in-Leaf-clause-answers g t c =
     truth_compared c.args.context.now c.args.place c.args.comparison c.requires.here c.right_of-right_place.result c.right_of-right_place.ensures c.args.left c.datum_of.result c.requires.left
     (kept_datum c.args.context.now c.right_of-right_place.result c.in-Leaf.value.now c.datum_of.result c.in-Leaf.ensures.0 c.datum_of.ensures) c.ends_once.ensures c.comparisons_are_decided.ensures.any_reading c.requires.stands c.compare.result c.compare.ensures
 
-pub walk::compared_at-counted_at-requires : goal.walk::compared_at-counted_at-requires
-walk::compared_at-counted_at-requires g t c =
+pub datum_walk::compared_at-counted_at-requires : goal.datum_walk::compared_at-counted_at-requires
+datum_walk::compared_at-counted_at-requires g t c =
     let inside : c.args.place < length c.args.context.now.list.nodes = part_inside c.args.context.now c.args.place c.requires.stands in
     let behind : c.args.place < c.right_of-right_place.result = right_further c.args.context.now c.args.place (BinaryOperator.Comparison c.args.comparison) c.requires.here c.requires.stands c.right_of-right_place.result c.right_of-right_place.ensures in
     let smaller : measure_at c.args.context.now.list.nodes c.right_of-right_place.result rank_counted < measure_at c.args.context.now.list.nodes c.args.place rank_rest = omega arith in
     let stands : OperandStands c.args.context.now c.right_of-right_place.result = right_part c.args.context.now c.args.place (BinaryOperator.Comparison c.args.comparison) c.requires.here c.requires.stands c.right_of-right_place.result c.right_of-right_place.ensures in
     search rules
 
-pub walk::compared_at-compare-requires-in-Ok : goal.walk::compared_at-compare-requires-in-Ok
-walk::compared_at-compare-requires-in-Ok g t c =
+pub datum_walk::compared_at-compare-requires-in-Ok : goal.datum_walk::compared_at-compare-requires-in-Ok
+datum_walk::compared_at-compare-requires-in-Ok g t c =
     may_compare c.args.context.now c.args.place c.args.comparison c.requires.here c.right_of-right_place.result c.right_of-right_place.ensures c.args.left c.in-Ok.right c.requires.left
     c.in-Ok.ensures.answers c.ends_once.ensures c.comparisons_are_decided.ensures.any_reading c.requires.stands
 
-pub walk::compared_at-returns-in-Ok-clause-answers : goal.walk::compared_at-returns-in-Ok-clause-answers
-walk::compared_at-returns-in-Ok-clause-answers g t c =
+pub datum_walk::compared_at-returns-in-Ok-clause-answers : goal.datum_walk::compared_at-returns-in-Ok-clause-answers
+datum_walk::compared_at-returns-in-Ok-clause-answers g t c =
     truth_compared c.args.context.now c.args.place c.args.comparison c.requires.here c.right_of-right_place.result c.right_of-right_place.ensures c.args.left c.in-Ok.right c.requires.left
     c.in-Ok.ensures.answers c.ends_once.ensures c.comparisons_are_decided.ensures.any_reading c.requires.stands c.compare-in-Ok.result c.compare-in-Ok.ensures
 
-pub walk::compared_at-returns-clause-answers : goal.walk::compared_at-returns-clause-answers
-walk::compared_at-returns-clause-answers g t c =
+pub datum_walk::compared_at-returns-clause-answers : goal.datum_walk::compared_at-returns-clause-answers
+datum_walk::compared_at-returns-clause-answers g t c =
     by_stop (λ s. CountedDatum c.args.context.now c.right_of-right_place.result (Err s)) (λ s. CountedDatum c.args.context.now c.args.place (Err s))
     (λ fault. both_faults c.args.context.now c.args.place (BinaryOperator.Comparison c.args.comparison) c.requires.here c.right_of-right_place.result c.right_of-right_place.ensures (λ type. datum_val (reading_at (slots_of c.args.context.now.row.schema) type) c.args.left) fault tt c.requires.left)
     (λ is. tt) c.in-Err.behind c.in-Err.ensures.answers
 
 -- ---- a node that is none of truth values
 
-pub walk::plain_truth_at-kept_truth-requires : goal.walk::plain_truth_at-kept_truth-requires
-walk::plain_truth_at-kept_truth-requires g t c = value_kept c.args.context.now c.args.place c.in-Leaf.value.now c.in-Leaf.ensures.0 truth_values c.ends_once.ensures c.requires.stands
+pub truth_walk::plain_truth_at-kept_truth-requires : goal.truth_walk::plain_truth_at-kept_truth-requires
+truth_walk::plain_truth_at-kept_truth-requires g t c = value_kept c.args.context.now c.args.place c.in-Leaf.value.now c.in-Leaf.ensures.0 truth_values c.ends_once.ensures c.requires.stands
 
-pub walk::plain_truth_at-returns-in-Leaf-clause-answers : goal.walk::plain_truth_at-returns-in-Leaf-clause-answers
-walk::plain_truth_at-returns-in-Leaf-clause-answers g t c = kept_value c.args.context.now c.args.place c.in-Leaf.value.now c.in-Leaf.ensures.0 (truth_val c.kept_truth.result) c.kept_truth.ensures
+pub truth_walk::plain_truth_at-returns-in-Leaf-clause-answers : goal.truth_walk::plain_truth_at-returns-in-Leaf-clause-answers
+truth_walk::plain_truth_at-returns-in-Leaf-clause-answers g t c = kept_value c.args.context.now c.args.place c.in-Leaf.value.now c.in-Leaf.ensures.0 (truth_val c.kept_truth.result) c.kept_truth.ensures
 
-pub walk::numeric_truth_at-truth_of-requires : goal.walk::numeric_truth_at-truth_of-requires
-walk::numeric_truth_at-truth_of-requires g t c = λ reading. value_there c.args.context.now c.args.place truth_values c.ends_once.ensures c.datum_of_number.result c.requires.stands (made_value c.args.context.now c.args.place c.datum_of_number.result (number_val c.in-Ok.number) c.in-Ok.ensures c.datum_of_number.ensures) reading
+pub truth_walk::numeric_truth_at-truth_of-requires : goal.truth_walk::numeric_truth_at-truth_of-requires
+truth_walk::numeric_truth_at-truth_of-requires g t c = λ reading. value_there c.args.context.now c.args.place truth_values c.ends_once.ensures c.datum_of_number.result c.requires.stands (made_value c.args.context.now c.args.place c.datum_of_number.result (number_val c.in-Ok.number) c.in-Ok.ensures c.datum_of_number.ensures) reading
 
-pub walk::numeric_truth_at-returns-in-Ok-clause-answers : goal.walk::numeric_truth_at-returns-in-Ok-clause-answers
-walk::numeric_truth_at-returns-in-Ok-clause-answers g t c = read_value c.args.context.now c.args.place c.datum_of_number.result (truth_val c.truth_of.result) (made_value c.args.context.now c.args.place c.datum_of_number.result (number_val c.in-Ok.number) c.in-Ok.ensures c.datum_of_number.ensures) c.truth_of.ensures
+pub truth_walk::numeric_truth_at-returns-in-Ok-clause-answers : goal.truth_walk::numeric_truth_at-returns-in-Ok-clause-answers
+truth_walk::numeric_truth_at-returns-in-Ok-clause-answers g t c = read_value c.args.context.now c.args.place c.datum_of_number.result (truth_val c.truth_of.result) (made_value c.args.context.now c.args.place c.datum_of_number.result (number_val c.in-Ok.number) c.in-Ok.ensures c.datum_of_number.ensures) c.truth_of.ensures
 
 -- ---- a comparison of values where they stand
 
-pub walk::compared_truth_at-right_of-right_place-requires : goal.walk::compared_truth_at-right_of-right_place-requires
-walk::compared_truth_at-right_of-right_place-requires g t c = right_there c.args.context.now c.args.place (BinaryOperator.Comparison c.args.comparison) c.requires.here (typed_part c.args.context.now c.args.place IsBooleanOrNull c.requires.stands)
+pub truth_walk::compared_truth_at-right_of-right_place-requires : goal.truth_walk::compared_truth_at-right_of-right_place-requires
+truth_walk::compared_truth_at-right_of-right_place-requires g t c = right_there c.args.context.now c.args.place (BinaryOperator.Comparison c.args.comparison) c.requires.here (typed_part c.args.context.now c.args.place IsBooleanOrNull c.requires.stands)
 
-pub walk::compared_truth_at-overflow_add-place : goal.walk::compared_truth_at-overflow_add-place
-walk::compared_truth_at-overflow_add-place g t c =
+pub truth_walk::compared_truth_at-overflow_add-place : goal.truth_walk::compared_truth_at-overflow_add-place
+truth_walk::compared_truth_at-overflow_add-place g t c =
     let behind = right_further c.args.context.now c.args.place (BinaryOperator.Comparison c.args.comparison) c.requires.here (typed_part c.args.context.now c.args.place IsBooleanOrNull c.requires.stands) c.right_of-right_place.result c.right_of-right_place.ensures in
     omega (arith, behind, c.right_of-right_place.type_inv)
 
-pub walk::compared_truth_at-compare_kept-requires : goal.walk::compared_truth_at-compare_kept-requires
-walk::compared_truth_at-compare_kept-requires g t c =
+pub truth_walk::compared_truth_at-compare_kept-requires : goal.truth_walk::compared_truth_at-compare_kept-requires
+truth_walk::compared_truth_at-compare_kept-requires g t c =
     let here = c.requires.here in
     may_compare_kept c.args.context.now c.args.place c.args.comparison here c.right_of-right_place.result c.right_of-right_place.ensures c.in-Leaf.left.now c.in-Leaf-walk_operand_at.right.now c.in-Leaf.ensures.0 c.in-Leaf-walk_operand_at.ensures.0 c.ends_once.ensures c.comparisons_are_decided.ensures.any_contents (typed_part c.args.context.now c.args.place IsBooleanOrNull c.requires.stands)
 
-pub walk::compared_truth_at-returns-in-Leaf-walk_operand_at-clause-answers : goal.walk::compared_truth_at-returns-in-Leaf-walk_operand_at-clause-answers
-walk::compared_truth_at-returns-in-Leaf-walk_operand_at-clause-answers g t c =
+pub truth_walk::compared_truth_at-returns-in-Leaf-walk_operand_at-clause-answers : goal.truth_walk::compared_truth_at-returns-in-Leaf-walk_operand_at-clause-answers
+truth_walk::compared_truth_at-returns-in-Leaf-walk_operand_at-clause-answers g t c =
     let here = c.requires.here in
     kept_compared c.args.context.now c.args.place c.args.comparison here c.right_of-right_place.result c.right_of-right_place.ensures c.in-Leaf.left.now c.in-Leaf-walk_operand_at.right.now c.in-Leaf.ensures.0 c.in-Leaf-walk_operand_at.ensures.0 c.ends_once.ensures c.comparisons_are_decided.ensures.any_contents (typed_part c.args.context.now c.args.place IsBooleanOrNull c.requires.stands) c.compare_kept.result c.compare_kept.ensures
 
-pub walk::compared_truth_at-kept_compared_at-requires : goal.walk::compared_truth_at-kept_compared_at-requires
-walk::compared_truth_at-kept_compared_at-requires g t c = record {
+pub truth_walk::compared_truth_at-kept_compared_at-requires : goal.truth_walk::compared_truth_at-kept_compared_at-requires
+truth_walk::compared_truth_at-kept_compared_at-requires g t c = record {
   stands = typed_part c.args.context.now c.args.place IsBooleanOrNull c.requires.stands;
   here = c.requires.here;
 }
 
-pub walk::compared_truth_at-arithmetic_compared_at-requires : goal.walk::compared_truth_at-arithmetic_compared_at-requires
-walk::compared_truth_at-arithmetic_compared_at-requires g t c = record {
+pub truth_walk::compared_truth_at-arithmetic_compared_at-requires : goal.truth_walk::compared_truth_at-arithmetic_compared_at-requires
+truth_walk::compared_truth_at-arithmetic_compared_at-requires g t c = record {
   stands = typed_part c.args.context.now c.args.place IsBooleanOrNull c.requires.stands;
   here = c.requires.here;
   numeric = c.in-Numeric.ensures;
 }
 
-pub walk::compared_truth_at-returns-in-Some-clause-answers : goal.walk::compared_truth_at-returns-in-Some-clause-answers
-walk::compared_truth_at-returns-in-Some-clause-answers g t c = c.in-Some.ensures.answers
+pub truth_walk::compared_truth_at-returns-in-Some-clause-answers : goal.truth_walk::compared_truth_at-returns-in-Some-clause-answers
+truth_walk::compared_truth_at-returns-in-Some-clause-answers g t c = c.in-Some.ensures.answers
 
-pub walk::compared_truth_at-returns-in-Some-clause-spent : goal.walk::compared_truth_at-returns-in-Some-clause-spent
-walk::compared_truth_at-returns-in-Some-clause-spent g t c = c.in-Some.ensures.spent (g.B.Counting.left c.args.budget.now)
+pub truth_walk::compared_truth_at-returns-in-Some-clause-spent : goal.truth_walk::compared_truth_at-returns-in-Some-clause-spent
+truth_walk::compared_truth_at-returns-in-Some-clause-spent g t c = c.in-Some.ensures.spent (g.B.Counting.left c.args.budget.now)
 
-pub walk::compared_truth_at-returns-in-Some-kept_compared_at-clause-answers : goal.walk::compared_truth_at-returns-in-Some-kept_compared_at-clause-answers
-walk::compared_truth_at-returns-in-Some-kept_compared_at-clause-answers g t c = c.in-Some-kept_compared_at.ensures.answers
+pub truth_walk::compared_truth_at-returns-in-Some-kept_compared_at-clause-answers : goal.truth_walk::compared_truth_at-returns-in-Some-kept_compared_at-clause-answers
+truth_walk::compared_truth_at-returns-in-Some-kept_compared_at-clause-answers g t c = c.in-Some-kept_compared_at.ensures.answers
 
-pub walk::compared_truth_at-returns-in-Some-kept_compared_at-clause-spent : goal.walk::compared_truth_at-returns-in-Some-kept_compared_at-clause-spent
-walk::compared_truth_at-returns-in-Some-kept_compared_at-clause-spent g t c = c.in-Some-kept_compared_at.ensures.spent (g.B.Counting.left c.args.budget.now)
+pub truth_walk::compared_truth_at-returns-in-Some-kept_compared_at-clause-spent : goal.truth_walk::compared_truth_at-returns-in-Some-kept_compared_at-clause-spent
+truth_walk::compared_truth_at-returns-in-Some-kept_compared_at-clause-spent g t c = c.in-Some-kept_compared_at.ensures.spent (g.B.Counting.left c.args.budget.now)
 
-pub walk::numbers_truth_at-right_of-right_place-requires : goal.walk::numbers_truth_at-right_of-right_place-requires
-walk::numbers_truth_at-right_of-right_place-requires g t c = right_there c.args.context.now c.args.place (BinaryOperator.Comparison c.args.comparison) c.requires.here (typed_part c.args.context.now c.args.place IsBooleanOrNull c.requires.stands)
+pub truth_walk::numbers_truth_at-right_of-right_place-requires : goal.truth_walk::numbers_truth_at-right_of-right_place-requires
+truth_walk::numbers_truth_at-right_of-right_place-requires g t c = right_there c.args.context.now c.args.place (BinaryOperator.Comparison c.args.comparison) c.requires.here (typed_part c.args.context.now c.args.place IsBooleanOrNull c.requires.stands)
 
-pub walk::numbers_truth_at-overflow_add-place : goal.walk::numbers_truth_at-overflow_add-place
-walk::numbers_truth_at-overflow_add-place g t c =
+pub truth_walk::numbers_truth_at-overflow_add-place : goal.truth_walk::numbers_truth_at-overflow_add-place
+truth_walk::numbers_truth_at-overflow_add-place g t c =
     let behind = right_further c.args.context.now c.args.place (BinaryOperator.Comparison c.args.comparison) c.requires.here (typed_part c.args.context.now c.args.place IsBooleanOrNull c.requires.stands) c.right_of-right_place.result c.right_of-right_place.ensures in
     omega (arith, behind, c.right_of-right_place.type_inv)
 
-pub walk::numbers_truth_at-number_at-requires : goal.walk::numbers_truth_at-number_at-requires
-walk::numbers_truth_at-number_at-requires g t c =
+pub truth_walk::numbers_truth_at-number_at-requires : goal.truth_walk::numbers_truth_at-number_at-requires
+truth_walk::numbers_truth_at-number_at-requires g t c =
     let part = typed_part c.args.context.now c.args.place IsBooleanOrNull c.requires.stands in
     let inside : c.args.place < length c.args.context.now.list.nodes = part_inside c.args.context.now c.args.place part in
     let smaller : measure_at c.args.context.now.list.nodes (c.args.place + 1) rank_numbers < measure_at c.args.context.now.list.nodes c.args.place rank_numbers = omega arith in
@@ -349,17 +349,17 @@ walk::numbers_truth_at-number_at-requires g t c =
     tree_of_class c.args.context.now (c.args.place + 1) WalkClass.Numeric (λ leaf. cc) c.requires.numeric (first_part c.args.context.now c.args.place WalkClass.Eager (λ leaf. cc) (walks_by c.args.context.now.list c.args.place (BinaryOperator.Comparison c.args.comparison) WalkClass.Eager c.requires.here refl) part) in
     search rules
 
-pub walk::numbers_truth_at-walk_operand_at-requires : goal.walk::numbers_truth_at-walk_operand_at-requires
-walk::numbers_truth_at-walk_operand_at-requires g t c = record {
+pub truth_walk::numbers_truth_at-walk_operand_at-requires : goal.truth_walk::numbers_truth_at-walk_operand_at-requires
+truth_walk::numbers_truth_at-walk_operand_at-requires g t c = record {
   stands = right_part c.args.context.now c.args.place (BinaryOperator.Comparison c.args.comparison) c.requires.here (typed_part c.args.context.now c.args.place IsBooleanOrNull c.requires.stands) c.right_of-right_place.result
       c.right_of-right_place.ensures;
 }
 
-pub walk::numbers_truth_at-returns-in-Err-clause-answers : goal.walk::numbers_truth_at-returns-in-Err-clause-answers
-walk::numbers_truth_at-returns-in-Err-clause-answers g t c = first_faults c.args.context.now c.args.place WalkClass.Eager c.in-Err.fault (λ leaf. cc) (walks_by c.args.context.now.list c.args.place (BinaryOperator.Comparison c.args.comparison) WalkClass.Eager c.requires.here refl) c.in-Err.ensures
+pub truth_walk::numbers_truth_at-returns-in-Err-clause-answers : goal.truth_walk::numbers_truth_at-returns-in-Err-clause-answers
+truth_walk::numbers_truth_at-returns-in-Err-clause-answers g t c = first_faults c.args.context.now c.args.place WalkClass.Eager c.in-Err.fault (λ leaf. cc) (walks_by c.args.context.now.list c.args.place (BinaryOperator.Comparison c.args.comparison) WalkClass.Eager c.requires.here refl) c.in-Err.ensures
 
-pub walk::numbers_truth_at-number_at-requires-in-Numeric : goal.walk::numbers_truth_at-number_at-requires-in-Numeric
-walk::numbers_truth_at-number_at-requires-in-Numeric g t c =
+pub truth_walk::numbers_truth_at-number_at-requires-in-Numeric : goal.truth_walk::numbers_truth_at-number_at-requires-in-Numeric
+truth_walk::numbers_truth_at-number_at-requires-in-Numeric g t c =
     let part = typed_part c.args.context.now c.args.place IsBooleanOrNull c.requires.stands in
     let inside : c.args.place < length c.args.context.now.list.nodes = part_inside c.args.context.now c.args.place part in
     let behind : c.args.place < c.right_of-right_place.result = right_further c.args.context.now c.args.place (BinaryOperator.Comparison c.args.comparison) c.requires.here part c.right_of-right_place.result c.right_of-right_place.ensures in
@@ -368,11 +368,11 @@ walk::numbers_truth_at-number_at-requires-in-Numeric g t c =
     tree_of_class c.args.context.now c.right_of-right_place.result WalkClass.Numeric (λ leaf. cc) c.in-Numeric.ensures (right_part c.args.context.now c.args.place (BinaryOperator.Comparison c.args.comparison) c.requires.here part c.right_of-right_place.result c.right_of-right_place.ensures) in
     search rules
 
-pub walk::numbers_truth_at-returns-in-Err-number_at-clause-answers : goal.walk::numbers_truth_at-returns-in-Err-number_at-clause-answers
-walk::numbers_truth_at-returns-in-Err-number_at-clause-answers g t c = both_faults c.args.context.now c.args.place (BinaryOperator.Comparison c.args.comparison) c.requires.here c.right_of-right_place.result c.right_of-right_place.ensures (λ type. number_val c.in-Ok.left) c.in-Err-number_at.fault tt c.in-Ok.ensures c.in-Err-number_at.ensures
+pub truth_walk::numbers_truth_at-returns-in-Err-number_at-clause-answers : goal.truth_walk::numbers_truth_at-returns-in-Err-number_at-clause-answers
+truth_walk::numbers_truth_at-returns-in-Err-number_at-clause-answers g t c = both_faults c.args.context.now c.args.place (BinaryOperator.Comparison c.args.comparison) c.requires.here c.right_of-right_place.result c.right_of-right_place.ensures (λ type. number_val c.in-Ok.left) c.in-Err-number_at.fault tt c.in-Ok.ensures c.in-Err-number_at.ensures
 
-pub walk::logical_at-connected_at-requires : goal.walk::logical_at-connected_at-requires
-walk::logical_at-connected_at-requires g t c =
+pub truth_walk::logical_at-connected_at-requires : goal.truth_walk::logical_at-connected_at-requires
+truth_walk::logical_at-connected_at-requires g t c =
     let operator = BinaryOperator.Logical c.in-Some.operator in
     let here : HasOperator c.args.context.now.list c.args.place operator = there_found (λ (f : CheckedNode). f.kind ≡ NodeKind.Binary operator) (slice_get c.args.context.now.list.nodes c.args.place) c.node.result.now c.node.ensures c.in-Some.ensures.some in
     let left : AnswersTruth c.args.context.now (c.args.place + 1) (Ok c.in-Ok.first) = subst (λ (r : Result (Option Bool) EvalStop). CountedTruth c.args.context.now (c.args.place + 1) r) c.in-Ok.is c.requires.first in
@@ -387,8 +387,8 @@ number_walk::numeric_at-calculated_at-requires g t c =
     let smaller : measure_at c.args.context.now.list.nodes c.args.place rank_rest < measure_at c.args.context.now.list.nodes c.args.place rank_step = omega arith in
     search rules
 
-pub walk::made_at-compared_at-requires : goal.walk::made_at-compared_at-requires
-walk::made_at-compared_at-requires g t c =
+pub datum_walk::made_at-compared_at-requires : goal.datum_walk::made_at-compared_at-requires
+datum_walk::made_at-compared_at-requires g t c =
     let operator = BinaryOperator.Comparison c.in-Binary-Comparison.comparison in
     let operator_is : c.in-Binary-Comparison.operator ≡ operator = rw c.in-Binary-Comparison.is at c.in-Binary-Comparison.operator-is in
     let here : HasOperator c.args.context.now.list c.args.place operator = there_found (λ (f : CheckedNode). f.kind ≡ NodeKind.Binary operator) (slice_get c.args.context.now.list.nodes c.args.place) c.node.result.now c.node.ensures (c.in-Binary-Comparison.is ∙ ap NodeKind.Binary operator_is) in
@@ -396,8 +396,8 @@ walk::made_at-compared_at-requires g t c =
     let smaller : measure_at c.args.context.now.list.nodes c.args.place rank_rest < measure_at c.args.context.now.list.nodes c.args.place rank_step = omega arith in
     search rules
 
-pub walk::plain_truth_at-compared_truth_at-requires : goal.walk::plain_truth_at-compared_truth_at-requires
-walk::plain_truth_at-compared_truth_at-requires g t c =
+pub truth_walk::plain_truth_at-compared_truth_at-requires : goal.truth_walk::plain_truth_at-compared_truth_at-requires
+truth_walk::plain_truth_at-compared_truth_at-requires g t c =
     let operator = BinaryOperator.Comparison c.in-Comparison.comparison in
     let here : HasOperator c.args.context.now.list c.args.place operator = there_found (λ (f : CheckedNode). f.kind ≡ NodeKind.Binary operator) (slice_get c.args.context.now.list.nodes c.args.place) c.node.result.now c.node.ensures (c.in-Binary.is ∙ ap NodeKind.Binary c.in-Comparison.is) in
     let smaller : measure_at c.args.context.now.list.nodes c.args.place rank_test < measure_at c.args.context.now.list.nodes c.args.place rank_plain = omega arith in
@@ -405,8 +405,8 @@ walk::plain_truth_at-compared_truth_at-requires g t c =
 
 -- ---- `not`, and `-`
 
-pub walk::logical_at-returns-in-None-clause-answers : goal.walk::logical_at-returns-in-None-clause-answers
-walk::logical_at-returns-in-None-clause-answers g t c =
+pub truth_walk::logical_at-returns-in-None-clause-answers : goal.truth_walk::logical_at-returns-in-None-clause-answers
+truth_walk::logical_at-returns-in-None-clause-answers g t c =
     let first = subst (λ (r : Result (Option Bool) EvalStop). CountedTruth c.args.context.now (c.args.place + 1) r) c.in-Ok.is c.requires.first in
     let walk = found_there (λ (f : CheckedNode). walk_of_kind f.kind ≡ WalkClass.Logical) (slice_get c.args.context.now.list.nodes c.args.place) c.node.result.now c.node.ensures c.requires.logical in
     let here = there_found (λ (f : CheckedNode). f.kind ≡ NodeKind.Not) (slice_get c.args.context.now.list.nodes c.args.place) c.node.result.now c.node.ensures (only_not c.node.result.now.kind walk c.in-None.ensures.none) in
@@ -454,8 +454,8 @@ number_walk::number_operand_at-kept_number-requires g t c = value_kept c.args.co
 pub number_walk::number_operand_at-returns-in-Leaf : goal.number_walk::number_operand_at-returns-in-Leaf
 number_walk::number_operand_at-returns-in-Leaf g t c = kept_value c.args.context.now c.args.place c.in-Leaf.value.now c.in-Leaf.ensures.0 (number_val c.kept_number.result) c.kept_number.ensures
 
-pub walk::numbers_truth_at-returns-in-Int-clause-answers : goal.walk::numbers_truth_at-returns-in-Int-clause-answers
-walk::numbers_truth_at-returns-in-Int-clause-answers g t c =
+pub truth_walk::numbers_truth_at-returns-in-Int-clause-answers : goal.truth_walk::numbers_truth_at-returns-in-Int-clause-answers
+truth_walk::numbers_truth_at-returns-in-Int-clause-answers g t c =
     let here = c.requires.here in
     let right = kept_value c.args.context.now c.right_of-right_place.result c.in-Leaf.value.now c.in-Leaf.ensures.0 (number_val (Some c.in-Int.right)) (ap plain_val c.in-Int.is) in
     let fits : SFits w64 c.in-Int.right = search rules in
@@ -463,34 +463,34 @@ walk::numbers_truth_at-returns-in-Int-clause-answers g t c =
     subst (λ (n : ℤ). IsTrue c.compare_numbers.result ↔ ComparesTrue c.args.comparison (number_val c.in-Ok.left) (number_val (Some n))) (to_z-of_z w64 c.in-Int.right fits) c.compare_numbers.ensures in
     numbers_compared c.args.context.now c.args.place c.args.comparison here c.right_of-right_place.result c.right_of-right_place.ensures c.in-Ok.left (Some c.in-Int.right) c.compare_numbers.result c.in-Ok.ensures right compared
 
-pub walk::numbers_truth_at-returns-in-Ok-number_at-clause-answers : goal.walk::numbers_truth_at-returns-in-Ok-number_at-clause-answers
-walk::numbers_truth_at-returns-in-Ok-number_at-clause-answers g t c =
+pub truth_walk::numbers_truth_at-returns-in-Ok-number_at-clause-answers : goal.truth_walk::numbers_truth_at-returns-in-Ok-number_at-clause-answers
+truth_walk::numbers_truth_at-returns-in-Ok-number_at-clause-answers g t c =
     let here = c.requires.here in
     numbers_compared c.args.context.now c.args.place c.args.comparison here c.right_of-right_place.result c.right_of-right_place.ensures c.in-Ok.left c.in-Ok-number_at.right c.compare_numbers-in-Ok-number_at.result c.in-Ok.ensures c.in-Ok-number_at.ensures c.compare_numbers-in-Ok-number_at.ensures
 
-pub walk::compared_truth_at-walk_operand_at-requires : goal.walk::compared_truth_at-walk_operand_at-requires
-walk::compared_truth_at-walk_operand_at-requires g t c = record {
+pub truth_walk::compared_truth_at-walk_operand_at-requires : goal.truth_walk::compared_truth_at-walk_operand_at-requires
+truth_walk::compared_truth_at-walk_operand_at-requires g t c = record {
   stands = first_part c.args.context.now c.args.place WalkClass.Eager (λ leaf. cc) (walks_by c.args.context.now.list c.args.place (BinaryOperator.Comparison c.args.comparison) WalkClass.Eager c.requires.here refl)
       (typed_part c.args.context.now c.args.place IsBooleanOrNull c.requires.stands);
 }
 
-pub walk::compared_truth_at-walk_operand_at-requires-in-Leaf : goal.walk::compared_truth_at-walk_operand_at-requires-in-Leaf
-walk::compared_truth_at-walk_operand_at-requires-in-Leaf g t c = record {
+pub truth_walk::compared_truth_at-walk_operand_at-requires-in-Leaf : goal.truth_walk::compared_truth_at-walk_operand_at-requires-in-Leaf
+truth_walk::compared_truth_at-walk_operand_at-requires-in-Leaf g t c = record {
   stands = right_part c.args.context.now c.args.place (BinaryOperator.Comparison c.args.comparison) c.requires.here (typed_part c.args.context.now c.args.place IsBooleanOrNull c.requires.stands) c.right_of-right_place.result
       c.right_of-right_place.ensures;
 }
 
 -- ---- a call
 
-pub walk::made_at-called_at-requires : goal.walk::made_at-called_at-requires
-walk::made_at-called_at-requires g t c =
+pub datum_walk::made_at-called_at-requires : goal.datum_walk::made_at-called_at-requires
+datum_walk::made_at-called_at-requires g t c =
     let first : AnswersDatum c.args.context.now (c.args.place + 1) (Ok c.in-Ok.first) = subst (λ (r : Result Datum EvalStop). CountedDatum c.args.context.now (c.args.place + 1) r) c.in-Ok.is c.requires.first in
     let here : HasCall c.args.context.now.list c.args.place c.in-Call.function = there_found (λ (f : CheckedNode). f.kind ≡ NodeKind.Call c.in-Call.function) (slice_get c.args.context.now.list.nodes c.args.place) c.node.result.now c.node.ensures c.in-Call.is in
     let smaller : measure_at c.args.context.now.list.nodes c.args.place rank_rest < measure_at c.args.context.now.list.nodes c.args.place rank_step = omega arith in
     search rules
 
-pub walk::called_at-stop_of-own_stop-requires : goal.walk::called_at-stop_of-own_stop-requires
-walk::called_at-stop_of-own_stop-requires g t c = part_inside c.args.context.now c.args.place c.requires.stands
+pub datum_walk::called_at-stop_of-own_stop-requires : goal.datum_walk::called_at-stop_of-own_stop-requires
+datum_walk::called_at-stop_of-own_stop-requires g t c = part_inside c.args.context.now c.args.place c.requires.stands
 
 -- the first argument stands there
 first_there : (context : ContextModel) → OneName → (place : ℕ) (function : Function) → HasCall context.list place function → (own : ℕ) → IsStopOf context.list place own → PartStands context place
@@ -498,8 +498,8 @@ first_there : (context : ContextModel) → OneName → (place : ℕ) (function :
 first_there context names place function here own is_own part =
     argument_stands context names place function here own is_own (place + 1) [] part refl (first_argument context names place function here own is_own part)
 
-pub walk::called_at-stop_of-second_place-requires : goal.walk::called_at-stop_of-second_place-requires
-walk::called_at-stop_of-second_place-requires g t c =
+pub datum_walk::called_at-stop_of-second_place-requires : goal.datum_walk::called_at-stop_of-second_place-requires
+datum_walk::called_at-stop_of-second_place-requires g t c =
     part_inside c.args.context.now (c.args.place + 1) (first_there c.args.context.now c.calls_have_one_type.ensures.named c.args.place c.args.function c.requires.here c.stop_of-own_stop.result c.stop_of-own_stop.ensures c.requires.stands)
 
 -- the first argument, the first two, and three
@@ -523,66 +523,66 @@ three_answered context names place function here own is_own part second is_secon
     let stops : IsStopOf context.list third own = third_is_last context names place function here own is_own third first next part two later in
     (second, is_second, first_argument context names place function here own is_own part, answers, (third, is_third, further, next_answers, (own, stops, later, last_answers, refl)))
 
-pub walk::called_at-called_on_one-requires : goal.walk::called_at-called_on_one-requires
-walk::called_at-called_on_one-requires g t c =
+pub datum_walk::called_at-called_on_one-requires : goal.datum_walk::called_at-called_on_one-requires
+datum_walk::called_at-called_on_one-requires g t c =
     call_applies c.args.context.now c.calls_have_one_type.ensures.named c.args.place c.args.function c.requires.here c.stop_of-own_stop.result c.stop_of-own_stop.ensures c.ends_once.ensures (c.args.first ∷ [])
     (subst (λ (k : ℕ). AllAnswered c.args.context.now (c.args.place + 1) k c.stop_of-own_stop.result (c.args.first ∷ [])) c.if-second_place-own_stop.true
     (one_answered c.args.context.now c.calls_have_one_type.ensures.named c.args.place c.args.function c.requires.here c.stop_of-own_stop.result c.stop_of-own_stop.ensures c.requires.stands c.stop_of-second_place.result c.stop_of-second_place.ensures c.args.first c.requires.first)) c.requires.stands
 
-pub walk::called_at-returns-then-second_place-own_stop : goal.walk::called_at-returns-then-second_place-own_stop
-walk::called_at-returns-then-second_place-own_stop g t c =
+pub datum_walk::called_at-returns-then-second_place-own_stop : goal.datum_walk::called_at-returns-then-second_place-own_stop
+datum_walk::called_at-returns-then-second_place-own_stop g t c =
     call_answers c.args.context.now c.calls_have_one_type.ensures.named c.args.place c.args.function c.requires.here c.stop_of-own_stop.result c.stop_of-own_stop.ensures c.ends_once.ensures (c.args.first ∷ [])
     (subst (λ (k : ℕ). AllAnswered c.args.context.now (c.args.place + 1) k c.stop_of-own_stop.result (c.args.first ∷ [])) c.if-second_place-own_stop.true
     (one_answered c.args.context.now c.calls_have_one_type.ensures.named c.args.place c.args.function c.requires.here c.stop_of-own_stop.result c.stop_of-own_stop.ensures c.requires.stands c.stop_of-second_place.result c.stop_of-second_place.ensures c.args.first c.requires.first)) c.called_on_one.result (λ r s. c.called_on_one.ensures c.args.context.now.moment r s)
 
-pub walk::called_at-operand_at-requires : goal.walk::called_at-operand_at-requires
-walk::called_at-operand_at-requires g t c =
+pub datum_walk::called_at-operand_at-requires : goal.datum_walk::called_at-operand_at-requires
+datum_walk::called_at-operand_at-requires g t c =
     let inside : c.args.place < length c.args.context.now.list.nodes = part_inside c.args.context.now c.args.place c.requires.stands in
     let behind : c.args.place < c.stop_of-second_place.result = argument_behind c.args.context.now c.calls_have_one_type.ensures.named c.args.place c.args.function c.requires.here c.stop_of-own_stop.result c.stop_of-own_stop.ensures c.stop_of-second_place.result (c.args.first ∷ []) c.requires.stands (one_answered c.args.context.now c.calls_have_one_type.ensures.named c.args.place c.args.function c.requires.here c.stop_of-own_stop.result c.stop_of-own_stop.ensures c.requires.stands c.stop_of-second_place.result c.stop_of-second_place.ensures c.args.first c.requires.first) in
     let smaller : measure_at c.args.context.now.list.nodes c.stop_of-second_place.result rank_operand < measure_at c.args.context.now.list.nodes c.args.place rank_rest = omega arith in
     let stands : OperandStands c.args.context.now c.stop_of-second_place.result = tree_operand c.args.context.now c.stop_of-second_place.result (argument_stands c.args.context.now c.calls_have_one_type.ensures.named c.args.place c.args.function c.requires.here c.stop_of-own_stop.result c.stop_of-own_stop.ensures c.stop_of-second_place.result (c.args.first ∷ []) c.requires.stands (one_answered c.args.context.now c.calls_have_one_type.ensures.named c.args.place c.args.function c.requires.here c.stop_of-own_stop.result c.stop_of-own_stop.ensures c.requires.stands c.stop_of-second_place.result c.stop_of-second_place.ensures c.args.first c.requires.first) c.if-second_place-own_stop.false) in
     search rules
 
-pub walk::called_at-returns-in-Err : goal.walk::called_at-returns-in-Err
-walk::called_at-returns-in-Err g t c =
+pub datum_walk::called_at-returns-in-Err : goal.datum_walk::called_at-returns-in-Err
+datum_walk::called_at-returns-in-Err g t c =
     argument_faults c.args.context.now c.calls_have_one_type.ensures.named c.args.place c.args.function c.requires.here c.stop_of-own_stop.result c.stop_of-own_stop.ensures c.stop_of-second_place.result (c.args.first ∷ []) c.in-Err.further (one_answered c.args.context.now c.calls_have_one_type.ensures.named c.args.place c.args.function c.requires.here c.stop_of-own_stop.result c.stop_of-own_stop.ensures c.requires.stands c.stop_of-second_place.result c.stop_of-second_place.ensures c.args.first c.requires.first) c.if-second_place-own_stop.false c.in-Err.ensures
 
-pub walk::called_at-stop_of-third_place-requires : goal.walk::called_at-stop_of-third_place-requires
-walk::called_at-stop_of-third_place-requires g t c =
+pub datum_walk::called_at-stop_of-third_place-requires : goal.datum_walk::called_at-stop_of-third_place-requires
+datum_walk::called_at-stop_of-third_place-requires g t c =
     part_inside c.args.context.now c.stop_of-second_place.result (argument_stands c.args.context.now c.calls_have_one_type.ensures.named c.args.place c.args.function c.requires.here c.stop_of-own_stop.result c.stop_of-own_stop.ensures c.stop_of-second_place.result (c.args.first ∷ []) c.requires.stands (one_answered c.args.context.now c.calls_have_one_type.ensures.named c.args.place c.args.function c.requires.here c.stop_of-own_stop.result c.stop_of-own_stop.ensures c.requires.stands c.stop_of-second_place.result c.stop_of-second_place.ensures c.args.first c.requires.first) c.if-second_place-own_stop.false)
 
-pub walk::called_at-called_on_two-requires : goal.walk::called_at-called_on_two-requires
-walk::called_at-called_on_two-requires g t c =
+pub datum_walk::called_at-called_on_two-requires : goal.datum_walk::called_at-called_on_two-requires
+datum_walk::called_at-called_on_two-requires g t c =
     call_applies c.args.context.now c.calls_have_one_type.ensures.named c.args.place c.args.function c.requires.here c.stop_of-own_stop.result c.stop_of-own_stop.ensures c.ends_once.ensures (c.args.first ∷ c.in-Ok.second ∷ [])
     (subst (λ (k : ℕ). AllAnswered c.args.context.now (c.args.place + 1) k c.stop_of-own_stop.result (c.args.first ∷ c.in-Ok.second ∷ [])) c.if-third_place-own_stop.true
     (two_answered c.args.context.now c.calls_have_one_type.ensures.named c.args.place c.args.function c.requires.here c.stop_of-own_stop.result c.stop_of-own_stop.ensures c.requires.stands c.stop_of-second_place.result c.stop_of-second_place.ensures c.args.first c.requires.first c.if-second_place-own_stop.false c.stop_of-third_place.result c.stop_of-third_place.ensures c.in-Ok.second c.in-Ok.ensures)) c.requires.stands
 
-pub walk::called_at-returns-then-third_place-own_stop : goal.walk::called_at-returns-then-third_place-own_stop
-walk::called_at-returns-then-third_place-own_stop g t c =
+pub datum_walk::called_at-returns-then-third_place-own_stop : goal.datum_walk::called_at-returns-then-third_place-own_stop
+datum_walk::called_at-returns-then-third_place-own_stop g t c =
     call_answers c.args.context.now c.calls_have_one_type.ensures.named c.args.place c.args.function c.requires.here c.stop_of-own_stop.result c.stop_of-own_stop.ensures c.ends_once.ensures (c.args.first ∷ c.in-Ok.second ∷ [])
     (subst (λ (k : ℕ). AllAnswered c.args.context.now (c.args.place + 1) k c.stop_of-own_stop.result (c.args.first ∷ c.in-Ok.second ∷ [])) c.if-third_place-own_stop.true
     (two_answered c.args.context.now c.calls_have_one_type.ensures.named c.args.place c.args.function c.requires.here c.stop_of-own_stop.result c.stop_of-own_stop.ensures c.requires.stands c.stop_of-second_place.result c.stop_of-second_place.ensures c.args.first c.requires.first c.if-second_place-own_stop.false c.stop_of-third_place.result c.stop_of-third_place.ensures c.in-Ok.second c.in-Ok.ensures)) c.called_on_two.result (λ r s. c.called_on_two.ensures c.args.context.now.moment r s)
 
-pub walk::called_at-operand_at-requires-2 : goal.walk::called_at-operand_at-requires-2
-walk::called_at-operand_at-requires-2 g t c =
+pub datum_walk::called_at-operand_at-requires-2 : goal.datum_walk::called_at-operand_at-requires-2
+datum_walk::called_at-operand_at-requires-2 g t c =
     let inside : c.args.place < length c.args.context.now.list.nodes = part_inside c.args.context.now c.args.place c.requires.stands in
     let behind : c.args.place < c.stop_of-third_place.result = argument_behind c.args.context.now c.calls_have_one_type.ensures.named c.args.place c.args.function c.requires.here c.stop_of-own_stop.result c.stop_of-own_stop.ensures c.stop_of-third_place.result (c.args.first ∷ c.in-Ok.second ∷ []) c.requires.stands (two_answered c.args.context.now c.calls_have_one_type.ensures.named c.args.place c.args.function c.requires.here c.stop_of-own_stop.result c.stop_of-own_stop.ensures c.requires.stands c.stop_of-second_place.result c.stop_of-second_place.ensures c.args.first c.requires.first c.if-second_place-own_stop.false c.stop_of-third_place.result c.stop_of-third_place.ensures c.in-Ok.second c.in-Ok.ensures) in
     let smaller : measure_at c.args.context.now.list.nodes c.stop_of-third_place.result rank_operand < measure_at c.args.context.now.list.nodes c.args.place rank_rest = omega arith in
     let stands : OperandStands c.args.context.now c.stop_of-third_place.result = tree_operand c.args.context.now c.stop_of-third_place.result (argument_stands c.args.context.now c.calls_have_one_type.ensures.named c.args.place c.args.function c.requires.here c.stop_of-own_stop.result c.stop_of-own_stop.ensures c.stop_of-third_place.result (c.args.first ∷ c.in-Ok.second ∷ []) c.requires.stands (two_answered c.args.context.now c.calls_have_one_type.ensures.named c.args.place c.args.function c.requires.here c.stop_of-own_stop.result c.stop_of-own_stop.ensures c.requires.stands c.stop_of-second_place.result c.stop_of-second_place.ensures c.args.first c.requires.first c.if-second_place-own_stop.false c.stop_of-third_place.result c.stop_of-third_place.ensures c.in-Ok.second c.in-Ok.ensures) c.if-third_place-own_stop.false) in
     search rules
 
-pub walk::called_at-called_on_three-requires : goal.walk::called_at-called_on_three-requires
-walk::called_at-called_on_three-requires g t c =
+pub datum_walk::called_at-called_on_three-requires : goal.datum_walk::called_at-called_on_three-requires
+datum_walk::called_at-called_on_three-requires g t c =
     call_applies c.args.context.now c.calls_have_one_type.ensures.named c.args.place c.args.function c.requires.here c.stop_of-own_stop.result c.stop_of-own_stop.ensures c.ends_once.ensures (c.args.first ∷ c.in-Ok.second ∷ c.in-Ok-operand_at.third ∷ [])
     (three_answered c.args.context.now c.calls_have_one_type.ensures.named c.args.place c.args.function c.requires.here c.stop_of-own_stop.result c.stop_of-own_stop.ensures c.requires.stands c.stop_of-second_place.result c.stop_of-second_place.ensures c.args.first c.requires.first c.if-second_place-own_stop.false c.stop_of-third_place.result c.stop_of-third_place.ensures c.in-Ok.second c.in-Ok.ensures c.if-third_place-own_stop.false c.in-Ok-operand_at.third c.in-Ok-operand_at.ensures) c.requires.stands
 
-pub walk::called_at-returns-in-Ok-operand_at : goal.walk::called_at-returns-in-Ok-operand_at
-walk::called_at-returns-in-Ok-operand_at g t c =
+pub datum_walk::called_at-returns-in-Ok-operand_at : goal.datum_walk::called_at-returns-in-Ok-operand_at
+datum_walk::called_at-returns-in-Ok-operand_at g t c =
     call_answers c.args.context.now c.calls_have_one_type.ensures.named c.args.place c.args.function c.requires.here c.stop_of-own_stop.result c.stop_of-own_stop.ensures c.ends_once.ensures (c.args.first ∷ c.in-Ok.second ∷ c.in-Ok-operand_at.third ∷ [])
     (three_answered c.args.context.now c.calls_have_one_type.ensures.named c.args.place c.args.function c.requires.here c.stop_of-own_stop.result c.stop_of-own_stop.ensures c.requires.stands c.stop_of-second_place.result c.stop_of-second_place.ensures c.args.first c.requires.first c.if-second_place-own_stop.false c.stop_of-third_place.result c.stop_of-third_place.ensures c.in-Ok.second c.in-Ok.ensures c.if-third_place-own_stop.false c.in-Ok-operand_at.third c.in-Ok-operand_at.ensures) c.called_on_three.result (λ r s. c.called_on_three.ensures c.args.context.now.moment r s)
 
-pub walk::called_at-returns : goal.walk::called_at-returns
-walk::called_at-returns g t c =
+pub datum_walk::called_at-returns : goal.datum_walk::called_at-returns
+datum_walk::called_at-returns g t c =
     argument_faults c.args.context.now c.calls_have_one_type.ensures.named c.args.place c.args.function c.requires.here c.stop_of-own_stop.result c.stop_of-own_stop.ensures c.stop_of-third_place.result (c.args.first ∷ c.in-Ok.second ∷ []) c.in-Err-operand_at.fault (two_answered c.args.context.now c.calls_have_one_type.ensures.named c.args.place c.args.function c.requires.here c.stop_of-own_stop.result c.stop_of-own_stop.ensures c.requires.stands c.stop_of-second_place.result c.stop_of-second_place.ensures c.args.first c.requires.first c.if-second_place-own_stop.false c.stop_of-third_place.result c.stop_of-third_place.ensures c.in-Ok.second c.in-Ok.ensures) c.if-third_place-own_stop.false c.in-Err-operand_at.ensures
 
 -- ---- a call of two stored values
@@ -601,44 +601,44 @@ two_are_all context names place function here own is_own part second is_second f
     subst (λ (k : ℕ). AllAnswered context (place + 1) k own (first ∷ next ∷ [])) same
     (two_answered context names place function here own is_own part second is_second first answers further third is_third next next_answers)
 
-pub walk::called_truth_at-stop_of-own_stop-requires : goal.walk::called_truth_at-stop_of-own_stop-requires
-walk::called_truth_at-stop_of-own_stop-requires g t c = part_inside c.args.context.now c.args.place (typed_part c.args.context.now c.args.place IsBooleanOrNull c.requires.stands)
+pub truth_walk::called_truth_at-stop_of-own_stop-requires : goal.truth_walk::called_truth_at-stop_of-own_stop-requires
+truth_walk::called_truth_at-stop_of-own_stop-requires g t c = part_inside c.args.context.now c.args.place (typed_part c.args.context.now c.args.place IsBooleanOrNull c.requires.stands)
 
-pub walk::called_truth_at-walk_operand_at-requires : goal.walk::called_truth_at-walk_operand_at-requires
-walk::called_truth_at-walk_operand_at-requires g t c = record { stands = tree_operand c.args.context.now (c.args.place + 1) (first_there c.args.context.now c.calls_have_one_type.ensures.named c.args.place c.args.function c.requires.here c.stop_of-own_stop.result c.stop_of-own_stop.ensures (typed_part c.args.context.now c.args.place IsBooleanOrNull c.requires.stands)) }
+pub truth_walk::called_truth_at-walk_operand_at-requires : goal.truth_walk::called_truth_at-walk_operand_at-requires
+truth_walk::called_truth_at-walk_operand_at-requires g t c = record { stands = tree_operand c.args.context.now (c.args.place + 1) (first_there c.args.context.now c.calls_have_one_type.ensures.named c.args.place c.args.function c.requires.here c.stop_of-own_stop.result c.stop_of-own_stop.ensures (typed_part c.args.context.now c.args.place IsBooleanOrNull c.requires.stands)) }
 
-pub walk::called_truth_at-lower_start_at-requires : goal.walk::called_truth_at-lower_start_at-requires
-walk::called_truth_at-lower_start_at-requires g t c = record { stands = typed_part c.args.context.now c.args.place IsBooleanOrNull c.requires.stands; here = c.requires.here }
+pub truth_walk::called_truth_at-lower_start_at-requires : goal.truth_walk::called_truth_at-lower_start_at-requires
+truth_walk::called_truth_at-lower_start_at-requires g t c = record { stands = typed_part c.args.context.now c.args.place IsBooleanOrNull c.requires.stands; here = c.requires.here }
 
-pub walk::called_truth_at-returns-in-Some-clause-answers : goal.walk::called_truth_at-returns-in-Some-clause-answers
-walk::called_truth_at-returns-in-Some-clause-answers g t c = c.in-Some.ensures
+pub truth_walk::called_truth_at-returns-in-Some-clause-answers : goal.truth_walk::called_truth_at-returns-in-Some-clause-answers
+truth_walk::called_truth_at-returns-in-Some-clause-answers g t c = c.in-Some.ensures
 
-pub walk::called_truth_at-returns-in-Some-clause-spent : goal.walk::called_truth_at-returns-in-Some-clause-spent
-walk::called_truth_at-returns-in-Some-clause-spent g t c =
+pub truth_walk::called_truth_at-returns-in-Some-clause-spent : goal.truth_walk::called_truth_at-returns-in-Some-clause-spent
+truth_walk::called_truth_at-returns-in-Some-clause-spent g t c =
     free_spends c.args.context.now c.args.place None (g.B.Counting.left c.args.budget.now) (called_free c.args.context.now c.args.place c.args.function c.requires.here) (takes_nothing (g.B.Counting.left c.args.budget.now))
 
-pub walk::called_truth_at-stop_of-second_place-requires : goal.walk::called_truth_at-stop_of-second_place-requires
-walk::called_truth_at-stop_of-second_place-requires g t c = part_inside c.args.context.now (c.args.place + 1) (first_there c.args.context.now c.calls_have_one_type.ensures.named c.args.place c.args.function c.requires.here c.stop_of-own_stop.result c.stop_of-own_stop.ensures (typed_part c.args.context.now c.args.place IsBooleanOrNull c.requires.stands))
+pub truth_walk::called_truth_at-stop_of-second_place-requires : goal.truth_walk::called_truth_at-stop_of-second_place-requires
+truth_walk::called_truth_at-stop_of-second_place-requires g t c = part_inside c.args.context.now (c.args.place + 1) (first_there c.args.context.now c.calls_have_one_type.ensures.named c.args.place c.args.function c.requires.here c.stop_of-own_stop.result c.stop_of-own_stop.ensures (typed_part c.args.context.now c.args.place IsBooleanOrNull c.requires.stands))
 
-pub walk::called_truth_at-stop_of-requires : goal.walk::called_truth_at-stop_of-requires
-walk::called_truth_at-stop_of-requires g t c =
+pub truth_walk::called_truth_at-stop_of-requires : goal.truth_walk::called_truth_at-stop_of-requires
+truth_walk::called_truth_at-stop_of-requires g t c =
     let first : AnswersDatum c.args.context.now (c.args.place + 1) (Ok c.datum_of-first.result) = kept_datum c.args.context.now (c.args.place + 1) c.in-Leaf.value.now c.datum_of-first.result c.in-Leaf.ensures.0 c.datum_of-first.ensures in
     part_inside c.args.context.now c.stop_of-second_place.result (second_there c.args.context.now c.calls_have_one_type.ensures.named c.args.place c.args.function c.requires.here c.stop_of-own_stop.result c.stop_of-own_stop.ensures (typed_part c.args.context.now c.args.place IsBooleanOrNull c.requires.stands) c.stop_of-second_place.result c.stop_of-second_place.ensures c.datum_of-first.result first c.if-second_place-own_stop.false)
 
-pub walk::called_truth_at-walk_operand_at-requires-2 : goal.walk::called_truth_at-walk_operand_at-requires-2
-walk::called_truth_at-walk_operand_at-requires-2 g t c =
+pub truth_walk::called_truth_at-walk_operand_at-requires-2 : goal.truth_walk::called_truth_at-walk_operand_at-requires-2
+truth_walk::called_truth_at-walk_operand_at-requires-2 g t c =
     let first : AnswersDatum c.args.context.now (c.args.place + 1) (Ok c.datum_of-first.result) = kept_datum c.args.context.now (c.args.place + 1) c.in-Leaf.value.now c.datum_of-first.result c.in-Leaf.ensures.0 c.datum_of-first.ensures in
     record { stands = tree_operand c.args.context.now c.stop_of-second_place.result (second_there c.args.context.now c.calls_have_one_type.ensures.named c.args.place c.args.function c.requires.here c.stop_of-own_stop.result c.stop_of-own_stop.ensures (typed_part c.args.context.now c.args.place IsBooleanOrNull c.requires.stands) c.stop_of-second_place.result c.stop_of-second_place.ensures c.datum_of-first.result first c.if-second_place-own_stop.false) }
 
-pub walk::called_truth_at-called_on_two-requires : goal.walk::called_truth_at-called_on_two-requires
-walk::called_truth_at-called_on_two-requires g t c =
+pub truth_walk::called_truth_at-called_on_two-requires : goal.truth_walk::called_truth_at-called_on_two-requires
+truth_walk::called_truth_at-called_on_two-requires g t c =
     let first : AnswersDatum c.args.context.now (c.args.place + 1) (Ok c.datum_of-first.result) = kept_datum c.args.context.now (c.args.place + 1) c.in-Leaf.value.now c.datum_of-first.result c.in-Leaf.ensures.0 c.datum_of-first.ensures in
     let next : AnswersDatum c.args.context.now c.stop_of-second_place.result (Ok c.datum_of-second.result) = kept_datum c.args.context.now c.stop_of-second_place.result c.in-Leaf-walk_operand_at.value.now c.datum_of-second.result c.in-Leaf-walk_operand_at.ensures.0 c.datum_of-second.ensures in
     let all = two_are_all c.args.context.now c.calls_have_one_type.ensures.named c.args.place c.args.function c.requires.here c.stop_of-own_stop.result c.stop_of-own_stop.ensures (typed_part c.args.context.now c.args.place IsBooleanOrNull c.requires.stands) c.stop_of-second_place.result c.stop_of-second_place.ensures c.datum_of-first.result first c.if-second_place-own_stop.false c.stop_of.result c.stop_of.ensures c.if-stop_of-own_stop.false c.datum_of-second.result next in
     call_applies c.args.context.now c.calls_have_one_type.ensures.named c.args.place c.args.function c.requires.here c.stop_of-own_stop.result c.stop_of-own_stop.ensures c.ends_once.ensures (c.datum_of-first.result ∷ c.datum_of-second.result ∷ []) all (typed_part c.args.context.now c.args.place IsBooleanOrNull c.requires.stands)
 
-pub walk::called_truth_at-truth_of-requires : goal.walk::called_truth_at-truth_of-requires
-walk::called_truth_at-truth_of-requires g t c =
+pub truth_walk::called_truth_at-truth_of-requires : goal.truth_walk::called_truth_at-truth_of-requires
+truth_walk::called_truth_at-truth_of-requires g t c =
     let first : AnswersDatum c.args.context.now (c.args.place + 1) (Ok c.datum_of-first.result) = kept_datum c.args.context.now (c.args.place + 1) c.in-Leaf.value.now c.datum_of-first.result c.in-Leaf.ensures.0 c.datum_of-first.ensures in
     let next : AnswersDatum c.args.context.now c.stop_of-second_place.result (Ok c.datum_of-second.result) = kept_datum c.args.context.now c.stop_of-second_place.result c.in-Leaf-walk_operand_at.value.now c.datum_of-second.result c.in-Leaf-walk_operand_at.ensures.0 c.datum_of-second.ensures in
     let all = two_are_all c.args.context.now c.calls_have_one_type.ensures.named c.args.place c.args.function c.requires.here c.stop_of-own_stop.result c.stop_of-own_stop.ensures (typed_part c.args.context.now c.args.place IsBooleanOrNull c.requires.stands) c.stop_of-second_place.result c.stop_of-second_place.ensures c.datum_of-first.result first c.if-second_place-own_stop.false c.stop_of.result c.stop_of.ensures c.if-stop_of-own_stop.false c.datum_of-second.result next in
@@ -646,8 +646,8 @@ walk::called_truth_at-truth_of-requires g t c =
     let made : AnswersDatum c.args.context.now c.args.place (Ok c.in-Ok.value) = subst (λ (r : Result Datum EvalFault). AnswersDatum c.args.context.now c.args.place r) c.in-Ok.is given in
     λ reading. value_there c.args.context.now c.args.place truth_values c.ends_once.ensures c.in-Ok.value c.requires.stands made reading
 
-pub walk::called_truth_at-returns-in-Ok-clause-answers : goal.walk::called_truth_at-returns-in-Ok-clause-answers
-walk::called_truth_at-returns-in-Ok-clause-answers g t c =
+pub truth_walk::called_truth_at-returns-in-Ok-clause-answers : goal.truth_walk::called_truth_at-returns-in-Ok-clause-answers
+truth_walk::called_truth_at-returns-in-Ok-clause-answers g t c =
     let first : AnswersDatum c.args.context.now (c.args.place + 1) (Ok c.datum_of-first.result) = kept_datum c.args.context.now (c.args.place + 1) c.in-Leaf.value.now c.datum_of-first.result c.in-Leaf.ensures.0 c.datum_of-first.ensures in
     let next : AnswersDatum c.args.context.now c.stop_of-second_place.result (Ok c.datum_of-second.result) = kept_datum c.args.context.now c.stop_of-second_place.result c.in-Leaf-walk_operand_at.value.now c.datum_of-second.result c.in-Leaf-walk_operand_at.ensures.0 c.datum_of-second.ensures in
     let all = two_are_all c.args.context.now c.calls_have_one_type.ensures.named c.args.place c.args.function c.requires.here c.stop_of-own_stop.result c.stop_of-own_stop.ensures (typed_part c.args.context.now c.args.place IsBooleanOrNull c.requires.stands) c.stop_of-second_place.result c.stop_of-second_place.ensures c.datum_of-first.result first c.if-second_place-own_stop.false c.stop_of.result c.stop_of.ensures c.if-stop_of-own_stop.false c.datum_of-second.result next in
@@ -655,8 +655,8 @@ walk::called_truth_at-returns-in-Ok-clause-answers g t c =
     let made : AnswersDatum c.args.context.now c.args.place (Ok c.in-Ok.value) = subst (λ (r : Result Datum EvalFault). AnswersDatum c.args.context.now c.args.place r) c.in-Ok.is given in
     read_value c.args.context.now c.args.place c.in-Ok.value (truth_val c.truth_of.result) made c.truth_of.ensures
 
-pub walk::called_truth_at-returns-in-Err-clause-answers : goal.walk::called_truth_at-returns-in-Err-clause-answers
-walk::called_truth_at-returns-in-Err-clause-answers g t c =
+pub truth_walk::called_truth_at-returns-in-Err-clause-answers : goal.truth_walk::called_truth_at-returns-in-Err-clause-answers
+truth_walk::called_truth_at-returns-in-Err-clause-answers g t c =
     let first : AnswersDatum c.args.context.now (c.args.place + 1) (Ok c.datum_of-first.result) = kept_datum c.args.context.now (c.args.place + 1) c.in-Leaf.value.now c.datum_of-first.result c.in-Leaf.ensures.0 c.datum_of-first.ensures in
     let next : AnswersDatum c.args.context.now c.stop_of-second_place.result (Ok c.datum_of-second.result) = kept_datum c.args.context.now c.stop_of-second_place.result c.in-Leaf-walk_operand_at.value.now c.datum_of-second.result c.in-Leaf-walk_operand_at.ensures.0 c.datum_of-second.ensures in
     let all = two_are_all c.args.context.now c.calls_have_one_type.ensures.named c.args.place c.args.function c.requires.here c.stop_of-own_stop.result c.stop_of-own_stop.ensures (typed_part c.args.context.now c.args.place IsBooleanOrNull c.requires.stands) c.stop_of-second_place.result c.stop_of-second_place.ensures c.datum_of-first.result first c.if-second_place-own_stop.false c.stop_of.result c.stop_of.ensures c.if-stop_of-own_stop.false c.datum_of-second.result next in
@@ -665,46 +665,46 @@ walk::called_truth_at-returns-in-Err-clause-answers g t c =
 
 -- ---- a collection: `$count`, `any()`, `in`; and `has`
 
-pub walk::made_at-count_of-requires : goal.walk::made_at-count_of-requires
-walk::made_at-count_of-requires g t c =
+pub datum_walk::made_at-count_of-requires : goal.datum_walk::made_at-count_of-requires
+datum_walk::made_at-count_of-requires g t c =
     let first : AnswersDatum c.args.context.now (c.args.place + 1) (Ok c.in-Ok.first) = subst (λ (r : Result Datum EvalStop). CountedDatum c.args.context.now (c.args.place + 1) r) c.in-Ok.is c.requires.first in
     let here : HasKind c.args.context.now.list c.args.place NodeKind.Count = there_found (λ (f : CheckedNode). f.kind ≡ NodeKind.Count) (slice_get c.args.context.now.list.nodes c.args.place) c.node.result.now c.node.ensures c.in-Count.is in
     base_members c.args.context.now c.args.place CountGives (count_base c.args.context.now c.args.place here) c.in-Ok.first first c.ends_once.ensures c.requires.stands
 
-pub walk::made_at-returns-in-Count-clause-answers : goal.walk::made_at-returns-in-Count-clause-answers
-walk::made_at-returns-in-Count-clause-answers g t c =
+pub datum_walk::made_at-returns-in-Count-clause-answers : goal.datum_walk::made_at-returns-in-Count-clause-answers
+datum_walk::made_at-returns-in-Count-clause-answers g t c =
     let first : AnswersDatum c.args.context.now (c.args.place + 1) (Ok c.in-Ok.first) = subst (λ (r : Result Datum EvalStop). CountedDatum c.args.context.now (c.args.place + 1) r) c.in-Ok.is c.requires.first in
     let here : HasKind c.args.context.now.list c.args.place NodeKind.Count = there_found (λ (f : CheckedNode). f.kind ≡ NodeKind.Count) (slice_get c.args.context.now.list.nodes c.args.place) c.node.result.now c.node.ensures c.in-Count.is in
     as_counted c.args.context.now c.args.place c.count_of.result c.as_stop-in-Count.result c.as_stop-in-Count.ensures (base_answers c.args.context.now c.args.place CountGives (count_base c.args.context.now c.args.place here) c.in-Ok.first first c.count_of.result c.count_of.ensures)
 
-pub walk::made_at-any_item_of-requires : goal.walk::made_at-any_item_of-requires
-walk::made_at-any_item_of-requires g t c =
+pub datum_walk::made_at-any_item_of-requires : goal.datum_walk::made_at-any_item_of-requires
+datum_walk::made_at-any_item_of-requires g t c =
     let first : AnswersDatum c.args.context.now (c.args.place + 1) (Ok c.in-Ok.first) = subst (λ (r : Result Datum EvalStop). CountedDatum c.args.context.now (c.args.place + 1) r) c.in-Ok.is c.requires.first in
     let here : HasKind c.args.context.now.list c.args.place NodeKind.AnyItem = there_found (λ (f : CheckedNode). f.kind ≡ NodeKind.AnyItem) (slice_get c.args.context.now.list.nodes c.args.place) c.node.result.now c.node.ensures c.in-AnyItem.is in
     base_members c.args.context.now c.args.place AnyItemGives (any_item_base c.args.context.now c.args.place here) c.in-Ok.first first c.ends_once.ensures c.requires.stands
 
-pub walk::made_at-returns-in-AnyItem-clause-answers : goal.walk::made_at-returns-in-AnyItem-clause-answers
-walk::made_at-returns-in-AnyItem-clause-answers g t c =
+pub datum_walk::made_at-returns-in-AnyItem-clause-answers : goal.datum_walk::made_at-returns-in-AnyItem-clause-answers
+datum_walk::made_at-returns-in-AnyItem-clause-answers g t c =
     let first : AnswersDatum c.args.context.now (c.args.place + 1) (Ok c.in-Ok.first) = subst (λ (r : Result Datum EvalStop). CountedDatum c.args.context.now (c.args.place + 1) r) c.in-Ok.is c.requires.first in
     let here : HasKind c.args.context.now.list c.args.place NodeKind.AnyItem = there_found (λ (f : CheckedNode). f.kind ≡ NodeKind.AnyItem) (slice_get c.args.context.now.list.nodes c.args.place) c.node.result.now c.node.ensures c.in-AnyItem.is in
     base_answers c.args.context.now c.args.place AnyItemGives (any_item_base c.args.context.now c.args.place here) c.in-Ok.first first (Ok c.any_item_of.result) c.any_item_of.ensures
 
-pub walk::made_at-flags_at-requires : goal.walk::made_at-flags_at-requires
-walk::made_at-flags_at-requires g t c =
+pub datum_walk::made_at-flags_at-requires : goal.datum_walk::made_at-flags_at-requires
+datum_walk::made_at-flags_at-requires g t c =
     let first : AnswersDatum c.args.context.now (c.args.place + 1) (Ok c.in-Ok.first) = subst (λ (r : Result Datum EvalStop). CountedDatum c.args.context.now (c.args.place + 1) r) c.in-Ok.is c.requires.first in
     let here : HasKind c.args.context.now.list c.args.place NodeKind.Has = there_found (λ (f : CheckedNode). f.kind ≡ NodeKind.Has) (slice_get c.args.context.now.list.nodes c.args.place) c.node.result.now c.node.ensures c.in-Has.is in
     let smaller : measure_at c.args.context.now.list.nodes c.args.place rank_rest < measure_at c.args.context.now.list.nodes c.args.place rank_step = omega arith in
     search rules
 
-pub walk::made_at-among_at-requires : goal.walk::made_at-among_at-requires
-walk::made_at-among_at-requires g t c =
+pub datum_walk::made_at-among_at-requires : goal.datum_walk::made_at-among_at-requires
+datum_walk::made_at-among_at-requires g t c =
     let first : AnswersDatum c.args.context.now (c.args.place + 1) (Ok c.in-Ok.first) = subst (λ (r : Result Datum EvalStop). CountedDatum c.args.context.now (c.args.place + 1) r) c.in-Ok.is c.requires.first in
     let here : HasKind c.args.context.now.list c.args.place NodeKind.InPath = there_found (λ (f : CheckedNode). f.kind ≡ NodeKind.InPath) (slice_get c.args.context.now.list.nodes c.args.place) c.node.result.now c.node.ensures c.in-InPath.is in
     let smaller : measure_at c.args.context.now.list.nodes c.args.place rank_rest < measure_at c.args.context.now.list.nodes c.args.place rank_step = omega arith in
     search rules
 
-pub walk::made_at-listed_at-requires : goal.walk::made_at-listed_at-requires
-walk::made_at-listed_at-requires g t c =
+pub datum_walk::made_at-listed_at-requires : goal.datum_walk::made_at-listed_at-requires
+datum_walk::made_at-listed_at-requires g t c =
     let first : AnswersDatum c.args.context.now (c.args.place + 1) (Ok c.in-Ok.first) = subst (λ (r : Result Datum EvalStop). CountedDatum c.args.context.now (c.args.place + 1) r) c.in-Ok.is c.requires.first in
     let here : HasKind c.args.context.now.list c.args.place NodeKind.InList = there_found (λ (f : CheckedNode). f.kind ≡ NodeKind.InList) (slice_get c.args.context.now.list.nodes c.args.place) c.node.result.now c.node.ensures c.in-InList.is in
     let smaller : measure_at c.args.context.now.list.nodes c.args.place rank_rest < measure_at c.args.context.now.list.nodes c.args.place rank_step = omega arith in
@@ -812,8 +812,8 @@ collection_walk::listed_at-returns-clause-answers g t c = no_item c.args.context
 
 -- ---- a lambda operator
 
-pub walk::made_at-lambda_at-requires : goal.walk::made_at-lambda_at-requires
-walk::made_at-lambda_at-requires g t c =
+pub datum_walk::made_at-lambda_at-requires : goal.datum_walk::made_at-lambda_at-requires
+datum_walk::made_at-lambda_at-requires g t c =
     let first : AnswersDatum c.args.context.now (c.args.place + 1) (Ok c.in-Ok.first) = subst (λ (r : Result Datum EvalStop). CountedDatum c.args.context.now (c.args.place + 1) r) c.in-Ok.is c.requires.first in
     let here : HasKind c.args.context.now.list c.args.place (NodeKind.Lambda c.in-Lambda.quantifier) = there_found (λ (f : CheckedNode). f.kind ≡ NodeKind.Lambda c.in-Lambda.quantifier) (slice_get c.args.context.now.list.nodes c.args.place) c.node.result.now c.node.ensures c.in-Lambda.is in
     let smaller : measure_at c.args.context.now.list.nodes c.args.place rank_rest < measure_at c.args.context.now.list.nodes c.args.place rank_step = omega arith in
@@ -904,30 +904,30 @@ lambda_walk::members_at-returns-clause-answers g t c = all_undecided c.args.cont
 
 -- ---- what search does not find any more with so many kinds
 
-pub walk::compared_at-walk_operand_at-requires : goal.walk::compared_at-walk_operand_at-requires
-walk::compared_at-walk_operand_at-requires g t c =
+pub datum_walk::compared_at-walk_operand_at-requires : goal.datum_walk::compared_at-walk_operand_at-requires
+datum_walk::compared_at-walk_operand_at-requires g t c =
     record { stands = right_part c.args.context.now c.args.place (BinaryOperator.Comparison c.args.comparison) c.requires.here c.requires.stands c.right_of-right_place.result c.right_of-right_place.ensures }
 
-pub walk::counted_at-truth_at-requires : goal.walk::counted_at-truth_at-requires
-walk::counted_at-truth_at-requires g t c =
+pub datum_walk::counted_at-truth_at-requires : goal.datum_walk::counted_at-truth_at-requires
+datum_walk::counted_at-truth_at-requires g t c =
     let stands : TruthStands c.args.context.now c.args.place = logical_stands c.args.context.now c.args.place c.in-Logical.ensures (tree_of_class c.args.context.now c.args.place WalkClass.Logical (λ leaf. cc) c.in-Logical.ensures c.requires.stands) in
     let smaller : measure_at c.args.context.now.list.nodes c.args.place rank_truth < measure_at c.args.context.now.list.nodes c.args.place rank_counted = omega arith in
     search rules
 
-pub walk::counted_at-number_at-requires : goal.walk::counted_at-number_at-requires
-walk::counted_at-number_at-requires g t c =
+pub datum_walk::counted_at-number_at-requires : goal.datum_walk::counted_at-number_at-requires
+datum_walk::counted_at-number_at-requires g t c =
     let stands : PartStands c.args.context.now c.args.place = tree_of_class c.args.context.now c.args.place WalkClass.Numeric (λ leaf. cc) c.in-Numeric.ensures c.requires.stands in
     let smaller : measure_at c.args.context.now.list.nodes c.args.place rank_numbers < measure_at c.args.context.now.list.nodes c.args.place rank_counted = omega arith in
     search rules
 
-pub walk::counted_at-eager_at-requires : goal.walk::counted_at-eager_at-requires
-walk::counted_at-eager_at-requires g t c =
+pub datum_walk::counted_at-eager_at-requires : goal.datum_walk::counted_at-eager_at-requires
+datum_walk::counted_at-eager_at-requires g t c =
     let stands : PartStands c.args.context.now c.args.place = tree_of_class c.args.context.now c.args.place WalkClass.Eager (λ leaf. cc) c.in-Eager.ensures c.requires.stands in
     let smaller : measure_at c.args.context.now.list.nodes c.args.place rank_eager < measure_at c.args.context.now.list.nodes c.args.place rank_counted = omega arith in
     search rules
 
-pub walk::plain_truth_at-walk_operand_at-requires : goal.walk::plain_truth_at-walk_operand_at-requires
-walk::plain_truth_at-walk_operand_at-requires g t c = record { stands = tree_operand c.args.context.now c.args.place (typed_part c.args.context.now c.args.place IsBooleanOrNull c.requires.stands) }
+pub truth_walk::plain_truth_at-walk_operand_at-requires : goal.truth_walk::plain_truth_at-walk_operand_at-requires
+truth_walk::plain_truth_at-walk_operand_at-requires g t c = record { stands = tree_operand c.args.context.now c.args.place (typed_part c.args.context.now c.args.place IsBooleanOrNull c.requires.stands) }
 
 pub number_walk::number_operand_at-walk_operand_at-requires : goal.number_walk::number_operand_at-walk_operand_at-requires
 number_walk::number_operand_at-walk_operand_at-requires g t c = record { stands = tree_operand c.args.context.now c.args.place (typed_part c.args.context.now c.args.place IsNumberOperand c.requires.stands) }
@@ -938,27 +938,27 @@ number_walk::made_number_at-operand_at-requires g t c =
     let smaller : measure_at c.args.context.now.list.nodes c.args.place rank_operand < measure_at c.args.context.now.list.nodes c.args.place rank_made_number = omega arith in
     search rules
 
-pub walk::made_at-returns-in-Call-clause-answers : goal.walk::made_at-returns-in-Call-clause-answers
-walk::made_at-returns-in-Call-clause-answers g t c = as_counted c.args.context.now c.args.place c.called_at.result c.as_stop.result c.as_stop.ensures c.called_at.ensures
+pub datum_walk::made_at-returns-in-Call-clause-answers : goal.datum_walk::made_at-returns-in-Call-clause-answers
+datum_walk::made_at-returns-in-Call-clause-answers g t c = as_counted c.args.context.now c.args.place c.called_at.result c.as_stop.result c.as_stop.ensures c.called_at.ensures
 
-pub walk::made_at-returns-in-Has-clause-answers : goal.walk::made_at-returns-in-Has-clause-answers
-walk::made_at-returns-in-Has-clause-answers g t c = as_counted c.args.context.now c.args.place c.flags_at.result c.as_stop-in-Has.result c.as_stop-in-Has.ensures c.flags_at.ensures
+pub datum_walk::made_at-returns-in-Has-clause-answers : goal.datum_walk::made_at-returns-in-Has-clause-answers
+datum_walk::made_at-returns-in-Has-clause-answers g t c = as_counted c.args.context.now c.args.place c.flags_at.result c.as_stop-in-Has.result c.as_stop-in-Has.ensures c.flags_at.ensures
 
-pub walk::made_at-returns-in-InPath-clause-answers : goal.walk::made_at-returns-in-InPath-clause-answers
-walk::made_at-returns-in-InPath-clause-answers g t c = as_counted c.args.context.now c.args.place c.among_at.result c.as_stop-in-InPath.result c.as_stop-in-InPath.ensures c.among_at.ensures
+pub datum_walk::made_at-returns-in-InPath-clause-answers : goal.datum_walk::made_at-returns-in-InPath-clause-answers
+datum_walk::made_at-returns-in-InPath-clause-answers g t c = as_counted c.args.context.now c.args.place c.among_at.result c.as_stop-in-InPath.result c.as_stop-in-InPath.ensures c.among_at.ensures
 
 -- ---- what is taken from the budget
 
-pub walk::truth_at-returns-clause-spent : goal.walk::truth_at-returns-clause-spent
-walk::truth_at-returns-clause-spent g t c =
+pub truth_walk::truth_at-returns-clause-spent : goal.truth_walk::truth_at-returns-clause-spent
+truth_walk::truth_at-returns-clause-spent g t c =
     at_top (λ k. SpendsAt c.args.context.now k (g.B.Counting.left c.args.budget.now) (g.B.Counting.left c.loop-at.budget) (stopped_by c.loop-at.answer)) c.loop-at.at c.args.place c.loop-at.invariant.above (omega arith) c.loop-at.invariant.spent
 
-pub walk::eager_at-returns-clause-spent : goal.walk::eager_at-returns-clause-spent
-walk::eager_at-returns-clause-spent g t c =
+pub datum_walk::eager_at-returns-clause-spent : goal.datum_walk::eager_at-returns-clause-spent
+datum_walk::eager_at-returns-clause-spent g t c =
     at_top (λ k. SpendsAt c.args.context.now k (g.B.Counting.left c.args.budget.now) (g.B.Counting.left c.loop-at.budget) (datum_stop c.loop-at.answer)) c.loop-at.at c.args.place c.loop-at.invariant.above (omega arith) c.loop-at.invariant.spent
 
-pub walk::truth_at-loop-at-preserved : goal.walk::truth_at-loop-at-preserved
-walk::truth_at-loop-at-preserved g t c =
+pub truth_walk::truth_at-loop-at-preserved : goal.truth_walk::truth_at-loop-at-preserved
+truth_walk::truth_at-loop-at-preserved g t c =
     let l = c.loop-at in
     let above : c.args.place < l.at = omega arith in
     let within : l.at ≤ c.spine_bottom-bottom.result = l.invariant.within in
@@ -969,8 +969,8 @@ walk::truth_at-loop-at-preserved g t c =
       spent = c.logical_at-answer.ensures.spent (g.B.Counting.left c.args.budget.now) (next_spent c.args.context.now l.at c.args.place (g.B.Counting.left c.args.budget.now) (g.B.Counting.left l.budget) (stopped_by l.answer) above l.invariant.spent);
     }
 
-pub walk::eager_at-loop-at-preserved : goal.walk::eager_at-loop-at-preserved
-walk::eager_at-loop-at-preserved g t c =
+pub datum_walk::eager_at-loop-at-preserved : goal.datum_walk::eager_at-loop-at-preserved
+datum_walk::eager_at-loop-at-preserved g t c =
     let l = c.loop-at in
     let above : c.args.place < l.at = omega arith in
     let within : l.at ≤ c.spine_bottom-bottom.result = l.invariant.within in
@@ -981,165 +981,165 @@ walk::eager_at-loop-at-preserved g t c =
       spent = c.made_at-answer.ensures.spent (g.B.Counting.left c.args.budget.now) (next_spent c.args.context.now l.at c.args.place (g.B.Counting.left c.args.budget.now) (g.B.Counting.left l.budget) (datum_stop l.answer) above l.invariant.spent);
     }
 
-pub walk::plain_truth_at-returns-in-Leaf-clause-spent : goal.walk::plain_truth_at-returns-in-Leaf-clause-spent
-walk::plain_truth_at-returns-in-Leaf-clause-spent g t c =
+pub truth_walk::plain_truth_at-returns-in-Leaf-clause-spent : goal.truth_walk::plain_truth_at-returns-in-Leaf-clause-spent
+truth_walk::plain_truth_at-returns-in-Leaf-clause-spent g t c =
     free_spends c.args.context.now c.args.place None (g.B.Counting.left c.args.budget.now) (leaf_free c.args.context.now c.args.place c.in-Leaf.ensures.1) (takes_nothing (g.B.Counting.left c.args.budget.now))
 
-pub walk::numeric_truth_at-returns-in-Ok-clause-spent : goal.walk::numeric_truth_at-returns-in-Ok-clause-spent
-walk::numeric_truth_at-returns-in-Ok-clause-spent g t c =
+pub truth_walk::numeric_truth_at-returns-in-Ok-clause-spent : goal.truth_walk::numeric_truth_at-returns-in-Ok-clause-spent
+truth_walk::numeric_truth_at-returns-in-Ok-clause-spent g t c =
     free_spends c.args.context.now c.args.place None (g.B.Counting.left c.args.budget.now) (numeric_free c.args.context.now c.args.place c.requires.numeric) (takes_nothing (g.B.Counting.left c.args.budget.now))
 
-pub walk::numeric_truth_at-returns-in-Err-clause-spent : goal.walk::numeric_truth_at-returns-in-Err-clause-spent
-walk::numeric_truth_at-returns-in-Err-clause-spent g t c =
+pub truth_walk::numeric_truth_at-returns-in-Err-clause-spent : goal.truth_walk::numeric_truth_at-returns-in-Err-clause-spent
+truth_walk::numeric_truth_at-returns-in-Err-clause-spent g t c =
     free_spends c.args.context.now c.args.place (Some (EvalStop.Fault c.in-Err.fault)) (g.B.Counting.left c.args.budget.now) (numeric_free c.args.context.now c.args.place c.requires.numeric) (fault_nothing c.in-Err.fault (g.B.Counting.left c.args.budget.now))
 
-pub walk::compared_truth_at-returns-in-Leaf-walk_operand_at-clause-spent : goal.walk::compared_truth_at-returns-in-Leaf-walk_operand_at-clause-spent
-walk::compared_truth_at-returns-in-Leaf-walk_operand_at-clause-spent g t c =
+pub truth_walk::compared_truth_at-returns-in-Leaf-walk_operand_at-clause-spent : goal.truth_walk::compared_truth_at-returns-in-Leaf-walk_operand_at-clause-spent
+truth_walk::compared_truth_at-returns-in-Leaf-walk_operand_at-clause-spent g t c =
     free_spends c.args.context.now c.args.place None (g.B.Counting.left c.args.budget.now)
     (both_free c.args.context.now c.args.place (BinaryOperator.Comparison c.args.comparison) c.requires.here c.right_of-right_place.result c.right_of-right_place.ensures (leaf_free c.args.context.now (c.args.place + 1) c.in-Leaf.ensures.1) (leaf_free c.args.context.now c.right_of-right_place.result c.in-Leaf-walk_operand_at.ensures.1))
     (takes_nothing (g.B.Counting.left c.args.budget.now))
 
-pub walk::numbers_truth_at-returns-in-Err-clause-spent : goal.walk::numbers_truth_at-returns-in-Err-clause-spent
-walk::numbers_truth_at-returns-in-Err-clause-spent g t c =
+pub truth_walk::numbers_truth_at-returns-in-Err-clause-spent : goal.truth_walk::numbers_truth_at-returns-in-Err-clause-spent
+truth_walk::numbers_truth_at-returns-in-Err-clause-spent g t c =
     first_stops c.args.context.now c.ends_once.ensures c.args.place WalkClass.Eager (λ leaf. cc) (walks_by c.args.context.now.list c.args.place (BinaryOperator.Comparison c.args.comparison) WalkClass.Eager c.requires.here refl) (EvalStop.Fault c.in-Err.fault) c.in-Err.ensures (g.B.Counting.left c.args.budget.now) (g.B.Counting.left c.args.budget.now)
     (free_spends c.args.context.now (c.args.place + 1) (Some (EvalStop.Fault c.in-Err.fault)) (g.B.Counting.left c.args.budget.now) (numeric_free c.args.context.now (c.args.place + 1) c.requires.numeric) (fault_nothing c.in-Err.fault (g.B.Counting.left c.args.budget.now)))
 
-pub walk::numbers_truth_at-returns-in-Int-clause-spent : goal.walk::numbers_truth_at-returns-in-Int-clause-spent
-walk::numbers_truth_at-returns-in-Int-clause-spent g t c =
+pub truth_walk::numbers_truth_at-returns-in-Int-clause-spent : goal.truth_walk::numbers_truth_at-returns-in-Int-clause-spent
+truth_walk::numbers_truth_at-returns-in-Int-clause-spent g t c =
     free_spends c.args.context.now c.args.place None (g.B.Counting.left c.args.budget.now)
     (both_free c.args.context.now c.args.place (BinaryOperator.Comparison c.args.comparison) c.requires.here c.right_of-right_place.result c.right_of-right_place.ensures (numeric_free c.args.context.now (c.args.place + 1) c.requires.numeric) (leaf_free c.args.context.now c.right_of-right_place.result c.in-Leaf.ensures.1))
     (takes_nothing (g.B.Counting.left c.args.budget.now))
 
-pub walk::numbers_truth_at-returns-in-Ok-number_at-clause-spent : goal.walk::numbers_truth_at-returns-in-Ok-number_at-clause-spent
-walk::numbers_truth_at-returns-in-Ok-number_at-clause-spent g t c =
+pub truth_walk::numbers_truth_at-returns-in-Ok-number_at-clause-spent : goal.truth_walk::numbers_truth_at-returns-in-Ok-number_at-clause-spent
+truth_walk::numbers_truth_at-returns-in-Ok-number_at-clause-spent g t c =
     free_spends c.args.context.now c.args.place None (g.B.Counting.left c.args.budget.now)
     (both_free c.args.context.now c.args.place (BinaryOperator.Comparison c.args.comparison) c.requires.here c.right_of-right_place.result c.right_of-right_place.ensures (numeric_free c.args.context.now (c.args.place + 1) c.requires.numeric) (numeric_free c.args.context.now c.right_of-right_place.result c.in-Numeric.ensures))
     (takes_nothing (g.B.Counting.left c.args.budget.now))
 
-pub walk::numbers_truth_at-returns-in-Err-number_at-clause-spent : goal.walk::numbers_truth_at-returns-in-Err-number_at-clause-spent
-walk::numbers_truth_at-returns-in-Err-number_at-clause-spent g t c =
+pub truth_walk::numbers_truth_at-returns-in-Err-number_at-clause-spent : goal.truth_walk::numbers_truth_at-returns-in-Err-number_at-clause-spent
+truth_walk::numbers_truth_at-returns-in-Err-number_at-clause-spent g t c =
     free_spends c.args.context.now c.args.place (Some (EvalStop.Fault c.in-Err-number_at.fault)) (g.B.Counting.left c.args.budget.now)
     (both_free c.args.context.now c.args.place (BinaryOperator.Comparison c.args.comparison) c.requires.here c.right_of-right_place.result c.right_of-right_place.ensures (numeric_free c.args.context.now (c.args.place + 1) c.requires.numeric) (numeric_free c.args.context.now c.right_of-right_place.result c.in-Numeric.ensures))
     (fault_nothing c.in-Err-number_at.fault (g.B.Counting.left c.args.budget.now))
 
-pub walk::called_truth_at-returns-in-Ok-clause-spent : goal.walk::called_truth_at-returns-in-Ok-clause-spent
-walk::called_truth_at-returns-in-Ok-clause-spent g t c =
+pub truth_walk::called_truth_at-returns-in-Ok-clause-spent : goal.truth_walk::called_truth_at-returns-in-Ok-clause-spent
+truth_walk::called_truth_at-returns-in-Ok-clause-spent g t c =
     free_spends c.args.context.now c.args.place None (g.B.Counting.left c.args.budget.now) (called_free c.args.context.now c.args.place c.args.function c.requires.here) (takes_nothing (g.B.Counting.left c.args.budget.now))
 
-pub walk::called_truth_at-returns-in-Err-clause-spent : goal.walk::called_truth_at-returns-in-Err-clause-spent
-walk::called_truth_at-returns-in-Err-clause-spent g t c =
+pub truth_walk::called_truth_at-returns-in-Err-clause-spent : goal.truth_walk::called_truth_at-returns-in-Err-clause-spent
+truth_walk::called_truth_at-returns-in-Err-clause-spent g t c =
     free_spends c.args.context.now c.args.place (Some (EvalStop.Fault c.in-Err.fault)) (g.B.Counting.left c.args.budget.now) (called_free c.args.context.now c.args.place c.args.function c.requires.here) (fault_nothing c.in-Err.fault (g.B.Counting.left c.args.budget.now))
 
-pub walk::logical_at-returns-in-Err-clause-spent : goal.walk::logical_at-returns-in-Err-clause-spent
-walk::logical_at-returns-in-Err-clause-spent g t c =
+pub truth_walk::logical_at-returns-in-Err-clause-spent : goal.truth_walk::logical_at-returns-in-Err-clause-spent
+truth_walk::logical_at-returns-in-Err-clause-spent g t c =
     after_stop (Option Bool) c.args.context.now c.args.place c.args.first c.in-Err.stop (g.B.Counting.left c.args.budget.now) (g.B.Counting.left c.args.budget.now) (Some c.in-Err.stop) c.in-Err.is
     (first_stops c.args.context.now c.ends_once.ensures c.args.place WalkClass.Logical (λ leaf. cc) c.requires.logical c.in-Err.stop
     (truth_faults c.args.context.now (c.args.place + 1) c.in-Err.stop (subst (λ (r : Result (Option Bool) EvalStop). CountedTruth c.args.context.now (c.args.place + 1) r) c.in-Err.is c.requires.first)) (g.B.Counting.left c.args.budget.now))
 
-pub walk::logical_at-returns-in-Some-clause-spent : goal.walk::logical_at-returns-in-Some-clause-spent
-walk::logical_at-returns-in-Some-clause-spent g t c =
+pub truth_walk::logical_at-returns-in-Some-clause-spent : goal.truth_walk::logical_at-returns-in-Some-clause-spent
+truth_walk::logical_at-returns-in-Some-clause-spent g t c =
     after_value (Option Bool) c.args.context.now c.args.place c.args.first c.in-Ok.first (g.B.Counting.left c.args.budget.now) (g.B.Counting.left c.connected_at.new.budget) (stopped_by c.connected_at.result) c.in-Ok.is c.connected_at.ensures.spent
 
-pub walk::logical_at-returns-in-None-clause-spent : goal.walk::logical_at-returns-in-None-clause-spent
-walk::logical_at-returns-in-None-clause-spent g t c =
+pub truth_walk::logical_at-returns-in-None-clause-spent : goal.truth_walk::logical_at-returns-in-None-clause-spent
+truth_walk::logical_at-returns-in-None-clause-spent g t c =
     let walk = found_there (λ (f : CheckedNode). walk_of_kind f.kind ≡ WalkClass.Logical) (slice_get c.args.context.now.list.nodes c.args.place) c.node.result.now c.node.ensures c.requires.logical in
     let here = there_found (λ (f : CheckedNode). f.kind ≡ NodeKind.Not) (slice_get c.args.context.now.list.nodes c.args.place) c.node.result.now c.node.ensures (only_not c.node.result.now.kind walk c.in-None.ensures.none) in
     after_value (Option Bool) c.args.context.now c.args.place c.args.first c.in-Ok.first (g.B.Counting.left c.args.budget.now) (g.B.Counting.left c.args.budget.now) None c.in-Ok.is (nothing_more c.args.context.now c.args.place NodeKind.Not tt here (g.B.Counting.left c.args.budget.now) None (takes_nothing (g.B.Counting.left c.args.budget.now)))
 
-pub walk::connected_at-returns-then-decides-clause-spent : goal.walk::connected_at-returns-then-decides-clause-spent
-walk::connected_at-returns-then-decides-clause-spent g t c =
+pub truth_walk::connected_at-returns-then-decides-clause-spent : goal.truth_walk::connected_at-returns-then-decides-clause-spent
+truth_walk::connected_at-returns-then-decides-clause-spent g t c =
     right_left_out c.args.context.now c.args.place c.args.operator c.requires.here c.ends_once.ensures c.args.left c.requires.left (c.decides.ensures.0 c.if-decides.true) (g.B.Counting.left c.args.budget.now)
 
-pub walk::connected_at-returns-in-Ok-clause-spent : goal.walk::connected_at-returns-in-Ok-clause-spent
-walk::connected_at-returns-in-Ok-clause-spent g t c =
+pub truth_walk::connected_at-returns-in-Ok-clause-spent : goal.truth_walk::connected_at-returns-in-Ok-clause-spent
+truth_walk::connected_at-returns-in-Ok-clause-spent g t c =
     right_asked c.args.context.now c.args.place c.args.operator c.requires.here c.ends_once.ensures c.args.left c.requires.left (λ decided. let e = c.decides.ensures.1 decided in cc) c.right_of-right_place.result c.right_of-right_place.ensures (g.B.Counting.left c.args.budget.now) (g.B.Counting.left c.side_at.new.budget) None c.in-Ok.ensures.spent
 
-pub walk::connected_at-returns-in-Err-clause-spent : goal.walk::connected_at-returns-in-Err-clause-spent
-walk::connected_at-returns-in-Err-clause-spent g t c =
+pub truth_walk::connected_at-returns-in-Err-clause-spent : goal.truth_walk::connected_at-returns-in-Err-clause-spent
+truth_walk::connected_at-returns-in-Err-clause-spent g t c =
     right_asked c.args.context.now c.args.place c.args.operator c.requires.here c.ends_once.ensures c.args.left c.requires.left (λ decided. let e = c.decides.ensures.1 decided in cc) c.right_of-right_place.result c.right_of-right_place.ensures (g.B.Counting.left c.args.budget.now) (g.B.Counting.left c.side_at.new.budget) (Some c.in-Err.stop) c.in-Err.ensures.spent
 
-pub walk::counted_at-returns-in-Leaf-clause-spent : goal.walk::counted_at-returns-in-Leaf-clause-spent
-walk::counted_at-returns-in-Leaf-clause-spent g t c =
+pub datum_walk::counted_at-returns-in-Leaf-clause-spent : goal.datum_walk::counted_at-returns-in-Leaf-clause-spent
+datum_walk::counted_at-returns-in-Leaf-clause-spent g t c =
     free_spends c.args.context.now c.args.place None (g.B.Counting.left c.args.budget.now) (leaf_free c.args.context.now c.args.place c.in-Leaf.ensures.1) (takes_nothing (g.B.Counting.left c.args.budget.now))
 
-pub walk::counted_at-returns-in-Ok-number_at-clause-spent : goal.walk::counted_at-returns-in-Ok-number_at-clause-spent
-walk::counted_at-returns-in-Ok-number_at-clause-spent g t c =
+pub datum_walk::counted_at-returns-in-Ok-number_at-clause-spent : goal.datum_walk::counted_at-returns-in-Ok-number_at-clause-spent
+datum_walk::counted_at-returns-in-Ok-number_at-clause-spent g t c =
     free_spends c.args.context.now c.args.place None (g.B.Counting.left c.args.budget.now) (numeric_free c.args.context.now c.args.place c.in-Numeric.ensures) (takes_nothing (g.B.Counting.left c.args.budget.now))
 
-pub walk::counted_at-returns-in-Err-number_at-clause-spent : goal.walk::counted_at-returns-in-Err-number_at-clause-spent
-walk::counted_at-returns-in-Err-number_at-clause-spent g t c =
+pub datum_walk::counted_at-returns-in-Err-number_at-clause-spent : goal.datum_walk::counted_at-returns-in-Err-number_at-clause-spent
+datum_walk::counted_at-returns-in-Err-number_at-clause-spent g t c =
     free_spends c.args.context.now c.args.place (Some (EvalStop.Fault c.in-Err-number_at.fault)) (g.B.Counting.left c.args.budget.now) (numeric_free c.args.context.now c.args.place c.in-Numeric.ensures) (fault_nothing c.in-Err-number_at.fault (g.B.Counting.left c.args.budget.now))
 
-pub walk::made_at-returns-in-Err-clause-spent : goal.walk::made_at-returns-in-Err-clause-spent
-walk::made_at-returns-in-Err-clause-spent g t c =
+pub datum_walk::made_at-returns-in-Err-clause-spent : goal.datum_walk::made_at-returns-in-Err-clause-spent
+datum_walk::made_at-returns-in-Err-clause-spent g t c =
     after_stop Datum c.args.context.now c.args.place c.args.first c.in-Err.before (g.B.Counting.left c.args.budget.now) (g.B.Counting.left c.args.budget.now) (Some c.in-Err.before) c.in-Err.is
     (first_stops c.args.context.now c.ends_once.ensures c.args.place WalkClass.Eager (λ leaf. cc) c.requires.eager c.in-Err.before
     (datum_faults c.args.context.now (c.args.place + 1) c.in-Err.before (subst (λ (r : Result Datum EvalStop). CountedDatum c.args.context.now (c.args.place + 1) r) c.in-Err.is c.requires.first)) (g.B.Counting.left c.args.budget.now))
 
-pub walk::made_at-returns-in-Member-clause-spent : goal.walk::made_at-returns-in-Member-clause-spent
-walk::made_at-returns-in-Member-clause-spent g t c =
+pub datum_walk::made_at-returns-in-Member-clause-spent : goal.datum_walk::made_at-returns-in-Member-clause-spent
+datum_walk::made_at-returns-in-Member-clause-spent g t c =
     let here : HasKind c.args.context.now.list c.args.place (NodeKind.Member c.in-Member.slot) = there_found (λ (f : CheckedNode). f.kind ≡ (NodeKind.Member c.in-Member.slot)) (slice_get c.args.context.now.list.nodes c.args.place) c.node.result.now c.node.ensures c.in-Member.is in
     after_value Datum c.args.context.now c.args.place c.args.first c.in-Ok.first (g.B.Counting.left c.args.budget.now) (g.B.Counting.left c.args.budget.now) None c.in-Ok.is (nothing_more c.args.context.now c.args.place (NodeKind.Member c.in-Member.slot) tt here (g.B.Counting.left c.args.budget.now) None (takes_nothing (g.B.Counting.left c.args.budget.now)))
 
-pub walk::made_at-returns-in-AnyItem-clause-spent : goal.walk::made_at-returns-in-AnyItem-clause-spent
-walk::made_at-returns-in-AnyItem-clause-spent g t c =
+pub datum_walk::made_at-returns-in-AnyItem-clause-spent : goal.datum_walk::made_at-returns-in-AnyItem-clause-spent
+datum_walk::made_at-returns-in-AnyItem-clause-spent g t c =
     let here : HasKind c.args.context.now.list c.args.place (NodeKind.AnyItem) = there_found (λ (f : CheckedNode). f.kind ≡ (NodeKind.AnyItem)) (slice_get c.args.context.now.list.nodes c.args.place) c.node.result.now c.node.ensures c.in-AnyItem.is in
     after_value Datum c.args.context.now c.args.place c.args.first c.in-Ok.first (g.B.Counting.left c.args.budget.now) (g.B.Counting.left c.args.budget.now) None c.in-Ok.is (nothing_more c.args.context.now c.args.place (NodeKind.AnyItem) tt here (g.B.Counting.left c.args.budget.now) None (takes_nothing (g.B.Counting.left c.args.budget.now)))
 
-pub walk::made_at-returns-in-Call-clause-spent : goal.walk::made_at-returns-in-Call-clause-spent
-walk::made_at-returns-in-Call-clause-spent g t c =
+pub datum_walk::made_at-returns-in-Call-clause-spent : goal.datum_walk::made_at-returns-in-Call-clause-spent
+datum_walk::made_at-returns-in-Call-clause-spent g t c =
     let here : HasKind c.args.context.now.list c.args.place (NodeKind.Call c.in-Call.function) = there_found (λ (f : CheckedNode). f.kind ≡ (NodeKind.Call c.in-Call.function)) (slice_get c.args.context.now.list.nodes c.args.place) c.node.result.now c.node.ensures c.in-Call.is in
     after_value Datum c.args.context.now c.args.place c.args.first c.in-Ok.first (g.B.Counting.left c.args.budget.now) (g.B.Counting.left c.args.budget.now) (datum_stop c.as_stop.result) c.in-Ok.is
     (nothing_more c.args.context.now c.args.place (NodeKind.Call c.in-Call.function) tt here (g.B.Counting.left c.args.budget.now) (datum_stop c.as_stop.result) (as_spent c.called_at.result c.as_stop.result (g.B.Counting.left c.args.budget.now) c.as_stop.ensures))
 
-pub walk::made_at-returns-in-Count-clause-spent : goal.walk::made_at-returns-in-Count-clause-spent
-walk::made_at-returns-in-Count-clause-spent g t c =
+pub datum_walk::made_at-returns-in-Count-clause-spent : goal.datum_walk::made_at-returns-in-Count-clause-spent
+datum_walk::made_at-returns-in-Count-clause-spent g t c =
     let here : HasKind c.args.context.now.list c.args.place (NodeKind.Count) = there_found (λ (f : CheckedNode). f.kind ≡ (NodeKind.Count)) (slice_get c.args.context.now.list.nodes c.args.place) c.node.result.now c.node.ensures c.in-Count.is in
     after_value Datum c.args.context.now c.args.place c.args.first c.in-Ok.first (g.B.Counting.left c.args.budget.now) (g.B.Counting.left c.args.budget.now) (datum_stop c.as_stop-in-Count.result) c.in-Ok.is
     (nothing_more c.args.context.now c.args.place (NodeKind.Count) tt here (g.B.Counting.left c.args.budget.now) (datum_stop c.as_stop-in-Count.result) (as_spent c.count_of.result c.as_stop-in-Count.result (g.B.Counting.left c.args.budget.now) c.as_stop-in-Count.ensures))
 
-pub walk::made_at-returns-in-Has-clause-spent : goal.walk::made_at-returns-in-Has-clause-spent
-walk::made_at-returns-in-Has-clause-spent g t c =
+pub datum_walk::made_at-returns-in-Has-clause-spent : goal.datum_walk::made_at-returns-in-Has-clause-spent
+datum_walk::made_at-returns-in-Has-clause-spent g t c =
     let here : HasKind c.args.context.now.list c.args.place (NodeKind.Has) = there_found (λ (f : CheckedNode). f.kind ≡ (NodeKind.Has)) (slice_get c.args.context.now.list.nodes c.args.place) c.node.result.now c.node.ensures c.in-Has.is in
     after_value Datum c.args.context.now c.args.place c.args.first c.in-Ok.first (g.B.Counting.left c.args.budget.now) (g.B.Counting.left c.args.budget.now) (datum_stop c.as_stop-in-Has.result) c.in-Ok.is
     (nothing_more c.args.context.now c.args.place (NodeKind.Has) tt here (g.B.Counting.left c.args.budget.now) (datum_stop c.as_stop-in-Has.result) (as_spent c.flags_at.result c.as_stop-in-Has.result (g.B.Counting.left c.args.budget.now) c.as_stop-in-Has.ensures))
 
-pub walk::made_at-returns-in-InPath-clause-spent : goal.walk::made_at-returns-in-InPath-clause-spent
-walk::made_at-returns-in-InPath-clause-spent g t c =
+pub datum_walk::made_at-returns-in-InPath-clause-spent : goal.datum_walk::made_at-returns-in-InPath-clause-spent
+datum_walk::made_at-returns-in-InPath-clause-spent g t c =
     let here : HasKind c.args.context.now.list c.args.place (NodeKind.InPath) = there_found (λ (f : CheckedNode). f.kind ≡ (NodeKind.InPath)) (slice_get c.args.context.now.list.nodes c.args.place) c.node.result.now c.node.ensures c.in-InPath.is in
     after_value Datum c.args.context.now c.args.place c.args.first c.in-Ok.first (g.B.Counting.left c.args.budget.now) (g.B.Counting.left c.args.budget.now) (datum_stop c.as_stop-in-InPath.result) c.in-Ok.is
     (nothing_more c.args.context.now c.args.place (NodeKind.InPath) tt here (g.B.Counting.left c.args.budget.now) (datum_stop c.as_stop-in-InPath.result) (as_spent c.among_at.result c.as_stop-in-InPath.result (g.B.Counting.left c.args.budget.now) c.as_stop-in-InPath.ensures))
 
-pub walk::made_at-returns-in-InList-clause-spent : goal.walk::made_at-returns-in-InList-clause-spent
-walk::made_at-returns-in-InList-clause-spent g t c =
+pub datum_walk::made_at-returns-in-InList-clause-spent : goal.datum_walk::made_at-returns-in-InList-clause-spent
+datum_walk::made_at-returns-in-InList-clause-spent g t c =
     after_value Datum c.args.context.now c.args.place c.args.first c.in-Ok.first (g.B.Counting.left c.args.budget.now) (g.B.Counting.left c.listed_at.new.budget) (datum_stop c.listed_at.result) c.in-Ok.is c.listed_at.ensures.spent
 
-pub walk::made_at-returns-in-Lambda-clause-spent : goal.walk::made_at-returns-in-Lambda-clause-spent
-walk::made_at-returns-in-Lambda-clause-spent g t c =
+pub datum_walk::made_at-returns-in-Lambda-clause-spent : goal.datum_walk::made_at-returns-in-Lambda-clause-spent
+datum_walk::made_at-returns-in-Lambda-clause-spent g t c =
     after_value Datum c.args.context.now c.args.place c.args.first c.in-Ok.first (g.B.Counting.left c.args.budget.now) (g.B.Counting.left c.lambda_at.new.budget) (datum_stop c.lambda_at.result) c.in-Ok.is c.lambda_at.ensures.spent
 
-pub walk::made_at-returns-in-Binary-Comparison-clause-spent : goal.walk::made_at-returns-in-Binary-Comparison-clause-spent
-walk::made_at-returns-in-Binary-Comparison-clause-spent g t c =
+pub datum_walk::made_at-returns-in-Binary-Comparison-clause-spent : goal.datum_walk::made_at-returns-in-Binary-Comparison-clause-spent
+datum_walk::made_at-returns-in-Binary-Comparison-clause-spent g t c =
     after_value Datum c.args.context.now c.args.place c.args.first c.in-Ok.first (g.B.Counting.left c.args.budget.now) (g.B.Counting.left c.compared_at.new.budget) (datum_stop c.compared_at.result) c.in-Ok.is c.compared_at.ensures.spent
 
-pub walk::compared_at-returns-in-Leaf-clause-spent : goal.walk::compared_at-returns-in-Leaf-clause-spent
-walk::compared_at-returns-in-Leaf-clause-spent g t c =
+pub datum_walk::compared_at-returns-in-Leaf-clause-spent : goal.datum_walk::compared_at-returns-in-Leaf-clause-spent
+datum_walk::compared_at-returns-in-Leaf-clause-spent g t c =
     right_compared c.args.context.now c.args.place c.args.comparison c.requires.here c.ends_once.ensures (λ type. datum_val (reading_at (slots_of c.args.context.now.row.schema) type) c.args.left) c.requires.left c.right_of-right_place.result c.right_of-right_place.ensures (g.B.Counting.left c.args.budget.now) (g.B.Counting.left c.args.budget.now) None
     (free_spends c.args.context.now c.right_of-right_place.result None (g.B.Counting.left c.args.budget.now) (leaf_free c.args.context.now c.right_of-right_place.result c.in-Leaf.ensures.1) (takes_nothing (g.B.Counting.left c.args.budget.now)))
 
-pub walk::compared_at-returns-in-Ok-clause-spent : goal.walk::compared_at-returns-in-Ok-clause-spent
-walk::compared_at-returns-in-Ok-clause-spent g t c =
+pub datum_walk::compared_at-returns-in-Ok-clause-spent : goal.datum_walk::compared_at-returns-in-Ok-clause-spent
+datum_walk::compared_at-returns-in-Ok-clause-spent g t c =
     right_compared c.args.context.now c.args.place c.args.comparison c.requires.here c.ends_once.ensures (λ type. datum_val (reading_at (slots_of c.args.context.now.row.schema) type) c.args.left) c.requires.left c.right_of-right_place.result c.right_of-right_place.ensures (g.B.Counting.left c.args.budget.now) (g.B.Counting.left c.counted_at.new.budget) None c.in-Ok.ensures.spent
 
-pub walk::compared_at-returns-clause-spent : goal.walk::compared_at-returns-clause-spent
-walk::compared_at-returns-clause-spent g t c =
+pub datum_walk::compared_at-returns-clause-spent : goal.datum_walk::compared_at-returns-clause-spent
+datum_walk::compared_at-returns-clause-spent g t c =
     right_compared c.args.context.now c.args.place c.args.comparison c.requires.here c.ends_once.ensures (λ type. datum_val (reading_at (slots_of c.args.context.now.row.schema) type) c.args.left) c.requires.left c.right_of-right_place.result c.right_of-right_place.ensures (g.B.Counting.left c.args.budget.now) (g.B.Counting.left c.counted_at.new.budget) (Some c.in-Err.behind) c.in-Err.ensures.spent
 
-pub walk::operand_at-returns-in-Leaf : goal.walk::operand_at-returns-in-Leaf
-walk::operand_at-returns-in-Leaf g t c = kept_datum c.args.context.now c.args.place c.in-Leaf.value.now c.datum_of.result c.in-Leaf.ensures.0 c.datum_of.ensures
+pub datum_walk::operand_at-returns-in-Leaf : goal.datum_walk::operand_at-returns-in-Leaf
+datum_walk::operand_at-returns-in-Leaf g t c = kept_datum c.args.context.now c.args.place c.in-Leaf.value.now c.datum_of.result c.in-Leaf.ensures.0 c.datum_of.ensures
 
-pub walk::operand_at-fault_of-requires : goal.walk::operand_at-fault_of-requires
-walk::operand_at-fault_of-requires g t c =
+pub datum_walk::operand_at-fault_of-requires : goal.datum_walk::operand_at-fault_of-requires
+datum_walk::operand_at-fault_of-requires g t c =
     λ same. never_costly c.args.context.now c.args.place c.requires.stands c.costs_once.ensures (g.B.Counting.left c.counted_at.new.budget)
     (subst (λ (b : Budget). SpendsAt c.args.context.now c.args.place b (g.B.Counting.left c.counted_at.new.budget) (Some EvalStop.TooCostly)) c.without_bound-unbounded.ensures
     (subst (λ (s : EvalStop). SpendsAt c.args.context.now c.args.place (g.B.Counting.left c.without_bound-unbounded.result) (g.B.Counting.left c.counted_at.new.budget) (Some s)) same c.in-Err.ensures.spent))

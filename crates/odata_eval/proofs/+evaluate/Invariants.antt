@@ -14,50 +14,50 @@ decreases-number_walk::number_operand_at g l = measure_at l.context.now.list.nod
 abbrev pub decreases-number_walk::made_number_at : goal.decreases-number_walk::made_number_at
 decreases-number_walk::made_number_at g l = measure_at l.context.now.list.nodes l.place rank_made_number
 
-abbrev pub decreases-walk::operand_at : goal.decreases-walk::operand_at
-decreases-walk::operand_at g l = measure_at l.context.now.list.nodes l.place rank_operand
+abbrev pub decreases-datum_walk::operand_at : goal.decreases-datum_walk::operand_at
+decreases-datum_walk::operand_at g l = measure_at l.context.now.list.nodes l.place rank_operand
 
-abbrev pub decreases-walk::likely_stored_at : goal.decreases-walk::likely_stored_at
-decreases-walk::likely_stored_at g l = measure_at l.context.now.list.nodes l.place rank_operand
+abbrev pub decreases-datum_walk::likely_stored_at : goal.decreases-datum_walk::likely_stored_at
+decreases-datum_walk::likely_stored_at g l = measure_at l.context.now.list.nodes l.place rank_operand
 
-abbrev pub decreases-walk::counted_at : goal.decreases-walk::counted_at
-decreases-walk::counted_at g l = measure_at l.context.now.list.nodes l.place rank_counted
+abbrev pub decreases-datum_walk::counted_at : goal.decreases-datum_walk::counted_at
+decreases-datum_walk::counted_at g l = measure_at l.context.now.list.nodes l.place rank_counted
 
-abbrev pub decreases-walk::side_at : goal.decreases-walk::side_at
-decreases-walk::side_at g l = measure_at l.context.now.list.nodes l.place rank_counted
+abbrev pub decreases-truth_walk::side_at : goal.decreases-truth_walk::side_at
+decreases-truth_walk::side_at g l = measure_at l.context.now.list.nodes l.place rank_counted
 
-abbrev pub decreases-walk::truth_at : goal.decreases-walk::truth_at
-decreases-walk::truth_at g l = measure_at l.context.now.list.nodes l.place rank_truth
+abbrev pub decreases-truth_walk::truth_at : goal.decreases-truth_walk::truth_at
+decreases-truth_walk::truth_at g l = measure_at l.context.now.list.nodes l.place rank_truth
 
-abbrev pub decreases-walk::plain_truth_at : goal.decreases-walk::plain_truth_at
-decreases-walk::plain_truth_at g l = measure_at l.context.now.list.nodes l.place rank_plain
+abbrev pub decreases-truth_walk::plain_truth_at : goal.decreases-truth_walk::plain_truth_at
+decreases-truth_walk::plain_truth_at g l = measure_at l.context.now.list.nodes l.place rank_plain
 
-abbrev pub decreases-walk::numbers_truth_at : goal.decreases-walk::numbers_truth_at
-decreases-walk::numbers_truth_at g l = measure_at l.context.now.list.nodes l.place rank_numbers
+abbrev pub decreases-truth_walk::numbers_truth_at : goal.decreases-truth_walk::numbers_truth_at
+decreases-truth_walk::numbers_truth_at g l = measure_at l.context.now.list.nodes l.place rank_numbers
 
-abbrev pub decreases-walk::compared_truth_at : goal.decreases-walk::compared_truth_at
-decreases-walk::compared_truth_at g l = measure_at l.context.now.list.nodes l.place rank_test
+abbrev pub decreases-truth_walk::compared_truth_at : goal.decreases-truth_walk::compared_truth_at
+decreases-truth_walk::compared_truth_at g l = measure_at l.context.now.list.nodes l.place rank_test
 
-abbrev pub decreases-walk::called_truth_at : goal.decreases-walk::called_truth_at
-decreases-walk::called_truth_at g l = measure_at l.context.now.list.nodes l.place rank_test
+abbrev pub decreases-truth_walk::called_truth_at : goal.decreases-truth_walk::called_truth_at
+decreases-truth_walk::called_truth_at g l = measure_at l.context.now.list.nodes l.place rank_test
 
-abbrev pub decreases-walk::numeric_truth_at : goal.decreases-walk::numeric_truth_at
-decreases-walk::numeric_truth_at g l = measure_at l.context.now.list.nodes l.place rank_test
+abbrev pub decreases-truth_walk::numeric_truth_at : goal.decreases-truth_walk::numeric_truth_at
+decreases-truth_walk::numeric_truth_at g l = measure_at l.context.now.list.nodes l.place rank_test
 
-abbrev pub decreases-walk::made_truth_at : goal.decreases-walk::made_truth_at
-decreases-walk::made_truth_at g l = measure_at l.context.now.list.nodes l.place rank_made_truth
+abbrev pub decreases-truth_walk::made_truth_at : goal.decreases-truth_walk::made_truth_at
+decreases-truth_walk::made_truth_at g l = measure_at l.context.now.list.nodes l.place rank_made_truth
 
 abbrev pub decreases-number_walk::number_at : goal.decreases-number_walk::number_at
 decreases-number_walk::number_at g l = measure_at l.context.now.list.nodes l.place rank_numbers
 
-abbrev pub decreases-walk::eager_at : goal.decreases-walk::eager_at
-decreases-walk::eager_at g l = measure_at l.context.now.list.nodes l.place rank_eager
+abbrev pub decreases-datum_walk::eager_at : goal.decreases-datum_walk::eager_at
+decreases-datum_walk::eager_at g l = measure_at l.context.now.list.nodes l.place rank_eager
 
-abbrev pub decreases-walk::logical_at : goal.decreases-walk::logical_at
-decreases-walk::logical_at g l = measure_at l.context.now.list.nodes l.place rank_step
+abbrev pub decreases-truth_walk::logical_at : goal.decreases-truth_walk::logical_at
+decreases-truth_walk::logical_at g l = measure_at l.context.now.list.nodes l.place rank_step
 
-abbrev pub decreases-walk::made_at : goal.decreases-walk::made_at
-decreases-walk::made_at g l = measure_at l.context.now.list.nodes l.place rank_step
+abbrev pub decreases-datum_walk::made_at : goal.decreases-datum_walk::made_at
+decreases-datum_walk::made_at g l = measure_at l.context.now.list.nodes l.place rank_step
 
 abbrev pub decreases-number_walk::numeric_at : goal.decreases-number_walk::numeric_at
 decreases-number_walk::numeric_at g l = measure_at l.context.now.list.nodes l.place rank_step
@@ -65,11 +65,11 @@ decreases-number_walk::numeric_at g l = measure_at l.context.now.list.nodes l.pl
 abbrev pub decreases-number_walk::calculated_at : goal.decreases-number_walk::calculated_at
 decreases-number_walk::calculated_at g l = measure_at l.context.now.list.nodes l.place rank_rest
 
-abbrev pub decreases-walk::compared_at : goal.decreases-walk::compared_at
-decreases-walk::compared_at g l = measure_at l.context.now.list.nodes l.place rank_rest
+abbrev pub decreases-datum_walk::compared_at : goal.decreases-datum_walk::compared_at
+decreases-datum_walk::compared_at g l = measure_at l.context.now.list.nodes l.place rank_rest
 
-abbrev pub decreases-walk::called_at : goal.decreases-walk::called_at
-decreases-walk::called_at g l = measure_at l.context.now.list.nodes l.place rank_rest
+abbrev pub decreases-datum_walk::called_at : goal.decreases-datum_walk::called_at
+decreases-datum_walk::called_at g l = measure_at l.context.now.list.nodes l.place rank_rest
 
 abbrev pub decreases-collection_walk::flags_at : goal.decreases-collection_walk::flags_at
 decreases-collection_walk::flags_at g l = measure_at l.context.now.list.nodes l.place rank_rest
@@ -80,8 +80,8 @@ decreases-collection_walk::among_at g l = measure_at l.context.now.list.nodes l.
 abbrev pub decreases-collection_walk::listed_at : goal.decreases-collection_walk::listed_at
 decreases-collection_walk::listed_at g l = measure_at l.context.now.list.nodes l.place rank_rest
 
-abbrev pub decreases-walk::connected_at : goal.decreases-walk::connected_at
-decreases-walk::connected_at g l = measure_at l.context.now.list.nodes l.place rank_rest
+abbrev pub decreases-truth_walk::connected_at : goal.decreases-truth_walk::connected_at
+decreases-truth_walk::connected_at g l = measure_at l.context.now.list.nodes l.place rank_rest
 
 abbrev pub decreases-lambda_walk::lambda_at : goal.decreases-lambda_walk::lambda_at
 decreases-lambda_walk::lambda_at g l = measure_at l.context.now.list.nodes l.place rank_rest
@@ -89,16 +89,16 @@ decreases-lambda_walk::lambda_at g l = measure_at l.context.now.list.nodes l.pla
 abbrev pub decreases-lambda_walk::members_at : goal.decreases-lambda_walk::members_at
 decreases-lambda_walk::members_at g l = measure_at l.context.now.list.nodes l.body.place rank_operand
 
-abbrev pub invariant-walk::truth_at-loop-at : goal.invariant-walk::truth_at-loop-at
-invariant-walk::truth_at-loop-at g l = record {
+abbrev pub invariant-truth_walk::truth_at-loop-at : goal.invariant-truth_walk::truth_at-loop-at
+invariant-truth_walk::truth_at-loop-at g l = record {
   above : l.place ≤ l.at;
   within : l.at ≤ l.bottom;
   answers : CountedTruth l.context l.at l.answer;
   spent : SpendsAt l.context l.at (g.B.Counting.left l.fn.budget) (g.B.Counting.left l.budget) (stopped_by l.answer);
 }
 
-abbrev pub decreases-walk::truth_at-loop-at : goal.decreases-walk::truth_at-loop-at
-decreases-walk::truth_at-loop-at g l = l.at
+abbrev pub decreases-truth_walk::truth_at-loop-at : goal.decreases-truth_walk::truth_at-loop-at
+decreases-truth_walk::truth_at-loop-at g l = l.at
 
 abbrev pub invariant-number_walk::number_at-loop-at : goal.invariant-number_walk::number_at-loop-at
 invariant-number_walk::number_at-loop-at g l = record {
@@ -110,16 +110,16 @@ invariant-number_walk::number_at-loop-at g l = record {
 abbrev pub decreases-number_walk::number_at-loop-at : goal.decreases-number_walk::number_at-loop-at
 decreases-number_walk::number_at-loop-at g l = l.at
 
-abbrev pub invariant-walk::eager_at-loop-at : goal.invariant-walk::eager_at-loop-at
-invariant-walk::eager_at-loop-at g l = record {
+abbrev pub invariant-datum_walk::eager_at-loop-at : goal.invariant-datum_walk::eager_at-loop-at
+invariant-datum_walk::eager_at-loop-at g l = record {
   above : l.place ≤ l.at;
   within : l.at ≤ l.bottom;
   answers : CountedDatum l.context l.at l.answer;
   spent : SpendsAt l.context l.at (g.B.Counting.left l.fn.budget) (g.B.Counting.left l.budget) (datum_stop l.answer);
 }
 
-abbrev pub decreases-walk::eager_at-loop-at : goal.decreases-walk::eager_at-loop-at
-decreases-walk::eager_at-loop-at g l = l.at
+abbrev pub decreases-datum_walk::eager_at-loop-at : goal.decreases-datum_walk::eager_at-loop-at
+decreases-datum_walk::eager_at-loop-at g l = l.at
 
 -- the items before the index are none that is equal
 abbrev pub invariant-collection_walk::listed_at-loop-at : goal.invariant-collection_walk::listed_at-loop-at

@@ -5,7 +5,7 @@ use Rattle.edm_values.specs.Val.{whole}
 use Rattle.edm_values.specs.declared.sieve.Sieve.{Sieve}
 use Rattle.odata_syntax.specs.declared.binary_operator.ComparisonOperator.{ComparisonOperator}
 use Rattle.odata_eval.specs.private.ValueTests.{Decides}
-use Rattle.odata_eval.proofs.walking.FalseTerms.{eq_affirmed, eq_refuted, ge_affirmed, ge_refuted, greatest, le_affirmed, le_refuted, least, ne_affirmed, ne_refuted}
+use Rattle.odata_eval.proofs.walking.SievedComparisons.{eq_affirmed, eq_refuted, ge_affirmed, ge_refuted, greatest, le_affirmed, le_refuted, least, ne_affirmed, ne_refuted}
 use Rattle.odata_eval.proofs.value_tests.number_sieve.Goals as goal
 
 pub returns-in-Eq : goal.returns-in-Eq

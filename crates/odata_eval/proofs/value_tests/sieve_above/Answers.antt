@@ -5,7 +5,7 @@ use Rattle.edm_values.specs.Val.{whole}
 use Rattle.edm_values.specs.declared.sieve.Sieve.{Sieve}
 use Rattle.odata_syntax.specs.declared.binary_operator.ComparisonOperator.{ComparisonOperator}
 use Rattle.odata_eval.specs.private.ValueTests.{Decides}
-use Rattle.odata_eval.proofs.walking.FalseTerms.{greatest, gt_decided}
+use Rattle.odata_eval.proofs.walking.SievedComparisons.{greatest, gt_decided}
 use Rattle.odata_eval.proofs.value_tests.sieve_above.Goals as goal
 
 pub returns : goal.returns

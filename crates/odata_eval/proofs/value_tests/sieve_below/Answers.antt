@@ -5,7 +5,7 @@ use Rattle.edm_values.specs.Val.{whole}
 use Rattle.edm_values.specs.declared.sieve.Sieve.{Sieve}
 use Rattle.odata_syntax.specs.declared.binary_operator.ComparisonOperator.{ComparisonOperator}
 use Rattle.odata_eval.specs.private.ValueTests.{Decides}
-use Rattle.odata_eval.proofs.walking.FalseTerms.{least, lt_decided}
+use Rattle.odata_eval.proofs.walking.SievedComparisons.{least, lt_decided}
 use Rattle.odata_eval.proofs.value_tests.sieve_below.Goals as goal
 
 pub returns : goal.returns

@@ -3,7 +3,7 @@ use Rattle.edm_values.specs.Val.{text}
 use Rattle.edm_values.specs.declared.sieve.Sieve.{Sieve}
 use Rattle.odata_syntax.specs.declared.binary_operator.ComparisonOperator.{ComparisonOperator}
 use Rattle.odata_eval.specs.private.ValueTests.{Decides}
-use Rattle.odata_eval.proofs.walking.FalseTerms.{other_text_affirmed, other_text_refuted, text_affirmed, text_refuted}
+use Rattle.odata_eval.proofs.walking.SievedComparisons.{other_text_affirmed, other_text_refuted, text_affirmed, text_refuted}
 use Rattle.odata_eval.proofs.value_tests.text_sieve.Goals as goal
 
 pub returns-in-Eq : goal.returns-in-Eq

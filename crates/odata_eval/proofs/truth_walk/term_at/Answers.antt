@@ -6,7 +6,7 @@ use Rattle.odata_eval.specs.private.Spending.{SpendsAt}
 use Rattle.odata_eval.proofs.spending.Bound.{never_costly}
 use Rattle.odata_eval.proofs.walking.Spines.{typed_part}
 use Rattle.odata_eval.proofs.walking.Operands.{tree_operand}
-use Rattle.odata_eval.proofs.walk.term_at.Goals as goal
+use Rattle.odata_eval.proofs.truth_walk.term_at.Goals as goal
 
 pub fault_of-requires : goal.fault_of-requires
 fault_of-requires c = λ same.
