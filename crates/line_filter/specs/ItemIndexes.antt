@@ -1,8 +1,7 @@
 -- The items of a list, each at its index.
 use Rattle.std.specs.Prelude.{ℕ, ◌+◌, List, [], ◌∷◌, decimal}
 use Rattle.line_filter.specs.declared.judge.Judgment.{Judgment}
-use Rattle.line_filter.specs.declared.line_class.LineClass.{LineClass}
-use Rattle.line_filter.specs.Kept.{Sieve, Items}
+use Rattle.line_filter.specs.Kept.{LineClass, Sieve, Items}
 use Rattle.line_filter.specs.Lines.{text_of_line}
 
 -- an item and its index, from 0
@@ -21,9 +20,9 @@ ItemJudge X F = X → Judgment F → Type 0
 
 -- what is found of an item is what the judge says of it: none is too long, and none is passed over
 abbrev pub IsJudged : {X F : Type 0} → ItemJudge X F → X → LineClass F → Type 0
-IsJudged judge item LineClass.TooLong = ⊥
-IsJudged judge item LineClass.PassedOver = ⊥
-IsJudged judge item (LineClass.Judged judgment) = judge item judgment
+IsJudged judge item LineClass.too_long = ⊥
+IsJudged judge item LineClass.passed_over = ⊥
+IsJudged judge item (LineClass.judged judgment) = judge item judgment
 
 -- the index of a kept item is written in decimal, and LF after it
 abbrev pub index_sieve : {X F : Type 0} → ItemJudge X F → Sieve (IndexedItem X) F

@@ -1,26 +1,31 @@
 -- What is kept of items that are judged one by one, in order, up to the first that is at fault.
 use Rattle.std.specs.Prelude.{◌≡◌, ℕ, ◌+◌, List, ◌∷◌, ◌++◌, Bool, true, false, length, map, filter, flat_map, count_by, All, ◌⊎◌}
 use Rattle.line_filter.specs.declared.judge.Judgment.{Judgment}
-use Rattle.line_filter.specs.declared.line_class.LineClass.{LineClass}
 use Rattle.line_filter.specs.declared.run_stop.RunStop.{RunStop}
 use Rattle.line_filter.specs.declared.tally.Tally.{Tally}
 
+-- what may be found of an item: that it is too long, or passed over, which both are of lines alone; or a judgment of it
+pub data LineClass (F : Type 0) : Type 0 where
+  too_long : LineClass F
+  passed_over : LineClass F
+  judged : Judgment F → LineClass F
+
 -- it is not a fault
 abbrev pub IsFaultless : {F : Type 0} → LineClass F → Type 0
-IsFaultless LineClass.TooLong = ⊥
-IsFaultless LineClass.PassedOver = Unit {0}
-IsFaultless (LineClass.Judged Judgment.Kept) = Unit {0}
-IsFaultless (LineClass.Judged Judgment.LeftOut) = Unit {0}
-IsFaultless (LineClass.Judged (Judgment.Fault fault)) = ⊥
+IsFaultless LineClass.too_long = ⊥
+IsFaultless LineClass.passed_over = Unit {0}
+IsFaultless (LineClass.judged Judgment.Kept) = Unit {0}
+IsFaultless (LineClass.judged Judgment.LeftOut) = Unit {0}
+IsFaultless (LineClass.judged (Judgment.Fault fault)) = ⊥
 
 -- it keeps its item
 abbrev pub is_kept : {F : Type 0} → LineClass F → Bool
-is_kept (LineClass.Judged Judgment.Kept) = true
+is_kept (LineClass.judged Judgment.Kept) = true
 is_kept _ = false
 
 -- it counts its item as a row
 abbrev pub is_row : {F : Type 0} → LineClass F → Bool
-is_row (LineClass.Judged _) = true
+is_row (LineClass.judged _) = true
 is_row _ = false
 
 -- what may be found of an item, and the text that is written of one that is kept
@@ -101,8 +106,8 @@ pub record StopsWithin {X F : Type 0} (items : Items X F) (text : List ℕ) : Ty
 
 -- what a stop says of the items and of the text that was written
 abbrev pub Stops : {X F : Type 0} → Items X F → List ℕ → RunStop F → Type 0
-Stops items text (RunStop.Fault line fault) = StopsAt items text line (LineClass.Judged (Judgment.Fault fault))
-Stops items text (RunStop.TooLong line) = StopsAt items text line LineClass.TooLong
+Stops items text (RunStop.Fault line fault) = StopsAt items text line (LineClass.judged (Judgment.Fault fault))
+Stops items text (RunStop.TooLong line) = StopsAt items text line LineClass.too_long
 Stops items text (RunStop.Read line) = StopsBefore items text line
 Stops items text RunStop.Write = StopsWithin items text
 Stops items text (RunStop.Memory line) = StopsBefore items text line
@@ -111,8 +116,8 @@ Stops items text (RunStop.Memory line) = StopsBefore items text line
 -- did not come
 abbrev pub StopsWith : {X F : Type 0} → Items X F → (List ℕ → ℕ → Type 0) → List ℕ → RunStop F → Type 0
 StopsWith items Lacks text (RunStop.Fault line fault) = StopsAt items text line
-    (LineClass.Judged (Judgment.Fault fault))
-StopsWith items Lacks text (RunStop.TooLong line) = StopsAt items text line LineClass.TooLong
+    (LineClass.judged (Judgment.Fault fault))
+StopsWith items Lacks text (RunStop.TooLong line) = StopsAt items text line LineClass.too_long
 StopsWith items Lacks text (RunStop.Read line) = Lacks text line
 StopsWith items Lacks text RunStop.Write = StopsWithin items text
 StopsWith items Lacks text (RunStop.Memory line) = Lacks text line ⊎ StopsOn items text line

@@ -1,8 +1,7 @@
 -- The lines of bytes, as items that are judged one by one.
 use Rattle.std.specs.Prelude.{◌≡◌, ℕ, ◌<◌, ◌≤◌, ◌↔◌, List, ◌++◌, length}
 use Rattle.line_filter.specs.declared.judge.Judgment.{Judgment}
-use Rattle.line_filter.specs.declared.line_class.LineClass.{LineClass}
-use Rattle.line_filter.specs.Kept.{Sieve, Items}
+use Rattle.line_filter.specs.Kept.{LineClass, Sieve, Items}
 use Rattle.line_filter.specs.Lines.{lines_of, text_of_line, text_of_lines, longest_line, IsBlank}
 
 -- what a judge may say of lines
@@ -11,9 +10,9 @@ LineJudge F = List ℕ → Judgment F → Type 0
 
 -- What is found of a line: that it is too long, that it is blank, or else what the judge says of it.
 abbrev pub IsFoundOf : {F : Type 0} → LineJudge F → List ℕ → LineClass F → Type 0
-IsFoundOf judge line LineClass.TooLong = longest_line < length line
-IsFoundOf judge line LineClass.PassedOver = (length line ≤ longest_line) × IsBlank line
-IsFoundOf judge line (LineClass.Judged judgment) =
+IsFoundOf judge line LineClass.too_long = longest_line < length line
+IsFoundOf judge line LineClass.passed_over = (length line ≤ longest_line) × IsBlank line
+IsFoundOf judge line (LineClass.judged judgment) =
     (length line ≤ longest_line) × (IsBlank line → ⊥) × judge line judgment
 
 -- a kept line is written with its bytes unchanged, and LF after it

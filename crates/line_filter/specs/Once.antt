@@ -1,8 +1,7 @@
 -- What can be said of an item once only.
 use Rattle.std.specs.Prelude.{◌≡◌, ℕ, List}
 use Rattle.line_filter.specs.declared.judge.Judgment.{Judgment}
-use Rattle.line_filter.specs.declared.line_class.LineClass.{LineClass}
-use Rattle.line_filter.specs.Kept.{IsFaultless}
+use Rattle.line_filter.specs.Kept.{LineClass, IsFaultless}
 use Rattle.line_filter.specs.LineItems.{LineJudge}
 use Rattle.line_filter.specs.ItemIndexes.{ItemJudge}
 
@@ -14,9 +13,9 @@ kind_of (Judgment.Fault fault) = Judgment.Fault tt
 
 -- what was found, whatever a fault reports
 abbrev pub kind_found : {F : Type 0} → LineClass F → LineClass (Unit {0})
-kind_found LineClass.TooLong = LineClass.TooLong
-kind_found LineClass.PassedOver = LineClass.PassedOver
-kind_found (LineClass.Judged judgment) = LineClass.Judged (kind_of judgment)
+kind_found LineClass.too_long = LineClass.too_long
+kind_found LineClass.passed_over = LineClass.passed_over
+kind_found (LineClass.judged judgment) = LineClass.judged (kind_of judgment)
 
 -- what is found of an item at fault
 abbrev pub IsFaulty : {F : Type 0} → LineClass F → Type 0

@@ -7,8 +7,8 @@ ghost use Rattle.line_filter.specs.Lines.{longest_line, most_held};
 ghost use Rattle.line_filter.specs.private.Waits.{Comes};
 
 use super::device::{NotRead, Reads};
-use super::line_class::LONGEST_LINE;
 use super::line_feeds::first_line_feed;
+use super::line_outcome::LONGEST_LINE;
 use std::alloc::{AllocError, Global};
 use std::io::Read;
 use std::marker::Model;
@@ -25,7 +25,7 @@ pub const MOST_HELD: usize = LONGEST_LINE + ONE_READ;
 /// What was read and not given yet, and the line that was given last.
 ///
 /// The vector is as long as what may be filled. What waits stands from `start` to `filled`; up to `searched` it has no
-/// LF.
+/// LF. The line that was given last stands from `line` to `line_end`.
 #[derive(Drop)]
 pub struct Buffer {
     bytes: Vec<u8>,
@@ -115,6 +115,7 @@ impl Buffer {
         ensures same { self.new ≡ self.old }
         ensures found { IsFirstByte (is_byte 10) self.old.waiting result }
     {
+        // What an earlier search passed is not looked at again, so of such a line ASCII is not seen.
         let is_whole = self.searched == self.start;
         match first_line_feed(self.bytes.as_slice(), self.searched, self.filled) {
             Some((feed, is_ascii)) => {

@@ -27,7 +27,8 @@ pub trait Reads<R: Read> {
     // What the reader reports about its calls so far.
     ghost calls: { R → CallLog };
 
-    /// Calls `read` once, for some bytes, and for 65,536 at most. Nothing of what is kept is held back by then.
+    /// Calls `read` once, for some bytes, and for 65,536 at most. `held_back` is the kept text that is not written yet.
+    /// It is empty: it is passed so that nobody can read before what is kept is written.
     fn read(reader: &mut R, bytes: &mut [u8], held_back: &[u8]) -> Result<usize, NotRead>
         requires none_held_back { held_back.now ≡ [] }
         requires some { 0 < length bytes.old }

@@ -1,32 +1,38 @@
 //! The loop over the items of a list, of which the kept ones are reported by their indexes.
-ghost use Rattle.std.specs.Prelude.{◌≡◌, ℕ, List, [], decimal, IfErr, IfOk, OnErr, OnOk};
+ghost use Rattle.std.specs.Prelude.{◌≡◌, ℕ, List, [], IfErr, IfOk, OnErr, OnOk};
 ghost use Rattle.line_filter.specs.CallLogs.{StaysWell, FailsLast};
 ghost use Rattle.line_filter.specs.Growth.{Writes};
 ghost use Rattle.line_filter.specs.Kept.{StopsWithin, IsOfItem};
 ghost use Rattle.line_filter.specs.ItemIndexes.{IsJudged, indexed_items};
 ghost use Rattle.line_filter.specs.private.HeldBack.{WritesBut};
-ghost use Rattle.line_filter.specs.private.Walk.{GoesOver};
+ghost use Rattle.line_filter.specs.private.Walk.{ComesOf, GoesOver};
 
 use super::device::{NotWritten, Writes};
-use super::item_outcome::settle;
+use super::item_outcome::{keep_where, outcome_of};
 use super::judge::JudgeItem;
-use super::line_class::LineClass;
 use super::output::release;
 use super::run_stop::RunStop;
 use super::tally::Tally;
 use itoa::Buffer;
-use std::alloc::{AllocError, Global};
+use std::alloc::Global;
 use std::io::Write;
 
-/// What is found of an item.
-fn find_item<J: JudgeItem>(judge: &J, item: &J::Item) -> Result<LineClass<J::Fault>, AllocError>
-    ensures { IfOk result (IsJudged (J.says judge.now) item.now) }
+/// What the item of this number counts, or why the run stops at it.
+fn item_outcome<J: JudgeItem>(
+    judge: &J,
+    item: &J::Item,
+    number: u64,
+) -> Result<Tally, RunStop<J::Fault>>
+    ensures { ComesOf (IsJudged (J.says judge.now) item.now) number result }
 {
-    let judgment = judge.judge_item(item)?;
-    Ok(LineClass::Judged(judgment))
+    match judge.judge_item(item) {
+        Ok(judgment) => outcome_of(judgment, number),
+        Err(_) => Err(RunStop::Memory { line: number }),
+    }
 }
 
-/// Judges the items one by one up to the first fault. The end of the kept text may be held back.
+/// Judges the items one by one up to the first fault. The end of the kept text may be held back. `Err` is a write that
+/// failed; any other stop comes within `Ok`.
 fn judge_items<J: JudgeItem, W: Write, T: Writes<W>>(
     judge: &J,
     items: &[J::Item],
@@ -46,11 +52,11 @@ fn judge_items<J: JudgeItem, W: Write, T: Writes<W>>(
     let mut index = 0;
     let mut tally = Tally { rows: 0, kept: 0 };
     for item in items {
-        let found = find_item(judge, item);
-        let mut buffer = Buffer::new();
-        let text = buffer.format(index);
-        match settle::<J::Fault, W, T>(found, text.as_bytes(), index + 1, out, held)? {
+        match item_outcome(judge, item, index + 1) {
             Ok(one) => {
+                let mut buffer = Buffer::new();
+                let text = buffer.format(index);
+                keep_where::<W, T>(one.kept == 1, text.as_bytes(), out, held)?;
                 index += 1;
                 tally.rows += one.rows;
                 tally.kept += one.kept;
@@ -61,7 +67,7 @@ fn judge_items<J: JudgeItem, W: Write, T: Writes<W>>(
     Ok(Ok(tally))
 }
 
-/// Judges the items up to the first fault, and writes the indexes of the kept ones.
+/// Judges the items up to the first fault, and writes the indexes of the kept ones. `Err` is a write that failed.
 pub fn write_kept_indexes<J: JudgeItem, W: Write, T: Writes<W>>(
     alloc: Global,
     judge: &J,

@@ -24,7 +24,8 @@ pub trait Judge {
     ghost says: { Self → LineJudge Self.Fault };
 
     /// Judges the line at the front of the bytes, where it can at once. Otherwise it is `None`, and `judge` judges the
-    /// line. `count` is the line's length; the bytes after it decide nothing. A blank line is left to `judge`'s caller.
+    /// line. `count` is the line's length; the bytes after it decide nothing. A line for which `is_ascii` is set is of
+    /// ASCII, and another may be. A blank line is left to `judge`'s caller.
     fn judge_at_front(
         &mut self,
         bytes: &[u8],

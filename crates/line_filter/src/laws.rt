@@ -1,8 +1,7 @@
 //! Laws of readers, writers and judged lines, as the contracts of functions that do nothing.
 ghost use Rattle.std.specs.Prelude.{◌≡◌, ℕ, List, Some};
-ghost use Rattle.line_filter.specs.declared.line_class.LineClass.{LineClass as LineClassModel};
 ghost use Rattle.line_filter.specs.declared.tally.Tally.{Tally as TallyModel};
-ghost use Rattle.line_filter.specs.Kept.{Filters, StopsAt};
+ghost use Rattle.line_filter.specs.Kept.{Filters, LineClass, StopsAt};
 ghost use Rattle.line_filter.specs.LineItems.{IsFoundOf, lines};
 ghost use Rattle.line_filter.specs.Once.{IsFaulty, JudgesItemsOnce, JudgesOnce, kind_found};
 ghost use Rattle.line_filter.specs.ItemIndexes.{indexed_items};
@@ -23,12 +22,12 @@ pub fn slices_report_their_bytes(bytes: &[u8], out: &Vec<u8>)
 /// before the first at fault; all lines have one tally.
 pub fn lines_stop_once<J: Judge>(judge: &J)
     requires { JudgesOnce (J.says judge.now) }
-    ensures found { (line : List ℕ) (f g : LineClassModel J.Fault)
+    ensures found { (line : List ℕ) (f g : LineClass J.Fault)
         → IsFoundOf (J.says judge.now) line f → IsFoundOf (J.says judge.now) line g → kind_found f ≡ kind_found g }
-    ensures stopped { (bytes text other : List ℕ) (m n : ℕ) (f g : LineClassModel J.Fault) → IsFaulty f → IsFaulty g
+    ensures stopped { (bytes text other : List ℕ) (m n : ℕ) (f g : LineClass J.Fault) → IsFaulty f → IsFaulty g
         → (a : StopsAt (lines (J.says judge.now) bytes) text m f)
         → (b : StopsAt (lines (J.says judge.now) bytes) other n g) → (m ≡ n) × (text ≡ other) × (a.bad ≡ b.bad) }
-    ensures filtered { (bytes text other : List ℕ) (tally : TallyModel) (n : ℕ) (f : LineClassModel J.Fault)
+    ensures filtered { (bytes text other : List ℕ) (tally : TallyModel) (n : ℕ) (f : LineClass J.Fault)
         → Filters (lines (J.says judge.now) bytes) text tally → IsFaulty f
         → StopsAt (lines (J.says judge.now) bytes) other n f → ⊥ }
     ensures kept { (bytes text other : List ℕ) (m n : TallyModel) → Filters (lines (J.says judge.now) bytes) text m
@@ -40,12 +39,11 @@ pub fn lines_stop_once<J: Judge>(judge: &J)
 /// have one tally.
 pub fn items_stop_once<J: SaysOfItems>(judge: &J)
     requires { JudgesItemsOnce (J.says judge.now) }
-    ensures stopped { (items : List J.Item) (text other : List ℕ) (m n : ℕ) (f g : LineClassModel J.Fault)
+    ensures stopped { (items : List J.Item) (text other : List ℕ) (m n : ℕ) (f g : LineClass J.Fault)
         → IsFaulty f → IsFaulty g → (a : StopsAt (indexed_items (J.says judge.now) items) text m f)
         → (b : StopsAt (indexed_items (J.says judge.now) items) other n g)
         → (m ≡ n) × (text ≡ other) × (a.bad ≡ b.bad) }
-    ensures filtered { (items : List J.Item) (text other : List ℕ) (tally : TallyModel) (n : ℕ)
-        (f : LineClassModel J.Fault)
+    ensures filtered { (items : List J.Item) (text other : List ℕ) (tally : TallyModel) (n : ℕ) (f : LineClass J.Fault)
         → Filters (indexed_items (J.says judge.now) items) text tally → IsFaulty f
         → StopsAt (indexed_items (J.says judge.now) items) other n f → ⊥ }
     ensures kept { (items : List J.Item) (text other : List ℕ) (m n : TallyModel)

@@ -23,7 +23,8 @@ fn beyond_64(lanes: u8x64) -> u64
     lanes.simd_ge(u8x64::splat(0x80)).to_bitmask()
 }
 
-/// The first LF from one offset up to another, and whether all bytes before it are seen to be of ASCII.
+/// The first LF from one offset up to another, and whether all bytes before it are seen to be of ASCII. The last bytes,
+/// fewer than sixty-four, are searched for the LF alone, so at an LF among them it is false.
 #[inline(always)]
 pub(crate) fn first_line_feed(bytes: &[u8], from: usize, to: usize) -> Option<(usize, bool)>
     requires { (from ≤ to) × (to ≤ length bytes.now) }

@@ -11,7 +11,7 @@ ghost use Rattle.line_filter.specs.private.Reading.{IsUnread, ReadsOn};
 
 use super::buffer::{Buffer, ONE_READ};
 use super::device::Reads;
-use super::line_class::LONGEST_LINE;
+use super::line_outcome::LONGEST_LINE;
 use super::strategies::Unlogged;
 use std::alloc::Global;
 use std::io::Read;
@@ -35,7 +35,7 @@ pub enum LineFault {
     Memory,
 }
 
-/// How far a reader of lines has come.
+/// How far a reader of lines has come. At the end and after a fault nothing more is read.
 #[derive(Clone, Copy, Debug, PartialEq, Eq)]
 pub enum Course {
     Open,
@@ -58,6 +58,7 @@ pub enum Next {
 pub struct LineReader<R: Read> {
     reader: R,
     buffer: Buffer,
+    /// How many more bytes may be read.
     unread: usize,
     course: Course,
 }

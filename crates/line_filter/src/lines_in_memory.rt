@@ -1,34 +1,37 @@
 //! The loop over the lines of bytes in memory.
-ghost use Rattle.std.specs.Prelude.{◌≡◌, ◌++◌, Ok, IfErr, IfOk, OnErr, OnOk};
+ghost use Rattle.std.specs.Prelude.{◌≡◌, ◌++◌, IfErr, IfOk, OnOk, OnErr};
 ghost use Rattle.line_filter.specs.Growth.{Grows};
 ghost use Rattle.line_filter.specs.Kept.{Filters, IsOfItem, StopsHeld};
 ghost use Rattle.line_filter.specs.LineItems.{SaysTheSame, lines};
 ghost use Rattle.line_filter.specs.Lines.{text_of_line};
-ghost use Rattle.line_filter.specs.private.Walk.{text_where_kept};
+ghost use Rattle.line_filter.specs.private.Walk.{text_where};
 
-use super::item_outcome::outcome_of;
 use super::judge::Judge;
-use super::line_class::{LineClass, find_at_front, is_kept};
+use super::line_outcome::outcome_at_front;
 use super::output::put_line;
 use super::run_stop::RunStop;
 use super::split::first_line;
 use super::tally::Tally;
-use std::alloc::AllocError;
 
-/// What was found of a line, which is put after what a vector holds where it is kept. Out of memory where the
+/// Puts the line of this number and LF after what a vector holds, where the line is kept. Out of memory where the
 /// vector cannot grow.
-fn put_kept<F: Drop>(
-    found: Result<LineClass<F>, AllocError>,
+fn put_where<F>(
+    is_kept: bool,
     line: &[u8],
+    number: u64,
     out: &mut Vec<u8>,
-) -> Result<LineClass<F>, AllocError>
-    ensures put { out.new.items ≡ out.old.items ++ text_where_kept result (text_of_line line.now) }
-    ensures same { IfOk result (λ line_class. found ≡ Ok line_class) }
+) -> Result<(), RunStop<F>>
+    ensures ok { OnOk result (out.new.items ≡ out.old.items ++ text_where is_kept (text_of_line line.now)) }
+    ensures err { OnErr result (out.new.items ≡ out.old.items) }
+    ensures memory { IfErr result (λ stop. stop ≡ RunStop.Memory number) }
 {
-    if is_kept(&found) {
-        put_line(line, out)?;
+    if !is_kept {
+        return Ok(());
     }
-    found
+    match put_line(line, out) {
+        Ok(()) => Ok(()),
+        Err(_) => Err(RunStop::Memory { line: number }),
+    }
 }
 
 /// Judges the lines of bytes in memory, and appends those that are kept to a vector. They are unchanged and each
@@ -53,8 +56,8 @@ pub fn filter_bytes<J: Judge>(
     let mut tally = Tally { rows: 0, kept: 0 };
     while !rest.is_empty() {
         let (line, after) = first_line(rest);
-        let found = put_kept(find_at_front(judge, rest, line), line, out);
-        let one = outcome_of(found, lines + 1)?;
+        let one = outcome_at_front(judge, rest, line, lines + 1)?;
+        put_where(one.kept == 1, line, lines + 1, out)?;
         lines += 1;
         tally.rows += one.rows;
         tally.kept += one.kept;

@@ -1,4 +1,5 @@
-//! Ways to call devices: any one, those that cannot fail, and those that log what became of their calls.
+//! Ways to call devices: any one, those that cannot fail, and those that log what became of their calls. The bodies are
+//! alike, but what each device reports of its calls is proved of each by itself.
 ghost use Rattle.std.specs.Prelude.{◌≡◌, ◌<◌, length, IfOk, OnErr, OnOk};
 ghost use Rattle.std.specs.Io.{ReadsAtMost, WritesAtMost};
 ghost use Rattle.std.specs.Io.KnownBytes.{Keeps, ReadConsumes, WriteAppends};

@@ -12,9 +12,9 @@ ghost use Rattle.line_filter.specs.private.Reading.{IsUnread, ReadsOn};
 ghost use Rattle.line_filter.specs.private.Walk.{GoesOn, IsUnwritten, fault_stop};
 
 use super::device::{NotWritten, Reads, Writes};
-use super::item_outcome::settle;
+use super::item_outcome::keep_where;
 use super::judge::{Judge, Judgment};
-use super::line_class::find;
+use super::line_outcome::line_outcome;
 use super::line_reader::{LineFault, LineReader, Next};
 use super::output::{keep, release};
 use super::run_stop::RunStop;
@@ -68,7 +68,8 @@ fn stop_at<F>(line: u64, fault: F) -> RunStop<F>
     RunStop::Fault { line, fault }
 }
 
-/// Judges the lines one by one as they come, up to the first fault. The end of the kept text may be held back.
+/// Judges the lines one by one as they come, up to the first fault. The end of the kept text may be held back. `Err` is
+/// a write that failed; any other stop comes within `Ok`.
 fn judge_stream<R: Read, S: Reads<R>, J: Judge, W: Write, T: Writes<W>>(
     judge: &mut J,
     reader: &mut LineReader<R>,
@@ -120,9 +121,9 @@ fn judge_stream<R: Read, S: Reads<R>, J: Judge, W: Write, T: Writes<W>>(
             Some(Judgment::Fault(fault)) => return Ok(Err(stop_at(lines + 1, fault))),
             None => {}
         }
-        let found = find(judge, line);
-        match settle::<J::Fault, W, T>(found, line, lines + 1, out, held)? {
+        match line_outcome(judge, line, lines + 1) {
             Ok(one) => {
+                keep_where::<W, T>(one.kept == 1, line, out, held)?;
                 lines += 1;
                 tally.rows += one.rows;
                 tally.kept += one.kept;
@@ -132,7 +133,7 @@ fn judge_stream<R: Read, S: Reads<R>, J: Judge, W: Write, T: Writes<W>>(
     }
 }
 
-/// Judges the lines as they come up to the first fault, and writes the kept ones.
+/// Judges the lines as they come up to the first fault, and writes the kept ones. `Err` is a write that failed.
 pub fn write_kept_stream<R: Read, S: Reads<R>, J: Judge, W: Write, T: Writes<W>>(
     alloc: Global,
     judge: &mut J,
@@ -154,6 +155,7 @@ pub fn write_kept_stream<R: Read, S: Reads<R>, J: Judge, W: Write, T: Writes<W>>
     ensures failed { OnErr result (FailsLast (T.calls out.old) (T.calls out.new)) }
     ensures same { SaysTheSame (J.says judge.old) (J.says judge.new) }
 {
+    // The call's clause bounds how many lines may come, so the counts of lines and rows cannot overflow.
     let _ = reader.to_come();
     let mut held = Vec::new(alloc);
     let outcome = judge_stream::<R, S, J, W, T>(judge, reader, out, &mut held)?;

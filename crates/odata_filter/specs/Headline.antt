@@ -18,11 +18,10 @@ use Rattle.odata_filter_operations.specs.Outcome.{Outcome, gives, overflow, divi
 use Rattle.odata_eval.specs.VerdictView.{reported_outcome}
 use Rattle.odata_filter_operations.specs.declared.eval_fault.EvalFault.{EvalFault}
 use Rattle.odata_eval.specs.declared.verdict.Verdict.{Verdict}
-use Rattle.line_filter.specs.Kept.{Filters, StopsAt}
+use Rattle.line_filter.specs.Kept.{LineClass, Filters, StopsAt}
 use Rattle.line_filter.specs.LineItems.{IsFoundOf}
 use Rattle.line_filter.specs.Lines.{IsBlank, lines_of, longest_line, text_of_lines}
 use Rattle.line_filter.specs.Once.{IsFaulty}
-use Rattle.line_filter.specs.declared.line_class.LineClass.{LineClass}
 use Rattle.line_filter.specs.declared.judge.Judgment.{Judgment}
 use Rattle.line_filter.specs.declared.tally.Tally.{Tally}
 use Rattle.row_judges.specs.RowJudgment.{FilterMeans, JudgesRow, rows_of}
@@ -94,7 +93,7 @@ abbrev pub KeepTrueRows : Type 0
 KeepTrueRows =
     (text : List ℕ) (filter : Filter) (now : MomentParts) (line : List ℕ)
     → IsCheckedOf text filter → IsMoment now.civil now.offset_minutes
-    → IsFoundOf (JudgesRow filter now) line (LineClass.Judged Judgment.Kept) ↔ IsTrueRow filter now line
+    → IsFoundOf (JudgesRow filter now) line (LineClass.judged Judgment.Kept) ↔ IsTrueRow filter now line
 
 -- these are the ones among the lines of which P holds, in their order
 abbrev pub ArePicked : (List ℕ → Type 0) → List (List ℕ) → List (List ℕ) → Type 0

@@ -8,8 +8,7 @@ use Rattle.odata_text.specs.Query.{IsFilterOf, IsQueryFault}
 use Rattle.odata_text.specs.declared.query_fault.QueryFault.{QueryFault}
 use Rattle.odata_filter.specs.Planned.{IsPlanned}
 use Rattle.line_filter.specs.Growth.{Writes, WritesFront}
-use Rattle.line_filter.specs.Kept.{Items, Filters, StopsAt, StopsWithin, IsFaultless}
-use Rattle.line_filter.specs.declared.line_class.LineClass.{LineClass}
+use Rattle.line_filter.specs.Kept.{LineClass, Items, Filters, StopsAt, StopsWithin, IsFaultless}
 use Rattle.line_filter.specs.declared.tally.Tally.{Tally}
 use Rattle.line_filter.specs.ItemIndexes.{IndexedItem}
 use Rattle.serde_json.specs.Data.{Data}

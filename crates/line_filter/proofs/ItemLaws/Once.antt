@@ -3,46 +3,45 @@ use Rattle.std.proofs.Common.{◌≡◌, ℕ, suc, ◌+◌, Bool, cond, List, []
 use Rattle.std.specs.Prelude.{map, count_by, All}
 use Rattle.std.proofs.lemmas.Bool.{cases_Bool}
 use Rattle.std.proofs.lemmas.List.Sums.{sum_by-cons}
-use Rattle.line_filter.specs.Kept.{IsFaultless, is_kept, is_row, Sieve, Items, SiftedItem, kept_text, Passes, StopsAt}
+use Rattle.line_filter.specs.Kept.{LineClass, IsFaultless, is_kept, is_row, Sieve, Items, SiftedItem, kept_text, Passes, StopsAt}
 use Rattle.line_filter.specs.LineItems.{LineJudge, IsFoundOf}
 use Rattle.line_filter.specs.Once.{kind_found, IsFaulty, JudgesItemsOnce, JudgesOnce}
 use Rattle.line_filter.specs.ItemIndexes.{IsJudged, ItemJudge}
 use Rattle.line_filter.specs.declared.judge.Judgment.{Judgment}
-use Rattle.line_filter.specs.declared.line_class.LineClass.{LineClass}
 use Rattle.line_filter.specs.declared.tally.Tally.{Tally}
 
 -- ---- findings of one kind
 
 module _ {F : Type 0} where
   faultless_alike : (f g : LineClass F) → kind_found f ≡ kind_found g → IsFaultless f → IsFaultless g
-  faultless_alike LineClass.TooLong g same fine = absurd fine
-  faultless_alike LineClass.PassedOver LineClass.TooLong same fine = absurd cc
-  faultless_alike LineClass.PassedOver LineClass.PassedOver same fine = tt
-  faultless_alike LineClass.PassedOver (LineClass.Judged j) same fine = absurd cc
-  faultless_alike (LineClass.Judged j) LineClass.TooLong same fine = absurd cc
-  faultless_alike (LineClass.Judged j) LineClass.PassedOver same fine = absurd cc
-  faultless_alike (LineClass.Judged j) (LineClass.Judged Judgment.Kept) same fine = tt
-  faultless_alike (LineClass.Judged j) (LineClass.Judged Judgment.LeftOut) same fine = tt
-  faultless_alike (LineClass.Judged Judgment.Kept) (LineClass.Judged (Judgment.Fault e)) same fine = absurd cc
-  faultless_alike (LineClass.Judged Judgment.LeftOut) (LineClass.Judged (Judgment.Fault e)) same fine = absurd cc
-  faultless_alike (LineClass.Judged (Judgment.Fault d)) (LineClass.Judged (Judgment.Fault e)) same fine = absurd fine
+  faultless_alike LineClass.too_long g same fine = absurd fine
+  faultless_alike LineClass.passed_over LineClass.too_long same fine = absurd cc
+  faultless_alike LineClass.passed_over LineClass.passed_over same fine = tt
+  faultless_alike LineClass.passed_over (LineClass.judged j) same fine = absurd cc
+  faultless_alike (LineClass.judged j) LineClass.too_long same fine = absurd cc
+  faultless_alike (LineClass.judged j) LineClass.passed_over same fine = absurd cc
+  faultless_alike (LineClass.judged j) (LineClass.judged Judgment.Kept) same fine = tt
+  faultless_alike (LineClass.judged j) (LineClass.judged Judgment.LeftOut) same fine = tt
+  faultless_alike (LineClass.judged Judgment.Kept) (LineClass.judged (Judgment.Fault e)) same fine = absurd cc
+  faultless_alike (LineClass.judged Judgment.LeftOut) (LineClass.judged (Judgment.Fault e)) same fine = absurd cc
+  faultless_alike (LineClass.judged (Judgment.Fault d)) (LineClass.judged (Judgment.Fault e)) same fine = absurd fine
 
   -- whether an item is kept shows in the kind
   kept_by_kind : (f : LineClass F) → is_kept f ≡ is_kept (kind_found f)
-  kept_by_kind LineClass.TooLong = refl
-  kept_by_kind LineClass.PassedOver = refl
-  kept_by_kind (LineClass.Judged Judgment.Kept) = refl
-  kept_by_kind (LineClass.Judged Judgment.LeftOut) = refl
-  kept_by_kind (LineClass.Judged (Judgment.Fault e)) = refl
+  kept_by_kind LineClass.too_long = refl
+  kept_by_kind LineClass.passed_over = refl
+  kept_by_kind (LineClass.judged Judgment.Kept) = refl
+  kept_by_kind (LineClass.judged Judgment.LeftOut) = refl
+  kept_by_kind (LineClass.judged (Judgment.Fault e)) = refl
 
   kept_alike : (f g : LineClass F) → kind_found f ≡ kind_found g → is_kept f ≡ is_kept g
   kept_alike f g same = kept_by_kind f ∙ ap (λ (k : LineClass (Unit {0})). is_kept k) same ∙ sym (kept_by_kind g)
 
   -- and so does whether it is a row
   row_by_kind : (f : LineClass F) → is_row f ≡ is_row (kind_found f)
-  row_by_kind LineClass.TooLong = refl
-  row_by_kind LineClass.PassedOver = refl
-  row_by_kind (LineClass.Judged j) = refl
+  row_by_kind LineClass.too_long = refl
+  row_by_kind LineClass.passed_over = refl
+  row_by_kind (LineClass.judged j) = refl
 
   row_alike : (f g : LineClass F) → kind_found f ≡ kind_found g → is_row f ≡ is_row g
   row_alike f g same = row_by_kind f ∙ ap (λ (k : LineClass (Unit {0})). is_row k) same ∙ sym (row_by_kind g)
@@ -56,23 +55,23 @@ same_tally m n rows kept = ap (λ (r : ℕ). tally_of r m.kept) rows ∙ ap (λ 
 
 -- of a line one kind is found, where the judge says one
 pub IsFoundOf-once : {F : Type 0} (judge : LineJudge F) → JudgesOnce judge → (line : List ℕ) (f g : LineClass F) → IsFoundOf judge line f → IsFoundOf judge line g → kind_found f ≡ kind_found g
-IsFoundOf-once judge once line LineClass.TooLong LineClass.TooLong p q = refl
-IsFoundOf-once judge once line LineClass.TooLong LineClass.PassedOver p q = absurd (omega (arith, p, q.0))
-IsFoundOf-once judge once line LineClass.TooLong (LineClass.Judged k) p q = absurd (omega (arith, p, q.0))
-IsFoundOf-once judge once line LineClass.PassedOver LineClass.TooLong p q = absurd (omega (arith, q, p.0))
-IsFoundOf-once judge once line LineClass.PassedOver LineClass.PassedOver p q = refl
-IsFoundOf-once judge once line LineClass.PassedOver (LineClass.Judged k) p q = absurd (q.1 p.1)
-IsFoundOf-once judge once line (LineClass.Judged j) LineClass.TooLong p q = absurd (omega (arith, q, p.0))
-IsFoundOf-once judge once line (LineClass.Judged j) LineClass.PassedOver p q = absurd (p.1 q.1)
-IsFoundOf-once judge once line (LineClass.Judged j) (LineClass.Judged k) p q = ap LineClass.Judged (once line j k p.2 q.2)
+IsFoundOf-once judge once line LineClass.too_long LineClass.too_long p q = refl
+IsFoundOf-once judge once line LineClass.too_long LineClass.passed_over p q = absurd (omega (arith, p, q.0))
+IsFoundOf-once judge once line LineClass.too_long (LineClass.judged k) p q = absurd (omega (arith, p, q.0))
+IsFoundOf-once judge once line LineClass.passed_over LineClass.too_long p q = absurd (omega (arith, q, p.0))
+IsFoundOf-once judge once line LineClass.passed_over LineClass.passed_over p q = refl
+IsFoundOf-once judge once line LineClass.passed_over (LineClass.judged k) p q = absurd (q.1 p.1)
+IsFoundOf-once judge once line (LineClass.judged j) LineClass.too_long p q = absurd (omega (arith, q, p.0))
+IsFoundOf-once judge once line (LineClass.judged j) LineClass.passed_over p q = absurd (p.1 q.1)
+IsFoundOf-once judge once line (LineClass.judged j) (LineClass.judged k) p q = ap LineClass.judged (once line j k p.2 q.2)
 
 -- and so of an item
 pub IsJudged-once : {X F : Type 0} (judge : ItemJudge X F) → JudgesItemsOnce judge → (item : X) (f g : LineClass F) → IsJudged judge item f → IsJudged judge item g → kind_found f ≡ kind_found g
-IsJudged-once judge once item (LineClass.Judged j) (LineClass.Judged k) p q = ap LineClass.Judged (once item j k p q)
-IsJudged-once judge once item (LineClass.Judged j) LineClass.TooLong p q = absurd q
-IsJudged-once judge once item (LineClass.Judged j) LineClass.PassedOver p q = absurd q
-IsJudged-once judge once item LineClass.TooLong g p q = absurd p
-IsJudged-once judge once item LineClass.PassedOver g p q = absurd p
+IsJudged-once judge once item (LineClass.judged j) (LineClass.judged k) p q = ap LineClass.judged (once item j k p q)
+IsJudged-once judge once item (LineClass.judged j) LineClass.too_long p q = absurd q
+IsJudged-once judge once item (LineClass.judged j) LineClass.passed_over p q = absurd q
+IsJudged-once judge once item LineClass.too_long g p q = absurd p
+IsJudged-once judge once item LineClass.passed_over g p q = absurd p
 
 -- ---- items of which one kind is found
 

@@ -1,14 +1,14 @@
 -- Items that pass, one after the other.
-use Rattle.std.proofs.Common.{◌≡◌, ℕ, zero, suc, ◌+◌, ◌≤◌, Bool, cond, List, [], ◌∷◌, ◌++◌, refl, sym, ap, ◌∙◌, subst, append-nil, arith, Result, Ok, Err}
-use Rattle.std.specs.Prelude.{map, filter, flat_map, count_by, All, IfOk}
+use Rattle.std.proofs.Common.{◌≡◌, ℕ, zero, suc, ◌+◌, ◌≤◌, Bool, cond, List, [], ◌∷◌, ◌++◌, refl, sym, ap, ◌∙◌, subst, append-nil, arith, inl, inr, Result, Ok}
+use Rattle.std.specs.Prelude.{map, filter, flat_map, count_by, All}
 use Rattle.std.proofs.lemmas.List.{map-append}
 use Rattle.std.proofs.lemmas.List.Elements.{All-append, filter-append}
 use Rattle.std.proofs.lemmas.List.Sums.{sum_by-append}
 use Rattle.std.proofs.lemmas.Grind.{flat_map-append}
-use Rattle.line_filter.specs.Kept.{IsFaultless, is_kept, is_row, Sieve, SiftedItem, kept_text, Passes}
-use Rattle.line_filter.specs.private.Walk.{sum_of, outcome_of, text_where_kept}
+use Rattle.line_filter.specs.Kept.{LineClass, IsFaultless, is_kept, is_row, Sieve, SiftedItem, kept_text, Passes}
+use Rattle.line_filter.specs.private.Walk.{sum_of, outcome_of, ComesOf, text_where_kept}
 use Rattle.line_filter.specs.declared.judge.Judgment.{Judgment}
-use Rattle.line_filter.specs.declared.line_class.LineClass.{LineClass}
+use Rattle.line_filter.specs.declared.run_stop.RunStop.{RunStop}
 use Rattle.line_filter.specs.declared.tally.Tally.{Tally}
 
 All-none : {X : Type 0} (P : X → Type 0) → All P []
@@ -42,49 +42,57 @@ module _ {X F : Type 0} (sieve : Sieve X F) where
     kept_counted = refl;
   }
 
-  -- an item that is kept
-  pub Passes-kept : (item : X) → sieve.finds item (LineClass.Judged Judgment.Kept) → Passes sieve (item ∷ []) (sieve.text_of item) (record { rows = 1; kept = 1 })
-  Passes-kept item finds = record {
-    all = record { item = item; line_class = LineClass.Judged Judgment.Kept } ∷ [];
+  -- the item passes and counts this
+  abbrev Counts : X → Tally → Type 0
+  Counts item one = Passes sieve (item ∷ []) (text_where_kept one (sieve.text_of item)) one
+
+  kept_one : (item : X) → sieve.finds item (LineClass.judged Judgment.Kept) → Passes sieve (item ∷ []) (sieve.text_of item) (record { rows = 1; kept = 1 })
+  kept_one item finds = record {
+    all = record { item = item; line_class = LineClass.judged Judgment.Kept } ∷ [];
     in_order = refl;
-    found = All-one IsFine (record { item = item; line_class = LineClass.Judged Judgment.Kept }) (finds, tt);
+    found = All-one IsFine (record { item = item; line_class = LineClass.judged Judgment.Kept }) (finds, tt);
     kept = sym (append-nil (sieve.text_of item));
     rows_counted = refl;
     kept_counted = refl;
   }
 
-  left_out : (item : X) → sieve.finds item (LineClass.Judged Judgment.LeftOut) → Passes sieve (item ∷ []) [] (record { rows = 1; kept = 0 })
+  left_out : (item : X) → sieve.finds item (LineClass.judged Judgment.LeftOut) → Passes sieve (item ∷ []) [] (record { rows = 1; kept = 0 })
   left_out item finds = record {
-    all = record { item = item; line_class = LineClass.Judged Judgment.LeftOut } ∷ [];
+    all = record { item = item; line_class = LineClass.judged Judgment.LeftOut } ∷ [];
     in_order = refl;
-    found = All-one IsFine (record { item = item; line_class = LineClass.Judged Judgment.LeftOut }) (finds, tt);
+    found = All-one IsFine (record { item = item; line_class = LineClass.judged Judgment.LeftOut }) (finds, tt);
     kept = refl;
     rows_counted = refl;
     kept_counted = refl;
   }
 
-  passed_over : (item : X) → sieve.finds item LineClass.PassedOver → Passes sieve (item ∷ []) [] (record { rows = 0; kept = 0 })
+  passed_over : (item : X) → sieve.finds item LineClass.passed_over → Passes sieve (item ∷ []) [] (record { rows = 0; kept = 0 })
   passed_over item finds = record {
-    all = record { item = item; line_class = LineClass.PassedOver } ∷ [];
+    all = record { item = item; line_class = LineClass.passed_over } ∷ [];
     in_order = refl;
-    found = All-one IsFine (record { item = item; line_class = LineClass.PassedOver }) (finds, tt);
+    found = All-one IsFine (record { item = item; line_class = LineClass.passed_over }) (finds, tt);
     kept = refl;
     rows_counted = refl;
     kept_counted = refl;
   }
 
-  -- an item whose step is to pass
-  pub Passes-one : {E : Type 0} (item : X) (number : ℕ) (found : Result (LineClass F) E) (one : Tally) → IfOk found (sieve.finds item)
-      → outcome_of number found ≡ Ok one → Passes sieve (item ∷ []) (text_where_kept found (sieve.text_of item)) one
-  Passes-one item number (Ok LineClass.TooLong) one finds step = absurd cc
-  Passes-one item number (Ok LineClass.PassedOver) one finds step =
-      let same : record { rows = 0; kept = 0 } ≡ one = cc in subst (Passes sieve (item ∷ []) []) same (passed_over item finds)
-  Passes-one item number (Ok (LineClass.Judged Judgment.Kept)) one finds step =
-      let same : record { rows = 1; kept = 1 } ≡ one = cc in subst (Passes sieve (item ∷ []) (sieve.text_of item)) same (Passes-kept item finds)
-  Passes-one item number (Ok (LineClass.Judged Judgment.LeftOut)) one finds step =
-      let same : record { rows = 1; kept = 0 } ≡ one = cc in subst (Passes sieve (item ∷ []) []) same (left_out item finds)
-  Passes-one item number (Ok (LineClass.Judged (Judgment.Fault fault))) one finds step = absurd cc
-  Passes-one item number (Err e) one finds step = absurd cc
+  -- an item of a class that passes
+  Passes-found : (item : X) (number : ℕ) (line_class : LineClass F) (one : Tally) → sieve.finds item line_class
+      → outcome_of number line_class ≡ Ok one → Passes sieve (item ∷ []) (text_where_kept one (sieve.text_of item)) one
+  Passes-found item number LineClass.too_long one finds step = absurd cc
+  Passes-found item number LineClass.passed_over one finds step =
+      let same : record { rows = 0; kept = 0 } ≡ one = cc in subst (Counts item) same (passed_over item finds)
+  Passes-found item number (LineClass.judged Judgment.Kept) one finds step =
+      let same : record { rows = 1; kept = 1 } ≡ one = cc in subst (Counts item) same (kept_one item finds)
+  Passes-found item number (LineClass.judged Judgment.LeftOut) one finds step =
+      let same : record { rows = 1; kept = 0 } ≡ one = cc in subst (Counts item) same (left_out item finds)
+  Passes-found item number (LineClass.judged (Judgment.Fault fault)) one finds step = absurd cc
+
+  -- an item of which a tally comes
+  pub Passes-one : (item : X) (number : ℕ) (outcome : Result Tally (RunStop F)) (one : Tally) → ComesOf (sieve.finds item) number outcome
+      → outcome ≡ Ok one → Passes sieve (item ∷ []) (text_where_kept one (sieve.text_of item)) one
+  Passes-one item number outcome one (inl memory) step = absurd cc
+  Passes-one item number outcome one (inr (line_class, finds, is)) step = Passes-found item number line_class one finds (sym is ∙ step)
 
   -- some items and then more
   pub Passes-append : (xs ys : List X) (s t : List ℕ) (m n : Tally)
@@ -102,13 +110,16 @@ module _ {X F : Type 0} (sieve : Sieve X F) where
   }
 
 -- an item counts as one row at most
-pub outcome_counts : {F E : Type 0} (number : ℕ) (found : Result (LineClass F) E) (one : Tally) → outcome_of number found ≡ Ok one → (one.rows ≤ 1) × (one.kept ≤ 1)
-outcome_counts number (Ok LineClass.TooLong) one step = absurd cc
-outcome_counts number (Ok LineClass.PassedOver) one step =
-    let same : record { rows = 0; kept = 0 } ≡ one = cc in subst (λ (t : Tally). (t.rows ≤ 1) × (t.kept ≤ 1)) same (omega arith, omega arith)
-outcome_counts number (Ok (LineClass.Judged Judgment.Kept)) one step =
-    let same : record { rows = 1; kept = 1 } ≡ one = cc in subst (λ (t : Tally). (t.rows ≤ 1) × (t.kept ≤ 1)) same (omega arith, omega arith)
-outcome_counts number (Ok (LineClass.Judged Judgment.LeftOut)) one step =
-    let same : record { rows = 1; kept = 0 } ≡ one = cc in subst (λ (t : Tally). (t.rows ≤ 1) × (t.kept ≤ 1)) same (omega arith, omega arith)
-outcome_counts number (Ok (LineClass.Judged (Judgment.Fault fault))) one step = absurd cc
-outcome_counts number (Err e) one step = absurd cc
+abbrev CountsOne : Tally → Type 0
+CountsOne one = (one.rows ≤ 1) × (one.kept ≤ 1)
+
+class_counts : {F : Type 0} (number : ℕ) (line_class : LineClass F) (one : Tally) → outcome_of number line_class ≡ Ok one → CountsOne one
+class_counts number LineClass.too_long one step = absurd cc
+class_counts number LineClass.passed_over one step = let same : record { rows = 0; kept = 0 } ≡ one = cc in subst CountsOne same (omega arith, omega arith)
+class_counts number (LineClass.judged Judgment.Kept) one step = let same : record { rows = 1; kept = 1 } ≡ one = cc in subst CountsOne same (omega arith, omega arith)
+class_counts number (LineClass.judged Judgment.LeftOut) one step = let same : record { rows = 1; kept = 0 } ≡ one = cc in subst CountsOne same (omega arith, omega arith)
+class_counts number (LineClass.judged (Judgment.Fault fault)) one step = absurd cc
+
+pub outcome_counts : {F : Type 0} (Finds : LineClass F → Type 0) (number : ℕ) (outcome : Result Tally (RunStop F)) (one : Tally) → ComesOf Finds number outcome → outcome ≡ Ok one → CountsOne one
+outcome_counts Finds number outcome one (inl memory) step = absurd cc
+outcome_counts Finds number outcome one (inr (line_class, finds, is)) step = class_counts number line_class one (sym is ∙ step)

@@ -1,74 +1,58 @@
 -- Where a run over items stops.
-use Rattle.std.proofs.Common.{◌≡◌, ℕ, ◌+◌, List, [], ◌∷◌, ◌++◌, length, inl, inr, refl, subst, append_assoc, Result, Ok, Err}
-use Rattle.std.specs.Prelude.{IfOk}
-use Rattle.line_filter.specs.Kept.{Items, Passes, StopsAt, StopsOn, StopsWithin, StopsWith, IsOfItem}
-use Rattle.line_filter.specs.private.Walk.{outcome_of, text_where_kept}
+use Rattle.std.proofs.Common.{◌≡◌, ℕ, ◌+◌, List, ◌∷◌, ◌++◌, length, inl, inr, sym, ◌∙◌, subst, append_assoc, Result, Err}
+use Rattle.line_filter.specs.Kept.{LineClass, Items, Passes, StopsAt, StopsOn, StopsWithin, StopsWith, IsOfItem}
+use Rattle.line_filter.specs.private.Walk.{outcome_of, ComesOf}
 use Rattle.line_filter.specs.declared.judge.Judgment.{Judgment}
-use Rattle.line_filter.specs.declared.line_class.LineClass.{LineClass}
 use Rattle.line_filter.specs.declared.run_stop.RunStop.{RunStop}
 use Rattle.line_filter.specs.declared.tally.Tally.{Tally}
 
--- ---- the step of one item
+-- ---- the outcome of one item
 
-pub outcome_of-of_item : {F E : Type 0} (number : ℕ) (found : Result (LineClass F) E) (stop : RunStop F) → outcome_of number found ≡ Err stop → IsOfItem stop
-outcome_of-of_item number found (RunStop.Fault line fault) step = tt
-outcome_of-of_item number found (RunStop.TooLong line) step = tt
-outcome_of-of_item number found (RunStop.Memory line) step = tt
-outcome_of-of_item number (Ok LineClass.TooLong) (RunStop.Read line) step = absurd cc
-outcome_of-of_item number (Ok LineClass.PassedOver) (RunStop.Read line) step = absurd cc
-outcome_of-of_item number (Ok (LineClass.Judged Judgment.Kept)) (RunStop.Read line) step = absurd cc
-outcome_of-of_item number (Ok (LineClass.Judged Judgment.LeftOut)) (RunStop.Read line) step = absurd cc
-outcome_of-of_item number (Ok (LineClass.Judged (Judgment.Fault fault))) (RunStop.Read line) step = absurd cc
-outcome_of-of_item number (Err e) (RunStop.Read line) step = absurd cc
-outcome_of-of_item number (Ok LineClass.TooLong) RunStop.Write step = absurd cc
-outcome_of-of_item number (Ok LineClass.PassedOver) RunStop.Write step = absurd cc
-outcome_of-of_item number (Ok (LineClass.Judged Judgment.Kept)) RunStop.Write step = absurd cc
-outcome_of-of_item number (Ok (LineClass.Judged Judgment.LeftOut)) RunStop.Write step = absurd cc
-outcome_of-of_item number (Ok (LineClass.Judged (Judgment.Fault fault))) RunStop.Write step = absurd cc
-outcome_of-of_item number (Err e) RunStop.Write step = absurd cc
+class_stops : {F : Type 0} (number : ℕ) (line_class : LineClass F) (stop : RunStop F) → outcome_of number line_class ≡ Err stop → IsOfItem stop
+class_stops number line_class (RunStop.Fault line fault) step = tt
+class_stops number line_class (RunStop.TooLong line) step = tt
+class_stops number line_class (RunStop.Memory line) step = tt
+class_stops number LineClass.too_long (RunStop.Read line) step = absurd cc
+class_stops number LineClass.passed_over (RunStop.Read line) step = absurd cc
+class_stops number (LineClass.judged Judgment.Kept) (RunStop.Read line) step = absurd cc
+class_stops number (LineClass.judged Judgment.LeftOut) (RunStop.Read line) step = absurd cc
+class_stops number (LineClass.judged (Judgment.Fault fault)) (RunStop.Read line) step = absurd cc
+class_stops number LineClass.too_long RunStop.Write step = absurd cc
+class_stops number LineClass.passed_over RunStop.Write step = absurd cc
+class_stops number (LineClass.judged Judgment.Kept) RunStop.Write step = absurd cc
+class_stops number (LineClass.judged Judgment.LeftOut) RunStop.Write step = absurd cc
+class_stops number (LineClass.judged (Judgment.Fault fault)) RunStop.Write step = absurd cc
 
--- nothing is written of an item where a run stops
-pub text_where_stopped : {F E : Type 0} (number : ℕ) (found : Result (LineClass F) E) (stop : RunStop F) (text : List ℕ) → outcome_of number found ≡ Err stop → text_where_kept found text ≡ []
-text_where_stopped number (Ok LineClass.TooLong) stop text step = refl
-text_where_stopped number (Ok LineClass.PassedOver) stop text step = refl
-text_where_stopped number (Ok (LineClass.Judged Judgment.Kept)) stop text step = absurd cc
-text_where_stopped number (Ok (LineClass.Judged Judgment.LeftOut)) stop text step = refl
-text_where_stopped number (Ok (LineClass.Judged (Judgment.Fault fault))) stop text step = refl
-text_where_stopped number (Err e) stop text step = refl
+pub outcome_stops : {F : Type 0} (Finds : LineClass F → Type 0) (number : ℕ) (outcome : Result Tally (RunStop F)) (stop : RunStop F) → ComesOf Finds number outcome → outcome ≡ Err stop → IsOfItem stop
+outcome_stops {F} Finds number outcome stop (inl memory) step = let same : RunStop.Memory number ≡ stop = cc in subst (λ (s : RunStop F). IsOfItem s) same tt
+outcome_stops Finds number outcome stop (inr (line_class, finds, is)) step = class_stops number line_class stop (sym is ∙ step)
 
-module _ {X F : Type 0} (items : Items X F) (Lacks : List ℕ → ℕ → Type 0) where
+module _ {X F : Type 0} (items : Items X F) (Lacks : List ℕ → ℕ → Type 0) (before after : List X) (item : X) (text : List ℕ) (tally : Tally) (number : ℕ)
+    (whole : items.all ≡ before ++ item ∷ after) (passes : Passes items.sieve before text tally) (counted : number ≡ length before + 1) where
+  at_item : (line_class : LineClass F) → items.sieve.finds item line_class → StopsAt items text number line_class
+  at_item line_class finds = record {
+    before = before;
+    bad = item;
+    after = after;
+    tally = tally;
+    whole = whole;
+    counted = counted;
+    passes = passes;
+    found = finds;
+  }
+
+  Stops-found : (line_class : LineClass F) (stop : RunStop F) → items.sieve.finds item line_class → outcome_of number line_class ≡ Err stop → StopsWith items Lacks text stop
+  Stops-found LineClass.too_long stop finds step =
+      let same : RunStop.TooLong number ≡ stop = cc in subst (StopsWith items Lacks text) same (at_item LineClass.too_long finds)
+  Stops-found LineClass.passed_over stop finds step = absurd cc
+  Stops-found (LineClass.judged Judgment.Kept) stop finds step = absurd cc
+  Stops-found (LineClass.judged Judgment.LeftOut) stop finds step = absurd cc
+  Stops-found (LineClass.judged (Judgment.Fault fault)) stop finds step =
+      let same : RunStop.Fault number fault ≡ stop = cc in subst (StopsWith items Lacks text) same (at_item (LineClass.judged (Judgment.Fault fault)) finds)
+
   -- the items before this one are those that passed
-  pub Stops-one : {E : Type 0} (before after : List X) (item : X) (text : List ℕ) (tally : Tally) (number : ℕ) (found : Result (LineClass F) E) (stop : RunStop F)
-      → items.all ≡ before ++ item ∷ after → items.CameWhole before → Passes items.sieve before text tally → number ≡ length before + 1
-      → IfOk found (items.sieve.finds item) → outcome_of number found ≡ Err stop → StopsWith items Lacks text stop
-  Stops-one before after item text tally number (Ok LineClass.TooLong) stop whole came passes counted finds step =
-      let same : RunStop.TooLong number ≡ stop = cc in
-      subst (StopsWith items Lacks text) same (record {
-        before = before;
-        bad = item;
-        after = after;
-        tally = tally;
-        whole = whole;
-        counted = counted;
-        passes = passes;
-        found = finds;
-      })
-  Stops-one before after item text tally number (Ok LineClass.PassedOver) stop whole came passes counted finds step = absurd cc
-  Stops-one before after item text tally number (Ok (LineClass.Judged Judgment.Kept)) stop whole came passes counted finds step = absurd cc
-  Stops-one before after item text tally number (Ok (LineClass.Judged Judgment.LeftOut)) stop whole came passes counted finds step = absurd cc
-  Stops-one before after item text tally number (Ok (LineClass.Judged (Judgment.Fault fault))) stop whole came passes counted finds step =
-      let same : RunStop.Fault number fault ≡ stop = cc in
-      subst (StopsWith items Lacks text) same (record {
-        before = before;
-        bad = item;
-        after = after;
-        tally = tally;
-        whole = whole;
-        counted = counted;
-        passes = passes;
-        found = finds;
-      })
-  Stops-one before after item text tally number (Err e) stop whole came passes counted finds step =
+  pub Stops-one : (outcome : Result Tally (RunStop F)) (stop : RunStop F) → items.CameWhole before → ComesOf (items.sieve.finds item) number outcome → outcome ≡ Err stop → StopsWith items Lacks text stop
+  Stops-one outcome stop came (inl memory) step =
       let same : RunStop.Memory number ≡ stop = cc in
       subst (StopsWith items Lacks text) same (inr (record {
         before = before;
@@ -80,6 +64,7 @@ module _ {X F : Type 0} (items : Items X F) (Lacks : List ℕ → ℕ → Type 0
         counted = counted;
         passes = passes;
       }))
+  Stops-one outcome stop came (inr (line_class, finds, is)) step = Stops-found line_class stop finds (sym is ∙ step)
 
 module _ {X F : Type 0} (items : Items X F) where
   -- ---- of the text that was to be written, a beginning was

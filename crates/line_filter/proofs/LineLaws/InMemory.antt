@@ -1,6 +1,5 @@
 -- Lines that stand in memory, of which the kept ones go into a vector.
-use Rattle.std.proofs.Common.{◌≡◌, List, [], ◌++◌, ℕ, Some, Ok, Err, Result, subst, sym, ◌∙◌, append-nil}
-use Rattle.std.specs.Prelude.{IfOk}
+use Rattle.std.proofs.Common.{◌≡◌, List, [], ◌++◌, ℕ, Some, subst, sym, ◌∙◌, append-nil}
 use Rattle.line_filter.specs.Growth.{Grows}
 use Rattle.line_filter.specs.private.HeldBack.{WritesBut}
 
@@ -10,8 +9,3 @@ grows_whole P old new text (front, wrote, e) holds = (front, wrote, subst P (e �
 
 pub put_whole : (old new text : List ℕ) → new ≡ old ++ text → WritesBut (Some old) (Some new) [] text
 put_whole old new text is = (text, is, sym (append-nil text))
-
--- what was found of a line is said of it, where there was room for it
-pub found_put : {T E : Type 0} (P : T → Type 0) (put found : Result T E) → IfOk put (λ line_class. found ≡ Ok line_class) → IfOk found P → IfOk put P
-found_put P (Ok line_class) found same finds = subst (λ r. IfOk r P) same finds
-found_put P (Err refused) found same finds = tt

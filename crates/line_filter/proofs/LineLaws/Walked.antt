@@ -1,15 +1,13 @@
 -- The walk over the lines, one after the other.
-use Rattle.std.proofs.Common.{◌≡◌, ℕ, ◌+◌, List, [], ◌∷◌, ◌++◌, refl, sym, ap, ◌∙◌, append_assoc, append-nil, Result, Ok, Err}
-use Rattle.std.specs.Prelude.{Option, IfOk}
+use Rattle.std.proofs.Common.{◌≡◌, ℕ, ◌+◌, ◌==◌, List, [], ◌∷◌, ◌++◌, true, refl, sym, ap, ◌∙◌, append_assoc, append-nil, Result, Ok, Err}
+use Rattle.std.specs.Prelude.{Option}
 use Rattle.std.proofs.lemmas.Grind.{flat_map-append}
 use Rattle.line_filter.specs.Growth.{Writes, WritesFront}
 use Rattle.line_filter.specs.Kept.{StopsWithin, StopsWith}
 use Rattle.line_filter.specs.LineItems.{LineJudge, IsFoundOf, lines}
 use Rattle.line_filter.specs.Lines.{lines_of, text_of_line, text_of_lines}
 use Rattle.line_filter.specs.private.HeldBack.{WritesBut}
-use Rattle.line_filter.specs.private.Walk.{sum_of, outcome_of, text_where_kept}
-use Rattle.line_filter.specs.declared.judge.Judgment.{Judgment}
-use Rattle.line_filter.specs.declared.line_class.LineClass.{LineClass}
+use Rattle.line_filter.specs.private.Walk.{sum_of, ComesOf, text_where_kept}
 use Rattle.line_filter.specs.declared.run_stop.RunStop.{RunStop}
 use Rattle.line_filter.specs.declared.tally.Tally.{Tally}
 use Rattle.line_filter.proofs.ItemLaws.Walked.{HasWalked, HasWalked-none, HasWalked-more, HasWalked-failed, HasWalked-stopped}
@@ -29,24 +27,24 @@ text_of_lines-more before line after =
     let one : text_of_lines (line ∷ []) ++ after ≡ line ++ 10 ∷ after = ap (λ l. l ++ after) (append-nil (line ++ 10 ∷ [])) ∙ append_assoc line (10 ∷ []) after in
     sym (ap (λ l. l ++ after) (flat_map-append text_of_line before (line ∷ [])) ∙ append_assoc (text_of_lines before) (text_of_lines (line ∷ [])) after ∙ ap (λ l. text_of_lines before ++ l) one)
 
-module _ {F E : Type 0} (judge : LineJudge F) (bytes line rest after : List ℕ) (goes_on : Type 0) (a b c : Option (List ℕ)) (h₁ h₂ : List ℕ) (passed : ℕ) (tally : Tally) (found : Result (LineClass F) E)
-    (first : lines_of rest ≡ line ∷ lines_of after) (finds : IfOk found (IsFoundOf judge line)) (so_far : HasPassed judge bytes rest goes_on a b h₁ passed tally) where
+module _ {F : Type 0} (judge : LineJudge F) (bytes line rest after : List ℕ) (goes_on : Type 0) (a b : Option (List ℕ)) (held : List ℕ) (passed : ℕ) (tally : Tally) (outcome : Result Tally (RunStop F))
+    (first : lines_of rest ≡ line ∷ lines_of after) (comes : ComesOf (IsFoundOf judge line) (passed + 1) outcome) (so_far : HasPassed judge bytes rest goes_on a b held passed tally) where
   -- the line after those that passed passes too
-  pub HasPassed-more : (one : Tally) (goes_further : Type 0) → (goes_further → rest ≡ line ++ 10 ∷ after) → goes_on → WritesBut b c h₂ (h₁ ++ text_where_kept found (line ++ 10 ∷ []))
-      → outcome_of (passed + 1) found ≡ Ok one → HasPassed judge bytes after goes_further a c h₂ (passed + 1) (sum_of tally one)
+  pub HasPassed-more : (one : Tally) (goes_further : Type 0) (c : Option (List ℕ)) (h : List ℕ) → (goes_further → rest ≡ line ++ 10 ∷ after) → goes_on → outcome ≡ Ok one
+      → WritesBut b c h (held ++ text_where_kept one (line ++ 10 ∷ [])) → HasPassed judge bytes after goes_further a c h (passed + 1) (sum_of tally one)
   unfolding HasWalked-more
-  HasPassed-more one goes_further whole some more step = record {
-    walked = HasWalked-more (lines judge bytes) line (lines_of rest) (lines_of after) a b c h₁ h₂ passed tally found first finds so_far.walked one more step;
+  HasPassed-more one goes_further c h whole some step more = record {
+    walked = HasWalked-more (lines judge bytes) line (lines_of rest) (lines_of after) a b held passed tally outcome first comes so_far.walked one c h step more;
     complete = λ some_after.
         so_far.complete some ∙ ap (λ l. text_of_lines so_far.walked.before ++ l) (whole some_after) ∙ text_of_lines-more so_far.walked.before line after;
   }
 
   -- it is kept, and not all of it could be written
-  pub HasPassed-failed : found ≡ Ok (LineClass.Judged Judgment.Kept) → WritesFront b c (h₁ ++ (line ++ 10 ∷ [])) → Writes a c (StopsWithin (lines judge bytes))
-  HasPassed-failed = HasWalked-failed (lines judge bytes) line (lines_of rest) (lines_of after) a b c h₁ h₂ passed tally found first finds so_far.walked
+  pub HasPassed-failed : (one : Tally) (c : Option (List ℕ)) → outcome ≡ Ok one → (one.kept == 1) ≡ true → WritesFront b c (held ++ (line ++ 10 ∷ [])) → Writes a c (StopsWithin (lines judge bytes))
+  HasPassed-failed = HasWalked-failed (lines judge bytes) line (lines_of rest) (lines_of after) a b held passed tally outcome first comes so_far.walked
 
   -- the run stops at it
-  pub HasPassed-stopped : (Lacks : List ℕ → ℕ → Type 0) (stop : RunStop F) → goes_on → WritesBut b c h₂ (h₁ ++ text_where_kept found (line ++ 10 ∷ [])) → outcome_of (passed + 1) found ≡ Err stop
-      → (text : List ℕ) × WritesBut a c h₂ text × StopsWith (lines judge bytes) Lacks text stop
+  pub HasPassed-stopped : (Lacks : List ℕ → ℕ → Type 0) (stop : RunStop F) → goes_on → outcome ≡ Err stop
+      → (text : List ℕ) × WritesBut a b held text × StopsWith (lines judge bytes) Lacks text stop
   HasPassed-stopped Lacks stop some =
-      HasWalked-stopped (lines judge bytes) line (lines_of rest) (lines_of after) a b c h₁ h₂ passed tally found first finds so_far.walked Lacks stop (rest, so_far.complete some)
+      HasWalked-stopped (lines judge bytes) line (lines_of rest) (lines_of after) a b held passed tally outcome first comes so_far.walked Lacks stop (rest, so_far.complete some)

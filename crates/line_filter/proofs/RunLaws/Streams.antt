@@ -1,6 +1,6 @@
 -- The walk over the lines of a reader, where what it had is known.
-use Rattle.std.proofs.Common.{◌≡◌, ◌≢◌, ℕ, ◌+◌, List, [], ◌∷◌, ◌++◌, Option, None, Some, Result, Ok, inl, inr, ◌⊎◌, refl, sym, ap, ◌∙◌, subst, append_assoc, Err}
-use Rattle.std.specs.Prelude.{IfOk, IfSome}
+use Rattle.std.proofs.Common.{◌≡◌, ◌≢◌, ℕ, ◌+◌, ◌==◌, List, [], ◌∷◌, ◌++◌, true, Option, None, Some, Result, Ok, inl, inr, ◌⊎◌, refl, sym, ap, ◌∙◌, subst, append_assoc, Err}
+use Rattle.std.specs.Prelude.{IfSome}
 use Rattle.std.specs.Io.KnownBytes.{IsAtEnd, Appends, Keeps, prepend_known}
 use Rattle.std.proofs.KnownBytes.{Appends-trans}
 use Rattle.line_filter.specs.Growth.{Writes, WritesFront}
@@ -10,9 +10,7 @@ use Rattle.line_filter.specs.Lines.{lines_of, text_of_lines}
 use Rattle.line_filter.specs.LineStreams.{LacksLine}
 use Rattle.line_filter.specs.LineSource.{IsFirstLine, BeginsTooLong, IsNoWholeLine, WhereKnown}
 use Rattle.line_filter.specs.private.HeldBack.{WritesBut}
-use Rattle.line_filter.specs.private.Walk.{sum_of, outcome_of, text_where_kept, fault_stop, GoesOn}
-use Rattle.line_filter.specs.declared.judge.Judgment.{Judgment}
-use Rattle.line_filter.specs.declared.line_class.LineClass.{LineClass}
+use Rattle.line_filter.specs.private.Walk.{sum_of, ComesOf, text_where_kept, fault_stop, GoesOn}
 use Rattle.line_filter.specs.declared.line_reader.LineFault.{LineFault}
 use Rattle.line_filter.specs.declared.run_stop.RunStop.{RunStop}
 use Rattle.line_filter.specs.declared.tally.Tally.{Tally}
@@ -146,41 +144,40 @@ module _ {F : Type 0} (judge : LineJudge F) where
 
 -- ---- a line is given
 
-module _ {F E : Type 0} (judge : LineJudge F) (line : List ℕ) (goes_on : Type 0) (u v w : Option (List ℕ)) (h₁ h₂ : List ℕ) (passed : ℕ) (tally : Tally) (found : Result (LineClass F) E)
-    (finds : IfOk found (IsFoundOf judge line)) (more : goes_on) where
+module _ {F : Type 0} (judge : LineJudge F) (line : List ℕ) (goes_on : Type 0) (u v : Option (List ℕ)) (held : List ℕ) (passed : ℕ) (tally : Tally) (outcome : Result Tally (RunStop F))
+    (comes : ComesOf (IsFoundOf judge line) (passed + 1) outcome) (more : goes_on) where
   -- of a list that has no more lines, or has an LF after this one
   has_feed : (Over : Type 0) (rest after : List ℕ) → Over ⊎ (rest ≡ line ++ 10 ∷ after) → (Over → ⊥) → rest ≡ line ++ 10 ∷ after
   has_feed Over rest after (inl over) not_over = absurd (not_over over)
   has_feed Over rest after (inr whole) not_over = whole
 
   -- it passes
-  pub HasCome-more : (a r s : Option (List ℕ)) (Over : Type 0) (one : Tally) → HasCome judge a r goes_on u v h₁ passed tally → WhereKnown r s (λ rest after. IsFirstLine rest line after)
-      → Over ⊎ WhereKnown r s (λ rest after. rest ≡ line ++ 10 ∷ after) → WritesBut v w h₂ (h₁ ++ text_where_kept found (line ++ 10 ∷ [])) → outcome_of (passed + 1) found ≡ Ok one
-      → HasCome judge a s (Over → ⊥) u w h₂ (passed + 1) (sum_of tally one)
-  HasCome-more None r s Over one so_far first whole wrote step = tt
-  HasCome-more (Some bytes) None s Over one so_far first whole wrote step = absurd so_far
-  HasCome-more (Some bytes) (Some rest) None Over one so_far first whole wrote step = absurd first
-  HasCome-more (Some bytes) (Some rest) (Some after) Over one so_far first whole wrote step =
-      HasPassed-more judge bytes line rest after goes_on u v w h₁ h₂ passed tally found first.first finds so_far one (Over → ⊥) (has_feed Over rest after whole) more wrote step
+  pub HasCome-more : (a r s : Option (List ℕ)) (Over : Type 0) (one : Tally) (w : Option (List ℕ)) (h : List ℕ) → HasCome judge a r goes_on u v held passed tally
+      → WhereKnown r s (λ rest after. IsFirstLine rest line after) → Over ⊎ WhereKnown r s (λ rest after. rest ≡ line ++ 10 ∷ after) → outcome ≡ Ok one
+      → WritesBut v w h (held ++ text_where_kept one (line ++ 10 ∷ [])) → HasCome judge a s (Over → ⊥) u w h (passed + 1) (sum_of tally one)
+  HasCome-more None r s Over one w h so_far first whole step wrote = tt
+  HasCome-more (Some bytes) None s Over one w h so_far first whole step wrote = absurd so_far
+  HasCome-more (Some bytes) (Some rest) None Over one w h so_far first whole step wrote = absurd first
+  HasCome-more (Some bytes) (Some rest) (Some after) Over one w h so_far first whole step wrote =
+      HasPassed-more judge bytes line rest after goes_on u v held passed tally outcome first.first comes so_far one (Over → ⊥) w h (has_feed Over rest after whole) more step wrote
 
   -- the run stops at it
-  pub HasCome-stopped : (waiting : List ℕ) (known a r s : Option (List ℕ)) (stop : RunStop F) → HasCome judge a r goes_on u v h₁ passed tally → WhereKnown r s (λ rest after. IsFirstLine rest line after)
-      → WritesBut v w h₂ (h₁ ++ text_where_kept found (line ++ 10 ∷ [])) → outcome_of (passed + 1) found ≡ Err stop
-      → IfSome a (λ bytes. (text : List ℕ) × WritesBut u w h₂ text × StopsWith (lines judge bytes) (LacksLine judge bytes waiting known) text stop)
-  HasCome-stopped waiting known None r s stop so_far first wrote step = tt
-  HasCome-stopped waiting known (Some bytes) None s stop so_far first wrote step = absurd so_far
-  HasCome-stopped waiting known (Some bytes) (Some rest) None stop so_far first wrote step = absurd first
-  HasCome-stopped waiting known (Some bytes) (Some rest) (Some after) stop so_far first wrote step =
-      HasPassed-stopped judge bytes line rest after goes_on u v w h₁ h₂ passed tally found first.first finds so_far (LacksLine judge bytes waiting known) stop more wrote step
+  pub HasCome-stopped : (waiting : List ℕ) (known a r s : Option (List ℕ)) (stop : RunStop F) → HasCome judge a r goes_on u v held passed tally → WhereKnown r s (λ rest after. IsFirstLine rest line after)
+      → outcome ≡ Err stop → IfSome a (λ bytes. (text : List ℕ) × WritesBut u v held text × StopsWith (lines judge bytes) (LacksLine judge bytes waiting known) text stop)
+  HasCome-stopped waiting known None r s stop so_far first step = tt
+  HasCome-stopped waiting known (Some bytes) None s stop so_far first step = absurd so_far
+  HasCome-stopped waiting known (Some bytes) (Some rest) None stop so_far first step = absurd first
+  HasCome-stopped waiting known (Some bytes) (Some rest) (Some after) stop so_far first step =
+      HasPassed-stopped judge bytes line rest after goes_on u v held passed tally outcome first.first comes so_far (LacksLine judge bytes waiting known) stop more step
 
   -- it is kept, and not all of it could be written
-  pub HasCome-failed : (a r s : Option (List ℕ)) → HasCome judge a r goes_on u v h₁ passed tally → WhereKnown r s (λ rest after. IsFirstLine rest line after)
-      → found ≡ Ok (LineClass.Judged Judgment.Kept) → WritesFront v w (h₁ ++ (line ++ 10 ∷ [])) → IfSome a (λ bytes. Writes u w (StopsWithin (lines judge bytes)))
-  HasCome-failed None r s so_far first is_kept wrote = tt
-  HasCome-failed (Some bytes) None s so_far first is_kept wrote = absurd so_far
-  HasCome-failed (Some bytes) (Some rest) None so_far first is_kept wrote = absurd first
-  HasCome-failed (Some bytes) (Some rest) (Some after) so_far first is_kept wrote =
-      HasPassed-failed judge bytes line rest after goes_on u v w h₁ h₂ passed tally found first.first finds so_far is_kept wrote
+  pub HasCome-failed : (a r s : Option (List ℕ)) (one : Tally) (w : Option (List ℕ)) → HasCome judge a r goes_on u v held passed tally → WhereKnown r s (λ rest after. IsFirstLine rest line after)
+      → outcome ≡ Ok one → (one.kept == 1) ≡ true → WritesFront v w (held ++ (line ++ 10 ∷ [])) → IfSome a (λ bytes. Writes u w (StopsWithin (lines judge bytes)))
+  HasCome-failed None r s one w so_far first step is_kept wrote = tt
+  HasCome-failed (Some bytes) None s one w so_far first step is_kept wrote = absurd so_far
+  HasCome-failed (Some bytes) (Some rest) None one w so_far first step is_kept wrote = absurd first
+  HasCome-failed (Some bytes) (Some rest) (Some after) one w so_far first step is_kept wrote =
+      HasPassed-failed judge bytes line rest after goes_on u v held passed tally outcome first.first comes so_far one w step is_kept wrote
 
 -- ---- what is held back at the end could not be written
 

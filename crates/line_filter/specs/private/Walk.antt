@@ -1,13 +1,12 @@
 -- What a run over items gives, item by item. Private clauses alone cite these.
-use Rattle.std.specs.Prelude.{◌≡◌, ℕ, ◌+◌, List, [], Bool, true, false, Option, MatchResult, Result, Ok, Err}
+use Rattle.std.specs.Prelude.{◌≡◌, ℕ, ◌+◌, ◌==◌, ◌⊎◌, List, [], Bool, true, false, Option, MatchResult, Result, Ok, Err}
 use Rattle.line_filter.specs.declared.judge.Judgment.{Judgment}
-use Rattle.line_filter.specs.declared.line_class.LineClass.{LineClass}
 use Rattle.line_filter.specs.declared.line_reader.LineFault.{LineFault}
 use Rattle.line_filter.specs.declared.run_stop.RunStop.{RunStop}
 use Rattle.line_filter.specs.declared.tally.Tally.{Tally}
 use Rattle.line_filter.specs.declared.call_log.CallLog.{CallLog}
 use Rattle.line_filter.specs.CallLogs.{StaysWell, FlushesLast, FailsLast}
-use Rattle.line_filter.specs.Kept.{Items, Filters, StopsWith, is_kept}
+use Rattle.line_filter.specs.Kept.{LineClass, Items, Filters, StopsWith}
 use Rattle.line_filter.specs.LineItems.{LineJudge, lines}
 use Rattle.line_filter.specs.LineStreams.{LacksLine}
 
@@ -16,13 +15,18 @@ abbrev pub sum_of : Tally → Tally → Tally
 sum_of a b = record { rows = a.rows + b.rows; kept = a.kept + b.kept }
 
 -- what the item of this number counts, of which this is found, or why the run stops at it
-abbrev pub outcome_of : {F E : Type 0} → ℕ → Result (LineClass F) E → Result Tally (RunStop F)
-outcome_of number (Ok LineClass.TooLong) = Err (RunStop.TooLong number)
-outcome_of number (Ok LineClass.PassedOver) = Ok (record { rows = 0; kept = 0 })
-outcome_of number (Ok (LineClass.Judged Judgment.Kept)) = Ok (record { rows = 1; kept = 1 })
-outcome_of number (Ok (LineClass.Judged Judgment.LeftOut)) = Ok (record { rows = 1; kept = 0 })
-outcome_of number (Ok (LineClass.Judged (Judgment.Fault fault))) = Err (RunStop.Fault number fault)
-outcome_of number (Err _) = Err (RunStop.Memory number)
+abbrev pub outcome_of : {F : Type 0} → ℕ → LineClass F → Result Tally (RunStop F)
+outcome_of number LineClass.too_long = Err (RunStop.TooLong number)
+outcome_of number LineClass.passed_over = Ok (record { rows = 0; kept = 0 })
+outcome_of number (LineClass.judged Judgment.Kept) = Ok (record { rows = 1; kept = 1 })
+outcome_of number (LineClass.judged Judgment.LeftOut) = Ok (record { rows = 1; kept = 0 })
+outcome_of number (LineClass.judged (Judgment.Fault fault)) = Err (RunStop.Fault number fault)
+
+-- what comes of the item of this number: that it could not be judged for want of memory, or the outcome of a class that
+-- is found of it
+abbrev pub ComesOf : {F : Type 0} → (LineClass F → Type 0) → ℕ → Result Tally (RunStop F) → Type 0
+ComesOf {F} Finds number outcome = (outcome ≡ Err (RunStop.Memory number))
+    ⊎ ((line_class : LineClass F) × Finds line_class × (outcome ≡ outcome_of number line_class))
 
 -- what a run answers where the line of this number does not come
 abbrev pub fault_stop : {F : Type 0} → LineFault → ℕ → RunStop F
@@ -30,19 +34,14 @@ fault_stop LineFault.TooLong number = RunStop.TooLong number
 fault_stop LineFault.Read number = RunStop.Read number
 fault_stop LineFault.Memory number = RunStop.Memory number
 
--- the item is kept, of which this is found
-abbrev pub is_kept_by : {F E : Type 0} → Result (LineClass F) E → Bool
-is_kept_by (Ok line_class) = is_kept line_class
-is_kept_by (Err _) = false
-
 -- the text of an item that is kept, and nothing of one that is left out
 abbrev pub text_where : Bool → List ℕ → List ℕ
 text_where true text = text
 text_where false text = []
 
--- the text of an item of which this is found: nothing where it is not kept
-abbrev pub text_where_kept : {F E : Type 0} → Result (LineClass F) E → List ℕ → List ℕ
-text_where_kept found text = text_where (is_kept_by found) text
+-- the text of an item that counts this: nothing where it is not kept
+abbrev pub text_where_kept : Tally → List ℕ → List ℕ
+text_where_kept one text = text_where (one.kept == 1) text
 
 -- the stop is reported of no writer
 abbrev pub IsUnwritten : {F : Type 0} → RunStop F → Type 0

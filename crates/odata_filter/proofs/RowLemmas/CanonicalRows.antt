@@ -25,11 +25,10 @@ use Rattle.odata_meaning.specs.Means.{Means}
 use Rattle.odata_filter_operations.specs.Outcome.{Outcome}
 use Rattle.odata_meaning.specs.SameMeaning.{CanonicalTextsKeepOutcomes}
 use Rattle.odata_eval.specs.declared.verdict.Verdict.{Verdict}
-use Rattle.line_filter.specs.Kept.{Filters, IsFaultless, Items, Passes, Sieve, SiftedItem, Stops, StopsAt, StopsBefore, StopsOn, StopsWithin}
+use Rattle.line_filter.specs.Kept.{LineClass, Filters, IsFaultless, Items, Passes, Sieve, SiftedItem, Stops, StopsAt, StopsBefore, StopsOn, StopsWithin}
 use Rattle.line_filter.specs.LineItems.{IsFoundOf, LineJudge}
 use Rattle.line_filter.specs.Lines.{lines_of, text_of_line, text_of_lines}
 use Rattle.line_filter.specs.ItemIndexes.{IsJudged, ItemJudge, IndexedItem, index_sieve, indexed_from, indexed_items}
-use Rattle.line_filter.specs.declared.line_class.LineClass.{LineClass}
 use Rattle.line_filter.specs.declared.judge.Judgment.{Judgment}
 use Rattle.line_filter.specs.declared.run_stop.RunStop.{RunStop}
 use Rattle.line_filter.specs.declared.tally.Tally.{Tally}
@@ -108,8 +107,8 @@ module _ {X F : Type 0} (all : List X) (text_of : X → List ℕ) (CameWhole : L
   }
 
   pub stops_carried : (text : List ℕ) (stop : RunStop F) → Stops (items A) text stop → Stops (items B) text stop
-  stops_carried text (RunStop.Fault line fault) stops = at_carried text line (LineClass.Judged (Judgment.Fault fault)) stops
-  stops_carried text (RunStop.TooLong line) stops = at_carried text line LineClass.TooLong stops
+  stops_carried text (RunStop.Fault line fault) stops = at_carried text line (LineClass.judged (Judgment.Fault fault)) stops
+  stops_carried text (RunStop.TooLong line) stops = at_carried text line LineClass.too_long stops
   stops_carried text (RunStop.Read line) stops = before_carried text line stops
   stops_carried text RunStop.Write stops = within_carried text stops
   stops_carried text (RunStop.Memory line) stops = before_carried text line stops
@@ -164,9 +163,9 @@ module _ (filter again : Filter) (same : ComeToTheSame filter again) (now : Mome
   answer_carried row (Err bad) is = λ known. row_carried row (Judgment.Fault bad) (is known)
 
   found_carried : (line : List ℕ) (line_class : LineClass BadRow) → IsFoundOf (JudgesRow filter now) line line_class → IsFoundOf (JudgesRow again now) line line_class
-  found_carried line LineClass.TooLong is = is
-  found_carried line LineClass.PassedOver is = is
-  found_carried line (LineClass.Judged said) is = (is.0, is.1, row_carried line said is.2)
+  found_carried line LineClass.too_long is = is
+  found_carried line LineClass.passed_over is = is
+  found_carried line (LineClass.judged said) is = (is.0, is.1, row_carried line said is.2)
 
   -- ---- of lines
 
@@ -184,9 +183,9 @@ module _ (filter again : Filter) (same : ComeToTheSame filter again) (now : Mome
   -- ---- of items
 
   judged_carried : (item : IndexedItem Data) (line_class : LineClass BadRow) → IsJudged (JudgesValue filter now) item.item line_class → IsJudged (JudgesValue again now) item.item line_class
-  judged_carried item LineClass.TooLong is = absurd is
-  judged_carried item LineClass.PassedOver is = absurd is
-  judged_carried item (LineClass.Judged said) is = value_carried item.item said is
+  judged_carried item LineClass.too_long is = absurd is
+  judged_carried item LineClass.passed_over is = absurd is
+  judged_carried item (LineClass.judged said) is = value_carried item.item said is
 
   items_carried : (document text : List ℕ) (tally : Tally) → OfCollection filter now document (λ items. Filters items text tally)
       → OfCollection again now document (λ items. Filters items text tally)

@@ -7,10 +7,9 @@ use Rattle.std.proofs.lemmas.List.Elements.{All-cons, All-head, All-nil, All-tai
 use Rattle.std.proofs.lemmas.List.Sums.{sum_by-cons}
 use Rattle.serde_json.specs.Data.{Data}
 use Rattle.collection_items.specs.JudgedItems.{AreJudged}
-use Rattle.line_filter.specs.Kept.{Filters, IsFaultless, Passes, SiftedItem, StopsAt, StopsOn, StopsWithin, is_kept, is_row, kept_text}
+use Rattle.line_filter.specs.Kept.{LineClass, Filters, IsFaultless, Passes, SiftedItem, StopsAt, StopsOn, StopsWithin, is_kept, is_row, kept_text}
 use Rattle.row_judges.specs.RowJudgment.{judgment_where}
 use Rattle.line_filter.specs.ItemIndexes.{ItemJudge, IsJudged, IndexedItem, index_sieve, indexed_from, indexed_items}
-use Rattle.line_filter.specs.declared.line_class.LineClass.{LineClass}
 use Rattle.line_filter.specs.declared.judge.Judgment.{Judgment}
 use Rattle.line_filter.specs.declared.tally.Tally.{Tally}
 
@@ -28,9 +27,9 @@ module _ {F : Type 0} (judge : ItemJudge Data F) where
   IsFineItem s = (index_sieve judge).finds s.item s.line_class × IsFaultless s.line_class
 
   judged : (json : Data) (kept : Bool) (f : LineClass F) → Says json kept → IsJudged Known kept f → IsJudged judge json f
-  judged json kept LineClass.TooLong says is = is
-  judged json kept LineClass.PassedOver says is = is
-  judged json kept (LineClass.Judged j) says is = subst (λ (k : Judgment F). judge json k) (sym is) says
+  judged json kept LineClass.too_long says is = is
+  judged json kept LineClass.passed_over says is = is
+  judged json kept (LineClass.judged j) says is = subst (λ (k : Judgment F). judge json k) (sym is) says
 
   -- the first of some items, instead of the verdicts that were sifted
   record FirstItems (items : List Data) (index : ℕ) (before after : List (IndexedItem Bool)) (all : List (SiftedItem (IndexedItem Bool) F)) : Type 0 where
@@ -158,7 +157,7 @@ module _ {F : Type 0} (judge : ItemJudge Data F) where
         none (p ∷ rest) long = absurd (omega (arith, long))
 
     -- none of them is at fault
-    pub never_at_fault : {A : Type 0} (number : ℕ) (fault : F) → StopsAt (indexed_items Known flags) text number (LineClass.Judged (Judgment.Fault fault)) → A
+    pub never_at_fault : {A : Type 0} (number : ℕ) (fault : F) → StopsAt (indexed_items Known flags) text number (LineClass.judged (Judgment.Fault fault)) → A
     never_at_fault number fault stop = by stop.bad.item stop.found
       where
         by : {A : Type 0} (kept : Bool) → Judgment.Fault fault ≡ judgment_where kept → A

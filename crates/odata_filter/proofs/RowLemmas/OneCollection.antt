@@ -4,10 +4,9 @@ use Rattle.serde_json.specs.Data.{Data, Items as ItemsData}
 use Rattle.serde_json.specs.View.{items_of}
 use Rattle.edm_values.specs.MomentParts.{MomentParts}
 use Rattle.csdl_schema.specs.JsonText.{IsJsonOf}
-use Rattle.line_filter.specs.Kept.{Filters, StopsAt}
+use Rattle.line_filter.specs.Kept.{LineClass, Filters, StopsAt}
 use Rattle.line_filter.specs.Once.{IsFaulty}
 use Rattle.line_filter.specs.ItemIndexes.{IndexedItem}
-use Rattle.line_filter.specs.declared.line_class.LineClass.{LineClass}
 use Rattle.line_filter.specs.declared.judge.Judgment.{Judgment}
 use Rattle.line_filter.specs.declared.tally.Tally.{Tally}
 use Rattle.odata_checked_filter.specs.Filter.{Filter}
@@ -64,22 +63,22 @@ module _ (filter : Filter) (now : MomentParts) (once : (json : Data) (j k : Judg
   says = JudgesValue filter now
 
   -- two faults that are found of the first item at fault
-  items_meet : (items : List Data) (text other : List ℕ) (m n : ℕ) (d e : BadRow) → StopsAt (entities_of filter now items) text m (LineClass.Judged (Judgment.Fault d))
-      → StopsAt (entities_of filter now items) other n (LineClass.Judged (Judgment.Fault e)) → ((m ≡ n) × AreSameJudgment (Judgment.Fault d) (Judgment.Fault e)) × (text ≡ other)
+  items_meet : (items : List Data) (text other : List ℕ) (m n : ℕ) (d e : BadRow) → StopsAt (entities_of filter now items) text m (LineClass.judged (Judgment.Fault d))
+      → StopsAt (entities_of filter now items) other n (LineClass.judged (Judgment.Fault e)) → ((m ≡ n) × AreSameJudgment (Judgment.Fault d) (Judgment.Fault e)) × (text ≡ other)
   items_meet items text other m n d e a b =
-      let (number, texts, bad) = stopped items text other m n (LineClass.Judged (Judgment.Fault d)) (LineClass.Judged (Judgment.Fault e)) (λ fine. fine) (λ fine. fine) a b in
+      let (number, texts, bad) = stopped items text other m n (LineClass.judged (Judgment.Fault d)) (LineClass.judged (Judgment.Fault e)) (λ fine. fine) (λ fine. fine) a b in
       let there : says b.bad.item (Judgment.Fault d) = subst (λ (p : IndexedItem Data). says p.item (Judgment.Fault d)) bad a.found in
       ((number, once b.bad.item (Judgment.Fault d) (Judgment.Fault e) there b.found), texts)
 
   module _ (document text other : List ℕ) where
     -- a fault is found of an item
     abbrev StopsOnItem : List ℕ → ℕ → BadRow → Type 0
-    StopsOnItem written line fault = OfCollection filter now document (λ items. StopsAt items written line (LineClass.Judged (Judgment.Fault fault)))
+    StopsOnItem written line fault = OfCollection filter now document (λ items. StopsAt items written line (LineClass.judged (Judgment.Fault fault)))
 
     faults_meet : (m n : ℕ) (d e : BadRow) → StopsOnItem text m d → StopsOnItem other n e → ((m ≡ n) × AreSameJudgment (Judgment.Fault d) (Judgment.Fault e)) × (text ≡ other)
     faults_meet m n d e (items, is, a) (others, of, b) =
         let same : others ≡ items = one_collection document others items of is in
-        items_meet items text other m n d e a (subst (λ (l : List Data). StopsAt (entities_of filter now l) other n (LineClass.Judged (Judgment.Fault e))) same b)
+        items_meet items text other m n d e a (subst (λ (l : List Data). StopsAt (entities_of filter now l) other n (LineClass.judged (Judgment.Fault e))) same b)
 
     apart : (line : ℕ) (fault : BadRow) (written : List ℕ) → IsNoCollection document → StopsOnItem written line fault → ⊥
     apart line fault written none (items, is, a) = no_collection document items none is
@@ -119,8 +118,8 @@ module _ (filter : Filter) (now : MomentParts) (once : (json : Data) (j k : Judg
     item_never : (tally : Tally) (line : ℕ) (fault : BadRow) → OfCollection filter now document (λ items. Filters items text tally) → StopsOnItem other line fault → ⊥
     item_never tally line fault (items, is, passes) (others, of, b) =
         let same : others ≡ items = one_collection document others items of is in
-        filtered items text other tally line (LineClass.Judged (Judgment.Fault fault)) passes (λ fine. fine)
-        (subst (λ (l : List Data). StopsAt (entities_of filter now l) other line (LineClass.Judged (Judgment.Fault fault))) same b)
+        filtered items text other tally line (LineClass.judged (Judgment.Fault fault)) passes (λ fine. fine)
+        (subst (λ (l : List Data). StopsAt (entities_of filter now l) other line (LineClass.judged (Judgment.Fault fault))) same b)
 
     -- no fault where all items pass
     pub collection_faults_never : (tally : Tally) (f : RunFault) → OfCollection filter now document (λ items. Filters items text tally) → IsOfDocument f

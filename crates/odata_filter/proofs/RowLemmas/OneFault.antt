@@ -1,9 +1,8 @@
 -- Of rows one fault is the first.
 use Rattle.std.proofs.Common.{◌≡◌, ℕ, List, refl, subst, arith}
-use Rattle.line_filter.specs.Kept.{StopsAt}
+use Rattle.line_filter.specs.Kept.{LineClass, StopsAt}
 use Rattle.line_filter.specs.LineItems.{LineJudge, IsFoundOf, lines}
 use Rattle.line_filter.specs.Once.{kind_of, IsFaulty}
-use Rattle.line_filter.specs.declared.line_class.LineClass.{LineClass}
 use Rattle.line_filter.specs.declared.judge.Judgment.{Judgment}
 use Rattle.row_judges.specs.declared.bad_row.BadRow.{BadRow}
 use Rattle.odata_filter.specs.declared.run_fault.RunFault.{RunFault}
@@ -32,25 +31,25 @@ module _ (judge : LineJudge BadRow) (bytes : List ℕ)
     (stops_once : (bytes text other : List ℕ) (m n : ℕ) (f g : LineClass BadRow) → IsFaulty f → IsFaulty g
     → (a : StopsAt (lines judge bytes) text m f) → (b : StopsAt (lines judge bytes) other n g) → (m ≡ n) × (text ≡ other) × (a.bad ≡ b.bad)) where
   -- two faults that are found of the first line at fault
-  faults_meet : (text other : List ℕ) (m n : ℕ) (d e : BadRow) → StopsAt (lines judge bytes) text m (LineClass.Judged (Judgment.Fault d)) → StopsAt (lines judge bytes) other n (LineClass.Judged (Judgment.Fault e))
+  faults_meet : (text other : List ℕ) (m n : ℕ) (d e : BadRow) → StopsAt (lines judge bytes) text m (LineClass.judged (Judgment.Fault d)) → StopsAt (lines judge bytes) other n (LineClass.judged (Judgment.Fault e))
       → ((m ≡ n) × AreSameJudgment (Judgment.Fault d) (Judgment.Fault e)) × (text ≡ other)
   faults_meet text other m n d e a b =
-      let (number, texts, bad) = stops_once bytes text other m n (LineClass.Judged (Judgment.Fault d)) (LineClass.Judged (Judgment.Fault e)) (λ fine. fine) (λ fine. fine) a b in
-      let there : IsFoundOf judge b.bad (LineClass.Judged (Judgment.Fault d)) = subst (λ (l : List ℕ). IsFoundOf judge l (LineClass.Judged (Judgment.Fault d))) bad a.found in
-      let here : IsFoundOf judge b.bad (LineClass.Judged (Judgment.Fault e)) = b.found in
+      let (number, texts, bad) = stops_once bytes text other m n (LineClass.judged (Judgment.Fault d)) (LineClass.judged (Judgment.Fault e)) (λ fine. fine) (λ fine. fine) a b in
+      let there : IsFoundOf judge b.bad (LineClass.judged (Judgment.Fault d)) = subst (λ (l : List ℕ). IsFoundOf judge l (LineClass.judged (Judgment.Fault d))) bad a.found in
+      let here : IsFoundOf judge b.bad (LineClass.judged (Judgment.Fault e)) = b.found in
       ((number, once b.bad (Judgment.Fault d) (Judgment.Fault e) there.2 here.2), texts)
 
   -- a line that is judged is not too long
-  long_apart : (text other : List ℕ) (m n : ℕ) (d : BadRow) → StopsAt (lines judge bytes) text m (LineClass.Judged (Judgment.Fault d)) → StopsAt (lines judge bytes) other n LineClass.TooLong → ⊥
+  long_apart : (text other : List ℕ) (m n : ℕ) (d : BadRow) → StopsAt (lines judge bytes) text m (LineClass.judged (Judgment.Fault d)) → StopsAt (lines judge bytes) other n LineClass.too_long → ⊥
   long_apart text other m n d a b =
-      let (number, texts, bad) = stops_once bytes text other m n (LineClass.Judged (Judgment.Fault d)) LineClass.TooLong (λ fine. fine) (λ fine. fine) a b in
-      let there : IsFoundOf judge b.bad (LineClass.Judged (Judgment.Fault d)) = subst (λ (l : List ℕ). IsFoundOf judge l (LineClass.Judged (Judgment.Fault d))) bad a.found in
+      let (number, texts, bad) = stops_once bytes text other m n (LineClass.judged (Judgment.Fault d)) LineClass.too_long (λ fine. fine) (λ fine. fine) a b in
+      let there : IsFoundOf judge b.bad (LineClass.judged (Judgment.Fault d)) = subst (λ (l : List ℕ). IsFoundOf judge l (LineClass.judged (Judgment.Fault d))) bad a.found in
       let short = there.0 in
       let long = b.found in
       absurd (omega (arith, short, long))
 
-  long_meet : (text other : List ℕ) (m n : ℕ) → StopsAt (lines judge bytes) text m LineClass.TooLong → StopsAt (lines judge bytes) other n LineClass.TooLong → (m ≡ n) × (text ≡ other)
-  long_meet text other m n a b = let (number, texts, bad) = stops_once bytes text other m n LineClass.TooLong LineClass.TooLong (λ fine. fine) (λ fine. fine) a b in (number, texts)
+  long_meet : (text other : List ℕ) (m n : ℕ) → StopsAt (lines judge bytes) text m LineClass.too_long → StopsAt (lines judge bytes) other n LineClass.too_long → (m ≡ n) × (text ≡ other)
+  long_meet text other m n a b = let (number, texts, bad) = stops_once bytes text other m n LineClass.too_long LineClass.too_long (λ fine. fine) (λ fine. fine) a b in (number, texts)
 
   -- two faults of rows
   pub faults_once : (text other : List ℕ) (f g : RunFault) → IsOfRow f → IsOfRow g → StopsBy (lines judge bytes) text f → StopsBy (lines judge bytes) other g → AreSameFault f g × (text ≡ other)
@@ -95,10 +94,10 @@ module _ (judge : LineJudge BadRow) (bytes text : List ℕ)
     (never : (other : List ℕ) (n : ℕ) (f : LineClass BadRow) → IsFaulty f → StopsAt (lines judge bytes) other n f → ⊥) where
   -- no fault where all rows pass
   pub faults_never : (other : List ℕ) (f : RunFault) → IsOfRow f → StopsBy (lines judge bytes) other f → ⊥
-  faults_never other (RunFault.Json n) of_row a = never other n (LineClass.Judged (Judgment.Fault BadRow.NotJson)) (λ fine. fine) a
-  faults_never other (RunFault.Row n d) of_row a = never other n (LineClass.Judged (Judgment.Fault (BadRow.NoEntity d))) (λ fine. fine) a
-  faults_never other (RunFault.Arithmetic n d) of_row a = never other n (LineClass.Judged (Judgment.Fault (BadRow.NoValue d))) (λ fine. fine) a
-  faults_never other (RunFault.LineTooLong n) of_row a = never other n LineClass.TooLong (λ fine. fine) a
+  faults_never other (RunFault.Json n) of_row a = never other n (LineClass.judged (Judgment.Fault BadRow.NotJson)) (λ fine. fine) a
+  faults_never other (RunFault.Row n d) of_row a = never other n (LineClass.judged (Judgment.Fault (BadRow.NoEntity d))) (λ fine. fine) a
+  faults_never other (RunFault.Arithmetic n d) of_row a = never other n (LineClass.judged (Judgment.Fault (BadRow.NoValue d))) (λ fine. fine) a
+  faults_never other (RunFault.LineTooLong n) of_row a = never other n LineClass.too_long (λ fine. fine) a
   faults_never other RunFault.NotACollection of_row a = absurd of_row
   faults_never other (RunFault.Read n) of_row a = absurd of_row
   faults_never other RunFault.Write of_row a = absurd of_row

@@ -5,9 +5,8 @@ use Rattle.std.proofs.lemmas.Bool.{cases_Bool}
 use Rattle.std.proofs.lemmas.List.{map-append, length-map}
 use Rattle.std.proofs.lemmas.List.Elements.{All-map}
 use Rattle.std.proofs.lemmas.List.Sums.{sum_by-cons}
-use Rattle.line_filter.specs.Kept.{IsFaultless, SiftedItem, Passes, StopsAt, StopsOn, StopsWithin, is_kept, is_row, kept_text}
+use Rattle.line_filter.specs.Kept.{LineClass, IsFaultless, SiftedItem, Passes, StopsAt, StopsOn, StopsWithin, is_kept, is_row, kept_text}
 use Rattle.line_filter.specs.ItemIndexes.{ItemJudge, IsJudged, IndexedItem, indexed_from, index_sieve, indexed_items}
-use Rattle.line_filter.specs.declared.line_class.LineClass.{LineClass}
 use Rattle.line_filter.specs.declared.tally.Tally.{Tally}
 
 module _ {X Y F : Type 0} (judge : ItemJudge Y F) (name : X → Y) where
@@ -26,9 +25,9 @@ module _ {X Y F : Type 0} (judge : ItemJudge Y F) (name : X → Y) where
   indexed_renamed index (x ∷ xs) = ap (λ l. renamed (record { index = index; item = x }) ∷ l) (indexed_renamed (index + 1) xs)
 
   judged : (item : X) (f : LineClass F) → IsJudged judge_named item f → IsJudged judge (name item) f
-  judged item LineClass.TooLong is = is
-  judged item LineClass.PassedOver is = is
-  judged item (LineClass.Judged j) is = is
+  judged item LineClass.too_long is = is
+  judged item LineClass.passed_over is = is
+  judged item (LineClass.judged j) is = is
 
   -- ---- what was sifted
 

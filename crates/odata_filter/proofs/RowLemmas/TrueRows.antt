@@ -21,10 +21,9 @@ use Rattle.odata_filter_operations.specs.Outcome.{Outcome, gives, overflow, divi
 use Rattle.odata_eval.specs.VerdictView.{reported_outcome, verdict_val}
 use Rattle.odata_filter_operations.specs.declared.eval_fault.EvalFault.{EvalFault}
 use Rattle.odata_eval.specs.declared.verdict.Verdict.{Verdict}
-use Rattle.line_filter.specs.Kept.{Filters, IsFaultless, Passes, SiftedItem, kept_text}
+use Rattle.line_filter.specs.Kept.{LineClass, Filters, IsFaultless, Passes, SiftedItem, kept_text}
 use Rattle.line_filter.specs.LineItems.{IsFoundOf, line_sieve}
 use Rattle.line_filter.specs.Lines.{lines_of, text_of_line, text_of_lines}
-use Rattle.line_filter.specs.declared.line_class.LineClass.{LineClass}
 use Rattle.line_filter.specs.declared.judge.Judgment.{Judgment}
 use Rattle.line_filter.specs.declared.tally.Tally.{Tally}
 use Rattle.odata_filter.specs.Headline.{IsCheckedOf, ConformsTo, IsEntityFor, IsTruthOrFault, ComesToOne, HaveOneOutcome, AreAnswered}
@@ -128,7 +127,7 @@ module _ (ends : TypedEndsOnce) (has_type : FitsHasType) where
         };
       }
 
-  kept_true : (filter : Filter) (now : MomentParts) (line : List ℕ) → IsFoundOf (JudgesRow filter now) line (LineClass.Judged Judgment.Kept) → IsTrueRow filter now line
+  kept_true : (filter : Filter) (now : MomentParts) (line : List ℕ) → IsFoundOf (JudgesRow filter now) line (LineClass.judged Judgment.Kept) → IsTrueRow filter now line
   kept_true filter now line (short, some, judged) = record {
     short = short;
     some = some;
@@ -154,12 +153,12 @@ module _ (ends : TypedEndsOnce) (has_type : FitsHasType) where
       pick : (line : List ℕ) (line_class : LineClass BadRow) (more : List (SiftedItem (List ℕ) BadRow)) → IsFoundOf (JudgesRow filter now) line line_class → IsFaultless line_class
           → HasTrueRows filter now (map (λ s. s.item) more) (kept_text text_of_line more)
           → HasTrueRows filter now (line ∷ map (λ s. s.item) more) (kept_text text_of_line (record { item = line; line_class = line_class } ∷ more))
-      pick line LineClass.TooLong more found fine rest = absurd fine
-      pick line LineClass.PassedOver more (short, blank) fine (picked, are, is) = (picked, inr ((λ row. row.some blank), are), is)
-      pick line (LineClass.Judged Judgment.Kept) more found fine (picked, are, is) =
+      pick line LineClass.too_long more found fine rest = absurd fine
+      pick line LineClass.passed_over more (short, blank) fine (picked, are, is) = (picked, inr ((λ row. row.some blank), are), is)
+      pick line (LineClass.judged Judgment.Kept) more found fine (picked, are, is) =
           (line ∷ picked, inl (kept_true filter now line found, picked, refl, are), ap (λ l. text_of_line line ++ l) is)
-      pick line (LineClass.Judged Judgment.LeftOut) more (short, some, out) fine (picked, are, is) = (picked, inr (left_out line out, are), is)
-      pick line (LineClass.Judged (Judgment.Fault fault)) more found fine rest = absurd fine
+      pick line (LineClass.judged Judgment.LeftOut) more (short, some, out) fine (picked, are, is) = (picked, inr (left_out line out, are), is)
+      pick line (LineClass.judged (Judgment.Fault fault)) more found fine rest = absurd fine
 
       picked_of : (all : List (SiftedItem (List ℕ) BadRow)) → All IsFine all → HasTrueRows filter now (map (λ s. s.item) all) (kept_text text_of_line all)
       picked_of [] fine = ([], refl, refl)
@@ -177,13 +176,13 @@ module _ (ends : TypedEndsOnce) (has_type : FitsHasType) where
 
     pub stopped : StopAtFaults
     stopped text filter now bytes out (RunFault.Json n) checked is_moment of_row stop =
-        (n, LineClass.Judged (Judgment.Fault BadRow.NotJson), record { faulty = λ fine. fine; first = stop; written_before = passing text filter now checked is_moment stop.before out stop.tally stop.passes })
+        (n, LineClass.judged (Judgment.Fault BadRow.NotJson), record { faulty = λ fine. fine; first = stop; written_before = passing text filter now checked is_moment stop.before out stop.tally stop.passes })
     stopped text filter now bytes out (RunFault.Row n fault) checked is_moment of_row stop =
-        (n, LineClass.Judged (Judgment.Fault (BadRow.NoEntity fault)), record { faulty = λ fine. fine; first = stop; written_before = passing text filter now checked is_moment stop.before out stop.tally stop.passes })
+        (n, LineClass.judged (Judgment.Fault (BadRow.NoEntity fault)), record { faulty = λ fine. fine; first = stop; written_before = passing text filter now checked is_moment stop.before out stop.tally stop.passes })
     stopped text filter now bytes out (RunFault.Arithmetic n fault) checked is_moment of_row stop =
-        (n, LineClass.Judged (Judgment.Fault (BadRow.NoValue fault)), record { faulty = λ fine. fine; first = stop; written_before = passing text filter now checked is_moment stop.before out stop.tally stop.passes })
+        (n, LineClass.judged (Judgment.Fault (BadRow.NoValue fault)), record { faulty = λ fine. fine; first = stop; written_before = passing text filter now checked is_moment stop.before out stop.tally stop.passes })
     stopped text filter now bytes out (RunFault.LineTooLong n) checked is_moment of_row stop =
-        (n, LineClass.TooLong, record { faulty = λ fine. fine; first = stop; written_before = passing text filter now checked is_moment stop.before out stop.tally stop.passes })
+        (n, LineClass.too_long, record { faulty = λ fine. fine; first = stop; written_before = passing text filter now checked is_moment stop.before out stop.tally stop.passes })
     stopped text filter now bytes out RunFault.NotACollection checked is_moment of_row stop = absurd of_row
     stopped text filter now bytes out (RunFault.Read n) checked is_moment of_row stop = absurd of_row
     stopped text filter now bytes out RunFault.Write checked is_moment of_row stop = absurd of_row

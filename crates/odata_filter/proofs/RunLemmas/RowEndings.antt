@@ -4,9 +4,8 @@ use Rattle.std.specs.Prelude.{IfOk, IfErr, IfSome, IsSomeAnd}
 use Rattle.std.specs.Io.KnownBytes.{Appends, Keeps}
 use Rattle.edm_values.specs.MomentParts.{MomentParts}
 use Rattle.line_filter.specs.Growth.{Writes}
-use Rattle.line_filter.specs.Kept.{Items, Filters, Passes, Stops, StopsWithin}
+use Rattle.line_filter.specs.Kept.{LineClass, Items, Filters, Passes, Stops, StopsWithin}
 use Rattle.line_filter.specs.ItemIndexes.{IndexedItem}
-use Rattle.line_filter.specs.declared.line_class.LineClass.{LineClass}
 use Rattle.line_filter.specs.declared.judge.Judgment.{Judgment}
 use Rattle.line_filter.specs.declared.run_stop.RunStop.{RunStop}
 use Rattle.line_filter.specs.declared.tally.Tally.{Tally}
@@ -112,7 +111,7 @@ module _ (plan : Plan) (document : List ℕ) (filter : Filter) (now : MomentPart
         → ByFilter StopsAtFault plan document s
     line_at_fault s fault line bad reported held =
         by_filter (λ bytes text. SaysOfLines bytes text fault) StopsAtFault s
-        (λ bytes text stops. of_lines StopsAtFault bytes text (line, LineClass.Judged (Judgment.Fault bad), (λ sound. sound), subst (λ t. IsSomeAnd t (Stops (rows_of filter now bytes) text)) reported stops)) held
+        (λ bytes text stops. of_lines StopsAtFault bytes text (line, LineClass.judged (Judgment.Fault bad), (λ sound. sound), subst (λ t. IsSomeAnd t (Stops (rows_of filter now bytes) text)) reported stops)) held
 
     line_failed : (s : Streams) (failure : Failure) → StopsOver SaysOfLines failure s → FailureSays (status_of failure) Verb.Filter plan document s
     line_failed s NotAMoment held = absurd held
@@ -129,7 +128,7 @@ module _ (plan : Plan) (document : List ℕ) (filter : Filter) (now : MomentPart
     line_failed s (Rows (Arithmetic line fault)) held = inl (line_at_fault s (Arithmetic line fault) line (BadRow.NoValue fault) refl held)
     line_failed s (Rows (LineTooLong line)) held =
         inl (by_filter (λ bytes text. SaysOfLines bytes text (LineTooLong line)) StopsAtFault s
-        (λ bytes text stops. of_lines StopsAtFault bytes text (line, LineClass.TooLong, (λ sound. sound), stops)) held)
+        (λ bytes text stops. of_lines StopsAtFault bytes text (line, LineClass.too_long, (λ sound. sound), stops)) held)
     line_failed s (Rows NotACollection) held = inl (by_filter (λ bytes text. SaysOfLines bytes text NotACollection) StopsAtFault s (λ bytes text stops. absurd stops) held)
     line_failed s (Rows (Read line)) held = (filter, now, is_ready)
     line_failed s (Rows Write) held = (filter, now, is_ready)
@@ -177,7 +176,7 @@ module _ (plan : Plan) (document : List ℕ) (filter : Filter) (now : MomentPart
     item_at_fault : (fault : RunFault) (line : ℕ) (bad : BadRow) → run_stop fault ≡ Some (RunStop.Fault line bad) → Writes old new (λ text. OfCollection filter now bytes (λ items. StopsBy items text fault))
         → ByFilter StopsAtFault plan document these
     item_at_fault fault line bad reported (text, wrote, (items, is, stops)) =
-        by_indexed StopsAtFault (text, wrote, (items, is, (line, LineClass.Judged (Judgment.Fault bad), (λ sound. sound), subst (λ t. IsSomeAnd t (Stops (entities_of filter now items) text)) reported stops)))
+        by_indexed StopsAtFault (text, wrote, (items, is, (line, LineClass.judged (Judgment.Fault bad), (λ sound. sound), subst (λ t. IsSomeAnd t (Stops (entities_of filter now items) text)) reported stops)))
 
     pub places_fail : (fault : RunFault) → Writes old new (λ text. StopsCollection filter now bytes text fault) → FailureSays (status_of_rows fault) Verb.Filter plan document these
     places_fail (Json line) (text, wrote, stops) = absurd stops

@@ -1,4 +1,4 @@
-use Rattle.std.proofs.Common.{◌≡◌, ◌≤◌, ◌+◌, ◌++◌, ◌∷◌, ℕ, List, length, take, Result, Ok, ◌⊎◌, arith, refl, sym, ap, ◌∙◌, subst}
+use Rattle.std.proofs.Common.{◌≡◌, ◌≤◌, ◌+◌, ◌++◌, ◌∷◌, ℕ, List, length, take, ◌⊎◌, arith, sym, ap, ◌∙◌, subst}
 use Rattle.std.specs.Prelude.{IfSome}
 use Rattle.line_filter.specs.LineItems.{lines}
 use Rattle.line_filter.specs.Lines.{longest_line}
@@ -8,14 +8,13 @@ use Rattle.line_filter.specs.LineStreams.{LacksLine, ReadsUntil}
 use Rattle.line_filter.specs.private.Giving.{Gives, bytes_to_come}
 use Rattle.line_filter.specs.private.HeldBack.{WritesBut}
 use Rattle.line_filter.specs.declared.judge.Judgment.{Judgment}
-use Rattle.line_filter.specs.declared.line_class.LineClass.{LineClass}
 use Rattle.line_filter.specs.declared.run_stop.RunStop.{RunStop}
 use Rattle.line_filter.proofs.DeviceLaws.Called.{stays_well_refl, stays_well_trans}
 use Rattle.line_filter.proofs.DeviceLaws.Unread.{going_read, reads_well_refl, reads_well_more, reads_on}
 use Rattle.line_filter.proofs.ItemLaws.Passing.{outcome_counts}
-use Rattle.line_filter.proofs.ItemLaws.Stopping.{outcome_of-of_item}
-use Rattle.line_filter.proofs.LineLaws.Found.{SaysTheSame-refl, SaysTheSame-trans, found-same}
-use Rattle.line_filter.proofs.RunLaws.AtOnce.{found_at_once, HasCome-at_fault, HasCome-kept, HasCome-left_out}
+use Rattle.line_filter.proofs.ItemLaws.Stopping.{outcome_stops}
+use Rattle.line_filter.proofs.LineLaws.Found.{SaysTheSame-refl, SaysTheSame-trans, ComesOf-same}
+use Rattle.line_filter.proofs.RunLaws.AtOnce.{found_at_once, HasCome-at_fault, HasCome-kept, HasCome-left_out, HasCome-unkept}
 use Rattle.line_filter.proofs.RunLaws.Called.{reads_of_item, reads_reported}
 use Rattle.line_filter.proofs.RunLaws.Streams.{HasCome-none, HasCome-written, HasCome-unwritten, HasCome-end, HasCome-fault, HasCome-more, HasCome-stopped, HasCome-failed}
 use Rattle.line_filter.proofs.WriteLaws.HeldBack.{OnErr-from}
@@ -77,8 +76,8 @@ returns-in-Fault-clause-ok g c =
     (HasCome-fault says c.next_line.new.reader.waiting a r (g.R.Read.remaining c.next_line.new.reader.reader) (IsOver c.loop-fault.reader → ⊥) u w c.next_line.new.held.items c.loop-fault.lines c.loop-fault.tally fault came
     not_over given.left given.unended given.long)
 
-pub returns-in_err-one-clause-err : goal.returns-in_err-one-clause-err
-returns-in_err-one-clause-err g c =
+pub returns-in_err-keep_where-in-Ok-clause-err : goal.returns-in_err-keep_where-in-Ok-clause-err
+returns-in_err-keep_where-in-Ok-clause-err g c =
     let i = c.loop-fault.invariant in
     let says = g.J.Judge.says c.args.judge.now in
     let a = left_of g.R.Read.remaining c.args.reader.now in
@@ -92,11 +91,11 @@ returns-in_err-one-clause-err g c =
     let not_over = λ (over : IsOver c.loop-fault.reader). let ends = c.in_ok-next_line.ensures.again.over over in absurd {A = ⊥} (cc) in
     let came = HasCome-written says a r (IsOver c.loop-fault.reader → ⊥) u (g.W.Write.contents c.loop-fault.out) v c.loop-fault.held.items c.next_line.new.held.items c.loop-fault.lines c.loop-fault.tally i.4 c.in_ok-next_line.ensures.ok in
     let same = SaysTheSame-trans says (g.J.Judge.says c.loop-fault.judge) (g.J.Judge.says c.judge_at_front.new.self) i.3 c.judge_at_front.ensures.same in
-    let finds = found-same _ _ line c.find-found.result same c.find-found.ensures.found in
-    let failed = c.in_err-one.ensures in
-    OnErr-from c.from_residual-in_err-one.result _
-    (HasCome-failed says line (IsOver c.loop-fault.reader → ⊥) u v (g.W.Write.contents c.settle.new.out) c.next_line.new.held.items c.settle.new.held.items c.loop-fault.lines c.loop-fault.tally c.find-found.result finds not_over
-    a r s came first failed.kept failed.err)
+    let comes = ComesOf-same _ _ line _ c.line_outcome.result same c.line_outcome.ensures.comes in
+    let failed = c.in_err-keep_where-in-Ok.ensures in
+    OnErr-from c.from_residual-in_err-keep_where-in-Ok.result _
+    (HasCome-failed says line (IsOver c.loop-fault.reader → ⊥) u v c.next_line.new.held.items c.loop-fault.lines c.loop-fault.tally c.line_outcome.result comes not_over
+    a r s c.in-Ok.one (g.W.Write.contents c.keep_where.new.out) came first c.in-Ok.is failed.kept failed.err)
 
 pub overflow_add-tally : goal.overflow_add-tally
 overflow_add-tally g c = let i = c.loop-fault.invariant in omega (arith, i.0, i.1, c.requires.few)
@@ -104,7 +103,7 @@ overflow_add-tally g c = let i = c.loop-fault.invariant in omega (arith, i.0, i.
 pub overflow_add-tally-in-Ok : goal.overflow_add-tally-in-Ok
 overflow_add-tally-in-Ok g c =
     let i = c.loop-fault.invariant in
-    let counts = outcome_counts _ _ _ (sym c.in_ok-one.ensures.outcome ∙ c.in-Ok.is) in
+    let counts = outcome_counts _ _ c.line_outcome.result c.in-Ok.one c.line_outcome.ensures.comes c.in-Ok.is in
     omega (arith, i.0, i.1, i.2, counts.0, counts.1, c.requires.few)
 
 pub returns-in_err-keep-in-Some-Kept-clause-err : goal.returns-in_err-keep-in-Some-Kept-clause-err
@@ -125,9 +124,8 @@ returns-in_err-keep-in-Some-Kept-clause-err g c =
     let front_is : take (length line) front ≡ line = ap (λ (l : List ℕ). take (length l) front) c.line-line.ensures ∙ c.front.ensures ∙ sym c.line-line.ensures in
     let short : length line ≤ longest_line = subst (λ (l : List ℕ). length l ≤ longest_line) (sym c.line-line.ensures) given.short in
     let finds = found_at_once says (g.J.Judge.says c.loop-fault.judge) front line c.judge_at_front.result c.in-Some-Kept.field-0 Judgment.Kept i.3 c.in-Some-Kept.is c.in-Some-Kept.field-0-is front_is short c.judge_at_front.ensures.said c.judge_at_front.ensures.not_blank in
-    let found : Result (LineClass g.row.J-Fault.Denot) ℕ = Ok (LineClass.Judged Judgment.Kept) in
     OnErr-from c.from_residual-in_err-keep-in-Some-Kept.result _
-    (HasCome-failed says line (IsOver c.loop-fault.reader → ⊥) u v (g.W.Write.contents c.keep.new.out) c.next_line.new.held.items c.keep.new.held.items c.loop-fault.lines c.loop-fault.tally found finds not_over a r s came first refl c.in_err-keep-in-Some-Kept.ensures.err)
+    (HasCome-unkept says line (IsOver c.loop-fault.reader → ⊥) u v c.next_line.new.held.items c.loop-fault.lines c.loop-fault.tally not_over a r s came first finds (g.W.Write.contents c.keep.new.out) c.in_err-keep-in-Some-Kept.ensures.err)
 
 pub loop-fault-preserved-in-Some-Kept : goal.loop-fault-preserved-in-Some-Kept
 loop-fault-preserved-in-Some-Kept g c =
@@ -237,16 +235,15 @@ loop-fault-preserved g c =
     let u = g.W.Write.contents c.args.out.now in
     let v = g.W.Write.contents c.next_line.new.out in
     let line = c.line-line.result.now in
-    let settled = c.in_ok-one.ensures in
-    let step = sym settled.outcome ∙ c.in-Ok.is in
-    let counts = outcome_counts _ _ _ step in
+    let kept = c.in_ok-keep_where-in-Ok.ensures in
+    let counts = outcome_counts _ _ c.line_outcome.result c.in-Ok.one c.line_outcome.ensures.comes c.in-Ok.is in
     let given = subst (Gives g.R.Read.remaining c.loop-fault.reader c.next_line.new.reader) c.in-Line.is c.in_ok-next_line.ensures.given in
     let first = subst (λ (l : List ℕ). GivesLine r s l) (sym c.line-line.ensures) given.first in
     let whole = subst (λ (l : List ℕ). IsOver c.next_line.new.reader ⊎ WhereKnown r s (λ rest after. rest ≡ l ++ 10 ∷ after)) (sym c.line-line.ensures) given.whole in
     let not_over = λ (over : IsOver c.loop-fault.reader). let ends = c.in_ok-next_line.ensures.again.over over in absurd {A = ⊥} (cc) in
     let came = HasCome-written says a r (IsOver c.loop-fault.reader → ⊥) u (g.W.Write.contents c.loop-fault.out) v c.loop-fault.held.items c.next_line.new.held.items c.loop-fault.lines c.loop-fault.tally i.4 c.in_ok-next_line.ensures.ok in
     let same = SaysTheSame-trans says (g.J.Judge.says c.loop-fault.judge) (g.J.Judge.says c.judge_at_front.new.self) i.3 c.judge_at_front.ensures.same in
-    let finds = found-same _ _ line c.find-found.result same c.find-found.ensures.found in
+    let comes = ComesOf-same _ _ line _ c.line_outcome.result same c.line_outcome.ensures.comes in
     let fewer = given.fewer in
     let lines_fit : c.loop-fault.lines + 1 + bytes_to_come c.next_line.new.reader ≤ bytes_to_come c.args.reader.now = omega (arith, i.0, fewer) in
     let rows_fit : c.loop-fault.tally.rows + c.in-Ok.one.rows ≤ c.loop-fault.lines + 1 = omega (arith, i.1, counts.0) in
@@ -254,11 +251,11 @@ loop-fault-preserved g c =
       lines_fit,
       rows_fit,
       kept_fit,
-      SaysTheSame-trans _ _ _ same c.find-found.ensures.same,
-      HasCome-more says line (IsOver c.loop-fault.reader → ⊥) u v (g.W.Write.contents c.settle.new.out) c.next_line.new.held.items c.settle.new.held.items c.loop-fault.lines c.loop-fault.tally c.find-found.result finds not_over
-          a r s (IsOver c.next_line.new.reader) c.in-Ok.one came first whole settled.ok step,
+      SaysTheSame-trans _ _ _ same c.line_outcome.ensures.same,
+      HasCome-more says line (IsOver c.loop-fault.reader → ⊥) u v c.next_line.new.held.items c.loop-fault.lines c.loop-fault.tally c.line_outcome.result comes not_over
+          a r s (IsOver c.next_line.new.reader) c.in-Ok.one (g.W.Write.contents c.keep_where.new.out) c.keep_where.new.held.items came first whole c.in-Ok.is kept.ok,
       reads_well_more g.S.Reads.calls g.R.Read.remaining c.args.reader.now c.loop-fault.reader c.next_line.new.reader i.5 c.in_ok-next_line.ensures.reads (going_read c.next_line.new.reader given.going),
-      stays_well_trans _ (g.T.Writes.calls c.next_line.new.out) _ (stays_well_trans _ (g.T.Writes.calls c.loop-fault.out) _ i.6 c.in_ok-next_line.ensures.well) settled.well,
+      stays_well_trans _ (g.T.Writes.calls c.next_line.new.out) _ (stays_well_trans _ (g.T.Writes.calls c.loop-fault.out) _ i.6 c.in_ok-next_line.ensures.well) kept.well,
       λ is. absurd (going_read c.next_line.new.reader given.going is),
     )
 
@@ -272,15 +269,14 @@ returns-in-Err-clause-ok g c =
     let u = g.W.Write.contents c.args.out.now in
     let v = g.W.Write.contents c.next_line.new.out in
     let line = c.line-line.result.now in
-    let settled = c.in_ok-one.ensures in
     let given = subst (Gives g.R.Read.remaining c.loop-fault.reader c.next_line.new.reader) c.in-Line.is c.in_ok-next_line.ensures.given in
     let first = subst (λ (l : List ℕ). GivesLine r s l) (sym c.line-line.ensures) given.first in
     let not_over = λ (over : IsOver c.loop-fault.reader). let ends = c.in_ok-next_line.ensures.again.over over in absurd {A = ⊥} (cc) in
     let came = HasCome-written says a r (IsOver c.loop-fault.reader → ⊥) u (g.W.Write.contents c.loop-fault.out) v c.loop-fault.held.items c.next_line.new.held.items c.loop-fault.lines c.loop-fault.tally i.4 c.in_ok-next_line.ensures.ok in
     let same = SaysTheSame-trans says (g.J.Judge.says c.loop-fault.judge) (g.J.Judge.says c.judge_at_front.new.self) i.3 c.judge_at_front.ensures.same in
-    let finds = found-same _ _ line c.find-found.result same c.find-found.ensures.found in
-    HasCome-stopped says line (IsOver c.loop-fault.reader → ⊥) u v (g.W.Write.contents c.settle.new.out) c.next_line.new.held.items c.settle.new.held.items c.loop-fault.lines c.loop-fault.tally c.find-found.result finds not_over
-    c.next_line.new.reader.waiting (g.R.Read.remaining c.next_line.new.reader.reader) a r s c.in-Err.stop came first settled.ok (sym settled.outcome ∙ c.in-Err.is)
+    let comes = ComesOf-same _ _ line _ c.line_outcome.result same c.line_outcome.ensures.comes in
+    HasCome-stopped says line (IsOver c.loop-fault.reader → ⊥) u v c.next_line.new.held.items c.loop-fault.lines c.loop-fault.tally c.line_outcome.result comes not_over
+    c.next_line.new.reader.waiting (g.R.Read.remaining c.next_line.new.reader.reader) a r s c.in-Err.stop came first c.in-Err.is
 
 pub returns-in-Fault-clause-reads : goal.returns-in-Fault-clause-reads
 returns-in-Fault-clause-reads g c =
@@ -300,5 +296,5 @@ returns-in-Err-clause-reads g c =
     let given = subst (Gives remaining c.loop-fault.reader c.next_line.new.reader) c.in-Line.is c.in_ok-next_line.ensures.given in
     let not = going_read c.next_line.new.reader given.going in
     let reads = reads_on calls remaining c.args.reader.now c.loop-fault.reader c.next_line.new.reader i.5 c.in_ok-next_line.ensures.reads in
-    let of_item = outcome_of-of_item (c.loop-fault.lines + 1) c.find-found.result c.in-Err.stop (sym c.in_ok-one.ensures.outcome ∙ c.in-Err.is) in
+    let of_item = outcome_stops _ _ c.line_outcome.result c.in-Err.stop c.line_outcome.ensures.comes c.in-Err.is in
     reads_of_item calls remaining c.args.reader.now c.next_line.new.reader c.in-Err.stop of_item (reads.well not)
