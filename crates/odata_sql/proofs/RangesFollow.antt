@@ -10,7 +10,7 @@ use Rattle.odata_ranges.specs.declared.range.Range.{Range}
 use Rattle.sql_draft.specs.Kinds.{kind_of_type}
 use Rattle.sql_draft.specs.Translated.{AreRanges, IsCarriedKind}
 use Rattle.sql_draft.specs.World.{Question}
-use Rattle.sql_forms.proofs.nodes.Contexts.{AreEntitiesRecords, range_holds}
+use Rattle.sql_outcomes.proofs.nodes.Contexts.{AreEntitiesRecords, range_holds}
 
 -- a node of a type that is not quiet may be a fault
 not_quiet : (type : EdmType) → (IsQuietType type → ⊥) → IsCarriedKind (kind_of_type type)

@@ -42,9 +42,9 @@ use Rattle.sql_draft.specs.Rows.{IsFault}
 use Rattle.sql_draft.specs.Translated.{AreRanges, IsTruthAt, IsTruthKind}
 use Rattle.sql_draft.specs.World.{IsAskedOf, OfPlace, Puts, Question, World}
 use Rattle.sql_draft.proofs.Composing.{by_node}
-use Rattle.sql_forms.proofs.nodes.BinaryPlaces.{top_node}
-use Rattle.sql_forms.proofs.outcomes.ChainWalk.{truth_kind}
-use Rattle.sql_forms.proofs.outcomes.FaultConditions.{fault_condition}
+use Rattle.sql_outcomes.proofs.nodes.BinaryPlaces.{top_node}
+use Rattle.sql_outcomes.proofs.outcomes.ChainWalk.{truth_kind}
+use Rattle.sql_outcomes.proofs.outcomes.FaultConditions.{fault_condition}
 use Rattle.odata_sql.proofs.Statements.{says_of_each}
 use Rattle.sql_tree.specs.Numbered.{AreNumbered, parameters_of}
 use Rattle.sql_tree.specs.ParserDepth.{symbols_of}

@@ -12,7 +12,7 @@ use Rattle.sql_meaning.specs.Table.{Asked}
 use Rattle.sql_tree.specs.Term.{Term}
 use Rattle.sql_tree.specs.declared.parameter.Parameter.{Parameter}
 use Rattle.sql_tree.specs.declared.json_path.Path.{Path}
-use Rattle.sql_forms.specs.Forms.{IsTrueWhere}
+use Rattle.sql_outcomes.specs.TrueWhere.{IsTrueWhere}
 use Rattle.sql_draft.specs.Rows.{IsFault, IsRowOf}
 
 -- a statement with these paths and parameters, asked of a row

@@ -1,5 +1,7 @@
 pub mod Common
+pub mod Measures
+pub mod MeasuresLess
+pub mod MeasuresSteps
 pub mod answers
-pub mod nodes
-pub mod outcomes
+pub mod lets
 pub mod puts

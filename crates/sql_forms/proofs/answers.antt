@@ -1,7 +1,12 @@
 -- What functions return, by what they call.
 pub mod AlongAnswers
+pub mod ArithmeticAnswers
 pub mod CallAnswers
+pub mod ChainAnswers
+pub mod CodeAnswers
 pub mod CodedAnswers
+pub mod ComparisonAnswers
+pub mod ComparisonsReported
 pub mod ConstantAnswers
 pub mod DecidedAnswers
 pub mod EqualAnswers
@@ -9,11 +14,17 @@ pub mod FlagAnswers
 pub mod FunctionAnswers
 pub mod HalfAnswers
 pub mod InPathAnswers
+pub mod InstantAnswers
 pub mod ListAnswers
+pub mod LiteralAnswers
 pub mod LoopAnswers
 pub mod MemberAnswers
 pub mod NodeAnswers
 pub mod NumberAnswers
+pub mod OperandAnswers
 pub mod PathAnswers
 pub mod RequiredAnswers
+pub mod TruthAnswers
+pub mod ValueAnswers
+pub mod WhereOk
 pub mod ZeroAnswers

@@ -7,6 +7,7 @@ pub mod CalculatedPut
 pub mod CallPut
 pub mod CalledPut
 pub mod ChainsPut
+pub mod CodeConditions
 pub mod CodesPut
 pub mod ComparedCodePut
 pub mod ComparisonsPut
@@ -22,17 +23,13 @@ pub mod HasMemberPut
 pub mod InPathPut
 pub mod LambdaCodePut
 pub mod LambdaPut
-pub mod LiftedPut
-pub mod LiftedWhole
 pub mod ListCodePut
 pub mod LiteralsPut
 pub mod MemberOutcomes
 pub mod MissingPut
-pub mod OneLeft
+pub mod NotPut
 pub mod OperandsPut
-pub mod OrNullsLet
 pub mod OrNullsPut
-pub mod OverMembersPut
 pub mod PathValuePut
 pub mod PlainLeftPut
 pub mod PlainPut

@@ -2,8 +2,9 @@
 ghost use Rattle.std.specs.Prelude.{OnOk};
 ghost use Rattle.sql_meaning.specs.Tables.{IsTableBesideNull, IsTableOfComparison};
 ghost use Rattle.sql_forms.specs.declared.terms.Form.{Form};
-ghost use Rattle.sql_forms.specs.private.Chains.{IsJoin};
-ghost use Rattle.sql_forms.specs.private.Compared.{CodeHas, IsCoded, IsFaulty};
+ghost use Rattle.sql_forms.specs.private.Joins.{IsJoin};
+ghost use Rattle.sql_outcomes.specs.ComparedSides.{CodeHas};
+ghost use Rattle.sql_outcomes.specs.private.FaultySides.{IsCoded, IsFaulty};
 ghost use Rattle.sql_forms.specs.Forms.{IsInForm};
 ghost use Rattle.sql_draft.specs.Kinds.{AreCompared};
 ghost use Rattle.sql_forms.specs.private.Lists.{AsCode, FaultyOrNull};

@@ -6,10 +6,14 @@ ghost use Rattle.odata_syntax.specs.declared.binary_operator.ComparisonOperator.
 ghost use Rattle.sql_tree.specs.declared.sql_node.SqlType.{SqlType};
 ghost use Rattle.sql_draft.specs.declared.sql_context.Kind.{Kind};
 ghost use Rattle.sql_forms.specs.declared.terms.Form.{Form};
-ghost use Rattle.sql_forms.specs.private.Compared.{AreOpposite, BesideNullHas, ComparisonHas, IsComparedIn};
-ghost use Rattle.sql_forms.specs.private.Compared.{IsEnough, IsGiven, StrictHas, compared_in};
+ghost use Rattle.sql_outcomes.specs.ComparedSides.{AreOpposite};
+ghost use Rattle.sql_forms.specs.private.Compared.{BesideNullHas, IsComparedIn};
+ghost use Rattle.sql_outcomes.specs.private.FaultySides.{ComparisonHas};
+ghost use Rattle.sql_outcomes.specs.ComparedSides.{IsEnough};
+ghost use Rattle.sql_outcomes.specs.private.FaultySides.{IsGiven, compared_in};
+ghost use Rattle.sql_forms.specs.private.Compared.{StrictHas};
 ghost use Rattle.sql_forms.specs.Forms.{IsInForm};
-ghost use Rattle.sql_forms.specs.private.AskedForms.{Itself, OrTruth};
+ghost use Rattle.sql_outcomes.specs.private.ValueForms.{Itself, OrTruth};
 ghost use Rattle.sql_draft.specs.Kinds.{AreAlike, AreCompared};
 ghost use Rattle.sql_draft.specs.OperandHas.{IsPut, IsTested};
 ghost use Rattle.sql_draft.specs.Translated.{IsTranslated, question_of};

@@ -5,7 +5,8 @@ ghost use Rattle.odata_syntax.specs.declared.binary_operator.ComparisonOperator.
 ghost use Rattle.sql_tree.specs.declared.sql_node.SqlNode.{SqlNode};
 ghost use Rattle.sql_tree.specs.declared.sql_node.SqlType.{SqlType};
 ghost use Rattle.sql_forms.specs.declared.terms.Form.{Form};
-ghost use Rattle.sql_forms.specs.private.Chains.{ChainHas, IsJoin};
+ghost use Rattle.sql_outcomes.specs.private.ChainTerms.{ChainHas};
+ghost use Rattle.sql_forms.specs.private.Joins.{IsJoin};
 ghost use Rattle.sql_forms.specs.Forms.{IsInForm};
 ghost use Rattle.sql_forms.specs.private.AskedForms.{IsAskedCode, asked_digit};
 ghost use Rattle.sql_draft.specs.Growth.{GrowsBy};

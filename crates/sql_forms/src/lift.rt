@@ -3,7 +3,9 @@ ghost use Rattle.std.specs.Prelude.{◌≡◌, ◌≢◌, ◌<◌, ◌≤◌, �
 ghost use Rattle.std.specs.List.{AllByRecursion};
 ghost use Rattle.sql_draft.specs.declared.sql_context.Kind.{Kind};
 ghost use Rattle.sql_draft.specs.Growth.{Grows};
-ghost use Rattle.sql_forms.specs.private.Lifts.{AllHave, IsLifted, IsOpened, carrier_in, fault_front, faults_front};
+ghost use Rattle.sql_outcomes.specs.OperandFaults.{AllHave, carrier_in};
+ghost use Rattle.sql_forms.specs.private.Lifts.{IsLifted, IsOpened};
+ghost use Rattle.sql_outcomes.specs.private.BoundOperands.{fault_front, faults_front};
 ghost use Rattle.sql_draft.specs.OperandHas.{IsInside, IsPut};
 ghost use Rattle.sql_draft.specs.Translated.{IsTranslated, question_of};
 ghost use Rattle.sql_draft.specs.World.{PutsAll};

@@ -1,6 +1,6 @@
 //! The value of a property, of a member or of a range variable.
 ghost use Rattle.std.specs.Prelude.{OnOk};
-ghost use Rattle.sql_forms.specs.private.AskedForms.{Itself};
+ghost use Rattle.sql_outcomes.specs.private.ValueForms.{Itself};
 ghost use Rattle.sql_draft.specs.Translated.{HasFieldType, IsPathAt, IsTranslated, question_of};
 ghost use Rattle.sql_draft.specs.World.{OfPlace, Puts};
 

@@ -3,7 +3,8 @@ ghost use Rattle.std.specs.Prelude.{◌≡◌, ◌<◌, IfNone, IfOk, IfSome, Is
 ghost use Rattle.std.specs.List.{AllByRecursion};
 ghost use Rattle.odata_syntax.specs.declared.binary_operator.LogicalOperator.{LogicalOperator};
 ghost use Rattle.sql_forms.specs.declared.terms.Form.{Form};
-ghost use Rattle.sql_forms.specs.private.Chains.{ChainHas, IsChain, IsConnective, IsJoin, IsOfValues};
+ghost use Rattle.sql_outcomes.specs.private.ChainTerms.{ChainHas, IsChain, IsConnective};
+ghost use Rattle.sql_forms.specs.private.Joins.{IsJoin, IsOfValues};
 ghost use Rattle.sql_forms.specs.Forms.{IsInForm};
 ghost use Rattle.sql_draft.specs.Translated.{IsFaultless, IsTranslated, IsTruthAt, question_of};
 ghost use Rattle.sql_draft.specs.World.{OfPlace, Puts};

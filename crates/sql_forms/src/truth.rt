@@ -2,11 +2,12 @@
 ghost use Rattle.std.specs.Prelude.{◌≡◌, ◌<◌, IfNone, IfSome, IsSomeAnd, OnOk, length, slice_get};
 ghost use Rattle.odata_checked_filter.specs.declared.checked_node.NodeKind.{NodeKind};
 ghost use Rattle.sql_forms.specs.declared.terms.Form.{Form};
-ghost use Rattle.sql_forms.specs.private.Called.{FlagsHave};
-ghost use Rattle.sql_forms.specs.private.Chains.{IsJoin};
-ghost use Rattle.sql_forms.specs.private.Compared.{ComparesNothing, IsComparisonOf};
+ghost use Rattle.sql_outcomes.specs.Calls.{FlagsHave};
+ghost use Rattle.sql_forms.specs.private.Joins.{IsJoin};
+ghost use Rattle.sql_outcomes.specs.private.FaultySides.{ComparesNothing};
+ghost use Rattle.sql_outcomes.specs.ComparedSides.{IsComparisonOf};
 ghost use Rattle.sql_forms.specs.Forms.{IsInForm};
-ghost use Rattle.sql_forms.specs.private.AskedForms.{Itself};
+ghost use Rattle.sql_outcomes.specs.private.ValueForms.{Itself};
 ghost use Rattle.sql_draft.specs.OperandHas.{IsPut};
 ghost use Rattle.sql_draft.specs.Translated.{IsBooleanAt, IsFaultless, IsKindAt, IsOtherKind, IsTranslated, IsTruthAt, question_of};
 ghost use Rattle.sql_draft.specs.World.{OfPlace, Puts};

@@ -5,8 +5,8 @@ ghost use Rattle.edm_values.specs.declared.primitive.PrimitiveType.{PrimitiveTyp
 ghost use Rattle.odata_checked_filter.specs.declared.checked_node.NodeKind.{NodeKind};
 ghost use Rattle.odata_syntax.specs.declared.binary_operator.BinaryOperator.{BinaryOperator};
 ghost use Rattle.sql_tree.specs.declared.sql_node.SqlType.{SqlType};
-ghost use Rattle.sql_forms.specs.private.Calculated.{IsComputedIn};
-ghost use Rattle.sql_forms.specs.private.AskedForms.{Itself};
+ghost use Rattle.sql_outcomes.specs.Calculations.{IsComputedIn};
+ghost use Rattle.sql_outcomes.specs.private.ValueForms.{Itself};
 ghost use Rattle.sql_draft.specs.Growth.{GrowsByText};
 ghost use Rattle.sql_draft.specs.OperandHas.{HasNumber, IsLiteralAt, SourceHas};
 ghost use Rattle.sql_draft.specs.Translated.{IsKindAt, IsNulFreeAt, IsPlainAt, IsSpelled, IsTranslated, IsValuedAt, question_of};

@@ -1,6 +1,6 @@
 use Rattle.sql_forms.proofs.Common.{Value, CheckedNode, NodeKind, found_there, inside, some_there, there_found, ArithFault, IsQuietKind, TakesCount, Form, CheckedHas, AreArgumentsOf, CalledHas, IsChain, IsJoin, IsOfValues, ComparesNothing, ComparisonHas, IsFaulty, AllHave, faults_front, AmongHas, AreConstants, AreItemsOf, AreMembersBeside, AsCode, EqualCodesOrNull, EqualsHas, kept_form, body_form, missing_front, ArithmeticOperator, BinaryOperator, ComparisonOperator, LogicalOperator, Quantifier, by_node, on_ok, literal_spelled, literal_within, path_on, Grows, GrowsBy, AreCompared, kind_of_type, IsInside, IsPut, IsSourceOf, IsTested, IsFaultless, IsKindAt, IsStep, IsTruthAt, IsTruthKind, question_of, OfPlace, Puts, PutsAll, Draft, Operand, Source, Kind, Carrier, Digit, SqlNode, SqlType, All, List, None, OnOk, Result, [], ap, arith, false, get_or, inl, inr, length, pos, refl, rules, subst, suc, sym, true, ℕ, ◌++◌, ◌+◌, ◌-◌, ◌/◌, ◌<ℤ◌, ◌<◌, ◌∙◌, ◌∷◌, ◌≡◌, ◌≢◌, ◌≤◌, nil_from_length, slice_get-get_or, slice_get_read, slice_get_within, AllByRecursion, slice_get, Range}
 use Rattle.sql_forms.specs.Forms.{IsInForm}
-use Rattle.sql_forms.specs.private.AskedForms.{Itself, OrTruth}
+use Rattle.sql_outcomes.specs.private.ValueForms.{Itself, OrTruth}
 use Rattle.sql_forms.proofs.answers.AlongAnswers.{kind_inside, node_is_at}
 use Rattle.sql_forms.proofs.answers.CallAnswers.{ok_call, ok_call_code, ok_called, ok_counted, small_of}
 use Rattle.sql_forms.proofs.answers.CodedAnswers.{faulty_coded, not_coded, null_after_truth, null_before_truth, ok_after_null, ok_before_null, ok_compared_code, ok_flags, ok_only_code, ok_truths}
@@ -17,42 +17,43 @@ use Rattle.sql_forms.proofs.answers.NodeAnswers.{boolean_of, boolean_there, chai
 use Rattle.sql_forms.proofs.answers.NumberAnswers.{ok_checked, ok_safe}
 use Rattle.sql_forms.proofs.answers.RequiredAnswers.{at_all, empty_length, negated_child, no_place, node_plain, node_there, node_valued, not_so, or_equal, own_carried, some_length}
 use Rattle.sql_forms.proofs.answers.ZeroAnswers.{zero_bounded, zero_high, zero_low, zero_may_be_put}
-use Rattle.sql_forms.proofs.nodes.ArithmeticNodes.{calculated_node, negated_node}
-use Rattle.sql_forms.proofs.nodes.BelowNodes.{below_faultless, body_there, lambda_body, lambda_path, not_below}
-use Rattle.sql_forms.proofs.nodes.CallSuits.{arguments_given}
-use Rattle.sql_forms.proofs.nodes.ChildPlaces.{first_child, flags_inside, has_range, lambda_inside, list_child, operator_inside, path_inside, second_child}
-use Rattle.sql_forms.proofs.nodes.ComparisonPlaces.{side_faulty}
-use Rattle.sql_forms.proofs.nodes.ComparisonsAt.{node_operand}
-use Rattle.sql_forms.proofs.nodes.FlagSides.{flag_sides}
-use Rattle.sql_forms.proofs.nodes.Given.{all_inside, asked_no_truth, chain_faultless, code_values, faultless_plain, faulty_inside, first_put, kind_path, negated_put, not_null, null_there, of_field, put_inside, second_put, terms_ranged}
-use Rattle.sql_forms.proofs.nodes.InPathNodes.{at_place}
-use Rattle.sql_forms.proofs.nodes.InPathPlaces.{beside_collection, members_truth}
-use Rattle.sql_forms.proofs.nodes.ListPlaces.{items_few}
-use Rattle.sql_forms.proofs.nodes.Measures.{down_to, left_among, left_by, left_from, left_in, left_of, on_from}
-use Rattle.sql_forms.proofs.nodes.MeasuresLess.{arguments_left, lifted_bound_left, lifted_inner_left, lifted_one_left, lifted_two_left, one_left, sides_left, term_left, terms_left, two_left}
-use Rattle.sql_forms.proofs.nodes.MeasuresSteps.{at_on, bound_beside_left, bound_left_left, front_left, front_terms, further_on, item_left, items_on, lifted_left_left, member_left, next_on, node_left, nothing_on, parts_length, rest_left, rest_terms, second_after, side_on, swap_left, two_on}
-use Rattle.sql_forms.proofs.nodes.Contexts.{paths_by_laws}
-use Rattle.sql_forms.proofs.nodes.StructuredNodes.{node_tested, not_testable, nullable_path}
-use Rattle.sql_forms.proofs.nodes.TruthKinds.{no_other_truth, other_kind}
-use Rattle.sql_forms.proofs.nodes.ValueNodes.{computed_by, counted_path, negation_computed, operator_computed, path_here}
-use Rattle.sql_forms.proofs.outcomes.ArithmeticAnswers.{ok_divided, ok_is_zero, ok_undivided, ok_wide, ok_wide_zero}
-use Rattle.sql_forms.proofs.outcomes.ChainAnswers.{ok_all_joined, ok_alone, ok_chain, ok_form, ok_joined, ok_same_terms, ok_undecided}
-use Rattle.sql_forms.proofs.outcomes.CodeAnswers.{ok_code_bound, ok_code_node}
-use Rattle.sql_forms.proofs.outcomes.ComparedValues.{alike_of, tested_put}
-use Rattle.sql_forms.proofs.outcomes.ComparisonAnswers.{ok_beside_false, ok_beside_not, ok_beside_null, ok_denied, ok_given, ok_is_true, ok_kept, ok_kept_strict, ok_left_null, ok_right_null, ok_same, ok_strict, ok_unequal, order_of, true_of_nulls}
-use Rattle.sql_forms.proofs.outcomes.ComparisonsReported.{ok_not_equal, ok_opposite, reported_enough, reported_one, reported_order}
-use Rattle.sql_forms.proofs.outcomes.InstantAnswers.{ok_literal_instant, ok_now, ok_of_moment}
-use Rattle.sql_forms.proofs.outcomes.LiftedOperands.{alike_in, all_put, each, holds_inside, holds_of_bound, inner_length, kind_in, put_bound, put_in, tested_value}
-use Rattle.sql_forms.proofs.outcomes.LiteralAnswers.{literal_at}
-use Rattle.sql_forms.proofs.outcomes.OperandAnswers.{ok_always, ok_bound, ok_compared, ok_field, ok_missing, ok_never as of_operand_answers_ok_never, ok_node, ok_null, ok_number, ok_path, ok_unfaulted, ok_zero}
-use Rattle.sql_forms.proofs.outcomes.TestedBoth.{bound_may_be_put, compared_inside_let, tested_inside_let, untrue_tested}
-use Rattle.sql_forms.proofs.outcomes.TestedFirst.{beside_first, faulty_first, kind_first, tested_first}
-use Rattle.sql_forms.proofs.outcomes.TruthAnswers.{ok_code_by_truth, ok_comparison, ok_comparison_code, ok_denies_by_truth, ok_has_code, ok_keeps_by_truth, ok_literal, ok_not_code, ok_not_denies, ok_not_keeps, ok_not_truth, ok_null_asked, ok_null_truth}
-use Rattle.sql_forms.proofs.outcomes.ValueAnswers.{ok_calculated_value, ok_counted_value, ok_now_value, ok_null_value}
-use Rattle.sql_forms.proofs.outcomes.ValueWalk.{no_value_put, one_value_put}
+use Rattle.sql_outcomes.proofs.nodes.ArithmeticNodes.{calculated_node, negated_node}
+use Rattle.sql_outcomes.proofs.nodes.BelowNodes.{below_faultless, body_there, lambda_body, lambda_path, not_below}
+use Rattle.sql_outcomes.proofs.nodes.CallSuits.{arguments_given}
+use Rattle.sql_outcomes.proofs.nodes.ChildPlaces.{first_child, flags_inside, has_range, lambda_inside, list_child, operator_inside, path_inside, second_child}
+use Rattle.sql_outcomes.proofs.nodes.ComparisonPlaces.{side_faulty}
+use Rattle.sql_outcomes.proofs.nodes.ComparisonsAt.{node_operand}
+use Rattle.sql_outcomes.proofs.nodes.FlagSides.{flag_sides}
+use Rattle.sql_outcomes.proofs.nodes.Given.{all_inside, chain_faultless, faultless_plain, faulty_inside, first_put, kind_path, negated_put, not_null, null_there, of_field, put_inside, second_put, terms_ranged}
+use Rattle.sql_forms.proofs.puts.FormsPut.{asked_no_truth, code_values}
+use Rattle.sql_outcomes.proofs.nodes.InPathNodes.{at_place}
+use Rattle.sql_outcomes.proofs.nodes.InPathPlaces.{beside_collection, members_truth}
+use Rattle.sql_outcomes.proofs.nodes.ListPlaces.{items_few}
+use Rattle.sql_forms.proofs.Measures.{down_to, left_among, left_by, left_from, left_in, left_of, on_from}
+use Rattle.sql_forms.proofs.MeasuresLess.{arguments_left, lifted_bound_left, lifted_inner_left, lifted_one_left, lifted_two_left, one_left, sides_left, term_left, terms_left, two_left}
+use Rattle.sql_forms.proofs.MeasuresSteps.{at_on, bound_beside_left, bound_left_left, front_left, front_terms, further_on, item_left, items_on, lifted_left_left, member_left, next_on, node_left, nothing_on, parts_length, rest_left, rest_terms, second_after, side_on, swap_left, two_on}
+use Rattle.sql_outcomes.proofs.nodes.Contexts.{paths_by_laws}
+use Rattle.sql_outcomes.proofs.nodes.StructuredNodes.{node_tested, not_testable, nullable_path}
+use Rattle.sql_outcomes.proofs.nodes.TruthKinds.{no_other_truth, other_kind}
+use Rattle.sql_outcomes.proofs.nodes.ValueNodes.{computed_by, counted_path, negation_computed, operator_computed, path_here}
+use Rattle.sql_forms.proofs.answers.ArithmeticAnswers.{ok_divided, ok_is_zero, ok_undivided, ok_wide, ok_wide_zero}
+use Rattle.sql_forms.proofs.answers.ChainAnswers.{ok_all_joined, ok_alone, ok_chain, ok_form, ok_joined, ok_same_terms, ok_undecided}
+use Rattle.sql_forms.proofs.answers.CodeAnswers.{ok_code_bound, ok_code_node}
+use Rattle.sql_outcomes.proofs.outcomes.ComparedValues.{alike_of, tested_put}
+use Rattle.sql_forms.proofs.answers.ComparisonAnswers.{ok_beside_false, ok_beside_not, ok_beside_null, ok_denied, ok_given, ok_is_true, ok_kept, ok_kept_strict, ok_left_null, ok_right_null, ok_same, ok_strict, ok_unequal, order_of, true_of_nulls}
+use Rattle.sql_forms.proofs.answers.ComparisonsReported.{ok_not_equal, ok_opposite, reported_enough, reported_one, reported_order}
+use Rattle.sql_forms.proofs.answers.InstantAnswers.{ok_literal_instant, ok_now, ok_of_moment}
+use Rattle.sql_forms.proofs.lets.InsideLet.{alike_in, all_put, holds_inside, holds_of_bound, inner_length, kind_in, put_in, bound_may_be_put, compared_inside_let, tested_inside_let, beside_first, faulty_first, kind_first, tested_first}
+use Rattle.sql_outcomes.proofs.outcomes.LiftedOperands.{each, put_bound, tested_value}
+use Rattle.sql_forms.proofs.answers.LiteralAnswers.{literal_at}
+use Rattle.sql_forms.proofs.answers.OperandAnswers.{ok_always, ok_bound, ok_compared, ok_field, ok_missing, ok_never as of_operand_answers_ok_never, ok_node, ok_null, ok_number, ok_path, ok_unfaulted, ok_zero}
+use Rattle.sql_outcomes.proofs.outcomes.TestedBoth.{untrue_tested}
+use Rattle.sql_forms.proofs.answers.TruthAnswers.{ok_code_by_truth, ok_comparison, ok_comparison_code, ok_denies_by_truth, ok_has_code, ok_keeps_by_truth, ok_literal, ok_not_code, ok_not_denies, ok_not_keeps, ok_not_truth, ok_null_asked, ok_null_truth}
+use Rattle.sql_forms.proofs.answers.ValueAnswers.{ok_calculated_value, ok_counted_value, ok_now_value, ok_null_value}
+use Rattle.sql_outcomes.proofs.outcomes.ValueWalk.{no_value_put, one_value_put}
 use Rattle.sql_forms.proofs.puts.HasMemberPut.{has_member_put, member_compared, member_tested}
-use Rattle.sql_forms.proofs.puts.OrNullsLet.{ok_or_nulls}
-use Rattle.sql_forms.specs.private.Compared.{IsCoded}
+use Rattle.sql_forms.proofs.lets.OrNullsLet.{ok_or_nulls}
+use Rattle.sql_outcomes.specs.private.FaultySides.{IsCoded}
 use Rattle.odata_syntax.specs.contracts.binary_operator.ComparisonOperator.{the_type}
 use Rattle.odata_syntax.specs.contracts.node.Quantifier.{the_type as of_quantifier_the_type}
 use Rattle.std.specs.declared.alloc.AllocError.{AllocError}

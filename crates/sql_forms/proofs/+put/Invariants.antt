@@ -1,6 +1,6 @@
 use Rattle.sql_forms.proofs.Common.{◌≡◌, ◌+◌, ◌-◌, [], ◌∷◌, length, take, AllHave, question_of, PutsAll}
 use Rattle.sql_forms.proofs.answers.LoopAnswers.{AmongSoFar, FunctionSoFar}
-use Rattle.sql_forms.proofs.nodes.Measures.{left_among, left_from, left_in, left_of, turn}
+use Rattle.sql_forms.proofs.Measures.{left_among, left_from, left_in, left_of, turn}
 use Rattle.sql_forms.proofs.+put.Given as goal
 
 -- what is left of the filter counts first, and at one node the order of the calls

@@ -1,8 +1,8 @@
 -- What the loops over the arguments of a call and over the items of a list have read so far.
 use Rattle.sql_forms.proofs.Common.{◌≡◌, ◌<◌, ◌≤◌, ◌+◌, ◌++◌, ◌∷◌, ◌∙◌, inl, inr, [], ℕ, pos, Bool, false, List, Some, length, refl, sym, ap, subst, arith, IsSomeAnd, slice_get, slice_get_within, ExprType, slots_of, type_name_at, Trees, call, in_list, more_trees, no_trees, node, Function, Scope, Typed, Filter, IsFilter, AllLie, CheckedNode, NodeKind, lie_onward, lies_nonempty, found_there, some_there, there_found, Range, stop_there, all_lie, items_lie, Operand, Source, Kind, SqlType, IsNodeAt, IsReadAt, IsSideAt, IsUnread, AreAlong, AreArgumentsOf, AreItemsOf, kind_of_type}
-use Rattle.sql_forms.proofs.nodes.BinaryPlaces.{top_node}
-use Rattle.sql_forms.proofs.nodes.ComparisonsAt.{node_operand, same_node}
-use Rattle.sql_forms.proofs.nodes.ByNode.{by_node}
+use Rattle.sql_outcomes.proofs.nodes.BinaryPlaces.{top_node}
+use Rattle.sql_outcomes.proofs.nodes.ComparisonsAt.{node_operand, same_node}
+use Rattle.sql_outcomes.proofs.nodes.ByNode.{by_node}
 
 -- ---- one operand after others
 

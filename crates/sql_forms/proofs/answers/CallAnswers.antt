@@ -1,18 +1,18 @@
 -- What the functions return that put calls.
-use Rattle.sql_forms.proofs.Common.{◌≡◌, ◌⊎◌, inl, inr, ◌<ℤ◌, ◌++◌, ◌∷◌, ◌∙◌, [], ℕ, pos, List, Bool, true, false, Option, Some, None, Result, OnOk, length, refl, sym, ap, subst, append-nil, IfNone, IfSome, slice_get, IsMoment, Val, null, whole, PrimitiveType, IsFilter, CheckedNode, NodeKind, found_there, some_there, EndsOnceOnEntities, HasKind, OneType, Outcome, gives, ArithFault, IsWithin, Range, IsNamed, row_of, Function, code_of_truth, truth, Carrier, SqlFunction, SqlNode, Draft, Operand, Kind, Lifted, Form, AreArgumentsOf, CalledHas, FunctionHas, IsCarriedFunction, IsCounting, IsSqlFunctionOf, IsTimeFunction, IsUnbound, IsUncounted, carried_nodes, Grows, GrowsBy, kind_of_type, type_of_primitive, AllHave, IsLifted, IsOpened, carried_front, faults_front, faults_of, AreRanges, IsPlainAt, IsTruthAt, IsTruthKind, IsAskedOf, OfPlace, Puts, PutsAll, Question, World, by_node, on_both, on_ok, puts_one}
+use Rattle.sql_forms.proofs.Common.{◌≡◌, ◌⊎◌, inl, inr, ◌<ℤ◌, ◌++◌, ◌∷◌, ◌∙◌, [], ℕ, pos, List, Bool, true, false, Option, Some, None, Result, OnOk, length, refl, sym, ap, subst, append-nil, IfNone, IfSome, slice_get, IsMoment, Val, null, whole, PrimitiveType, IsFilter, CheckedNode, NodeKind, found_there, some_there, EndsOnceOnEntities, HasKind, OneType, Outcome, gives, ArithFault, IsWithin, Range, IsNamed, row_of, Function, code_of_truth, truth, Carrier, SqlFunction, SqlNode, Draft, Operand, Kind, Lifted, Form, AreArgumentsOf, CalledHas, FunctionHas, IsCarriedFunction, IsCounting, IsSqlFunctionOf, IsTimeFunction, IsUnbound, IsUncounted, carried_nodes, Grows, GrowsBy, kind_of_type, type_of_primitive, AllHave, IsLifted, IsOpened, carried_front, faults_front, faults_of, AreRanges, IsPlainAt, IsTruthAt, IsTruthKind, IsAskedOf, OfPlace, Puts, PutsAll, Question, World, by_node, on_both, puts_one, where_ok}
 use Rattle.sql_forms.specs.Forms.{IsInForm}
-use Rattle.sql_forms.specs.private.AskedForms.{Itself}
+use Rattle.sql_outcomes.specs.private.ValueForms.{Itself}
 use Rattle.sql_forms.proofs.answers.MemberAnswers.{after_nothing}
-use Rattle.sql_forms.proofs.nodes.CallKinds.{IsTruthFunction, call_kind, called_truth, gives_truth, no_fault_first, plain_first, text_value, times_uncarried, truth_function, uncarried}
-use Rattle.sql_forms.proofs.nodes.CallNodes.{CallComes}
-use Rattle.sql_forms.proofs.outcomes.CodeTables.{coded}
-use Rattle.sql_forms.proofs.outcomes.FunctionsMade.{IsOfRange, counting, no_count, small_count}
-use Rattle.sql_forms.proofs.outcomes.LiftedValues.{as_many}
+use Rattle.sql_outcomes.proofs.nodes.CallKinds.{IsTruthFunction, call_kind, called_truth, gives_truth, no_fault_first, plain_first, text_value, times_uncarried, truth_function, uncarried}
+use Rattle.sql_outcomes.proofs.nodes.CallNodes.{CallComes}
+use Rattle.sql_outcomes.proofs.outcomes.CodeTables.{coded, Coded}
+use Rattle.sql_outcomes.proofs.outcomes.FunctionsMade.{IsOfRange, counting, no_count, small_count}
+use Rattle.sql_outcomes.proofs.outcomes.LiftedValues.{as_many}
 use Rattle.sql_forms.proofs.puts.CallPut.{call_code_put, call_plain_put, call_put}
 use Rattle.sql_forms.proofs.puts.CalledPut.{counted_put, plain_put, value_carried}
 use Rattle.sql_forms.proofs.puts.FaultyComparisonsPut.{code_is, truth_code_node}
 use Rattle.sql_forms.proofs.puts.FormsPut.{range_there}
-use Rattle.sql_forms.proofs.puts.LiftedPut.{Coded, closed}
+use Rattle.sql_forms.proofs.lets.LiftedPut.{closed}
 
 -- a value, where there can be no fault
 value_in : (range : Range) (o : Outcome) → IsWithin range o → range.may_fault ≡ false → (v : Val) × (o ≡ gives v)
@@ -73,11 +73,9 @@ module _ (question : Question) (function : Function) (operands : List Operand) (
       → OnOk r ((sql : SqlFunction) × IsSqlFunctionOf function operands sql × Puts question middle new (FunctionHas question.filter sql operands) Itself)
       → OnOk r (Puts question old new (CalledHas question.filter function operands) Itself)
   ok_called r (Some carrier) carried old middle new grows put =
-      on_ok r ((sql : SqlFunction) × IsSqlFunctionOf function operands sql × Puts question middle new (FunctionHas question.filter sql operands) Itself) (Puts question old new (CalledHas question.filter function operands) Itself)
-      (λ p. value_carried question carrier (CalledHas question.filter function operands) old middle new (carried_value p.0 p.1 carried) grows (called_put p.0 p.1 middle new p.2)) put
+      where_ok (λ (p : (sql : SqlFunction) × IsSqlFunctionOf function operands sql × Puts question middle new (FunctionHas question.filter sql operands) Itself). value_carried question carrier (CalledHas question.filter function operands) old middle new (carried_value p.0 p.1 carried) grows (called_put p.0 p.1 middle new p.2)) r put
   ok_called r None carried old middle new grows put =
-      on_ok r ((sql : SqlFunction) × IsSqlFunctionOf function operands sql × Puts question middle new (FunctionHas question.filter sql operands) Itself) (Puts question old new (CalledHas question.filter function operands) Itself)
-      (λ p. after_nothing question old middle new (CalledHas question.filter function operands) Itself grows (called_put p.0 p.1 middle new p.2)) put
+      where_ok (λ (p : (sql : SqlFunction) × IsSqlFunctionOf function operands sql × Puts question middle new (FunctionHas question.filter sql operands) Itself). after_nothing question old middle new (CalledHas question.filter function operands) Itself grows (called_put p.0 p.1 middle new p.2)) r put
 
 -- a count that may lie outside its type
 module _ (question : Question) (function : Function) (operands : List Operand) (counts : IsCounting function) where
@@ -87,11 +85,10 @@ module _ (question : Question) (function : Function) (operands : List Operand) (
       → OnOk r ((sql : SqlFunction) × IsSqlFunctionOf function operands sql × Puts question d8 new (FunctionHas question.filter sql operands) Itself)
       → OnOk r (Puts question old new (CalledHas question.filter function operands) Itself)
   ok_counted r level old d1 d2 d3 d4 d5 d6 d7 d8 new is g1 g2 g3 g4 g5 g6 g7 g8 put =
-      on_ok r ((sql : SqlFunction) × IsSqlFunctionOf function operands sql × Puts question d8 new (FunctionHas question.filter sql operands) Itself) (Puts question old new (CalledHas question.filter function operands) Itself)
-      (λ p. counted_put question function p.0 operands counts p.1 Carrier.Number old d1 d2 d3 d4 d5 d6 d7 d8 new
+      where_ok (λ (p : (sql : SqlFunction) × IsSqlFunctionOf function operands sql × Puts question d8 new (FunctionHas question.filter sql operands) Itself). counted_put question function p.0 operands counts p.1 Carrier.Number old d1 d2 d3 d4 d5 d6 d7 d8 new
       (g1.nodes_are ∙ ap (λ (n : ℕ). old.tree.nodes.items ++ SqlNode.Let n 1 ∷ []) is) (g1.paths_are ∙ append-nil old.tree.paths.items) (g1.parameters_are ∙ append-nil old.tree.parameters.items) g1.members g1.depth
       (by_node d1 d2 SqlNode.Case refl g2) (by_node d2 d3 SqlNode.Not refl g3) (by_node d3 d4 (SqlNode.Within PrimitiveType.Int32) refl g4) (bound_there d4 d5 g5)
-      (by_node d5 d6 (SqlNode.Fault Carrier.Number ArithFault.Overflow) refl g6) (by_node d6 d7 (SqlNode.Carried Carrier.Number) refl g7) (bound_there d7 d8 g8) p.2) put
+      (by_node d5 d6 (SqlNode.Fault Carrier.Number ArithFault.Overflow) refl g6) (by_node d6 d7 (SqlNode.Carried Carrier.Number) refl g7) (bound_there d7 d8 g8) p.2) r put
     where
       bound_there : (from to : Draft) → GrowsBy from to (SqlNode.Bound level ∷ []) [] [] → Grows from to (SqlNode.Bound old.depth ∷ [])
       bound_there from to grows = subst (λ (n : ℕ). Grows from to (SqlNode.Bound n ∷ [])) is (by_node from to (SqlNode.Bound level) refl grows)

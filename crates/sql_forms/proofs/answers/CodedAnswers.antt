@@ -1,14 +1,14 @@
 -- What the functions return that put comparisons by their codes, and flags.
 use Rattle.sql_forms.proofs.Common.{◌≡◌, ◌≢◌, ◌+◌, ◌∷◌, [], ℕ, List, None, Some, Result, OnOk, length, refl, sym, ap, subst, slice_get, Filter, NodeKind, HasKind, Range, ComparisonOperator, IsTableBesideNull, IsTableOfComparison, LookUp, Digit, SqlNode, SqlType, Draft, Operand, Kind, Lifted, Form, FlagsHave, CodeHas, ComparisonHas, FaultyHave, IsFaulty, IsFaultyKind, NoTruth, Grows, GrowsBy, AllHave, IsLifted, IsOpened, faults_front, AsCode, FaultyOrNull, IsPlainValue, AreCompared, OperandHas, PutsPath, AreRanges, OfPlace, Puts, PutsAll, Question, by_node, on_both, on_ok, Source}
 use Rattle.sql_forms.specs.Forms.{IsInForm}
-use Rattle.sql_forms.specs.private.AskedForms.{Itself, OrTruth}
-use Rattle.sql_forms.specs.private.Compared.{IsCoded}
+use Rattle.sql_outcomes.specs.private.ValueForms.{Itself, OrTruth}
+use Rattle.sql_outcomes.specs.private.FaultySides.{IsCoded}
 use Rattle.sql_forms.proofs.answers.MemberAnswers.{after_nothing}
 use Rattle.sql_forms.proofs.puts.CodesPut.{truth_after_null, truth_before_null, truths_put}
 use Rattle.sql_forms.proofs.puts.ComparedCodePut.{as_code_put, compared_code_put, only_code_put}
 use Rattle.sql_forms.proofs.puts.FaultyComparisonsPut.{truth_code_put}
 use Rattle.sql_forms.proofs.puts.FlagsPut.{any_item_put, flags_put}
-use Rattle.sql_forms.proofs.puts.LiftedPut.{closed}
+use Rattle.sql_forms.proofs.lets.LiftedPut.{closed}
 
 no_plain : (kind : Kind) → kind ≡ Kind.Value SqlType.Truth → IsPlainValue kind → ⊥
 no_plain (Kind.Value SqlType.Truth) is plain = plain

@@ -1,9 +1,9 @@
 -- Whether all items so far are values that the filter itself has.
 use Rattle.sql_forms.proofs.Common.{◌≡◌, ◌≢◌, ◌<◌, ◌+◌, ◌==◌, [], ◌∷◌, ℕ, List, Bool, true, false, not, Some, length, take, refl, sym, ap, subst, ◌∙◌, arith, slice_get, AllByRecursion, take-length, slice_get_within, LiteralKind, Filter, CheckedNode, NodeKind, there_found, Range, SqlType, Operand, Source, Kind, IsSide, IsSideBy, AreBeside, AreConstants, IsNeverNull, AreCompared, IsPut, IsTested}
 use Rattle.sql_forms.proofs.answers.LoopAnswers.{take_none}
-use Rattle.sql_forms.proofs.nodes.Constants.{literal_given, number_given, one_of_all}
-use Rattle.sql_forms.proofs.outcomes.Elements.{at_all}
-use Rattle.sql_forms.proofs.outcomes.TestedBoth.{tested_put}
+use Rattle.sql_outcomes.proofs.nodes.Constants.{literal_given, number_given, one_of_all}
+use Rattle.sql_outcomes.proofs.outcomes.Elements.{at_all}
+use Rattle.sql_outcomes.proofs.outcomes.TestedBoth.{tested_put}
 
 -- where the answer is still true: the left side is a value that is no truth value, and no item before the index is null
 pub record ConstantsSoFar (filter : Filter) (left : Operand) (items : List Operand) (all : Bool) (n : ℕ) : Type 0 where

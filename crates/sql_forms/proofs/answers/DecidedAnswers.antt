@@ -2,7 +2,7 @@
 use Rattle.sql_forms.proofs.Common.{◌≡◌, ◌<◌, ◌≤◌, ◌++◌, ◌∙◌, ℕ, List, Some, drop, length, length-take-le, take, sym, ap, subst, arith, slice_get, AllByRecursion, Range, Form, IsOfBoth, IsFaultless}
 use Rattle.sql_forms.specs.private.AskedForms.{IsAskedCode}
 use Rattle.sql_forms.proofs.answers.HalfAnswers.{both_parts}
-use Rattle.sql_forms.proofs.outcomes.ChainAnswers.{Parts}
+use Rattle.sql_forms.proofs.answers.ChainAnswers.{Parts}
 use Rattle.sql_forms.proofs.puts.DecidedPut.{all_by_index, without_front, without_rest}
 use Rattle.odata_checked_filter.proofs.flat.Places.{get_front}
 

@@ -1,8 +1,9 @@
 -- What `put_other_truth` returns.
-use Rattle.sql_forms.proofs.Common.{◌≡◌, ◌≢◌, ◌+◌, ℕ, List, Result, OnOk, refl, IsSomeAnd, slice_get, IsMoment, NodeKind, EndsOnceOnEntities, HasKind, Range, OneType, Quantifier, Draft, Operand, Source, FlagsHave, IsSideAt, AreRanges, IsOtherKind, IsStep, OfPlace, Puts, Question, on_ok}
-use Rattle.sql_forms.specs.private.AskedForms.{Itself}
-use Rattle.sql_forms.proofs.nodes.Sides.{OneNumber}
-use Rattle.sql_forms.proofs.puts.FlagsPut.{flags_come, flags_node_put}
+use Rattle.sql_forms.proofs.Common.{◌≡◌, ◌≢◌, ◌+◌, ℕ, List, Result, OnOk, refl, IsSomeAnd, slice_get, IsMoment, NodeKind, EndsOnceOnEntities, HasKind, Range, OneType, Quantifier, Draft, Operand, Source, FlagsHave, IsSideAt, AreRanges, IsOtherKind, IsStep, OfPlace, Puts, Question, where_ok}
+use Rattle.sql_outcomes.specs.private.ValueForms.{Itself}
+use Rattle.sql_outcomes.proofs.nodes.Sides.{OneNumber}
+use Rattle.sql_outcomes.proofs.nodes.FlagNodes.{flags_come}
+use Rattle.sql_forms.proofs.puts.FlagsPut.{flags_node_put}
 
 -- what asks no collection, no flags, no list and no path is a step
 pub other_step : (kind : NodeKind) → IsOtherKind kind → kind ≢ NodeKind.AnyItem → kind ≢ NodeKind.Has → kind ≢ NodeKind.InList → kind ≢ NodeKind.InPath → ((q : Quantifier) → kind ≢ NodeKind.Lambda q) → IsStep kind
@@ -22,6 +23,5 @@ pub ok_flags_node : (question : Question) (types : OneType) (one : OneNumber) (r
     → IsSomeAnd (slice_get question.filter.list.nodes (place + 1)) (λ n. n.stop ≡ second) → HasKind question.filter.list place NodeKind.Has → {T E : Type 0} (r : Result T E) (old new : Draft)
     → OnOk r (Puts question old new (FlagsHave question.filter left right) Itself) → OnOk r (Puts question old new (OfPlace question.filter place) Itself)
 ok_flags_node question types one ranges are ends is_moment place left right left_source second right_is is_second here r old new put =
-    on_ok r (Puts question old new (FlagsHave question.filter left right) Itself) (Puts question old new (OfPlace question.filter place) Itself)
-    (λ p. flags_node_put question types one ranges are ends is_moment place left right left_source
-    (λ world o seen has. flags_come question types one ranges are ends is_moment place left right left_source world o seen second right_is is_second here has) old new p) put
+    where_ok (flags_node_put question types one ranges are ends is_moment place left right left_source
+    (λ world o seen has. flags_come question types one ranges are ends is_moment place left right left_source world o seen second right_is is_second here has) old new) r put

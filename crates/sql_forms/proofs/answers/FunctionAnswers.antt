@@ -1,6 +1,6 @@
 -- Which functions are left where others are asked first.
 use Rattle.sql_forms.proofs.Common.{◌≡◌, ◌<◌, ◌∷◌, [], Bool, List, arith, false, length, refl, true, ℕ, ◌≤◌, ◌∙◌, sym, MomentParts, Val, UnlessNull, has_null, FunctionGives, Outcome, Function, OfGiven, SqlFunction, Operand, IsSqlFunctionOf, IsTimeFunction, TakesCount, row_of, arity_of_function}
-use Rattle.sql_forms.proofs.outcomes.FunctionsMade.{is_time}
+use Rattle.sql_outcomes.proofs.outcomes.FunctionsMade.{is_time}
 
 pub time_left : (function : Function) → (function ≡ Function.Contains → ⊥) → (function ≡ Function.StartsWith → ⊥) → (function ≡ Function.EndsWith → ⊥) → (function ≡ Function.Concat → ⊥) → (function ≡ Function.Length → ⊥) → (function ≡ Function.IndexOf → ⊥) → (function ≡ Function.Substring → ⊥) → (function ≡ Function.Trim → ⊥) → (function ≡ Function.ToLower → ⊥) → (function ≡ Function.ToUpper → ⊥) → IsTimeFunction function
 time_left Function.Contains a b c d e f g h i j = absurd (a refl)

@@ -1,6 +1,6 @@
 -- The two parts in which `split_at` leaves a list.
-use Rattle.sql_forms.proofs.Common.{◌≡◌, ◌<◌, ◌-◌, ◌++◌, ◌∙◌, [], ℕ, List, drop, length, length-drop, length-take-le, take, take-append-drop, sym, ap, subst, arith, AllByRecursion, Filter, Range, Operand, AreCompared, IsTested, AreBeside}
-use Rattle.sql_forms.proofs.outcomes.Elements.{front_all, rest_all}
+use Rattle.sql_forms.proofs.Common.{◌≡◌, ◌<◌, ◌-◌, ◌++◌, ◌∙◌, ℕ, List, drop, length, length-drop, length-take-le, take, take-append-drop, sym, ap, subst, arith, AllByRecursion, Filter, Range, Operand, AreCompared, IsTested, AreBeside}
+use Rattle.sql_outcomes.proofs.outcomes.Elements.{front_all, rest_all}
 
 module _ {T : Type 0} (whole front rest : List T) (mid : ℕ) (front_is : front ≡ take mid whole) (rest_is : rest ≡ drop mid whole) where
   pub both_parts : whole ≡ front ++ rest

@@ -1,21 +1,22 @@
 -- What the functions return that put `in` before a path.
-use Rattle.sql_forms.proofs.Common.{◌≡◌, ◌≢◌, ◌+◌, ◌∷◌, ◌∙◌, inl, [], ℕ, List, true, false, Some, None, Result, OnOk, length, refl, sym, ap, subst, arith, append-nil, IsSomeAnd, slice_get, IsMoment, Val, boolean, IsFilter, CheckedNode, NodeKind, some_there, there_found, EndsOnceOnEntities, HasKind, OneType, Outcome, gives, IsWithin, Range, Digit, SqlNode, SqlType, Draft, Operand, Source, Kind, Lifted, Form, IsSide, IsSideBy, NoTruth, Grows, GrowsBy, IsDeeper, AllHave, IsLifted, IsOpened, faults_front, AreMembersBeside, HasMemberHas, IsCollectionAt, MemberHas, some_of, IsAtPath, IsMemberOperand, MembersAt, missing_front, kind_of_type, AreCompared, IsOfType, IsNodeOperand, IsTested, OperandHas, IsPathTo, PutsPath, PutsMemberPath, AreRanges, IsBooleanAt, IsFaultless, IsPathAt, IsAskedOf, OfPlace, Puts, PutsAll, Question, World, by_node, on_both, on_ok, puts_as, path_on, path_later, AllByRecursion, ComparisonOperator, SqlTree}
+use Rattle.sql_forms.proofs.Common.{◌≡◌, ◌≢◌, ◌+◌, ◌∷◌, ◌∙◌, inl, [], ℕ, List, true, false, Some, None, Result, OnOk, length, refl, sym, ap, subst, arith, append-nil, IsSomeAnd, slice_get, IsMoment, Val, boolean, IsFilter, CheckedNode, NodeKind, some_there, there_found, EndsOnceOnEntities, HasKind, OneType, Outcome, gives, IsWithin, Range, Digit, SqlNode, SqlType, Draft, Operand, Source, Kind, Lifted, Form, IsSide, IsSideBy, NoTruth, Grows, GrowsBy, IsDeeper, AllHave, IsLifted, IsOpened, faults_front, AreMembersBeside, HasMemberHas, IsCollectionAt, MemberHas, some_of, IsAtPath, IsMemberOperand, MembersAt, missing_front, kind_of_type, AreCompared, IsOfType, IsNodeOperand, IsTested, OperandHas, IsPathTo, PutsPath, PutsMemberPath, AreRanges, IsBooleanAt, IsFaultless, IsPathAt, IsAskedOf, OfPlace, Puts, PutsAll, Question, World, by_node, on_both, puts_as, path_on, path_later, AllByRecursion, ComparisonOperator, SqlTree, where_ok}
 use Rattle.sql_forms.specs.Forms.{IsInForm}
-use Rattle.sql_forms.specs.private.AskedForms.{Itself, OrTruth}
+use Rattle.sql_outcomes.specs.private.ValueForms.{Itself, OrTruth}
 use Rattle.sql_forms.proofs.answers.ListAnswers.{uncarried_kind}
 use Rattle.sql_forms.proofs.answers.MemberAnswers.{after_nothing}
-use Rattle.sql_forms.proofs.nodes.BelowNodes.{collection_at_path, in_path_left}
-use Rattle.sql_forms.proofs.nodes.ComparisonPlaces.{form_of_value, side_faultless, side_tested}
-use Rattle.sql_forms.proofs.nodes.InPathNodes.{InPathComes, at_place, in_path_comes}
-use Rattle.sql_forms.proofs.nodes.ChildPlaces.{first_child, has_range, path_inside}
-use Rattle.sql_forms.proofs.nodes.InPathPlaces.{beside_collection, in_path_beside}
-use Rattle.sql_forms.proofs.nodes.ListNodes.{Decided}
+use Rattle.sql_outcomes.proofs.nodes.BelowNodes.{collection_at_path, in_path_left}
+use Rattle.sql_outcomes.proofs.nodes.ComparisonPlaces.{form_of_value, side_faultless, side_tested}
+use Rattle.sql_outcomes.proofs.nodes.InPathNodes.{at_place, in_path_comes}
+use Rattle.sql_outcomes.specs.NodesGo.{InPathComes}
+use Rattle.sql_outcomes.proofs.nodes.ChildPlaces.{first_child, has_range, path_inside}
+use Rattle.sql_outcomes.proofs.nodes.InPathPlaces.{beside_collection, in_path_beside}
+use Rattle.sql_outcomes.proofs.nodes.ListNodes.{Decided}
 use Rattle.sql_forms.proofs.puts.FaultyComparisonsPut.{OrCode}
 use Rattle.sql_forms.proofs.puts.InPathPut.{code_of_whole, in_path_code_put, in_path_put, kept_in_path_put, marked_parts, whole_marked}
-use Rattle.sql_forms.proofs.puts.LiftedPut.{closed}
-use Rattle.sql_forms.proofs.puts.OverMembersPut.{over_members_put}
+use Rattle.sql_forms.proofs.lets.LiftedPut.{closed}
+use Rattle.sql_forms.proofs.lets.OverMembersPut.{over_members_put}
 use Rattle.sql_forms.proofs.puts.PlainLeftPut.{in_path_code_plain_put}
-use Rattle.sql_forms.proofs.outcomes.UnlessMissing.{WholeHas, form_unless_missing, truth_unless_missing}
+use Rattle.sql_outcomes.proofs.outcomes.UnlessMissing.{WholeHas, form_unless_missing, truth_unless_missing}
 use Rattle.sql_forms.proofs.puts.TruthInPathPut.{CodesHave, codes_put}
 use Rattle.sql_forms.proofs.puts.TruthInPathWhole.{chosen_put, code_parts, truth_in_path_put}
 
@@ -29,9 +30,8 @@ module _ (question : Question) (base : ℕ) (left : Operand) {T E : Type 0} (r :
   -- as it stands
   pub ok_over_plain : OnOk r (Puts question old new (HasMemberHas question.filter left base) (OrTruth Itself)) → OnOk r (Puts question old new (MemberHas question.filter left base) Itself)
   ok_over_plain put =
-      on_ok r (Puts question old new (HasMemberHas question.filter left base) (OrTruth Itself)) (Puts question old new (MemberHas question.filter left base) Itself)
-      (λ p. puts_as question old new (HasMemberHas question.filter left base) (MemberHas question.filter left base) (OrTruth Itself) Itself p
-      (λ world o is has. (o, inl has, λ x form. form_of_value Itself o x (boolean (some_of has.3)) has.5 form))) put
+      where_ok (λ (p : Puts question old new (HasMemberHas question.filter left base) (OrTruth Itself)). puts_as question old new (HasMemberHas question.filter left base) (MemberHas question.filter left base) (OrTruth Itself) Itself p
+      (λ world o is has. (o, inl has, λ x form. form_of_value Itself o x (boolean (some_of has.3)) has.5 form))) r put
 
   -- bound
   pub ok_over_members : (first : Operand) (lifted : Lifted) → IsLifted (left ∷ []) old.depth lifted → slice_get lifted.inner.items 0 ≡ Some first → (opened body : Draft)
@@ -98,15 +98,13 @@ module _ (question : Question) (ranges : List Range) (are : AreRanges question r
       pub ok_in_path : (range : Range) → slice_get ranges base ≡ Some range → (d2 : Draft) → Grows d1 d2 (missing_front range.may_be_null path) → OnOk r (Puts question d2 new (MemberHas question.filter left base) Itself)
           → OnOk r (Puts question d0 new (OfPlace question.filter place) (IsInForm Form.Truth))
       ok_in_path range at d2 front put =
-          on_ok r (Puts question d2 new (MemberHas question.filter left base) Itself) (Puts question d0 new (OfPlace question.filter place) (IsInForm Form.Truth))
-          (λ p. after_nothing question d0 d1 new (OfPlace question.filter place) (IsInForm Form.Truth) leads.grows
-          (in_path_put question place base left left_source comes_so value path ranges are range at d1 d2 new leads.leads front p)) put
+          where_ok (λ (p : Puts question d2 new (MemberHas question.filter left base) Itself). after_nothing question d0 d1 new (OfPlace question.filter place) (IsInForm Form.Truth) leads.grows
+          (in_path_put question place base left left_source comes_so value path ranges are range at d1 d2 new leads.leads front p)) r put
 
       pub ok_kept_in_path : OnOk r (Puts question d1 new (MemberHas question.filter left base) Itself) → OnOk r (Puts question d0 new (OfPlace question.filter place) (IsInForm Form.Keeps))
       ok_kept_in_path put =
-          on_ok r (Puts question d1 new (MemberHas question.filter left base) Itself) (Puts question d0 new (OfPlace question.filter place) (IsInForm Form.Keeps))
-          (λ p. after_nothing question d0 d1 new (OfPlace question.filter place) (IsInForm Form.Keeps) leads.grows
-          (kept_in_path_put question place base left left_source comes_so value d1 new p)) put
+          where_ok (λ (p : Puts question d1 new (MemberHas question.filter left base) Itself). after_nothing question d0 d1 new (OfPlace question.filter place) (IsInForm Form.Keeps) leads.grows
+          (kept_in_path_put question place base left left_source comes_so value d1 new p)) r put
 
   -- ---- by its code
 
@@ -124,9 +122,8 @@ module _ (question : Question) (ranges : List Range) (are : AreRanges question r
       pub ok_plain_code : ((type : SqlType) → left.kind ≢ Kind.Value type) → (d2 d3 : Draft) → GrowsBy d1 d2 (SqlNode.TruthCode ∷ []) [] [] → Grows d2 d3 (missing_front range.may_be_null path)
           → OnOk r (Puts question d3 new (HasMemberHas question.filter left base) (OrTruth Itself)) → OnOk r (Puts question d0 new (OfPlace question.filter place) (IsInForm Form.Code))
       ok_plain_code other d2 d3 grows front put =
-          on_ok r (Puts question d3 new (HasMemberHas question.filter left base) (OrTruth Itself)) (Puts question d0 new (OfPlace question.filter place) (IsInForm Form.Code))
-          (λ p. after_nothing question d0 d1 new (OfPlace question.filter place) (IsInForm Form.Code) leads.grows
-          (in_path_code_plain_put question place left no_truth (uncarried_kind left.range.may_fault left.kind other) base path left_source comes_so d1 new (code_put left d1 d2 d3 new leads.leads grows front p))) put
+          where_ok (λ (p : Puts question d3 new (HasMemberHas question.filter left base) (OrTruth Itself)). after_nothing question d0 d1 new (OfPlace question.filter place) (IsInForm Form.Code) leads.grows
+          (in_path_code_plain_put question place left no_truth (uncarried_kind left.range.may_fault left.kind other) base path left_source comes_so d1 new (code_put left d1 d2 d3 new leads.leads grows front p))) r put
 
       pub ok_lifted_code : (first : Operand) (lifted : Lifted) → IsLifted (left ∷ []) d1.depth lifted → slice_get lifted.inner.items 0 ≡ Some first → (opened fronted d2 d3 body : Draft) → IsOpened lifted d1 opened
           → Grows opened fronted (faults_front None lifted.level lifted.bound.items) → IsPathTo question fronted base path → GrowsBy fronted d2 (SqlNode.TruthCode ∷ []) [] []
@@ -237,10 +234,9 @@ module _ (question : Question) (ranges : List Range) (are : AreRanges question r
       let grown : body.depth ≡ u.depth = codes.grows.depth in
       let within = u_depth in
       let shut_depth : shut.depth ≡ old.depth = omega (arith, grown, within) in
-      on_ok r (Puts question shut new (OfPlace question.filter (place + 1)) (IsInForm Form.Code)) (Puts question old new (OfPlace question.filter place) (IsInForm Form.Code))
-      (λ p. truth_in_path_put question place base path left left_kind truths comes old opened body shut new (ap (λ (t : SqlTree). t.nodes.items) steps.deeper.tree ∙ steps.let_grows.nodes_are)
+      where_ok (truth_in_path_put question place base path left left_kind truths comes old opened body shut new (ap (λ (t : SqlTree). t.nodes.items) steps.deeper.tree ∙ steps.let_grows.nodes_are)
       (ap (λ (t : SqlTree). t.paths.items) steps.deeper.tree ∙ steps.let_grows.paths_are ∙ append-nil old.tree.paths.items)
       (ap (λ (t : SqlTree). t.parameters.items) steps.deeper.tree ∙ steps.let_grows.parameters_are ∙ append-nil old.tree.parameters.items) (steps.deeper.members ∙ steps.let_grows.members) opened_depth
       (chosen_put question old.depth base path opened c1 c2 c3 c4 c5 c6 body case_grows above_grows code_grows three_grows fault_grows truth_grows
       (truth_unless_missing question base path (CodesHave question old.depth base) (code_parts question old.depth base path) ranges are range at c6 u body leads_within steps.front codes))
-      tree_is members_are shut_depth p) put
+      tree_is members_are shut_depth) r put

@@ -1,15 +1,15 @@
 -- What the functions return that put `in` before a list.
-use Rattle.sql_forms.proofs.Common.{◌≡◌, ◌≢◌, ◌<◌, ◌+◌, ◌++◌, ◌∷◌, ◌∙◌, [], ℕ, List, Bool, true, false, Some, None, Result, OnOk, length, append-nil, refl, sym, ap, subst, arith, slice_get, AllByRecursion, IsMoment, Filter, IsFilter, CheckedNode, some_there, there_found, EndsOnceOnEntities, OneType, Outcome, Range, LogicalOperator, IsTableOf, LookUp, Digit, SqlNode, SqlType, SqlTree, Draft, Operand, Source, Kind, NodeKind, HasKind, Lifted, Form, IsFaulty, IsSide, IsSideBy, NoTruth, Grows, GrowsBy, IsDeeper, AreCompared, kind_of_type, AllHave, IsLifted, IsOpened, faults_front, AmongHas, AreBeside, AreConstants, AreItemsOf, AsCode, EqualCodesOrNull, EqualsHas, ListHas, kept_form, IsNodeOperand, carrier_of, AreRanges, IsBooleanAt, IsFaultless, IsTruthAt, IsTruthKind, IsAskedOf, OfPlace, Puts, PutsAll, Question, World, by_node, on_both, on_ok}
+use Rattle.sql_forms.proofs.Common.{◌≡◌, ◌≢◌, ◌<◌, ◌+◌, ◌++◌, ◌∷◌, ◌∙◌, [], ℕ, List, Bool, true, false, Some, None, Result, OnOk, length, append-nil, refl, sym, ap, subst, arith, slice_get, AllByRecursion, IsMoment, Filter, IsFilter, CheckedNode, some_there, there_found, EndsOnceOnEntities, OneType, Outcome, Range, LogicalOperator, IsTableOf, LookUp, Digit, SqlNode, SqlType, SqlTree, Draft, Operand, Source, Kind, NodeKind, HasKind, Lifted, Form, IsFaulty, IsSide, IsSideBy, NoTruth, Grows, GrowsBy, IsDeeper, AreCompared, kind_of_type, AllHave, IsLifted, IsOpened, faults_front, AmongHas, AreBeside, AreConstants, AreItemsOf, AsCode, EqualCodesOrNull, EqualsHas, ListHas, kept_form, IsNodeOperand, carrier_of, AreRanges, IsBooleanAt, IsFaultless, IsTruthAt, IsTruthKind, IsAskedOf, OfPlace, Puts, PutsAll, Question, World, by_node, on_both, where_ok}
 use Rattle.sql_forms.specs.Forms.{IsInForm}
-use Rattle.sql_forms.specs.private.AskedForms.{Itself}
-use Rattle.sql_forms.proofs.nodes.ComparisonPlaces.{side_faultless, side_faulty}
-use Rattle.sql_forms.proofs.nodes.ListNodes.{Decided, list_comes}
-use Rattle.sql_forms.proofs.nodes.ListPlaces.{list_beside, list_equals, list_kinds, list_left, list_put, list_sides}
-use Rattle.sql_forms.proofs.nodes.Sides.{OneNumber}
+use Rattle.sql_outcomes.specs.private.ValueForms.{Itself}
+use Rattle.sql_outcomes.proofs.nodes.ComparisonPlaces.{side_faultless, side_faulty}
+use Rattle.sql_outcomes.proofs.nodes.ListNodes.{Decided, list_comes}
+use Rattle.sql_outcomes.proofs.nodes.ListPlaces.{list_beside, list_equals, list_kinds, list_left, list_put, list_sides}
+use Rattle.sql_outcomes.proofs.nodes.Sides.{OneNumber}
 use Rattle.sql_forms.proofs.puts.AmongList.{among_kept_put, among_plain_put, among_truth_put}
 use Rattle.sql_forms.proofs.puts.EqualCodesPut.{both_codes_put, no_code_put}
 use Rattle.sql_forms.proofs.puts.EqualPut.{both_equal, none_equal}
-use Rattle.sql_forms.proofs.puts.LiftedPut.{closed}
+use Rattle.sql_forms.proofs.lets.LiftedPut.{closed}
 use Rattle.sql_forms.proofs.puts.ListCodePut.{list_code_put}
 use Rattle.sql_forms.proofs.puts.PlainLeftPut.{list_code_plain_put}
 use Rattle.sql_forms.proofs.puts.TruthListPut.{never_put, truth_list_put}
@@ -32,28 +32,24 @@ uncarried_kind true _ other = refl
 module _ (question : Question) (left : Operand) {T E : Type 0} (r : Result T E) where
   pub ok_none_equal : (kept : Bool) (old new : Draft) → OnOk r (GrowsBy old new (SqlNode.Truth false ∷ []) [] []) → OnOk r (Puts question old new (EqualsHas question.filter left []) (IsInForm (kept_form kept)))
   ok_none_equal kept old new put =
-      on_ok r (GrowsBy old new (SqlNode.Truth false ∷ []) [] []) (Puts question old new (EqualsHas question.filter left []) (IsInForm (kept_form kept)))
-      (λ g. none_equal question left kept old new (by_node old new (SqlNode.Truth false) refl g)) put
+      where_ok (λ (g : GrowsBy old new (SqlNode.Truth false ∷ []) [] []). none_equal question left kept old new (by_node old new (SqlNode.Truth false) refl g)) r put
 
   pub ok_no_code : (old new : Draft) → OnOk r (GrowsBy old new (SqlNode.Number Digit.Zero ∷ []) [] []) → OnOk r (Puts question old new (EqualCodesOrNull question.filter left []) AsCode)
   ok_no_code old new put =
-      on_ok r (GrowsBy old new (SqlNode.Number Digit.Zero ∷ []) [] []) (Puts question old new (EqualCodesOrNull question.filter left []) AsCode)
-      (λ g. no_code_put question left old new (by_node old new (SqlNode.Number Digit.Zero) refl g)) put
+      where_ok (λ (g : GrowsBy old new (SqlNode.Number Digit.Zero ∷ []) [] []). no_code_put question left old new (by_node old new (SqlNode.Number Digit.Zero) refl g)) r put
 
   pub ok_both_equal : (kept : Bool) (front rest : List Operand) (old middle next new : Draft) → GrowsBy old middle (SqlNode.Or ∷ []) [] []
       → Puts question middle next (EqualsHas question.filter left front) (IsInForm (kept_form kept)) → OnOk r (Puts question next new (EqualsHas question.filter left rest) (IsInForm (kept_form kept)))
       → OnOk r (Puts question old new (EqualsHas question.filter left (front ++ rest)) (IsInForm (kept_form kept)))
   ok_both_equal kept front rest old middle next new grows first put =
-      on_ok r (Puts question next new (EqualsHas question.filter left rest) (IsInForm (kept_form kept))) (Puts question old new (EqualsHas question.filter left (front ++ rest)) (IsInForm (kept_form kept)))
-      (λ p. both_equal question left kept front rest old middle next new (by_node old middle SqlNode.Or refl grows) first p) put
+      where_ok (both_equal question left kept front rest old middle next new (by_node old middle SqlNode.Or refl grows) first) r put
 
   pub ok_both_codes : IsTableOf LookUp.Or LogicalOperator.Or → (front rest : List Operand) → 0 < length rest → (old middle next new : Draft) → GrowsBy old middle (SqlNode.LookUp LookUp.Or ∷ []) [] []
       → Puts question middle next (EqualCodesOrNull question.filter left front) AsCode → OnOk r (Puts question next new (EqualCodesOrNull question.filter left rest) AsCode)
       → OnOk r (Puts question old new (EqualCodesOrNull question.filter left (front ++ rest)) AsCode)
   ok_both_codes law front [] more old middle next new grows first put = absurd (omega (arith, more))
   ok_both_codes law front (item ∷ rest) more old middle next new grows first put =
-      on_ok r (Puts question next new (EqualCodesOrNull question.filter left (item ∷ rest)) AsCode) (Puts question old new (EqualCodesOrNull question.filter left (front ++ item ∷ rest)) AsCode)
-      (λ p. both_codes_put question left law front item rest old middle next new (by_node old middle (SqlNode.LookUp LookUp.Or) refl grows) first p) put
+      where_ok (both_codes_put question left law front item rest old middle next new (by_node old middle (SqlNode.LookUp LookUp.Or) refl grows) first) r put
 
 -- ---- the list at an index
 
@@ -102,27 +98,24 @@ module _ (question : Question) (ranges : List Range) (are : AreRanges question r
     module _ {T E : Type 0} (r : Result T E) (old new : Draft) where
       pub ok_list : (F : Outcome → Outcome → Type 0) → OnOk r (Puts question old new (EqualsHas question.filter left items) F) → OnOk r (Puts question old new (OfPlace question.filter place) F)
       ok_list F put =
-          on_ok r (Puts question old new (EqualsHas question.filter left items) F) (Puts question old new (OfPlace question.filter place) F) (λ p. list_put question place left items F equals old new p) put
+          where_ok (list_put question place left items F equals old new) r put
 
       module _ (constants : AreConstants question.filter left items) where
         pub ok_among_truth : (middle : Draft) → GrowsBy old middle (SqlNode.IsTrue ∷ []) [] [] → OnOk r (Puts question middle new (AmongHas question.filter left items) Itself)
             → OnOk r (Puts question old new (OfPlace question.filter place) (IsInForm Form.Truth))
         ok_among_truth middle grows put =
             ok_list (IsInForm Form.Truth)
-            (on_ok r (Puts question middle new (AmongHas question.filter left items) Itself) (Puts question old new (EqualsHas question.filter left items) (IsInForm Form.Truth))
-            (λ p. among_truth_put question left items constants.given old middle new (by_node old middle SqlNode.IsTrue refl grows) p) put)
+            (where_ok (among_truth_put question left items constants.given old middle new (by_node old middle SqlNode.IsTrue refl grows)) r put)
 
         pub ok_among_plain : left.range.may_be_null ≡ false → OnOk r (Puts question old new (AmongHas question.filter left items) Itself) → OnOk r (Puts question old new (OfPlace question.filter place) (IsInForm Form.Truth))
         ok_among_plain given put =
             ok_list (IsInForm Form.Truth)
-            (on_ok r (Puts question old new (AmongHas question.filter left items) Itself) (Puts question old new (EqualsHas question.filter left items) (IsInForm Form.Truth))
-            (λ p. among_plain_put question left items constants.given given old new p) put)
+            (where_ok (among_plain_put question left items constants.given given old new) r put)
 
         pub ok_among_kept : OnOk r (Puts question old new (AmongHas question.filter left items) Itself) → OnOk r (Puts question old new (OfPlace question.filter place) (IsInForm Form.Keeps))
         ok_among_kept put =
             ok_list (IsInForm Form.Keeps)
-            (on_ok r (Puts question old new (AmongHas question.filter left items) Itself) (Puts question old new (EqualsHas question.filter left items) (IsInForm Form.Keeps))
-            (λ p. among_kept_put question left items constants.given old new p) put)
+            (where_ok (among_kept_put question left items constants.given old new) r put)
 
   -- by its code
 
@@ -130,8 +123,7 @@ module _ (question : Question) (ranges : List Range) (are : AreRanges question r
     pub ok_list_plain_code : ((type : SqlType) → left.kind ≢ Kind.Value type) → OnOk r (Puts question old new (EqualCodesOrNull question.filter left items) AsCode)
         → OnOk r (Puts question old new (OfPlace question.filter place) (IsInForm Form.Code))
     ok_list_plain_code other put =
-        on_ok r (Puts question old new (EqualCodesOrNull question.filter left items) AsCode) (Puts question old new (OfPlace question.filter place) (IsInForm Form.Code))
-        (λ p. list_code_plain_put question place left no_truth (uncarried_kind left.range.may_fault left.kind other) items comes_so old new p) put
+        where_ok (list_code_plain_put question place left no_truth (uncarried_kind left.range.may_fault left.kind other) items comes_so old new) r put
 
     pub ok_list_code : (first : Operand) (lifted : Lifted) → IsLifted (left ∷ []) old.depth lifted → slice_get lifted.inner.items 0 ≡ Some first → (opened fronted body : Draft) → IsOpened lifted old opened
         → Grows opened fronted (faults_front None lifted.level lifted.bound.items) → Puts question fronted body (EqualCodesOrNull question.filter first items) AsCode
@@ -166,8 +158,7 @@ module _ (question : Question) (place : ℕ) (left : Operand) (left_source : lef
   pub ok_never : (items : List Operand) → Comes items → length items ≡ 0 → (middle : Draft) → GrowsBy old middle (SqlNode.LookUp LookUp.Never ∷ []) [] []
       → OnOk r (Puts question middle new (OfPlace question.filter (place + 1)) (IsInForm Form.Code)) → OnOk r (Puts question old new (OfPlace question.filter place) (IsInForm Form.Code))
   ok_never [] comes none middle grows put =
-      on_ok r (Puts question middle new (OfPlace question.filter (place + 1)) (IsInForm Form.Code)) (Puts question old new (OfPlace question.filter place) (IsInForm Form.Code))
-      (λ p. never_put question place left old middle new left_source left_kind comes (by_node old middle (SqlNode.LookUp LookUp.Never) refl grows) p) put
+      where_ok (never_put question place left old middle new left_source left_kind comes (by_node old middle (SqlNode.LookUp LookUp.Never) refl grows)) r put
   ok_never (item ∷ items) comes none middle grows put = absurd (omega (arith, none))
 
   pub ok_truth_list : (items : List Operand) → Comes items → 0 < length items → (bound : Operand) → bound.source ≡ Source.Bound old.depth → bound.kind ≡ Kind.Value SqlType.Truth → bound.range ≡ left.range
@@ -181,7 +172,6 @@ module _ (question : Question) (place : ℕ) (left : Operand) (left_source : lef
       let grown : body.depth ≡ opened.depth = inner.grows.depth in
       let depth : opened.depth ≡ old.depth + 1 = omega (arith, deep, same) in
       let shut_depth : shut.depth ≡ old.depth = omega (arith, depth, grown, depth_is) in
-      on_ok r (Puts question shut new (OfPlace question.filter (place + 1)) (IsInForm Form.Code)) (Puts question old new (OfPlace question.filter place) (IsInForm Form.Code))
-      (λ p. truth_list_put question place left bound item items old opened body shut new left_source left_kind source kind range comes
+      where_ok (truth_list_put question place left bound item items old opened body shut new left_source left_kind source kind range comes
       (ap (λ (t : SqlTree). t.nodes.items) deeper.tree ∙ grows.nodes_are) (ap (λ (t : SqlTree). t.paths.items) deeper.tree ∙ grows.paths_are ∙ append-nil old.tree.paths.items)
-      (ap (λ (t : SqlTree). t.parameters.items) deeper.tree ∙ grows.parameters_are ∙ append-nil old.tree.parameters.items) (deeper.members ∙ grows.members) depth inner tree_is members_are shut_depth p) put
+      (ap (λ (t : SqlTree). t.parameters.items) deeper.tree ∙ grows.parameters_are ∙ append-nil old.tree.parameters.items) (deeper.members ∙ grows.members) depth inner tree_is members_are shut_depth) r put

@@ -1,7 +1,7 @@
 -- What loops that put one operand after another have put so far.
 use Rattle.sql_forms.proofs.Common.{IsComparedIn, ◌≡◌, ◌<◌, ◌+◌, ◌∷◌, ◌∙◌, ◌⊎◌, inl, inr, [], ℕ, zero, suc, List, Some, length, take, refl, sym, ap, subst, arith, slice_get, AllByRecursion, take-length, Range, Function, SqlFunction, SqlNode, SqlType, Draft, Operand, Kind, FunctionHas, IsSqlFunctionOf, Grows, AreCompared, AllHave, AllCompare, AmongHas, ComparedHas, OperandHas, IsFaultless, Puts, PutsAll, Question, arity_of_function}
-use Rattle.sql_forms.specs.private.AskedForms.{Itself}
-use Rattle.sql_forms.proofs.outcomes.ValueWalk.{no_value_put, one_value_put}
+use Rattle.sql_outcomes.specs.private.ValueForms.{Itself}
+use Rattle.sql_outcomes.proofs.outcomes.ValueWalk.{no_value_put, one_value_put}
 use Rattle.sql_forms.proofs.puts.AmongPut.{among_put, none_compared_put, one_compared_put}
 use Rattle.sql_forms.proofs.puts.CalledPut.{function_put}
 

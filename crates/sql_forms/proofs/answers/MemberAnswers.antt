@@ -1,10 +1,10 @@
 -- What the functions return that put lambda operators.
-use Rattle.sql_forms.proofs.Common.{◌≡◌, ◌≢◌, ◌+◌, ◌-◌, ◌++◌, ◌∷◌, ◌∙◌, inl, inr, [], ℕ, List, Option, None, Some, Bool, true, false, Result, OnOk, length, refl, sym, ap, subst, take, arith, MatchOption, slice_get, IsMoment, Val, boolean, null, whole, Tree, Quantifier, Filter, NodeKind, EndsOnceOnEntities, HasKind, OneType, Outcome, gives, QuantifierGives, undecided_val, Range, AreMembers, nodes_of, number_of, Digit, SqlNode, Draft, Form, Grows, GrowsBy, AtMembers, IsStopAt, LambdaHas, OverHas, PutsBody, body_form, coded_undecided, missing_front, IsPathTo, PutsPath, AreRanges, IsFaultless, IsTruthAt, Has, IsAskedOf, OfPlace, Puts, Question, World, by_node, grows_then, on_ok, puts_as, path_on}
+use Rattle.sql_forms.proofs.Common.{◌≡◌, ◌≢◌, ◌+◌, ◌-◌, ◌++◌, ◌∷◌, ◌∙◌, inl, inr, [], ℕ, List, Option, None, Some, Bool, true, false, Result, OnOk, length, refl, sym, ap, subst, take, arith, MatchOption, slice_get, IsMoment, Val, boolean, null, whole, Tree, Quantifier, Filter, NodeKind, EndsOnceOnEntities, HasKind, OneType, Outcome, gives, QuantifierGives, undecided_val, Range, AreMembers, nodes_of, number_of, Digit, SqlNode, Draft, Form, Grows, GrowsBy, AtMembers, IsStopAt, LambdaHas, OverHas, PutsBody, body_form, coded_undecided, missing_front, IsPathTo, PutsPath, AreRanges, IsFaultless, IsTruthAt, Has, IsAskedOf, OfPlace, Puts, Question, World, by_node, grows_then, puts_as, path_on, where_ok}
 use Rattle.sql_forms.specs.Forms.{IsInForm}
-use Rattle.sql_forms.specs.private.AskedForms.{Itself}
+use Rattle.sql_outcomes.specs.private.ValueForms.{Itself}
 use Rattle.std.specs.Option.{option_to_list}
 use Rattle.odata_signatures.specs.Typed.{Variable as RangeVariable}
-use Rattle.sql_forms.proofs.nodes.MemberWorlds.{PathsAreKept, lambda_comes}
+use Rattle.sql_outcomes.proofs.nodes.MemberWorlds.{PathsAreKept, lambda_comes}
 use Rattle.sql_forms.proofs.puts.BodyPut.{init_same}
 use Rattle.sql_forms.proofs.puts.LambdaCodePut.{lambda_code_put}
 use Rattle.sql_forms.proofs.puts.LambdaPut.{all_put, any_put, over_truth}
@@ -68,8 +68,7 @@ module _ (question : Question) (ranges : List Range) (are : AreRanges question r
         → OnOk r (PutsBody question middle new (OfPlace question.filter body) (IsInForm Form.Keeps)) → OnOk r (Puts question old new (OverHas question.filter quantifier place) Itself)
     ok_any old middle new is grows leads put =
         subst (λ (q : Quantifier). OnOk r (Puts question old new (OverHas question.filter q place) Itself)) (sym is)
-        (on_ok r (PutsBody question middle new (OfPlace question.filter body) (IsInForm Form.Keeps)) (Puts question old new (OverHas question.filter Quantifier.Any place) Itself)
-        (λ b. any_put question ends is_moment ranges are body is_truth faultless place path old.depth stops old middle new refl (by_node old middle (SqlNode.Exists path old.depth) refl grows) leads b) put)
+        (where_ok (any_put question ends is_moment ranges are body is_truth faultless place path old.depth stops old middle new refl (by_node old middle (SqlNode.Exists path old.depth) refl grows) leads) r put)
 
     pub ok_all : (old d1 d2 d3 d4 new : Draft) → quantifier ≡ Quantifier.All → GrowsBy old d1 (SqlNode.Not ∷ []) [] [] → GrowsBy d1 d2 (SqlNode.Exists path old.depth ∷ []) [] []
         → GrowsBy d2 d3 (SqlNode.Not ∷ []) [] [] → GrowsBy d3 d4 (SqlNode.IsTrue ∷ []) [] [] → IsPathTo question old (place + 1) path
@@ -77,9 +76,8 @@ module _ (question : Question) (ranges : List Range) (are : AreRanges question r
     ok_all old d1 d2 d3 d4 new is first second third fourth leads put =
         let grows = by_node old d1 SqlNode.Not refl first in
         subst (λ (q : Quantifier). OnOk r (Puts question old new (OverHas question.filter q place) Itself)) (sym is)
-        (on_ok r (PutsBody question d4 new (OfPlace question.filter body) (IsInForm Form.Keeps)) (Puts question old new (OverHas question.filter Quantifier.All place) Itself)
-        (λ b. all_put question ends is_moment ranges are body is_truth faultless place path old.depth stops old d1 d2 d3 d4 new (sym first.depth) grows (by_node d1 d2 (SqlNode.Exists path old.depth) refl second)
-        (by_node d2 d3 SqlNode.Not refl third) (by_node d3 d4 SqlNode.IsTrue refl fourth) (path_on question old (place + 1) path leads d1 (SqlNode.Not ∷ []) grows) b) put)
+        (where_ok (all_put question ends is_moment ranges are body is_truth faultless place path old.depth stops old d1 d2 d3 d4 new (sym first.depth) grows (by_node d1 d2 (SqlNode.Exists path old.depth) refl second)
+        (by_node d2 d3 SqlNode.Not refl third) (by_node d3 d4 SqlNode.IsTrue refl fourth) (path_on question old (place + 1) path leads d1 (SqlNode.Not ∷ []) grows)) r put)
 
   pub ok_decided : (n : Digit) → gives (whole (number_of n)) ≡ coded_undecided quantifier → (d0 d1 d2 d3 d4 d5 d6 new : Draft) → GrowsBy d0 d1 (SqlNode.Coalesce ∷ []) [] [] → GrowsBy d1 d2 (SqlNode.Bits ∷ []) [] []
       → GrowsBy d2 d3 (SqlNode.Least path d0.depth ∷ []) [] [] → GrowsBy d3 d4 (SqlNode.Decided quantifier d0.depth ∷ []) [] [] → IsPathTo question d0 (place + 1) path
@@ -87,10 +85,9 @@ module _ (question : Question) (ranges : List Range) (are : AreRanges question r
       → OnOk r (Puts question d0 new (OverHas question.filter quantifier place) (IsInForm Form.Code))
   ok_decided n is d0 d1 d2 d3 d4 d5 d6 new g1 g2 g3 g4 leads b g6 put =
       let two = grows_then d0 d1 d2 (SqlNode.Coalesce ∷ []) (SqlNode.Bits ∷ []) (by_node d0 d1 SqlNode.Coalesce refl g1) (by_node d1 d2 SqlNode.Bits refl g2) in
-      on_ok r (GrowsBy d6 new (SqlNode.Number n ∷ []) [] []) (Puts question d0 new (OverHas question.filter quantifier place) (IsInForm Form.Code))
-      (λ g. lambda_code_put question ends is_moment quantifier place body is_truth path d0.depth n is d0 d1 d2 d3 d4 d5 d6 new stops (sym two.depth) (by_node d0 d1 SqlNode.Coalesce refl g1)
+      where_ok (λ (g : GrowsBy d6 new (SqlNode.Number n ∷ []) [] []). lambda_code_put question ends is_moment quantifier place body is_truth path d0.depth n is d0 d1 d2 d3 d4 d5 d6 new stops (sym two.depth) (by_node d0 d1 SqlNode.Coalesce refl g1)
       (by_node d1 d2 SqlNode.Bits refl g2) (by_node d2 d3 (SqlNode.Least path d0.depth) refl g3) (by_node d3 d4 (SqlNode.Decided quantifier d0.depth) refl g4)
-      (path_on question d0 (place + 1) path leads d2 (SqlNode.Coalesce ∷ SqlNode.Bits ∷ []) two) b (by_node d5 d6 (SqlNode.Number Digit.Seven) refl g6) (by_node d6 new (SqlNode.Number n) refl g)) put
+      (path_on question d0 (place + 1) path leads d2 (SqlNode.Coalesce ∷ SqlNode.Bits ∷ []) two) b (by_node d5 d6 (SqlNode.Number Digit.Seven) refl g6) (by_node d6 new (SqlNode.Number n) refl g)) r put
 
 -- ---- the operator
 
@@ -121,14 +118,12 @@ module _ (question : Question) (types : OneType) (ends : EndsOnceOnEntities) (is
     pub ok_lambda : (d2 new : Draft) → Grows d1 d2 (missing_front range.may_be_null path) → OnOk r (Puts question d2 new (OverHas question.filter quantifier place) Itself)
         → OnOk r (Puts question d0 new (OfPlace question.filter place) (IsInForm Form.Truth))
     ok_lambda d2 new front put =
-        on_ok r (Puts question d2 new (OverHas question.filter quantifier place) Itself) (Puts question d0 new (OfPlace question.filter place) (IsInForm Form.Truth))
-        (λ p. of_lambda (IsInForm Form.Truth) new (missing_truth_put question quantifier place path ranges are range at d1 d2 new leads.leads front p)) put
+        where_ok (λ (p : Puts question d2 new (OverHas question.filter quantifier place) Itself). of_lambda (IsInForm Form.Truth) new (missing_truth_put question quantifier place path ranges are range at d1 d2 new leads.leads front p)) r put
 
     pub ok_given_code : range.may_be_null ≡ false → (new : Draft) → OnOk r (Puts question d1 new (OverHas question.filter quantifier place) (IsInForm Form.Code))
         → OnOk r (Puts question d0 new (OfPlace question.filter place) (IsInForm Form.Code))
     ok_given_code none new put =
-        on_ok r (Puts question d1 new (OverHas question.filter quantifier place) (IsInForm Form.Code)) (Puts question d0 new (OfPlace question.filter place) (IsInForm Form.Code))
-        (λ p. of_lambda (IsInForm Form.Code) new (given_code_put question quantifier place path ranges are range at none d1 new p)) put
+        where_ok (λ (p : Puts question d1 new (OverHas question.filter quantifier place) (IsInForm Form.Code)). of_lambda (IsInForm Form.Code) new (given_code_put question quantifier place path ranges are range at none d1 new p)) r put
 
   pub ok_missing_code : (d2 d3 d4 new : Draft) → GrowsBy d1 d2 (SqlNode.Case ∷ []) [] [] → GrowsBy d2 d3 (SqlNode.IsMissing path ∷ []) [] [] → GrowsBy d3 d4 (SqlNode.Number Digit.Two ∷ []) [] []
       → OnOk r (Puts question d4 new (OverHas question.filter quantifier place) (IsInForm Form.Code)) → OnOk r (Puts question d0 new (OfPlace question.filter place) (IsInForm Form.Code))
@@ -136,8 +131,7 @@ module _ (question : Question) (types : OneType) (ends : EndsOnceOnEntities) (is
       let front : Grows d1 d4 (SqlNode.Case ∷ SqlNode.IsMissing path ∷ SqlNode.Number Digit.Two ∷ []) =
       grows_then d1 d2 d4 (SqlNode.Case ∷ []) (SqlNode.IsMissing path ∷ SqlNode.Number Digit.Two ∷ []) (by_node d1 d2 SqlNode.Case refl g1)
       (grows_then d2 d3 d4 (SqlNode.IsMissing path ∷ []) (SqlNode.Number Digit.Two ∷ []) (by_node d2 d3 (SqlNode.IsMissing path) refl g2) (by_node d3 d4 (SqlNode.Number Digit.Two) refl g3)) in
-      on_ok r (Puts question d4 new (OverHas question.filter quantifier place) (IsInForm Form.Code)) (Puts question d0 new (OfPlace question.filter place) (IsInForm Form.Code))
-      (λ p. of_lambda (IsInForm Form.Code) new (missing_code_put question quantifier place path d1 d4 new leads.leads front p)) put
+      where_ok (λ (p : Puts question d4 new (OverHas question.filter quantifier place) (IsInForm Form.Code)). of_lambda (IsInForm Form.Code) new (missing_code_put question quantifier place path d1 d4 new leads.leads front p)) r put
 
   -- ---- true exactly where it is
 
@@ -148,15 +142,13 @@ module _ (question : Question) (types : OneType) (ends : EndsOnceOnEntities) (is
     pub ok_kept_given : ((world : World) (seen : IsAskedOf question world) (o : Outcome) (over : OverHas question.filter quantifier place world o) → over.collection ≡ null → o ≡ gives (boolean false)) → (new : Draft)
         → OnOk r (Puts question d1 new (OverHas question.filter quantifier place) Itself) → OnOk r (Puts question d0 new (OfPlace question.filter place) (IsInForm Form.Keeps))
     ok_kept_given of_null new put =
-        on_ok r (Puts question d1 new (OverHas question.filter quantifier place) Itself) (Puts question d0 new (OfPlace question.filter place) (IsInForm Form.Keeps))
-        (λ p. of_lambda (IsInForm Form.Keeps) new (kept_put question quantifier place path truths of_null d1 new p)) put
+        where_ok (λ (p : Puts question d1 new (OverHas question.filter quantifier place) Itself). of_lambda (IsInForm Form.Keeps) new (kept_put question quantifier place path truths of_null d1 new p)) r put
 
     pub ok_kept_all : (d2 d3 d4 new : Draft) → GrowsBy d1 d2 (SqlNode.And ∷ []) [] [] → GrowsBy d2 d3 (SqlNode.Not ∷ []) [] [] → GrowsBy d3 d4 (SqlNode.IsMissing path ∷ []) [] []
         → OnOk r (Puts question d4 new (OverHas question.filter quantifier place) Itself) → OnOk r (Puts question d0 new (OfPlace question.filter place) (IsInForm Form.Keeps))
     ok_kept_all d2 d3 d4 new g1 g2 g3 put =
-        on_ok r (Puts question d4 new (OverHas question.filter quantifier place) Itself) (Puts question d0 new (OfPlace question.filter place) (IsInForm Form.Keeps))
-        (λ p. of_lambda (IsInForm Form.Keeps) new
-        (kept_all_put question quantifier place path truths d1 d2 d3 d4 new leads.leads (by_node d1 d2 SqlNode.And refl g1) (by_node d2 d3 SqlNode.Not refl g2) (by_node d3 d4 (SqlNode.IsMissing path) refl g3) p)) put
+        where_ok (λ (p : Puts question d4 new (OverHas question.filter quantifier place) Itself). of_lambda (IsInForm Form.Keeps) new
+        (kept_all_put question quantifier place path truths d1 d2 d3 d4 new leads.leads (by_node d1 d2 SqlNode.And refl g1) (by_node d2 d3 SqlNode.Not refl g2) (by_node d3 d4 (SqlNode.IsMissing path) refl g3) p)) r put
 
   -- over null `any` is false
   pub null_any : quantifier ≡ Quantifier.Any → (world : World) (seen : IsAskedOf question world) (o : Outcome) (over : OverHas question.filter quantifier place world o) → over.collection ≡ null → o ≡ gives (boolean false)

@@ -1,6 +1,6 @@
 -- What the calls that look at a node say of its index.
 use Rattle.sql_forms.proofs.Common.{◌≡◌, ◌≢◌, ◌<◌, ◌∙◌, ℕ, Bool, true, false, List, Some, length, refl, sym, subst, arith, IsSomeAnd, slice_get, Filter, CheckedNode, NodeKind, found_there, inside, some_there, there_found, HasKind, IsQuietKind, Range, BinaryOperator, LogicalOperator, SqlType, Operand, Kind, IsChain, IsConnective, IsSide, kind_of_type, IsTested, AreRanges, IsBooleanAt, IsFaultless, IsPlainAt, IsTruthAt, IsTruthKind, Question}
-use Rattle.sql_forms.proofs.nodes.ComparisonPlaces.{side_faultless, side_tested}
+use Rattle.sql_outcomes.proofs.nodes.ComparisonPlaces.{side_faultless, side_tested}
 use Rattle.sql_forms.proofs.puts.FormsPut.{range_there}
 
 -- ---- indices

@@ -1,8 +1,8 @@
 -- What `put_calculated` and `put_arithmetic` return.
 use Rattle.sql_forms.proofs.Common.{◌≡◌, ◌∷◌, ◌∙◌, [], ℕ, Result, OnOk, Some, length, subst, sym, refl, slice_get, PrimitiveType, EdmType, ValueType, Filter, CheckedNode, found_there, some_there, FieldType, IsOfTypeAt, single_of, NeverFaults, ArithmeticOperator, Carrier, SqlNode, Draft, Operand, Lifted, CalculatedHas, CheckedHas, IsComputedIn, PlainHas, Grows, GrowsBy, AllHave, IsLifted, IsOpened, faults_front, OperandHas, Puts, PutsAll, Question, by_node, on_both}
-use Rattle.sql_forms.specs.private.AskedForms.{Itself}
-use Rattle.sql_forms.proofs.outcomes.CalculatedFaults.{calculated_put}
-use Rattle.sql_forms.proofs.puts.LiftedPut.{closed}
+use Rattle.sql_outcomes.specs.private.ValueForms.{Itself}
+use Rattle.sql_forms.proofs.lets.CalculatedLet.{calculated_put}
+use Rattle.sql_forms.proofs.lets.LiftedPut.{closed}
 use Rattle.sql_forms.proofs.puts.PlainPut.{checked_of, plain_of, plain_put}
 
 module _ (question : Question) (operator : ArithmeticOperator) (place : ℕ) (type : PrimitiveType) (computed : IsComputedIn question.filter place type) (left right first second : Operand) (lifted : Lifted)

@@ -1,6 +1,6 @@
 -- What `put_path_value` returns.
 use Rattle.sql_forms.proofs.Common.{◌≡◌, ◌++◌, ◌∷◌, ◌∙◌, [], ℕ, zero, suc, List, Some, None, Result, OnOk, sym, ap, ◌==◌, Bool, length, true, refl, arith, Decides-eqb, slice_get, IsMoment, EndsOnceOnEntities, Range, FieldType, SqlNode, Base, Path, Draft, Grows, GrowsBy, PutsPath, AreRanges, HasFieldType, IsPathAt, IsWorldOf, OfPlace, Puts, Question, World, by_node, grows_then, on_ok, world_before, named_by}
-use Rattle.sql_forms.specs.private.AskedForms.{Itself}
+use Rattle.sql_outcomes.specs.private.ValueForms.{Itself}
 use Rattle.sql_forms.proofs.puts.PathValuePut.{column_put, field_put}
 
 stays_there : {A : Type 0} (xs more : List A) (k : ℕ) (x : A) → slice_get xs k ≡ Some x → slice_get (xs ++ more) k ≡ Some x

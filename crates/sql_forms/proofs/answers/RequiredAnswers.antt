@@ -1,8 +1,8 @@
 -- What calls within the group that puts nodes require, by what their callers require.
 use Rattle.sql_forms.proofs.Common.{◌≡◌, ◌≢◌, ◌<◌, ◌+◌, ◌∷◌, ◌∙◌, ◌==◌, ◌⊎◌, inl, inr, [], ℕ, Bool, List, Option, Some, None, true, false, length, sym, ap, subst, arith, IfSome, IsTrue, slice_get, Decides-eqb, slice_get_within, null, ComparesTrue, Function, ComparisonOperator, Filter, IsFilter, CheckedNode, NodeKind, one_there, there_found, Range, inside_there, Carrier, SqlType, Operand, Source, Kind, kind_of_type, IsNodeOperand, IsPut, IsSourceOf, IsPlainAt, IsValuedAt, IsCarriedFunction}
-use Rattle.sql_forms.proofs.outcomes.ComparisonAnswers.{is_none}
-use Rattle.sql_forms.proofs.nodes.ByNode.{by_node}
-pub use Rattle.sql_forms.proofs.outcomes.Elements.{at_all}
+use Rattle.sql_forms.proofs.answers.ComparisonAnswers.{is_none}
+use Rattle.sql_outcomes.proofs.nodes.ByNode.{by_node}
+pub use Rattle.sql_outcomes.proofs.outcomes.Elements.{at_all}
 
 -- what `is_empty` says of a list
 pub empty_length : {T : Type 0} (xs : List T) (empty : Bool) → empty ≡ (length xs == 0) → empty ≡ true → length xs ≡ 0

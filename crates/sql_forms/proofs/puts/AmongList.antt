@@ -1,11 +1,11 @@
 -- SQL's own list is the list of the filter: null of null on the left, where the filter has false.
 use Rattle.sql_forms.proofs.Common.{◌≡◌, ◌≢◌, ◌⊎◌, inl, inr, ◌∷◌, [], List, Bool, true, false, Option, Some, None, refl, sym, ap, subst, ◌∙◌, AllByRecursion, Val, boolean, null, ComparisonOperator, AreEqual, Filter, CompareGives, Outcome, gives, is_true, truth, SqlNode, Draft, Operand, Form, Grows, AmongHas, EachEquals, EqualsHas, IsNeverNull, some_of, Puts, Question, World, puts_as, puts_one}
-use Rattle.sql_forms.specs.Forms.{IsTrueWhere}
+use Rattle.sql_outcomes.specs.TrueWhere.{IsTrueWhere}
 use Rattle.sql_forms.specs.Forms.{IsInForm}
-use Rattle.sql_forms.specs.private.AskedForms.{Itself}
-use Rattle.sql_forms.proofs.outcomes.Apart.{null_or_not as is_null_or}
+use Rattle.sql_outcomes.specs.private.ValueForms.{Itself}
+use Rattle.sql_outcomes.proofs.outcomes.Apart.{null_or_not as is_null_or}
 use Rattle.sql_forms.proofs.puts.ComparisonsPut.{is_true_node}
-use Rattle.sql_forms.proofs.outcomes.Truths.{true_where}
+use Rattle.sql_outcomes.proofs.outcomes.Truths.{true_where}
 
 null_apart : (v : Val) → v ≢ null → AreEqual null v → ⊥
 null_apart null other same = other refl

@@ -1,11 +1,11 @@
 -- SQL's own list, over items that are compared with a left side.
 use Rattle.sql_forms.proofs.Common.{compared_in, ◌≡◌, ◌≢◌, ◌⊎◌, inl, inr, ◌+◌, ◌++◌, ◌∷◌, [], ℕ, suc, List, Bool, true, false, Some, length, take, refl, sym, ap, subst, ◌∙◌, slice_get, AllByRecursion, Val, boolean, null, Filter, Outcome, gives, SomeTrue, AmongGives, EachEqual, SqlMeans, more_terms, nodes_of, nodes_of_all, term, SqlNode, SqlType, Draft, Operand, Kind, Grows, AreCompared, IsOfKind, IsOfType, AllCompare, AmongHas, EachEquals, some_of, ComparedHas, as_compared, Puts, PutsAll, Question, World, grows_then, world_before}
-use Rattle.sql_forms.specs.private.AskedForms.{Itself}
+use Rattle.sql_outcomes.specs.private.ValueForms.{Itself}
 use Rattle.sql_meaning.specs.SqlTypeHolds.{IsComparedAs}
-use Rattle.sql_forms.proofs.outcomes.ComparedValues.{equal_compared}
+use Rattle.sql_outcomes.proofs.outcomes.ComparedValues.{equal_compared}
 use Rattle.sql_forms.proofs.puts.OperandsPut.{loosely, compared_typed}
-use Rattle.sql_forms.proofs.outcomes.ValueWalk.{one_more_put}
-use Rattle.sql_forms.proofs.nodes.Binding.{puts_none}
+use Rattle.sql_outcomes.proofs.outcomes.ValueWalk.{one_more_put}
+use Rattle.sql_outcomes.proofs.nodes.Binding.{puts_none}
 
 -- ---- one item after others
 

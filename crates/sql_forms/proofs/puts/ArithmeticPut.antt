@@ -1,13 +1,10 @@
 -- What is put for arithmetic that may leave its type or divide by 0.
 use Rattle.sql_forms.proofs.puts.OperandsPut.{number_typed}
 use Rattle.sql_forms.proofs.Common.{IsOfType, ◌≡◌, [], ◌∷◌, ℤ, pos, Bool, Option, refl, sym, subst, ◌∙◌, Val, null, whole, PrimitiveType, number_val, Outcome, gives, overflow, divides_by_zero, not3, ArithFault, Overflow, DivideByZero, ArithmeticOperator, ComparisonOperator, outcome_of_fault, BothNumbers, ChoiceGives, GivesInRange, GivesWhole, StrictlyGives, truth, NodeMeans, SqlMeans, Asked, Bound, Term, no_terms, more_terms, Digit, Carrier, SqlNode, SqlType, Draft, Operand, UnlessZeroHas, WideHas, ZeroHas, Grows, OperandHas, Has, Puts, Question, puts_leaf, puts_one, puts_three, puts_two}
-use Rattle.sql_forms.specs.private.AskedForms.{Itself}
+use Rattle.sql_outcomes.specs.private.ValueForms.{Itself}
 use Rattle.sql_forms.proofs.puts.ComparisonsPut.{not_node}
-use Rattle.sql_forms.proofs.outcomes.Operators.{case_means, compare_means, wide_means, within_means}
-
--- an outcome that is that one
-abbrev pub Is : Outcome → Has
-Is p world o = o ≡ p
+use Rattle.sql_outcomes.proofs.outcomes.Operators.{case_means, compare_means, wide_means, within_means}
+use Rattle.sql_outcomes.proofs.outcomes.FaultConditions.{Is}
 
 pub case_node : (asked : Asked) (bound : Bound) (a b c : Term) (x y z w : Outcome) → SqlMeans asked bound a x → SqlMeans asked bound b y → SqlMeans asked bound c z
     → (t : Option Bool) × (x ≡ truth t) × ChoiceGives t y z w → NodeMeans asked bound SqlNode.Case (more_terms a (more_terms b (more_terms c no_terms))) w

@@ -1,10 +1,10 @@
 -- What is put over each member of a collection: `EXISTS` over bodies that evaluate to truth values.
 use Rattle.sql_forms.proofs.Common.{◌≡◌, ◌+◌, ◌++◌, ◌∷◌, [], ℕ, suc, List, Bool, true, false, Option, Some, None, length, map, refl, sym, ap, subst, ◌∙◌, arith, slice_get, AllByRecursion, Val, boolean, slots_of, HasType, Tree, Quantifier, Filter, found_there, Outcome, gives, IsKept, AtEach, truth, NodeMeans, SqlMeans, Asked, Bound, bound_member, Term, no_terms, more_terms, nodes_of, SqlNode, SqlTree, Draft, Grows, IsFront, AtMembers, IsBodyOf, OfTree, OverHas, PutsBody, at_member, IsPathTo, Has, IsWorldOf, OfPlace, Puts, Question, Says, World, grows_then, puts_one, AreNumbered, parameters_of, arity}
-use Rattle.sql_forms.specs.private.AskedForms.{Itself}
-use Rattle.sql_forms.proofs.outcomes.Apart.{false_true, none_true}
+use Rattle.sql_outcomes.specs.private.ValueForms.{Itself}
+use Rattle.sql_outcomes.proofs.outcomes.Apart.{false_true, none_true}
 use Rattle.odata_signatures.specs.Typed.{Variable as RangeVariable}
-use Rattle.sql_forms.proofs.nodes.MemberWorlds.{world_at_member}
-use Rattle.sql_forms.proofs.outcomes.Quantified.{any_true}
+use Rattle.sql_outcomes.proofs.nodes.MemberWorlds.{world_at_member}
+use Rattle.sql_outcomes.proofs.outcomes.Quantified.{any_true}
 use Rattle.sql_forms.proofs.puts.ExistsOver.{exists_over}
 
 -- ---- a body among drafts

@@ -1,10 +1,11 @@
 -- What is put for arithmetic that may leave its type or divide by 0 evaluates to what the operator makes.
 use Rattle.sql_forms.proofs.Common.{◌≡◌, [], ◌∷◌, ℤ, pos, Bool, true, false, Option, Some, None, is_some, refl, sym, ap, subst, ◌∙◌, FitsSigned, w64, Val, PrimitiveType, number_val, Outcome, gives, divides_by_zero, IsDividing, and3, not3, ArithmeticOperator, HoldsNumber, ChoiceGives, GivesIsNull, truth, SqlMeans, SqlNode, Draft, Operand, CheckedHas, DivisorHas, IsFitted, IsNumberIn, WideHas, ZeroHas, Grows, OperandHas, Has, Puts, Question, puts_as, puts_one, puts_three, puts_two}
-use Rattle.sql_forms.specs.private.AskedForms.{Itself}
-use Rattle.sql_forms.proofs.puts.ArithmeticPut.{BoundedHas, Is, case_node}
-use Rattle.sql_forms.proofs.nodes.Checked.{Divides, parts, parts_free}
+use Rattle.sql_outcomes.specs.private.ValueForms.{Itself}
+use Rattle.sql_forms.proofs.puts.ArithmeticPut.{BoundedHas, case_node}
+use Rattle.sql_outcomes.proofs.outcomes.FaultConditions.{Is}
+use Rattle.sql_outcomes.proofs.nodes.Checked.{Divides, parts, parts_free}
 use Rattle.sql_forms.proofs.puts.ComparisonsPut.{not_node}
-use Rattle.sql_forms.proofs.outcomes.Operators.{is_null_means}
+use Rattle.sql_outcomes.proofs.outcomes.Operators.{is_null_means}
 use Rattle.sql_forms.proofs.puts.OrNullsPut.{and_node}
 
 -- whether a number is null, and whether it is not

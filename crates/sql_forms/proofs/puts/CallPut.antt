@@ -1,11 +1,12 @@
 -- What is put for a call evaluates to what the call does: the first fault of its arguments, or what the function makes.
 use Rattle.sql_forms.proofs.Common.{◌≡◌, ◌∷◌, [], ◌+◌, ℕ, List, Bool, true, false, Some, None, length, map, sym, subst, ◌∙◌, IsMoment, Val, null, OneType, NodeKind, EndsOnceOnEntities, HasKind, Outcome, Range, IsNamed, Function, nodes_of, Carrier, Draft, Lifted, Operand, AreArgumentsOf, AreOfKinds, CalledHas, IsFirstWithin, IsLooselyWithin, Grows, AllHave, AreChosen, IsLifted, IsOpened, bound_operand, faults_front, faults_of, within_let, AreRanges, IsAskedOf, IsWorldOf, OfPlace, Puts, PutsAll, Question, World, grows_then}
-use Rattle.sql_forms.specs.private.AskedForms.{Itself}
-use Rattle.sql_forms.proofs.nodes.CallNodes.{CallComes, call_comes, first_of, kinds_of, unfaulted, value_or_null}
-use Rattle.sql_forms.proofs.outcomes.LiftedFaults.{lifted_values}
-use Rattle.sql_forms.proofs.puts.LiftedPut.{Coded, Same, carried_put, closed, coded_put, same_coded}
-use Rattle.sql_forms.proofs.outcomes.LiftedValues.{as_many, body_have}
-use Rattle.sql_forms.proofs.puts.LiftedWhole.{FaultsGiven, faults_put, in_body, lifted_put}
+use Rattle.sql_outcomes.specs.private.ValueForms.{Itself}
+use Rattle.sql_outcomes.proofs.nodes.CallNodes.{CallComes, call_comes, first_of, kinds_of, unfaulted, value_or_null}
+use Rattle.sql_outcomes.proofs.outcomes.LiftedFaults.{lifted_values}
+use Rattle.sql_outcomes.proofs.outcomes.CodeTables.{Coded}
+use Rattle.sql_forms.proofs.lets.LiftedPut.{Same, carried_put, closed, coded_put, same_coded}
+use Rattle.sql_outcomes.proofs.outcomes.LiftedValues.{as_many, body_have}
+use Rattle.sql_forms.proofs.lets.LiftedWhole.{FaultsGiven, faults_put, in_body, lifted_put}
 
 -- ---- operands in the body are of the kinds and ranges of those outside
 

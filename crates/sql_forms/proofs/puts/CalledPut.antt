@@ -1,11 +1,11 @@
 -- What is put for a function over operands that are no faults, and for a count that may lie outside Int32.
 use Rattle.sql_forms.proofs.Common.{◌≡◌, ◌++◌, ◌∷◌, [], ◌<◌, ◌+◌, ℕ, ℤ, List, Option, Some, length, map, refl, sym, ap, subst, ◌∙◌, arith, slice_get, MomentParts, Val, PrimitiveType, there_found, number_val, Outcome, gives, overflow, ArithFault, Function, SqlFunctionGives, AllMean, AreValues, NodeMeans, SqlMeans, Asked, Bound, BoundValue, bound_value, Terms, no_terms, more_terms, nodes_of_all, term, Carrier, SqlFunction, SqlNode, Draft, Operand, Source, CalledHas, FunctionHas, IsCounting, IsSqlFunctionOf, Grows, AllHave, SourceHas, Has, IsWorldOf, Puts, PutsAll, Question, World, grows_then, puts_as, puts_one, arity_of_function}
-use Rattle.sql_forms.specs.private.AskedForms.{Itself}
+use Rattle.sql_outcomes.specs.private.ValueForms.{Itself}
 use Rattle.sql_forms.proofs.puts.ArithmeticPut.{BoundedHas, bounded_put, fault_put}
-use Rattle.sql_forms.proofs.nodes.Binding.{at_last as at_end, puts_let, puts_more, puts_none}
-use Rattle.sql_forms.proofs.outcomes.FunctionsMade.{count_parts, counting}
+use Rattle.sql_outcomes.proofs.nodes.Binding.{at_last as at_end, puts_let, puts_more, puts_none}
+use Rattle.sql_outcomes.proofs.outcomes.FunctionsMade.{count_parts, counting}
 use Rattle.sql_forms.proofs.puts.OperandsPut.{bound_put}
-use Rattle.sql_forms.proofs.outcomes.Operators.{carried_means}
+use Rattle.sql_outcomes.proofs.outcomes.Operators.{carried_means}
 
 -- ---- a function over its operands
 

@@ -1,12 +1,12 @@
 -- Terms joined to chains.
 use Rattle.sql_forms.proofs.Common.{◌≡◌, ◌++◌, ◌∷◌, [], ℕ, List, Bool, true, false, Option, Some, None, refl, sym, ap, subst, ◌∙◌, slice_get, AllByRecursion, boolean, Filter, some_there, Then, Outcome, gives, LogicalGives, and3, or3, IsWithin, Range, LogicalOperator, IsCoded, truth, NodeMeans, SqlMeans, Asked, Bound, IsTableOf, Term, no_terms, more_terms, LookUp, SqlNode, Draft, Form, ChainHas, IsChain, IsJoin, IsOfBoth, IsOfValues, TermsHave, chained, connected, Grows, AreRanges, IsFaultless, IsAskedOf, OfPlace, Puts, Question, World, puts_as, puts_two, arity}
 use Rattle.sql_forms.specs.Forms.{IsInForm}
-use Rattle.sql_forms.proofs.outcomes.ChainValues.{Code, IsValue, and_is_false, and_is_true, chained_both, chained_code, code_in, coded_in, connected_code, is_by_zero, is_false, is_null, is_overflow, is_true, or_is_false, or_is_true}
-use Rattle.sql_forms.proofs.outcomes.CodeTables.{coded, looked_connective}
-use Rattle.sql_forms.proofs.outcomes.Operators.{looked_two_means}
+use Rattle.sql_outcomes.proofs.outcomes.ChainValues.{Code, IsValue, and_is_false, and_is_true, chained_both, chained_code, code_in, coded_in, connected_code, is_by_zero, is_false, is_null, is_overflow, is_true, or_is_false, or_is_true}
+use Rattle.sql_outcomes.proofs.outcomes.CodeTables.{coded, looked_connective}
+use Rattle.sql_outcomes.proofs.outcomes.Operators.{looked_two_means}
 use Rattle.sql_forms.proofs.puts.OrNullsPut.{and_node, or_node}
-use Rattle.sql_forms.proofs.outcomes.Truths.{kept_and, kept_or}
-use Rattle.sql_forms.proofs.outcomes.Elements.{front_all, rest_all}
+use Rattle.sql_outcomes.proofs.outcomes.Truths.{kept_and, kept_or}
+use Rattle.sql_outcomes.proofs.outcomes.Elements.{front_all, rest_all}
 
 -- ---- two outcomes
 

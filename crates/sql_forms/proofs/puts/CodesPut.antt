@@ -1,8 +1,7 @@
 -- Comparisons of truth values by their codes.
 use Rattle.sql_forms.proofs.Common.{◌≡◌, [], ◌∷◌, Bool, None, refl, sym, ap, subst, ◌∙◌, true, false, Val, boolean, null, Filter, CompareGives, After, Then, Outcome, gives, ComparisonOperator, IsCoded, OneLooked, TwoLooked, IsTableBesideNull, IsTableOfComparison, LookUp, SqlNode, SqlType, Draft, Operand, Kind, CodeHas, FaultyHave, HasOrCode, NoTruth, Grows, IsOfKind, IsOfType, Fits, carrier_of, Puts, Question, World, puts_one, puts_two, carrier_in}
-use Rattle.sql_forms.proofs.outcomes.CodeTables.{coded, looked_after_null, looked_beside_null, looked_comparison, compares_two}
-use Rattle.sql_forms.proofs.puts.LiftedPut.{Coded}
-use Rattle.sql_forms.proofs.outcomes.Operators.{looked_means, looked_two_means}
+use Rattle.sql_outcomes.proofs.outcomes.CodeTables.{coded, looked_after_null, looked_beside_null, looked_comparison, compares_two, Coded}
+use Rattle.sql_outcomes.proofs.outcomes.Operators.{looked_means, looked_two_means}
 use Rattle.sql_forms.proofs.puts.OperandsPut.{null_value}
 
 coded_value : (v : Val) → IsOfType SqlType.Truth v → IsCoded (gives v)

@@ -1,14 +1,14 @@
 -- The code of a comparison whose left side may be null instead of a fault.
 use Rattle.sql_forms.proofs.Common.{◌≡◌, inl, inr, ◌∷◌, [], List, Bool, Option, Some, None, length, refl, sym, subst, slice_get, null, ComparisonOperator, Filter, Outcome, gives, overflow, divides_by_zero, IsCoded, code_of, without_fault, truth, SqlMeans, Draft, Lifted, Operand, Kind, Form, ComparisonHas, FaultyHave, NoTruth, Grows, IsOfKind, AllHave, ArePlain, IsLifted, IsOpened, faults_front, faults_of, within_let, AsCode, FaultyOrNull, IsPlainValue, NullBeside, OperandHas, IsWorldOf, Puts, PutsAll, Question, World, puts_as}
 use Rattle.sql_forms.specs.Forms.{IsInForm}
-use Rattle.sql_forms.proofs.outcomes.Apart.{null_kind}
-use Rattle.sql_forms.proofs.outcomes.CodeTables.{code_below_5, coded}
+use Rattle.sql_outcomes.proofs.outcomes.Apart.{null_kind}
+use Rattle.sql_outcomes.proofs.outcomes.CodeTables.{code_below_5, coded, Coded}
 use Rattle.sql_forms.proofs.puts.EqualCodesPut.{own_code, reported_coded}
 use Rattle.sql_forms.proofs.puts.FaultyComparisonsPut.{OrCode, body, have, plain_has, unfaulted_value}
-use Rattle.sql_forms.proofs.outcomes.LiftedFaults.{TwoInner, lifted_values, two_inner}
-use Rattle.sql_forms.proofs.puts.LiftedPut.{Coded, closed, coded_put}
-use Rattle.sql_forms.proofs.outcomes.LiftedValues.{body_have}
-use Rattle.sql_forms.proofs.puts.LiftedWhole.{FaultsGiven, faults_put, in_body}
+use Rattle.sql_outcomes.proofs.outcomes.LiftedFaults.{TwoInner, lifted_values, two_inner}
+use Rattle.sql_forms.proofs.lets.LiftedPut.{closed, coded_put}
+use Rattle.sql_outcomes.proofs.outcomes.LiftedValues.{body_have}
+use Rattle.sql_forms.proofs.lets.LiftedWhole.{FaultsGiven, faults_put, in_body}
 
 -- ---- what a comparison evaluates to
 

@@ -1,13 +1,13 @@
 -- What is put for comparisons evaluates to what these evaluate to.
 use Rattle.sql_forms.proofs.Common.{◌≡◌, ◌≢◌, ◌⊎◌, inl, inr, [], ◌∷◌, Bool, false, not, Option, Some, None, IsTrue, refl, sym, subst, ◌∙◌, Val, boolean, null, CompareGives, Outcome, gives, AreEqual, ComparesTrue, not3, ComparisonOperator, StrictlyGives, is_true, truth, NodeMeans, SqlMeans, Asked, Bound, Term, no_terms, more_terms, SqlNode, SqlType, IsFault, Draft, Operand, Kind, Form, BesideNullHas, ComparisonHas, IsGiven, StrictHas, compared_in, Grows, AreAlike, IsOfKind, IsOfType, ComparedHas, Fits, HasLoosely, NullHas, as_compared, Puts, Question, World, puts_as, puts_leaf, puts_one, puts_two, Has}
 use Rattle.sql_forms.specs.Forms.{IsInForm}
-use Rattle.sql_forms.specs.private.AskedForms.{Itself, OrTruth}
+use Rattle.sql_outcomes.specs.private.ValueForms.{Itself, OrTruth}
 use Rattle.sql_meaning.specs.SqlTypeHolds.{IsComparedAs}
-use Rattle.sql_forms.proofs.outcomes.Comparisons.{StrictReports, null_left, null_right, strictly_given, reports}
-use Rattle.sql_forms.proofs.outcomes.Nullable.{equality_of}
+use Rattle.sql_outcomes.proofs.outcomes.Comparisons.{StrictReports, null_left, null_right, strictly_given, compared_truth}
+use Rattle.sql_outcomes.proofs.outcomes.Nullable.{equality_of}
 use Rattle.sql_forms.proofs.puts.OperandsPut.{fault_form, fault_itself, given_form, given_itself, loosely, compared_typed, null_value}
-use Rattle.sql_forms.proofs.outcomes.Operators.{compare_means, is_true_means, not_means, same_means}
-use Rattle.sql_forms.proofs.outcomes.ComparedValues.{IsOrder, beside_is_false, beside_is_not, beside_is_null, denied_where, equal_compared, given_value, kept_where, not_truth, null_equality, strict_compared}
+use Rattle.sql_outcomes.proofs.outcomes.Operators.{compare_means, is_true_means, not_means, same_means}
+use Rattle.sql_outcomes.proofs.outcomes.ComparedValues.{IsOrder, beside_is_false, beside_is_not, beside_is_null, denied_where, equal_compared, given_value, kept_where, not_truth, null_equality, strict_compared}
 
 -- ---- nodes
 
@@ -33,12 +33,6 @@ negated_puts question old middle new Inner Outer F G grows inner turn =
 -- a fault's form is that of its opposite too
 fault_turned : (Form : Outcome → Outcome → Type 0) (o x : Outcome) → IsFault o → OrTruth Itself o x → (t : Option Bool) × (x ≡ truth t) × OrTruth Form o (truth (not3 t))
 fault_turned Form o x fault form = let t = fault_itself o x fault form in (t.0, t.1, fault_form Form o (not3 t.0) (truth (not3 t.0)) fault refl)
-
--- ---- comparisons
-
--- what a comparison evaluates to is a truth value
-pub compared_truth : (operator : ComparisonOperator) (l r : Val) (o : Outcome) → CompareGives operator l r o → (b : Bool) × (o ≡ gives (boolean b))
-compared_truth operator l r o given = let t = reports (ComparesTrue operator l r) o given.1 in (t.answer, t.is)
 
 pub null_strict : (operator : ComparisonOperator) (l r : Val) → (l ≡ null) ⊎ (r ≡ null) → StrictlyGives operator l r (gives null)
 null_strict operator l r (inl is) = subst (λ (v : Val). StrictlyGives operator v r (gives null)) (sym is) (null_left operator r)

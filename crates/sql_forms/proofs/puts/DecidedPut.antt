@@ -2,10 +2,10 @@
 use Rattle.sql_forms.proofs.Common.{◌≡◌, ◌<◌, ◌++◌, ◌∷◌, ◌∙◌, [], ℕ, suc, List, Some, length, refl, sym, ap, subst, append-nil, arith, slice_get, AllByRecursion, Range, ComparisonOperator, LogicalOperator, SqlNode, SqlType, Draft, Form, ChainHas, IsJoin, IsOfBoth, IsOfValues, Grows, AreRanges, IsFaultless, OfPlace, Puts, Question}
 use Rattle.sql_forms.specs.Forms.{IsInForm}
 use Rattle.sql_forms.specs.private.AskedForms.{IsAskedCode, asked_digit}
-use Rattle.sql_forms.proofs.outcomes.ChainValues.{Code, chained_code, code_in}
+use Rattle.sql_outcomes.proofs.outcomes.ChainValues.{Code, chained_code, code_in}
 use Rattle.sql_forms.proofs.puts.ChainsPut.{TableLaws, Valued, faultless_valued, joined_put, single_chain}
-use Rattle.sql_forms.proofs.outcomes.CodeConditions.{code_condition}
-use Rattle.sql_forms.proofs.outcomes.Elements.{none_left}
+use Rattle.sql_forms.proofs.puts.CodeConditions.{code_condition}
+use Rattle.sql_outcomes.proofs.outcomes.Elements.{none_left}
 
 -- ---- lists of indices
 

@@ -1,11 +1,11 @@
 -- The code of whether a left side is equal to one of the items of a list, the first that is equal or a fault deciding.
-use Rattle.sql_forms.proofs.Common.{◌≡◌, inl, inr, ◌<◌, ◌+◌, ◌++◌, ◌∷◌, [], ℕ, zero, suc, List, true, false, refl, sym, ap, subst, ◌∙◌, arith, pos, AllByRecursion, boolean, null, whole, ComparisonOperator, LogicalOperator, Filter, CompareGives, Then, Outcome, gives, overflow, divides_by_zero, IsCoded, TwoLooked, code_of, IsTableOf, LookUp, Digit, SqlNode, Draft, Operand, chained, connected, Grows, AsCode, EachCompared, EqualCodesOrNull, FaultyOrNull, NullBeside, any_of, Puts, Question, World, puts_as, puts_leaf, puts_two}
-use Rattle.sql_forms.proofs.outcomes.ChainValues.{chained_both, chained_code, code_in, coded_in, connected_code, is_false, or_false_first}
+use Rattle.sql_forms.proofs.Common.{◌≡◌, inl, inr, ◌<◌, ◌++◌, ◌∷◌, [], ℕ, zero, suc, List, true, false, refl, sym, ap, subst, ◌∙◌, arith, pos, AllByRecursion, boolean, null, whole, ComparisonOperator, LogicalOperator, Filter, CompareGives, Then, Outcome, gives, overflow, divides_by_zero, IsCoded, TwoLooked, code_of, IsTableOf, LookUp, Digit, SqlNode, Draft, Operand, chained, connected, Grows, AsCode, EachCompared, EqualCodesOrNull, FaultyOrNull, NullBeside, any_of, Puts, Question, World, puts_as, puts_leaf, puts_two}
+use Rattle.sql_outcomes.proofs.outcomes.ChainValues.{chained_both, chained_code, code_in, coded_in, connected_code, is_false, or_false_first}
 use Rattle.sql_forms.proofs.puts.ChainsPut.{gives_connected}
-use Rattle.sql_forms.proofs.outcomes.CodeTables.{code_below_5, coded, looked_connective}
-use Rattle.sql_forms.proofs.puts.ComparisonsPut.{compared_truth}
-use Rattle.sql_forms.proofs.outcomes.Operators.{looked_two_means}
-use Rattle.sql_forms.proofs.outcomes.Elements.{front_all, rest_all}
+use Rattle.sql_outcomes.proofs.outcomes.CodeTables.{code_below_5, coded, looked_connective}
+use Rattle.sql_outcomes.proofs.outcomes.Comparisons.{compared_truth}
+use Rattle.sql_outcomes.proofs.outcomes.Operators.{looked_two_means}
+use Rattle.sql_outcomes.proofs.outcomes.Elements.{front_all, rest_all}
 
 -- ---- codes
 

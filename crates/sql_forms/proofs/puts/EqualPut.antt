@@ -1,14 +1,14 @@
 -- Whether a value is equal to one of the items of a list, none of which is a fault.
-use Rattle.sql_forms.proofs.Common.{◌≡◌, ◌⊎◌, inl, inr, ◌+◌, ◌++◌, ◌∷◌, [], List, Bool, true, false, Option, Some, length, map, refl, sym, ap, subst, ◌∙◌, slice_get, Val, boolean, ComparisonOperator, Outcome, gives, or3, truth, BoundValue, bound_value, SqlNode, Filter, Draft, Lifted, Operand, Form, ComparisonHas, Grows, AllHave, IsLifted, IsOpened, chosen_of, EachEquals, EqualsHas, kept_form, some_of, HasValue, Puts, PutsAll, Question, World, extended, puts_as, puts_leaf, puts_two}
-use Rattle.sql_forms.specs.Forms.{IsTrueWhere}
+use Rattle.sql_forms.proofs.Common.{◌≡◌, ◌⊎◌, inl, inr, ◌++◌, ◌∷◌, [], List, Bool, true, false, Option, Some, length, map, refl, sym, ap, subst, ◌∙◌, slice_get, Val, boolean, ComparisonOperator, Outcome, gives, or3, truth, BoundValue, bound_value, SqlNode, Filter, Draft, Lifted, Operand, Form, ComparisonHas, Grows, AllHave, IsLifted, IsOpened, chosen_of, EachEquals, EqualsHas, kept_form, some_of, HasValue, Puts, PutsAll, Question, World, extended, puts_as, puts_leaf, puts_two}
+use Rattle.sql_outcomes.specs.TrueWhere.{IsTrueWhere}
 use Rattle.sql_forms.specs.Forms.{IsInForm}
-use Rattle.sql_forms.specs.private.AskedForms.{OrTruth}
-use Rattle.sql_forms.proofs.puts.LiftedPut.{closed}
-use Rattle.sql_forms.proofs.outcomes.LiftedValues.{source_stays}
-use Rattle.sql_forms.proofs.puts.LiftedWhole.{lifted_put}
-use Rattle.sql_forms.proofs.puts.OneLeft.{one_value}
+use Rattle.sql_outcomes.specs.private.ValueForms.{OrTruth}
+use Rattle.sql_forms.proofs.lets.LiftedPut.{closed}
+use Rattle.sql_outcomes.proofs.outcomes.LiftedValues.{source_stays}
+use Rattle.sql_forms.proofs.lets.LiftedWhole.{lifted_put}
+use Rattle.sql_forms.proofs.lets.OneLeft.{one_value}
 use Rattle.sql_forms.proofs.puts.OrNullsPut.{or_node}
-use Rattle.sql_forms.proofs.outcomes.Truths.{kept_or, true_where}
+use Rattle.sql_outcomes.proofs.outcomes.Truths.{kept_or, true_where}
 
 -- ---- whether one is true
 

@@ -1,6 +1,6 @@
 -- `EXISTS` over a body that evaluates to truth values at the members of a collection.
 use Rattle.sql_forms.proofs.Common.{Has, ◌≡◌, ◌++◌, ◌∷◌, [], ℕ, List, Bool, Option, map, refl, sym, ap, subst, ◌∙◌, append-nil, Val, boolean, Outcome, gives, AtEach, bound_member, truth, SqlMeans, Term, no_terms, more_terms, nodes_of, term, SqlNode, Draft, Grows, AreMembers, IsPathTo, path_says, IsShaped, OfPlace, Puts, Question, World, IsWorldOf, world_before}
-use Rattle.sql_forms.proofs.outcomes.Quantified.{any_true, some_true}
+use Rattle.sql_outcomes.proofs.outcomes.Quantified.{any_true, some_true}
 
 -- what the body evaluates to at the members, and what comes of that by the form
 pub record SomeTrue (question : Question) (collection : ℕ) (t : Term) (Form : Outcome → Outcome → Type 0) (world : World) (o : Outcome) : Type 0 where

@@ -1,6 +1,6 @@
 -- What is put inside of `EXISTS`: the world at a member, and what its operand evaluates to there.
 use Rattle.sql_forms.proofs.Common.{Has, ◌≡◌, ◌+◌, ◌++◌, ◌∷◌, [], ℕ, List, Some, length, refl, sym, ap, subst, ◌∙◌, append_assoc, arith, slice_get, Val, Filter, there_found, Outcome, gives, PlaceGives, BoundValue, bound_member, nodes_of, AreNumbered, parameters_of, SqlNode, SqlType, SqlTree, Draft, Operand, Source, Kind, Grows, IsDeeper, IsFront, IsOfKind, IsOfType, IsAtPath, IsMemberOperand, SourceHas, PutsMemberPath, IsWorldOf, Puts, Question, World, extended, front_of_front, grows_then, numbered_both, world_before}
-use Rattle.sql_forms.proofs.nodes.Binding.{at_last, same_front, world_within}
+use Rattle.sql_outcomes.proofs.nodes.Binding.{at_last, same_front, world_within}
 
 pub at_path_has : (filter : Filter) (path : ℕ) (kind : Kind) (source : Source) (world : World) (v : Val) → IsAtPath path kind source → PlaceGives world.asked world.bound path v → IsOfKind kind v
     → SourceHas filter source world (gives v)

@@ -1,14 +1,13 @@
 -- The code of a comparison a side of which may be a fault.
 use Rattle.sql_forms.proofs.Common.{◌≡◌, ◌≢◌, inl, inr, ◌∷◌, [], ℕ, List, Bool, true, Option, Some, map, length, refl, sym, ap, subst, ◌∙◌, slice_get, Val, boolean, null, Filter, CompareGives, Then, Outcome, gives, overflow, divides_by_zero, ComparisonOperator, without_fault, code_of_truth, truth, NodeMeans, SqlMeans, Asked, Bound, bound_value, Term, no_terms, more_terms, SqlNode, SqlType, IsFault, Draft, Operand, Source, Kind, ComparisonHas, FaultyHave, HasOrCode, NoTruth, Grows, IsOfKind, AllHave, AreChosen, chosen_of, fault_else, faults_of, within_let, ArePlain, Fits, HasLoosely, OperandHas, SomeNull, SourceHas, Puts, Question, World, extended, puts_one}
-use Rattle.sql_forms.specs.private.AskedForms.{Itself, OrTruth}
-use Rattle.sql_forms.proofs.outcomes.Apart.{is_faulted, null_kind, stays_fault}
-use Rattle.sql_forms.proofs.outcomes.CodeTables.{coded}
-use Rattle.sql_forms.proofs.puts.ComparisonsPut.{compared_truth}
-use Rattle.sql_forms.proofs.outcomes.LiftedFaults.{IsInner, TwoInner, lifted_values, two_inner, inner_fits}
-use Rattle.sql_forms.proofs.puts.LiftedPut.{Coded}
-use Rattle.sql_forms.proofs.outcomes.LiftedValues.{body_have}
+use Rattle.sql_outcomes.specs.private.ValueForms.{Itself, OrTruth}
+use Rattle.sql_outcomes.proofs.outcomes.Apart.{is_faulted, null_kind, stays_fault}
+use Rattle.sql_outcomes.proofs.outcomes.CodeTables.{coded, Coded}
+use Rattle.sql_outcomes.proofs.outcomes.Comparisons.{compared_truth}
+use Rattle.sql_outcomes.proofs.outcomes.LiftedFaults.{IsInner, TwoInner, lifted_values, two_inner, inner_fits}
+use Rattle.sql_outcomes.proofs.outcomes.LiftedValues.{body_have}
 use Rattle.sql_forms.proofs.puts.OperandsPut.{fault_itself, given_itself}
-use Rattle.sql_forms.proofs.outcomes.Operators.{truth_code_means}
+use Rattle.sql_outcomes.proofs.outcomes.Operators.{truth_code_means}
 
 -- the code of a value; instead of a fault that of some truth value
 abbrev pub OrCode : Outcome → Outcome → Type 0

@@ -1,16 +1,16 @@
 -- Nodes of truth values in each form: by their values where they evaluate to no fault, and of type Null.
-use Rattle.sql_forms.proofs.Common.{◌≡◌, ◌<◌, ◌∙◌, ◌∷◌, [], ℕ, zero, suc, List, Bool, true, false, Option, Some, None, length, refl, sym, ap, subst, arith, IsSomeAnd, slice_get, slice_get_within, IsMoment, boolean, null, slots_of, CheckedNode, some_there, EndsOnceOnEntities, IsOutcomeOf, not3, Outcome, gives, IsWithin, Range, expr_type, code_of_truth, truth, SqlNode, SqlType, Draft, Kind, Form, Grows, IsOfKind, kind_of_type, AreRanges, IsCarriedKind, IsFaultless, IsTruthAt, IsAskedOf, OfPlace, Puts, Question, World, puts_as, puts_leaf, puts_one}
-use Rattle.sql_forms.specs.Forms.{IsTrueWhere}
+use Rattle.sql_forms.proofs.Common.{◌≡◌, ◌<◌, ◌∙◌, ◌∷◌, [], ℕ, zero, suc, List, Bool, true, false, Option, Some, None, length, refl, sym, ap, subst, arith, IsSomeAnd, slice_get, slice_get_within, IsMoment, boolean, null, slots_of, CheckedNode, some_there, EndsOnceOnEntities, IsOutcomeOf, not3, Outcome, gives, IsWithin, Range, expr_type, code_of_truth, truth, SqlNode, SqlType, Draft, Kind, Form, Grows, IsOfKind, kind_of_type, AreRanges, IsCarriedKind, IsFaultless, IsTruthAt, IsAskedOf, OfPlace, Puts, Question, World, puts_as, puts_leaf, puts_one, ComparisonOperator, Operand, FaultyHave, IsComparisonOf, ◌≢◌, LogicalOperator, IsJoin, IsOfValues}
+use Rattle.sql_outcomes.specs.TrueWhere.{IsTrueWhere}
 use Rattle.sql_forms.specs.Forms.{IsInForm}
 use Rattle.sql_forms.specs.private.AskedForms.{IsAskedCode}
-use Rattle.sql_forms.proofs.outcomes.Apart.{false_true as some_true, none_true}
-use Rattle.sql_forms.proofs.outcomes.ChainValues.{Code, IsValue, code_in}
+use Rattle.sql_outcomes.proofs.outcomes.Apart.{false_true as some_true, none_true}
+use Rattle.sql_outcomes.proofs.outcomes.ChainValues.{Code, IsValue, code_in}
 use Rattle.sql_forms.proofs.puts.ChainsPut.{faultless_valued, value_truth}
-use Rattle.sql_forms.proofs.outcomes.CodeTables.{coded}
+use Rattle.sql_outcomes.proofs.outcomes.CodeTables.{coded}
 use Rattle.sql_forms.proofs.puts.ComparisonsPut.{not_node}
 use Rattle.sql_forms.proofs.puts.FaultyComparisonsPut.{code_is, truth_code_node}
-use Rattle.sql_forms.proofs.outcomes.Truths.{true_where}
-use Rattle.sql_forms.proofs.nodes.WorldNodes.{of_type, truth_coded, typed_kind}
+use Rattle.sql_outcomes.proofs.outcomes.Truths.{true_where}
+use Rattle.sql_outcomes.proofs.nodes.WorldNodes.{of_type, truth_coded, typed_kind}
 
 -- the opposite of a truth value that is what the filter evaluates to is true exactly where that is false
 false_where : (t : Option Bool) (o : Outcome) → truth t ≡ o → IsTrueWhere (o ≡ gives (boolean false)) (truth (not3 t))
@@ -95,3 +95,22 @@ module _ (question : Question) (ranges : List Range) (are : AreRanges question r
         by Form.Keeps is o same = (Some false, refl, (λ reported. absurd (some_true reported), λ fact. absurd (cc (sym same ∙ fact))))
         by Form.Denies is o same = (Some false, refl, (λ reported. absurd (some_true reported), λ fact. absurd (cc (sym same ∙ fact))))
         by f is o same = absurd is
+
+-- a comparison by its code
+pub comparison_code_put : (question : Question) (ranges : List Range) (place : ℕ) (operator : ComparisonOperator) (left right : Operand) → IsComparisonOf question ranges place operator left right → (old new : Draft)
+    → Puts question old new (FaultyHave question.filter operator left right) (IsInForm Form.Code) → Puts question old new (OfPlace question.filter place) (IsInForm Form.Code)
+comparison_code_put question ranges place operator left right is old new inner =
+    puts_as question old new (FaultyHave question.filter operator left right) (OfPlace question.filter place) (IsInForm Form.Code) (IsInForm Form.Code) inner
+    (λ world o it has. (o, is.says world o it.seen has, λ x form. form))
+
+-- ---- forms
+
+-- codes are joined by tables
+pub code_values : (join : SqlNode) (connective : LogicalOperator) → IsJoin Form.Code join connective → IsOfValues Form.Code join → ⊥
+code_values SqlNode.Or connective joins values = joins
+code_values join connective joins values = values
+
+pub asked_no_truth : (form : Form) → IsAskedCode form → form ≢ Form.Truth
+asked_no_truth Form.Keeps asked same = let e : Form.Keeps ≡ Form.Truth = same in absurd (cc)
+asked_no_truth Form.Denies asked same = let e : Form.Denies ≡ Form.Truth = same in absurd (cc)
+asked_no_truth _ asked same = asked

@@ -1,13 +1,13 @@
 -- Whether a left side is equal to some member of a collection, by `EXISTS`.
 use Rattle.sql_forms.proofs.Common.{◌≡◌, ◌↔◌, inl, inr, ◌+◌, ◌++◌, ◌∷◌, [], ℕ, List, Bool, true, false, Option, Some, None, map, refl, sym, ap, subst, ◌∙◌, slice_get, AllByRecursion, FieldVal, Val, Vals, boolean, fields, items, null, EdmType, ValueType, ComparisonOperator, Filter, CheckedNode, some_there, Outcome, gives, Range, AtEach, truth, IsScalar, SqlMeans, bound_member, nodes_of, SqlNode, SqlType, IsFault, Draft, Operand, Source, Kind, Form, ComparisonHas, Grows, IsDeeper, AreCompared, IsOfKind, kind_of_single, IsOfType, AreMembersBeside, EachMemberEquals, HasMemberHas, IsAtPath, IsMemberOperand, MembersAt, some_of, HasLoosely, HasValue, IsSourceOf, IsTestable, IsTested, IsPathTo, PutsMemberPath, IsWorldOf, Puts, Question, World, extended}
-use Rattle.sql_forms.specs.Forms.{IsTrueWhere}
+use Rattle.sql_outcomes.specs.TrueWhere.{IsTrueWhere}
 use Rattle.sql_forms.specs.Forms.{IsInForm}
-use Rattle.sql_forms.specs.private.AskedForms.{Itself, OrTruth}
+use Rattle.sql_outcomes.specs.private.ValueForms.{Itself, OrTruth}
 use Rattle.sql_forms.proofs.puts.EqualPut.{value_stays}
 use Rattle.sql_forms.proofs.puts.ExistsPut.{InExists, in_exists}
-use Rattle.sql_forms.proofs.outcomes.LiftedValues.{source_stays}
+use Rattle.sql_outcomes.proofs.outcomes.LiftedValues.{source_stays}
 use Rattle.sql_forms.proofs.puts.OperandsPut.{fault_form, given_form}
-use Rattle.sql_forms.proofs.outcomes.Quantified.{any_true}
+use Rattle.sql_outcomes.proofs.outcomes.Quantified.{any_true}
 use Rattle.sql_forms.proofs.puts.ExistsOver.{SomeTrue, exists_over}
 
 -- ---- the member as an operand

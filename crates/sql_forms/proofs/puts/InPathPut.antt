@@ -1,15 +1,16 @@
 -- What is put for `in` before a path.
 use Rattle.sql_forms.proofs.Common.{◌≡◌, ◌⊎◌, inl, inr, ◌+◌, ◌∷◌, [], ℕ, List, Bool, true, false, Option, Some, None, length, map, refl, sym, ap, subst, ◌∙◌, slice_get, Val, boolean, null, Filter, Outcome, gives, overflow, divides_by_zero, Range, code_of_truth, truth, AreMembers, BoundValue, bound_value, SqlNode, IsFault, Draft, Lifted, Operand, Source, NoTruth, Grows, AllHave, IsLifted, IsOpened, chosen_of, fault_else, faults_front, faults_of, EachMemberEquals, HasMemberHas, MemberHas, MembersAt, some_of, IsOrNull, missing_front, HasLoosely, HasValue, SourceHas, IsPathTo, AreRanges, Has, IsAskedOf, OfPlace, Puts, PutsAll, Question, World, extended, puts_as, puts_one}
-use Rattle.sql_forms.specs.Forms.{IsTrueWhere}
-use Rattle.sql_forms.specs.private.AskedForms.{Itself, OrTruth}
-use Rattle.sql_forms.proofs.outcomes.Apart.{stays_fault as fault_stays}
-use Rattle.sql_forms.proofs.puts.OneLeft.{one_null, one_value}
+use Rattle.sql_outcomes.specs.TrueWhere.{IsTrueWhere}
+use Rattle.sql_outcomes.specs.private.ValueForms.{Itself, OrTruth}
+use Rattle.sql_outcomes.proofs.outcomes.Apart.{stays_fault as fault_stays}
+use Rattle.sql_forms.proofs.lets.OneLeft.{one_null, one_value}
 use Rattle.sql_forms.proofs.puts.FaultyComparisonsPut.{OrCode, code_is, truth_code_node, or_code_value}
-use Rattle.sql_forms.proofs.nodes.InPathNodes.{InPathComes}
-use Rattle.sql_forms.proofs.puts.LiftedPut.{Coded, Same, closed, coded_put, same_coded}
-use Rattle.sql_forms.proofs.puts.LiftedWhole.{FaultsGiven, faults_put, in_body}
-use Rattle.sql_forms.proofs.outcomes.Truths.{true_where}
-use Rattle.sql_forms.proofs.outcomes.UnlessMissing.{CollectionThere, WholeHas, truth_unless_missing}
+use Rattle.sql_outcomes.specs.NodesGo.{InPathComes}
+use Rattle.sql_outcomes.proofs.outcomes.CodeTables.{Coded}
+use Rattle.sql_forms.proofs.lets.LiftedPut.{Same, closed, coded_put, same_coded}
+use Rattle.sql_forms.proofs.lets.LiftedWhole.{FaultsGiven, faults_put, in_body}
+use Rattle.sql_outcomes.proofs.outcomes.Truths.{true_where}
+use Rattle.sql_outcomes.proofs.outcomes.UnlessMissing.{CollectionThere, WholeHas, truth_unless_missing}
 use Rattle.sql_forms.proofs.puts.OperandsPut.{fault_itself}
 
 -- ---- null collections

@@ -1,18 +1,17 @@
 -- What is put for `any` and `all` whose bodies may evaluate to a fault: the code of the first member that decides.
 use Rattle.sql_forms.proofs.Common.{◌≡◌, ◌<◌, ◌+◌, ◌++◌, ◌∷◌, [], ℕ, suc, ℤ, pos, List, true, false, Option, Some, length, map, refl, sym, ap, subst, ◌∙◌, append-nil, arith, option_map, slice_get, AllByRecursion, slice_get-map, slice_get_within, IsMoment, Val, boolean, null, whole, slots_of, HasType, Quantifier, EndsOnceOnEntities, found_there, some_there, there_found, number_val, Outcome, gives, overflow, divides_by_zero, QuantifierGives, undecided_val, IsKept, IsCoded, code_of, AtEach, DecidedGives, decision_at, decisions, BothNumbers, OfNumber, Over, FirstGiven, GivesBits, NodeMeans, SqlMeans, Asked, Bound, BoundValue, bound_member, Term, no_terms, more_terms, nodes_of, term, number_of, Digit, SqlNode, Draft, Grows, AtMembers, IsStopAt, OfTree, OverHas, PutsBody, at_member, IsPathTo, IsTruthAt, IsAskedOf, IsWorldOf, OfPlace, Puts, Question, World, grows_then, puts_leaf, puts_two, world_before, path_says}
-use Rattle.sql_forms.specs.private.AskedForms.{Itself}
-use Rattle.sql_forms.proofs.nodes.Binding.{at_last as at_end}
-use Rattle.sql_forms.proofs.puts.ArithmeticPut.{Is}
+use Rattle.sql_outcomes.specs.private.ValueForms.{Itself}
+use Rattle.sql_outcomes.proofs.nodes.Binding.{at_last as at_end}
+use Rattle.sql_outcomes.proofs.outcomes.FaultConditions.{Is}
 use Rattle.sql_forms.proofs.puts.BodyPut.{body_grows}
-use Rattle.sql_forms.proofs.outcomes.CodeTables.{coded}
-use Rattle.sql_forms.proofs.outcomes.Deciding.{IsDigit, decisions_from, first_from, least_first}
-use Rattle.sql_forms.proofs.outcomes.FirstDecision.{AreOutcomes, Comes, decided, decides, first_decides, in_table, passes}
-use Rattle.sql_forms.proofs.puts.LiftedPut.{Coded}
-use Rattle.sql_forms.proofs.outcomes.LowBits.{bits_low}
+use Rattle.sql_outcomes.proofs.outcomes.CodeTables.{coded, Coded}
+use Rattle.sql_outcomes.proofs.outcomes.Deciding.{IsDigit, decisions_from, first_from, least_first}
+use Rattle.sql_outcomes.proofs.outcomes.FirstDecision.{AreOutcomes, Comes, decided, decides, first_decides, in_table, passes}
+use Rattle.sql_outcomes.proofs.outcomes.LowBits.{bits_low}
 use Rattle.sql_forms.proofs.puts.MemberOutcomes.{AreOutcomesAt, outcomes, body_is, inside_member}
-use Rattle.sql_forms.proofs.nodes.MemberWorlds.{world_at_member}
-use Rattle.sql_forms.proofs.outcomes.Operators.{coalesce_means, of_number}
-use Rattle.sql_forms.proofs.nodes.WorldNodes.{truth_coded}
+use Rattle.sql_outcomes.proofs.nodes.MemberWorlds.{world_at_member}
+use Rattle.sql_outcomes.proofs.outcomes.Operators.{coalesce_means, of_number}
+use Rattle.sql_outcomes.proofs.nodes.WorldNodes.{truth_coded}
 use Rattle.odata_checked_filter.proofs.flat.Places.{found_within}
 use Rattle.std.proofs.lemmas.List.{length-map}
 

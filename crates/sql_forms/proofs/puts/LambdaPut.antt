@@ -1,13 +1,13 @@
 -- What is put for `any` and `all` whose bodies evaluate to no fault.
 use Rattle.sql_forms.proofs.Common.{slice_get-map, option_map, ◌≡◌, ◌<◌, ◌+◌, ◌∷◌, [], ℕ, suc, List, Bool, true, false, not, Option, Some, None, length, map, refl, sym, ap, subst, ◌∙◌, arith, slice_get, slice_get_within, IsMoment, Val, boolean, null, Quantifier, EndsOnceOnEntities, found_there, some_there, Outcome, gives, overflow, divides_by_zero, QuantifierGives, not3, IsWithin, Range, IsCoded, is_true, truth, SqlNode, Draft, Form, Grows, AtMembers, IsStopAt, OfTree, OverHas, PutsBody, at_member, IsPathTo, AreRanges, IsFaultless, IsTruthAt, IsAskedOf, OfPlace, Puts, Question, World, puts_as, puts_one}
 use Rattle.sql_forms.specs.Forms.{IsInForm}
-use Rattle.sql_forms.specs.private.AskedForms.{Itself}
+use Rattle.sql_outcomes.specs.private.ValueForms.{Itself}
 use Rattle.sql_forms.proofs.puts.BodyPut.{AreAlikeTruths, AreTruthsAt, SomeHas, body_after, exists_put}
 use Rattle.sql_forms.proofs.puts.ComparisonsPut.{is_true_node, not_node}
 use Rattle.sql_forms.proofs.puts.MemberOutcomes.{AreOutcomesAt, body_is, inside_member, outcomes}
-use Rattle.sql_forms.proofs.outcomes.Quantified.{AreTruths, all_is, any_is, any_true, untrue}
-use Rattle.sql_forms.proofs.nodes.WorldNodes.{truth_coded}
-use Rattle.sql_forms.proofs.outcomes.ComparedValues.{not_truth}
+use Rattle.sql_outcomes.proofs.outcomes.Quantified.{AreTruths, all_is, any_is, any_true, untrue}
+use Rattle.sql_outcomes.proofs.nodes.WorldNodes.{truth_coded}
+use Rattle.sql_outcomes.proofs.outcomes.ComparedValues.{not_truth}
 use Rattle.odata_checked_filter.proofs.flat.Places.{found_within}
 use Rattle.std.proofs.lemmas.List.{length-map}
 

@@ -1,14 +1,15 @@
 -- The code of `in` before a list: the fault of its left side, and else the code of whether an item is equal.
 use Rattle.sql_forms.proofs.Common.{HasValue, ◌≡◌, ◌≢◌, inl, inr, ◌∷◌, [], ℕ, List, Bool, true, false, Option, Some, None, length, map, refl, sym, ap, subst, ◌∙◌, IsSomeAnd, pos, slice_get, AllByRecursion, Val, whole, ComparisonOperator, Filter, CompareGives, Then, Outcome, gives, IsCoded, code_of, BoundValue, bound_value, SqlType, IsFault, Draft, Lifted, Operand, Source, Kind, CodeHas, FaultyHave, HasOrCode, NoTruth, Grows, AllHave, IsLifted, IsOpened, carrier_in, chosen_of, faults_front, faults_of, AsCode, EachCompared, EqualCodesOrNull, IsPlainValue, ListHas, NullBeside, any_of, SourceHas, carrier_of, IsAskedOf, OfPlace, Puts, PutsAll, Question, World, extended}
-use Rattle.sql_forms.proofs.outcomes.Apart.{stays_fault as fault_stays}
-use Rattle.sql_forms.proofs.nodes.Binding.{found, stays}
+use Rattle.sql_outcomes.proofs.outcomes.Apart.{stays_fault as fault_stays}
+use Rattle.sql_outcomes.proofs.nodes.Binding.{found, stays}
 use Rattle.sql_forms.proofs.puts.EqualCodesPut.{any_coded, each_coded, outcome_of_code}
-use Rattle.sql_forms.proofs.puts.OneLeft.{one_is, one_null, one_value}
+use Rattle.sql_forms.proofs.lets.OneLeft.{one_is, one_null, one_value}
 use Rattle.sql_forms.proofs.puts.FaultyComparisonsPut.{plain_has}
-use Rattle.sql_forms.proofs.outcomes.LiftedFaults.{IsInner}
-use Rattle.sql_forms.proofs.puts.LiftedPut.{Coded, Same, closed, coded_put, same_coded}
-use Rattle.sql_forms.proofs.outcomes.LiftedValues.{source_stays}
-use Rattle.sql_forms.proofs.puts.LiftedWhole.{FaultsGiven, faults_put, in_body}
+use Rattle.sql_outcomes.proofs.outcomes.LiftedFaults.{IsInner}
+use Rattle.sql_outcomes.proofs.outcomes.CodeTables.{Coded}
+use Rattle.sql_forms.proofs.lets.LiftedPut.{Same, closed, coded_put, same_coded}
+use Rattle.sql_outcomes.proofs.outcomes.LiftedValues.{source_stays}
+use Rattle.sql_forms.proofs.lets.LiftedWhole.{FaultsGiven, faults_put, in_body}
 
 -- ---- operands in a body
 

@@ -1,8 +1,8 @@
 -- Parameters and literals evaluate to their values.
 use Rattle.sql_forms.proofs.Common.{◌≡◌, ℕ, List, [], ◌∷◌, ◌++◌, Some, None, length, refl, sym, ap, ◌∙◌, slice_get, string_bytes, MomentValue, MomentParts, plain_val, Val, moment, Value, found_there, there_found, Outcome, gives, ParameterGives, NodeMeans, no_terms, SqlNode, SqlType, Parameter, Draft, Grows, GrowsBy, GrowsByText, IsFront, IsLiteralAt, Has, IsWorldOf, Puts, Question, World, arity, grown, puts_leaf}
-use Rattle.sql_forms.specs.private.AskedForms.{Itself}
+use Rattle.sql_outcomes.specs.private.ValueForms.{Itself}
 use Rattle.odata_checked_filter.proofs.flat.Places.{get_front}
-use Rattle.sql_forms.proofs.nodes.Binding.{at_last}
+use Rattle.sql_outcomes.proofs.nodes.Binding.{at_last}
 
 -- the last parameter of a draft stands where it was put
 in_world : {A : Type 0} (xs ys asked : List A) (x : A) → ys ≡ xs ++ x ∷ [] → IsFront ys asked → slice_get asked (length xs) ≡ Some x

@@ -1,6 +1,6 @@
 -- What the bodies of a lambda evaluate to, member by member.
 use Rattle.sql_forms.proofs.Common.{◌≡◌, ◌+◌, ◌∷◌, [], ℕ, zero, suc, List, Some, None, length, refl, ap, subst, arith, IsSomeAnd, slice_get, Val, Quantifier, goes_there, Outcome, AtMembers, OfTree, OverHas, at_member, Question, World, sym, ◌∙◌, slots_of, HasType, IsKept, IsAskedOf, IsStopAt, CheckedNode, some_there, found_there}
-use Rattle.sql_forms.proofs.outcomes.Elements.{at_all}
+use Rattle.sql_outcomes.proofs.outcomes.Elements.{at_all}
 
 -- the outcomes of the body at the members
 pub record AreOutcomesAt (At : ℕ → Outcome → Type 0) (members : List Val) (ps : List Outcome) : Type 0 where

@@ -1,13 +1,13 @@
 -- What is put for a lambda operator over a collection that may be null.
 use Rattle.sql_forms.proofs.Common.{◌≡◌, ◌+◌, ◌∷◌, [], ℕ, List, Bool, true, false, Option, Some, refl, sym, ap, subst, ◌∙◌, slice_get, Val, boolean, null, Quantifier, Outcome, gives, and3, not3, Range, truth, Digit, SqlNode, Draft, Grows, IsOrNull, LambdaHas, OverHas, missing_front, IsPathTo, AreRanges, Has, IsAskedOf, Puts, Question, World, grows_then, puts_as, puts_leaf, puts_one, puts_two, world_before, path_says}
-use Rattle.sql_forms.specs.Forms.{IsTrueWhere}
-use Rattle.sql_forms.specs.private.AskedForms.{Itself}
-use Rattle.sql_forms.proofs.nodes.Binding.{nothing}
+use Rattle.sql_outcomes.specs.TrueWhere.{IsTrueWhere}
+use Rattle.sql_outcomes.specs.private.ValueForms.{Itself}
+use Rattle.sql_outcomes.proofs.nodes.Binding.{nothing}
 use Rattle.sql_forms.proofs.puts.ComparisonsPut.{not_node}
-use Rattle.sql_forms.proofs.puts.LiftedPut.{Coded}
+use Rattle.sql_outcomes.proofs.outcomes.CodeTables.{Coded}
 use Rattle.sql_forms.proofs.puts.OrNullsPut.{and_node}
-use Rattle.sql_forms.proofs.outcomes.Truths.{true_where}
-use Rattle.sql_forms.proofs.outcomes.UnlessMissing.{CollectionThere, WholeHas, code_unless_missing, given_put, is_null, missing_of, truth_unless_missing}
+use Rattle.sql_outcomes.proofs.outcomes.Truths.{true_where}
+use Rattle.sql_outcomes.proofs.outcomes.UnlessMissing.{CollectionThere, WholeHas, code_unless_missing, given_put, is_null, missing_of, truth_unless_missing}
 
 module _ (question : Question) (quantifier : Quantifier) (place path : ℕ) where
   -- whether what the operator goes over is null

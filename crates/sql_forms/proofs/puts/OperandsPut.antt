@@ -1,8 +1,9 @@
 -- What is put for an operand evaluates to what the operand has.
 use Rattle.sql_forms.proofs.Common.{compared_in, ◌≡◌, ◌≢◌, ◌⊎◌, inl, inr, ℕ, ℤ, [], ◌∷◌, Bool, Option, Some, None, true, false, refl, sym, ap, subst, ◌∙◌, slice_get, plain_val, Val, boolean, member, moment, null, Value, Filter, some_there, there_found, number_val, Outcome, gives, without_fault, GivesIsNull, truth, GivesMissing, PlaceGives, MissingGives, NodeMeans, SqlMeans, Asked, Bound, BoundValue, Term, no_terms, more_terms, Digit, Carrier, FieldType, SqlNode, SqlType, IsFault, Draft, Operand, Source, Kind, Grows, IsOfKind, IsOfType, ComparedHas, Fits, HasLoosely, HasValue, IsLiteralAt, NullHas, OperandHas, SourceHas, as_compared, PutsPath, Puts, Question, World, grows_then, puts_as, puts_leaf, puts_one, world_before, path_says}
-use Rattle.sql_forms.specs.private.AskedForms.{Itself, OrTruth}
+use Rattle.sql_outcomes.specs.private.ValueForms.{Itself, OrTruth}
 use Rattle.sql_meaning.specs.SqlTypeHolds.{IsComparedAs}
-use Rattle.sql_forms.proofs.outcomes.Operators.{is_null_means}
+use Rattle.sql_outcomes.proofs.outcomes.Operators.{is_null_means}
+use Rattle.sql_outcomes.proofs.outcomes.ComparedValues.{uncompared}
 
 -- ---- forms of a value, and of what stands instead of a fault
 
@@ -27,22 +28,6 @@ fault_itself _ x fault form = form
 
 pub loosely : {filter : Filter} {operand : Operand} {world : World} {v : Val} → HasValue filter operand world v → HasLoosely filter operand world v
 loosely value = record { has = value.has; kind = value.fits.kind }
-
--- ---- growth
-
--- what is added by number is added
-
--- values of the other types are compared as they are
-pub uncompared : (type : SqlType) (v : Val) → type ≢ SqlType.Moment → IsOfType type v → as_compared v ≡ v
-uncompared SqlType.Moment (moment m) other fits = absurd (other refl)
-uncompared SqlType.Truth (moment m) other fits = absurd fits
-uncompared SqlType.Whole (moment m) other fits = absurd fits
-uncompared SqlType.Text (moment m) other fits = absurd fits
-uncompared SqlType.Date (moment m) other fits = absurd fits
-uncompared SqlType.Instant (moment m) other fits = absurd fits
-uncompared SqlType.Guid (moment m) other fits = absurd fits
-uncompared SqlType.Member (moment m) other fits = absurd fits
-uncompared type v other fits = refl
 
 -- a value as it is compared is one that its type compares
 pub compared_typed : (type : SqlType) (v : Val) → IsOfType type v → IsComparedAs (compared_in type) (as_compared v)

@@ -1,10 +1,11 @@
 -- A comparison that is true of two nulls: what is put for it where both sides may be null.
 use Rattle.sql_forms.proofs.Common.{◌≡◌, ◌≢◌, inl, inr, [], ◌∷◌, Bool, false, Option, Some, None, refl, sym, subst, ◌∙◌, boolean, null, Outcome, gives, ComparesTrue, and3, or3, ComparisonOperator, is_true, truth, NodeMeans, SqlMeans, Asked, Bound, Term, no_terms, more_terms, SqlNode, Draft, Operand, ComparisonHas, StrictHas, Grows, NullHas, Has, Puts, Question, World, puts_one, puts_two}
-use Rattle.sql_forms.specs.private.AskedForms.{Itself, OrTruth}
-use Rattle.sql_forms.proofs.puts.ComparisonsPut.{compared_truth, is_true_node, null_strict}
-use Rattle.sql_forms.proofs.outcomes.Nullable.{or_nulls, true_of, is_true_of}
+use Rattle.sql_outcomes.specs.private.ValueForms.{Itself, OrTruth}
+use Rattle.sql_outcomes.proofs.outcomes.Comparisons.{compared_truth}
+use Rattle.sql_forms.proofs.puts.ComparisonsPut.{is_true_node, null_strict}
+use Rattle.sql_outcomes.proofs.outcomes.Nullable.{or_nulls, true_of, is_true_of}
 use Rattle.sql_forms.proofs.puts.OperandsPut.{fault_form, fault_itself, given_form, loosely}
-use Rattle.sql_forms.proofs.outcomes.Operators.{and_means, or_means}
+use Rattle.sql_outcomes.proofs.outcomes.Operators.{and_means, or_means}
 
 -- joined by `AND` and by `OR`
 pub and_node : (asked : Asked) (bound : Bound) (a b : Term) (x y z : Outcome) → SqlMeans asked bound a x → SqlMeans asked bound b y

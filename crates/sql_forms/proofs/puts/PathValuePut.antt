@@ -1,10 +1,10 @@
 -- The value at a path, as a column or at a position in JSON.
 use Rattle.sql_forms.proofs.Common.{◌≡◌, ◌∷◌, [], ℕ, List, Some, refl, sym, subst, slice_get, IsMoment, Val, slots_of, CheckedNode, NodeKind, EndsOnceOnEntities, found_there, some_there, there_found, Outcome, gives, IsQuietKind, Range, BaseGives, IsScalar, PathGives, PlaceGives, SlotGives, StepsGive, Asked, Bound, FieldType, SqlNode, Base, Path, Draft, Kind, Grows, IsOfKind, kind_of_type, IsOfType, type_of_field, PutsPath, AreRanges, HasFieldType, IsPathAt, IsStep, IsAskedOf, IsWorldOf, OfPlace, Puts, Question, World, puts_leaf, world_before, path_says}
-use Rattle.sql_forms.specs.private.AskedForms.{Itself}
+use Rattle.sql_outcomes.specs.private.ValueForms.{Itself}
 use Rattle.sql_tree.specs.declared.json_path.Step.{Step}
-use Rattle.sql_forms.proofs.puts.FlagsPut.{plain_value}
+use Rattle.sql_outcomes.proofs.nodes.FlagNodes.{plain_value}
 use Rattle.sql_forms.proofs.puts.HasMemberPut.{scalar}
-use Rattle.sql_forms.proofs.nodes.WorldNodes.{of_type, typed_kind}
+use Rattle.sql_outcomes.proofs.nodes.WorldNodes.{of_type, typed_kind}
 
 step_plain : (kind : NodeKind) → IsStep kind → IsQuietKind kind
 step_plain (NodeKind.Property slot) is = tt

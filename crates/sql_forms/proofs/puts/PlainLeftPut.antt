@@ -1,12 +1,11 @@
 -- The code of `in` whose left side is null or structured: it evaluates to no fault and is not bound.
 use Rattle.sql_forms.proofs.Common.{◌≡◌, inl, ◌+◌, ℕ, List, None, refl, sym, ap, subst, ◌∙◌, Val, boolean, null, Outcome, gives, Draft, Operand, Source, NoTruth, carrier_in, fault_else, AsCode, EqualCodesOrNull, HasMemberHas, ListHas, any_of, some_of, IsOrNull, SourceHas, IsAskedOf, OfPlace, Puts, Question, World, puts_as}
-use Rattle.sql_forms.proofs.outcomes.CodeTables.{coded}
+use Rattle.sql_outcomes.proofs.outcomes.CodeTables.{coded, Coded}
 use Rattle.sql_forms.proofs.puts.EqualCodesPut.{any_coded, each_coded}
 use Rattle.sql_forms.proofs.puts.FaultyComparisonsPut.{OrCode, or_code_value}
-use Rattle.sql_forms.proofs.nodes.InPathNodes.{InPathComes}
+use Rattle.sql_outcomes.specs.NodesGo.{InPathComes}
 use Rattle.sql_forms.proofs.puts.InPathPut.{marked_parts}
-use Rattle.sql_forms.proofs.puts.LiftedPut.{Coded}
-use Rattle.sql_forms.proofs.outcomes.UnlessMissing.{WholeHas}
+use Rattle.sql_outcomes.proofs.outcomes.UnlessMissing.{WholeHas}
 
 module _ (question : Question) (place : ℕ) (left : Operand) (no_truth : NoTruth left) (none : carrier_in left ≡ None) where
   -- before a list

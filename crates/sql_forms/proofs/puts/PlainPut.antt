@@ -1,22 +1,15 @@
 -- Arithmetic that evaluates to no fault.
-use Rattle.sql_forms.proofs.Common.{◌≡◌, [], ◌∷◌, ℤ, Option, Some, None, Result, Ok, Err, refl, ap, subst, ◌∙◌, arith, ints, FitsSigned, w64, IsNumberOf, whole, PrimitiveType, ComputesTo, number_outcome, number_val, Outcome, GivesSome, gives, ArithmeticGives, ArithFault, Overflow, DivideByZero, ArithmeticOperator, NeverFaults, BothNumbers, GivesWithin64, NodeMeans, SqlMeans, Asked, Bound, Term, no_terms, more_terms, SqlNode, Draft, Operand, CheckedHas, IsFitted, IsNumberIn, PlainHas, Grows, OperandHas, Puts, Question, World, puts_two}
-use Rattle.sql_forms.specs.private.AskedForms.{Itself}
-use Rattle.sql_forms.proofs.outcomes.Apart.{no_number}
-use Rattle.sql_forms.proofs.outcomes.Operators.{plain_means}
+use Rattle.sql_forms.proofs.Common.{◌≡◌, [], ◌∷◌, ℤ, Option, Some, None, Result, Ok, Err, refl, ap, subst, ◌∙◌, whole, PrimitiveType, ComputesTo, number_outcome, number_val, Outcome, GivesSome, gives, ArithmeticGives, ArithFault, Overflow, DivideByZero, ArithmeticOperator, NeverFaults, BothNumbers, GivesWithin64, NodeMeans, SqlMeans, Asked, Bound, Term, no_terms, more_terms, SqlNode, Draft, Operand, CheckedHas, IsFitted, IsNumberIn, PlainHas, Grows, OperandHas, Puts, Question, World, puts_two}
+use Rattle.sql_outcomes.specs.private.ValueForms.{Itself}
+use Rattle.sql_outcomes.proofs.outcomes.Apart.{no_number}
+use Rattle.sql_outcomes.proofs.outcomes.Operators.{plain_means}
+use Rattle.sql_outcomes.proofs.nodes.ArithmeticNodes.{number_fits}
 
 plain_node : (operator : ArithmeticOperator) (asked : Asked) (bound : Bound) (a b : Term) (x y z : Outcome) → SqlMeans asked bound a x → SqlMeans asked bound b y
     → (m : Option ℤ) × (n : Option ℤ) × (x ≡ gives (number_val m)) × (y ≡ gives (number_val n)) × BothNumbers m n (GivesWithin64 operator) z
     → NodeMeans asked bound (SqlNode.Plain operator) (more_terms a (more_terms b no_terms)) z
 plain_node operator asked bound a b x y z first second op =
     plain_means asked bound operator a b op.0 op.1 z (subst (SqlMeans asked bound a) op.2 first) (subst (SqlMeans asked bound b) op.3 second) op.4
-
-pub number_fits : (p : PrimitiveType) (n : ℤ) → IsNumberOf p n → FitsSigned w64 n
-number_fits PrimitiveType.Byte n is = omega (arith, ints)
-number_fits PrimitiveType.SByte n is = omega (arith, ints)
-number_fits PrimitiveType.Int16 n is = omega (arith, ints)
-number_fits PrimitiveType.Int32 n is = omega (arith, ints)
-number_fits PrimitiveType.Int64 n is = is
-number_fits _ n is = absurd is
 
 module _ (question : Question) (operator : ArithmeticOperator) (type : PrimitiveType) (left right : Operand) where
   -- a number within its type, where no fault comes

@@ -1,14 +1,14 @@
 -- `in` before a path whose left side is a truth value, which is bound by its code: the members' codes are compared with
 -- it.
 use Rattle.sql_forms.proofs.Common.{◌≡◌, ◌↔◌, ◌+◌, ◌++◌, ◌∷◌, [], ℕ, pos, List, Bool, true, false, Option, Some, None, map, refl, sym, ap, subst, ◌∙◌, slice_get, AllByRecursion, Val, boolean, null, whole, ComparisonOperator, there_found, Outcome, gives, overflow, divides_by_zero, AreEqual, IsCoded, code_of, AtEach, StrictlyGives, code_of_truth, truth, SqlMeans, BoundValue, bound_member, nodes_of, SqlNode, SqlType, Draft, Operand, Source, Kind, CodeHas, Grows, IsDeeper, IsOfKind, IsOfType, EachMemberEquals, IsMemberOperand, MembersAt, some_of, OperandHas, IsPathTo, PutsMemberPath, Has, IsWorldOf, Puts, Question, World, extended, puts_one, puts_two, puts_leaf}
-use Rattle.sql_forms.specs.private.AskedForms.{Itself}
-use Rattle.sql_forms.proofs.nodes.Binding.{found, stays}
-use Rattle.sql_forms.proofs.outcomes.CodeTables.{coded}
+use Rattle.sql_outcomes.specs.private.ValueForms.{Itself}
+use Rattle.sql_outcomes.proofs.nodes.Binding.{found, stays}
+use Rattle.sql_outcomes.proofs.outcomes.CodeTables.{coded}
 use Rattle.sql_forms.proofs.puts.FaultyComparisonsPut.{code_is, truth_code_node}
 use Rattle.sql_forms.proofs.puts.ExistsPut.{InExists, in_exists}
 use Rattle.sql_forms.proofs.puts.HasMemberPut.{member_kinds}
-use Rattle.sql_forms.proofs.outcomes.Operators.{compare_means}
-use Rattle.sql_forms.proofs.outcomes.Quantified.{any_true}
+use Rattle.sql_outcomes.proofs.outcomes.Operators.{compare_means}
+use Rattle.sql_outcomes.proofs.outcomes.Quantified.{any_true}
 use Rattle.sql_forms.proofs.puts.ExistsOver.{exists_over}
 
 -- ---- codes of truth values

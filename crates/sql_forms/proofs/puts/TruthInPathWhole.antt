@@ -1,21 +1,20 @@
 -- The code of `in` before a path whose left side is a truth value: its own fault, or the code of whether a member is
 -- equal.
 use Rattle.sql_forms.proofs.Common.{◌≡◌, ◌↔◌, ◌+◌, ◌++◌, ◌∷◌, [], ℕ, pos, List, Bool, true, false, Option, Some, None, length, refl, sym, ap, subst, ◌∙◌, slice_get, AllByRecursion, Val, boolean, null, whole, ComparisonOperator, there_found, Outcome, gives, IsCoded, code_of, ChoiceGives, StrictlyGives, code_of_truth, truth, SqlMeans, BoundValue, bound_value, Digit, SqlNode, SqlType, IsFault, Draft, Operand, Source, Kind, CodeHas, Grows, IsOfKind, IsOfType, fault_else, MembersAt, some_of, IsOrNull, Has, IsAskedOf, OfPlace, Puts, Question, World, extended, puts_leaf, puts_one, puts_three, puts_two}
-use Rattle.sql_forms.specs.private.AskedForms.{Itself}
-use Rattle.sql_forms.proofs.outcomes.Apart.{stays_fault}
-use Rattle.sql_forms.proofs.nodes.Binding.{at_last, puts_let}
-use Rattle.sql_forms.proofs.outcomes.ChainValues.{code_in}
-use Rattle.sql_forms.proofs.outcomes.CodeTables.{coded}
+use Rattle.sql_outcomes.specs.private.ValueForms.{Itself}
+use Rattle.sql_outcomes.proofs.outcomes.Apart.{stays_fault}
+use Rattle.sql_outcomes.proofs.nodes.Binding.{at_last, puts_let}
+use Rattle.sql_outcomes.proofs.outcomes.ChainValues.{code_in}
+use Rattle.sql_outcomes.proofs.outcomes.CodeTables.{coded, Coded}
 use Rattle.sql_forms.proofs.puts.CodesPut.{truth_coded}
-use Rattle.sql_forms.proofs.outcomes.FaultConditions.{at_least_3}
+use Rattle.sql_outcomes.proofs.outcomes.FaultConditions.{at_least_3}
 use Rattle.sql_forms.proofs.puts.FaultyComparisonsPut.{code_is, truth_code_node}
-use Rattle.sql_forms.proofs.nodes.InPathNodes.{InPathComes}
+use Rattle.sql_outcomes.specs.NodesGo.{InPathComes}
 use Rattle.sql_forms.proofs.puts.InPathPut.{held_stays}
-use Rattle.sql_forms.proofs.puts.LiftedPut.{Coded}
-use Rattle.sql_forms.proofs.outcomes.Operators.{case_means, compare_means}
+use Rattle.sql_outcomes.proofs.outcomes.Operators.{case_means, compare_means}
 use Rattle.sql_forms.proofs.puts.TruthInPathPut.{AtLevel, CodesEqual, CodesHave, LevelCode, equal_members, flags_beside, level_code}
 use Rattle.sql_forms.proofs.puts.TruthListPut.{LeftCodes, left_codes}
-use Rattle.sql_forms.proofs.outcomes.UnlessMissing.{CollectionThere, WholeHas}
+use Rattle.sql_outcomes.proofs.outcomes.UnlessMissing.{CollectionThere, WholeHas}
 
 module _ (question : Question) (level base path : ℕ) where
   abbrev pub code_parts : (world : World) (o : Outcome) → CodesHave question level base world o → CollectionThere question base world

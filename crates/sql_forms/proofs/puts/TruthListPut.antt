@@ -1,13 +1,12 @@
 -- The code of `in` before a list whose left side is a truth value, which is bound by its code.
 use Rattle.sql_forms.proofs.Common.{◌≡◌, inl, ◌+◌, ◌++◌, ◌∷◌, [], ℕ, List, true, false, length, refl, sym, ap, subst, ◌∙◌, pos, slice_get, Val, boolean, null, whole, ComparisonOperator, LogicalOperator, Filter, there_found, CompareGives, Then, Outcome, gives, overflow, divides_by_zero, Range, IsCoded, OneLooked, code_of, BoundValue, bound_value, LookUp, SqlNode, SqlType, IsFault, Draft, Operand, Source, Kind, chained, CodeHas, FaultyHave, HasOrCode, Grows, IsOfKind, fault_else, AsCode, EachCompared, EqualCodesOrNull, ListHas, any_of, Has, IsAskedOf, OfPlace, Puts, PutsAll, Question, World, extended, puts_as, puts_one}
-use Rattle.sql_forms.specs.private.AskedForms.{Itself}
-use Rattle.sql_forms.proofs.nodes.Binding.{at_last, puts_let, puts_more, puts_none}
-use Rattle.sql_forms.proofs.outcomes.CodeTables.{code_below_5, coded}
+use Rattle.sql_outcomes.specs.private.ValueForms.{Itself}
+use Rattle.sql_outcomes.proofs.nodes.Binding.{at_last, puts_let, puts_more, puts_none}
+use Rattle.sql_outcomes.proofs.outcomes.CodeTables.{code_below_5, coded, Coded}
 use Rattle.sql_forms.proofs.puts.CodesPut.{truth_coded}
 use Rattle.sql_forms.proofs.puts.EqualCodesPut.{any_coded, each_coded}
 use Rattle.sql_forms.proofs.puts.ListCodePut.{has_stays}
-use Rattle.sql_forms.proofs.puts.LiftedPut.{Coded}
-use Rattle.sql_forms.proofs.outcomes.Operators.{looked_means}
+use Rattle.sql_outcomes.proofs.outcomes.Operators.{looked_means}
 
 -- ---- a fault on the left is what all evaluate to
 

@@ -14,7 +14,7 @@ use Rattle.odata_sql.specs.declared.translation.Statement.{Statement}
 use Rattle.odata_sql.proofs.StatementAnswers.{memory_is_no_column, memory_is_no_nul, own_table, refused_depth, refused_no_column, refused_no_nul}
 use Rattle.odata_sql.proofs.NulFree.{free_at}
 use Rattle.odata_sql.proofs.RangesFollow.{ranges_follow}
-use Rattle.sql_forms.proofs.nodes.Contexts.{entities_typed}
+use Rattle.sql_outcomes.proofs.nodes.Contexts.{entities_typed}
 use Rattle.odata_sql.proofs.translation.translate.Goals as goal
 
 -- the moment that is given, by what its methods say

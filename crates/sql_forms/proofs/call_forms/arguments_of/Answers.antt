@@ -1,6 +1,6 @@
 use Rattle.sql_forms.proofs.Common.{◌≡◌, ◌<◌, ◌+◌, arith, refl, subst, sym, CheckedNode, NodeKind, found_there, slice_get, Operand, Source, question_of}
 use Rattle.sql_forms.proofs.answers.AlongAnswers.{ArgumentsSoFar, arguments_end, arguments_more, arguments_start, next_after, next_inside, node_is_at}
-use Rattle.sql_forms.proofs.nodes.ChildPlaces.{has_range}
+use Rattle.sql_outcomes.proofs.nodes.ChildPlaces.{has_range}
 use Rattle.sql_forms.proofs.call_forms.arguments_of.Goals as goal
 
 pub loop-at-init : goal.loop-at-init

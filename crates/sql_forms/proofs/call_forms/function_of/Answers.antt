@@ -1,5 +1,5 @@
 use Rattle.sql_forms.proofs.Common.{subst, sym, arith, length, ◌≤◌, Function, SqlFunction, IsSqlFunctionOf, TakesCount}
-use Rattle.sql_forms.proofs.outcomes.FunctionsMade.{is_index_of, is_length, made_alike}
+use Rattle.sql_outcomes.proofs.outcomes.FunctionsMade.{is_index_of, is_length, made_alike}
 use Rattle.sql_forms.proofs.answers.FunctionAnswers.{time_left, time_takes}
 use Rattle.sql_forms.proofs.call_forms.function_of.Goals as goal
 

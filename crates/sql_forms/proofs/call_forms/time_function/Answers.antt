@@ -1,6 +1,6 @@
 use Rattle.sql_forms.proofs.Common.{◌≡◌, ◌∙◌, ap, false, length, refl, sym, true, slice_get_read, Function, SqlFunction, Operand}
 use Rattle.sql_forms.proofs.answers.FunctionAnswers.{date_left}
-use Rattle.sql_forms.proofs.outcomes.FunctionsMade.{day_one, made_alike, month_one, part_of_date, part_of_moment, year_one}
+use Rattle.sql_outcomes.proofs.outcomes.FunctionsMade.{day_one, made_alike, month_one, part_of_date, part_of_moment, year_one}
 use Rattle.sql_forms.proofs.call_forms.time_function.Goals as goal
 
 pub returns-then-of_date-clause-is : goal.returns-then-of_date-clause-is

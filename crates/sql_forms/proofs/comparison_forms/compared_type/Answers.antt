@@ -1,5 +1,5 @@
 use Rattle.sql_forms.proofs.Common.{◌∙◌, ap, subst, sym, Kind, IsComparedIn}
-use Rattle.sql_forms.specs.private.Compared.{compared_in}
+use Rattle.sql_outcomes.specs.private.FaultySides.{compared_in}
 use Rattle.sql_forms.proofs.comparison_forms.compared_type.Goals as goal
 
 pub returns : goal.returns

@@ -1,5 +1,5 @@
 use Rattle.sql_forms.proofs.Common.{subst, sym, ComparisonOperator, AreOpposite}
-use Rattle.sql_forms.proofs.outcomes.OppositeComparisons.{are_opposite}
+use Rattle.sql_outcomes.proofs.outcomes.OppositeComparisons.{are_opposite}
 use Rattle.sql_forms.proofs.comparison_forms.opposite.Goals as goal
 
 pub returns-in-Eq : goal.returns-in-Eq

@@ -1,5 +1,5 @@
 use Rattle.sql_forms.proofs.Common.{◌≡◌, ◌∙◌, ap, sym, goes_there, inside, slice_get, EdmType, ValueType, CheckedNode, SqlType, Kind, kind_of_single, single_of}
-use Rattle.sql_forms.proofs.nodes.Given.{field_kind, structured_members}
+use Rattle.sql_outcomes.proofs.nodes.Given.{field_kind, structured_members}
 use Rattle.sql_forms.proofs.in_path.kind_of_member.Goals as goal
 
 pub member_type-requires : goal.member_type-requires

@@ -1,5 +1,5 @@
 use Rattle.sql_forms.proofs.Common.{◌≡◌, refl, sym, subst, goes_there, inside, slice_get, type_of_field, EdmType, ValueType, CheckedNode, Kind, Source, kind_of_single, single_of, IsAtPath}
-use Rattle.sql_forms.proofs.nodes.Given.{field_kind, structured_members}
+use Rattle.sql_outcomes.proofs.nodes.Given.{field_kind, structured_members}
 use Rattle.sql_forms.proofs.in_path.source_of_member.Goals as goal
 
 pub member_type-requires : goal.member_type-requires

@@ -1,6 +1,6 @@
 use Rattle.sql_forms.proofs.Common.{◌≡◌, ◌<◌, ℕ, arith, false, get_or, length, sym, ◌∙◌, slice_get-get_or, slice_get, goes_there, Range}
 use Rattle.sql_forms.proofs.answers.LoopAnswers.{faultless_on}
-use Rattle.sql_forms.proofs.outcomes.Elements.{at_all}
+use Rattle.sql_outcomes.proofs.outcomes.Elements.{at_all}
 use Rattle.sql_forms.proofs.keeps.faultless_terms.Goals as goal
 
 pub may_fault-requires : goal.may_fault-requires

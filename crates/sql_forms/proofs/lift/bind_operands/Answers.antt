@@ -1,9 +1,8 @@
 use Rattle.sql_forms.proofs.Common.{◌≡◌, ◌≢◌, ◌∙◌, List, None, Vec, ap, arith, is_some, length, refl, subst, sym, take, ℕ, take-length, slice_get_read, Global, Operand, Kind, carrier_in}
-use Rattle.sql_forms.proofs.outcomes.Elements.{at_all}
-use Rattle.sql_forms.proofs.outcomes.LiftWalk.{Taken, bound_on, carried_valued, kept_on, not_both, not_some}
+use Rattle.sql_outcomes.proofs.outcomes.Elements.{at_all}
+use Rattle.sql_outcomes.proofs.outcomes.LiftWalk.{Taken, bound_on, carried_valued, kept_on, not_both, not_some}
 use Rattle.sql_forms.proofs.lift.bind_operands.Goals as goal
-use Rattle.sql_forms.proofs.lift.bind_operands.Goals.{then-is_some, else-is_some+then-all, else-is_some+else-all}
-use Rattle.sql_forms.proofs.lift.bind_operands.Goals.{then-not-is_leaf+in_ok-push+in_ok-push-2, else-not-is_leaf+in_ok-push-3}
+use Rattle.sql_forms.proofs.lift.bind_operands.Goals.{then-is_some, else-is_some+then-all, else-is_some+else-all, then-not-is_leaf+in_ok-push+in_ok-push-2, else-not-is_leaf+in_ok-push-3}
 
 pub loop-operand-preserved : goal.loop-operand-preserved
 loop-operand-preserved c =

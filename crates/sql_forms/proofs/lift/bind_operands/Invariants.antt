@@ -1,5 +1,5 @@
 use Rattle.std.proofs.Common.{take}
-use Rattle.sql_forms.proofs.outcomes.LiftWalk.{Taken}
+use Rattle.sql_outcomes.proofs.outcomes.LiftWalk.{Taken}
 use Rattle.sql_forms.proofs.lift.bind_operands.Given as goal
 
 abbrev pub invariant-loop-operand : goal.invariant-loop-operand

@@ -1,9 +1,8 @@
 use Rattle.sql_forms.proofs.Common.{◌≡◌, ◌≢◌, ◌<◌, ◌∙◌, ap, arith, false, length, not, refl, subst, sym, true, slice_get_read, Kind}
 use Rattle.sql_forms.proofs.answers.ConstantAnswers.{ConstantsSoFar, constant_inside, constant_literal, constant_number, constants_end, constants_more, constants_start, no_null_item, some_items}
-use Rattle.sql_forms.proofs.nodes.ListPlaces.{list_sides}
+use Rattle.sql_outcomes.proofs.nodes.ListPlaces.{list_sides}
 use Rattle.sql_forms.proofs.list_forms.is_of_constants.Goals as goal
-use Rattle.sql_forms.proofs.list_forms.is_of_constants.Goals.{then-is_value, else-is_value, then-all, else-all}
-use Rattle.sql_forms.proofs.list_forms.is_of_constants.Goals.{then-not-is_null+in-Number, then-not-is_null+in-Node+in-Literal, then-not-is_null+in-Node+in_default-kind, then-not-is_null+in_default, else-not-is_null}
+use Rattle.sql_forms.proofs.list_forms.is_of_constants.Goals.{then-is_value, else-is_value, then-all, else-all, then-not-is_null+in-Number, then-not-is_null+in-Node+in-Literal, then-not-is_null+in-Node+in_default-kind, then-not-is_null+in_default, else-not-is_null}
 
 pub loop-item-init : goal.loop-item-init
 loop-item-init c = record {

@@ -1,7 +1,7 @@
 use Rattle.sql_forms.proofs.Common.{◌≡◌, ◌<◌, arith, subst, sym, slice_get, CheckedNode, NodeKind, found_there, question_of}
 use Rattle.sql_forms.proofs.answers.AlongAnswers.{ItemsSoFar, items_end, items_more, items_start, next_after, next_inside}
-use Rattle.sql_forms.proofs.nodes.ChildPlaces.{has_range, list_child}
-use Rattle.sql_forms.proofs.nodes.ListPlaces.{items_few}
+use Rattle.sql_outcomes.proofs.nodes.ChildPlaces.{has_range, list_child}
+use Rattle.sql_outcomes.proofs.nodes.ListPlaces.{items_few}
 use Rattle.sql_forms.proofs.list_forms.items_of.Goals as goal
 
 pub second-at-requires : goal.second-at-requires

@@ -1,5 +1,5 @@
 use Rattle.sql_forms.proofs.Common.{◌+◌, ◌∷◌, ◌∙◌, [], List, ℕ, ap, reverse, subst, sym, reverse-append, IsChain, question_of}
-use Rattle.sql_forms.proofs.outcomes.ChainWalk.{WalkLeft, second_there, walk_done, walk_on, walk_starts}
+use Rattle.sql_outcomes.proofs.outcomes.ChainWalk.{WalkLeft, second_there, walk_done, walk_on, walk_starts}
 use Rattle.sql_forms.proofs.terms.terms_of.Goals as goal
 
 pub loop-connective-init : goal.loop-connective-init

@@ -1,5 +1,5 @@
 use Rattle.sql_forms.proofs.Common.{◌-◌, length, reverse, question_of}
-use Rattle.sql_forms.proofs.outcomes.ChainWalk.{WalkLeft}
+use Rattle.sql_outcomes.proofs.outcomes.ChainWalk.{WalkLeft}
 use Rattle.sql_forms.proofs.terms.terms_of.Given as goal
 
 abbrev pub invariant-loop-connective : goal.invariant-loop-connective

@@ -1,6 +1,6 @@
 use Rattle.sql_forms.proofs.Common.{◌≡◌, ◌+◌, slice_get, CheckedNode, NodeKind, there_found, question_of}
-use Rattle.sql_forms.proofs.nodes.ChildPlaces.{has_range, left_inside, right_inside}
-use Rattle.sql_forms.proofs.nodes.ComparisonsAt.{binary_compares}
+use Rattle.sql_outcomes.proofs.nodes.ChildPlaces.{has_range, left_inside, right_inside}
+use Rattle.sql_outcomes.proofs.nodes.ComparisonsAt.{binary_compares}
 use Rattle.sql_forms.proofs.truth.compared_at.Goals as goal
 
 pub side-requires-clause-there : goal.side-requires-clause-there

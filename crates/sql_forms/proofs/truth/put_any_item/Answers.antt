@@ -1,6 +1,6 @@
 use Rattle.sql_forms.proofs.Common.{◌≡◌, slice_get, CheckedNode, NodeKind, some_there, question_of}
 use Rattle.sql_forms.proofs.answers.CodedAnswers.{ok_any_item}
-use Rattle.sql_forms.proofs.nodes.ValueNodes.{asked_path}
+use Rattle.sql_outcomes.proofs.nodes.ValueNodes.{asked_path}
 use Rattle.sql_forms.proofs.truth.put_any_item.Goals as goal
 
 pub put_path-requires-clause-path : goal.put_path-requires-clause-path

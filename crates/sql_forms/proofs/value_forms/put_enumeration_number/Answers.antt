@@ -1,6 +1,6 @@
 use Rattle.sql_forms.proofs.Common.{◌≡◌, ◌∙◌, Some, sym, Value}
 use Rattle.sql_draft.specs.Translated.{question_of}
-use Rattle.sql_forms.proofs.outcomes.LiteralAnswers.{ok_enumeration}
+use Rattle.sql_forms.proofs.answers.LiteralAnswers.{ok_enumeration}
 use Rattle.sql_forms.proofs.value_forms.put_enumeration_number.Goals as goal
 
 -- a number is no text

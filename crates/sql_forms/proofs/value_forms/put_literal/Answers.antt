@@ -1,6 +1,6 @@
 use Rattle.sql_forms.proofs.Common.{◌∷◌, [], ℤ, OnOk, arith, length, refl, rules, subst, w64, FitsSigned, string_bytes, Value, SqlNode, SqlType, Parameter, GrowsBy, question_of}
 use Rattle.std.proofs.lemmas.Int.{to_z-of_z}
-use Rattle.sql_forms.proofs.outcomes.LiteralAnswers.{literal_at, ok_date, ok_guid, ok_member, ok_moment, ok_other, ok_text, ok_truth, ok_whole}
+use Rattle.sql_forms.proofs.answers.LiteralAnswers.{literal_at, ok_date, ok_guid, ok_member, ok_moment, ok_other, ok_text, ok_truth, ok_whole}
 use Rattle.sql_forms.proofs.value_forms.put_literal.Goals as goal
 
 pub returns-in-Bool : goal.returns-in-Bool

@@ -1,7 +1,7 @@
 use Rattle.sql_forms.proofs.Common.{subst, string_bytes}
 use Rattle.edm_values.specs.Civil.{DateTime}
 use Rattle.edm_values.specs.MomentParts.{IsFourDigitYear, IsOffset}
-use Rattle.sql_forms.proofs.outcomes.LiteralAnswers.{ok_moment_text}
+use Rattle.sql_forms.proofs.answers.LiteralAnswers.{ok_moment_text}
 use Rattle.sql_forms.proofs.value_forms.put_moment.Goals as goal
 
 pub returns : goal.returns

@@ -1,5 +1,5 @@
 use Rattle.sql_forms.proofs.Common.{arith, length, refl, slice_get_read}
-use Rattle.sql_forms.proofs.outcomes.FaultWalk.{one_fault_put}
+use Rattle.sql_outcomes.proofs.outcomes.FaultWalk.{one_fault_put}
 use Rattle.sql_forms.proofs.lift.Lifted.put_faults.Goals as goal
 
 pub loop-place-preserved : goal.loop-place-preserved

@@ -1,0 +1,11 @@
+pub mod Calculations
+pub mod Calls
+pub mod ComparedSides
+pub mod Connected
+pub mod Items
+pub mod Members
+pub mod NodesGo
+pub mod OperandFaults
+pub mod SqlAgrees
+pub mod TrueWhere
+pub mod private
