@@ -1,7 +1,6 @@
 -- `check` meets its contract: the addresses are tested one by one, and the call borrows what they point to.
-use Rattle.odfilter_c.proofs.Steps.{◌≡◌, ℕ, ◌<◌, ◌^◌, List, [], ◌∷◌, ◌++◌, refl, lit<, w32, w64, Bor, MutBor, proved, leaves, SProp, ent, id⊢, sem, Fml, Lft, Share, ftrue, feq, fsep, fex, flft, Val, vint, vptr, vnull, fact, tables, WpFn, Ura, Logic, Memory, Routine, Calls, Loops, Fun, FmC, Triple, Contract, Item, ‵, raw, ◌⊛◌, some, later, prop, at_ret, Sq, ◌$◌, ◌∵◌, !, qed, move, keep, drop, use1, use2, split, join, fsplit, fjoin, fpack, feq_i, pick, await, by, enter, of_opd, lit, bin, addr, stop, fld, no_more, and_then, first, blocks, branches, skips, exec, returns, returns_within, agg, sub, whole, alloc_all, pass_all, free_all, look_at, get, get_in, through, sets, lands_last, sets_last, any_q, after_seq, Wp, post, assign, place, rv_opd, copy, env, u32, yes, uint_Makes, uint_Lawful, uint_vals, uint_Tells, Typed, Is, shows, Ptr, RawPtr, block_ptr, null_ptr, ptr_val, Testable, tests_null, rawptr_vals, rawptr_Tells, rawptr_Lawful, slice_val, owns, types_at, plain, nothing, owned, heard, peeks, calls_at_last, lasts, on_entry, triple_of, Stays, walk_of, stay_dropped, Goes-dropped, framed, usize}
-use Rattle.odfilter_c.proofs.Types.{Global, GlobalRow, global_val, global_lowers, global_laws, Bytes, BytesRow, bytes_val, bytes_lowers, bytes_laws, Buffer, BufferRow, buffer_val, buffer_lowers, buffer_laws, Handle, HandleRow, Owned, OwnedRow, Answer, AnswerRow}
-use Rattle.odfilter_c.specs.Loans.{Loan, borrowed_fault, borrowed_handle, borrowed_judge, borrowed_bytes, borrowed_buffer, borrowed_made, borrowed_answer, left_judge, left_buffer, left_made, left_answer, unless_null, holds, of_optional, of_bytes}
+use Rattle.odfilter_c.proofs.Steps.{◌≡◌, ℕ, ◌<◌, [], ◌∷◌, refl, lit<, w32, w64, proved, leaves, none, there_is, Ura, SProp, id⊢, ftrue, fsep, flft, Val, vint, vptr, Memory, Routine, WpFn, Calls, Loops, Fun, fact, tables, FmC, Logic, ‵, raw, ◌⊛◌, prop, Sq, ◌$◌, ◌∵◌, !, qed, move, keep, drop, use0, use1, use2, split, join, fsplit, fjoin, pick, await, by, enter, of_opd, addr, stop, fld, no_more, and_then, branches, agg, sub, whole, alloc_all, pass_all, free_all, get, get_in, through, sets, u32, usize, yes, Typed, Is, shows, uint_Makes, uint_Lawful, Ptr, RawPtr, block_ptr, null_ptr, ptr_val, Testable, rawptr_vals, rawptr_Tells, slice_val, owns, types_at, plain, nothing, owned, heard, peeks, Contract, Triple, calls_at_last, triple_of, Stays, walk_of, stay_dropped, Goes-dropped, framed, Global, GlobalRow, global_lowers, global_val, global_laws, Bytes, BytesRow, bytes_lowers, bytes_val, bytes_laws, Owned, Answer, HasNull, in_rest, trues, good, all_true, back, hold, unchanged, fpack2, compares, stands, tested, closes, hands, inside, ends1}
+use Rattle.odfilter_c.specs.Loans.{Loan, left_made, left_answer, of_bytes, holds}
 use Rattle.odfilter_c.specs.Exports.{borrowed_by_check, left_by_check}
 use Rattle.handle_calls.specs.Reports.{ChecksText}
 use Rattle.handle_calls.specs.contracts.calls.check as g
@@ -18,7 +17,8 @@ abbrev stayed : Stays f.ended.signature.params f.ended.kept
 stayed = (stay_dropped _ yes, (stay_dropped _ yes, (stay_dropped _ yes, (stay_dropped _ yes, (stay_dropped _ yes, tt)))))
 
 module _ {M : Type 1} {𝓤 : Ura M} (𝓛 : Logic 𝓤) (at_mem : Memory → SProp 𝓤) (run : Routine → Fun 𝓤) (C : Calls 𝓤 𝓛.H) (Λ : Loops 𝓤 𝓛.H) (fm : FmC 𝓤 𝓛.H 𝓛.laws C)
-    (known : Triple 𝓤 (C #call) (triple_of 𝓛 g.signature (g.spec 𝓛 at_mem run))) (known-1 : Triple 𝓤 (C #call-1) (triple_of 𝓛 g-1.signature (g-1.spec 𝓛 at_mem run))) (l : Loan) where
+    (known : Triple 𝓤 (C #call) (triple_of 𝓛 g.signature (g.spec 𝓛 at_mem run)))
+    (known-1 : Triple 𝓤 (C #call-1) (triple_of 𝓛 g-1.signature (g-1.spec 𝓛 at_mem run))) (l : Loan) where
   open 𝓛 use {H}
 
   abbrev G : Contract 𝓤
@@ -33,116 +33,63 @@ module _ {M : Type 1} {𝓤 : Ura M} (𝓛 : Logic 𝓤) (at_mem : Memory → SP
   abbrev bound : Global → Ptr → Bytes → Ptr → Ptr → W.Ghost
   bound alloc given text made answer = ((tt, tt, tt, (alloc, (given, (text, (made, (answer, tt))))), (global_val alloc ∷ [], (ptr_val given ∷ [], (bytes_val text ∷ [], (ptr_val made ∷ [], (ptr_val answer ∷ [], tt)))))), l)
 
-  abbrev Post : Global → Ptr → Bytes → Ptr → Ptr → Val → SProp 𝓤
-  Post alloc given text made answer = W.post (bound alloc given text made answer)
+  abbrev Walk : Global → Ptr → Bytes → Ptr → Ptr → Type 1
+  Walk alloc given text made answer = Sq 𝓛 (‵ (flft l.lifetime l.share) ∷ ‵ (borrowed_by_check l given text made answer) ∷ ‵ (GlobalRow.own_val alloc (global_val alloc ∷ [])) ∷ []) (prop (WpFn 𝓤 H C Λ code.function (global_val alloc ∷ ptr_val given ∷ bytes_val text ∷ ptr_val made ∷ ptr_val answer ∷ []) (W.post (bound alloc given text made answer))))
 
-  abbrev Given : Global → Ptr → Bytes → Ptr → Ptr → List (Item 𝓤)
-  Given alloc given text made answer = ‵ (flft l.lifetime l.share) ∷ ‵ (borrowed_by_check l given text made answer) ∷ ‵ (GlobalRow.own_val alloc (global_val alloc ∷ [])) ∷ []
+  ends : (alloc : Global) (given : Ptr) (text : Bytes) (made : Ptr) (answer : Ptr) (v : Val) (x : ℕ) → Sq 𝓛 (‵ (left_by_check l given text made answer x) ∷ ‵ (u32.own_val x (v ∷ [])) ∷ ‵ (flft l.lifetime l.share) ∷ []) (prop (W.post (bound alloc given text made answer) v))
+  ends alloc given text made answer v x = move ! (2 ∷ 0 ∷ []) $ join ! $ move ! (1 ∷ []) $ use0 𝓛 (‵ (trues 5)) (all_true 𝓛 5) $ nothing ! $
+      by ! (leaves 𝓛 f.ended stayed (f.clauses 𝓛 at_mem run) (bound alloc given text made answer) v x (tt, (tt, (tt, (tt, (tt, tt))))) (tt, (tt, (tt, (tt, (tt, tt))))))
 
-  abbrev Runs : Global → Ptr → Bytes → Ptr → Ptr → SProp 𝓤
-  Runs alloc given text made answer = WpFn 𝓤 H C Λ code.function (global_val alloc ∷ ptr_val given ∷ bytes_val text ∷ ptr_val made ∷ ptr_val answer ∷ []) (Post alloc given text made answer)
+  -- with a null address nothing is called
+  refused : (alloc : Global) (given : Ptr) (text-at : Ptr) (text-length : ℕ) (made : Ptr) (answer : Ptr) → Typed GlobalRow.mir (global_val alloc ∷ []) → Typed BytesRow.mir (bytes_val (record { at = text-at; length = text-length }) ∷ []) → Testable given → Testable text-at → Testable made → Testable answer → HasNull (given ∷ made ∷ answer ∷ []) → Walk alloc given (record { at = text-at; length = text-length }) made answer
+  refused alloc given text-at text-length made answer fits-alloc fits-text may-given may-text may-made may-answer null =
+      enter ! C Λ code.function (global_val alloc ∷ ptr_val given ∷ bytes_val (record { at = text-at; length = text-length }) ∷ ptr_val made ∷ ptr_val answer ∷ []) _ $ alloc_all ! (λ c. pass_all ! refl (fits-alloc.0, ((good 𝓛 given).0, (fits-text.0, ((good 𝓛 made).0, ((good 𝓛 answer).0, tt))))) $
+      tested ! given none (get ! refl) may-given refl (tt, tt) refl refl (tt, record { fits = lit< tt }) refl (λ _. free_all ! refl $ unchanged ! (given ∷ made ∷ answer ∷ []) _ null (ends alloc given (record { at = text-at; length = text-length }) made answer (vint w32 1) 1)) (λ here-0.
+      tested ! made (there_is _) (get ! refl) may-made refl (tt, tt) refl refl (tt, record { fits = lit< tt }) refl (λ _. free_all ! refl $ unchanged ! (given ∷ made ∷ answer ∷ []) _ null (ends alloc given (record { at = text-at; length = text-length }) made answer (vint w32 1) 1)) (λ here-1.
+      tested ! answer (there_is _) (get ! refl) may-answer refl (tt, tt) refl refl (tt, record { fits = lit< tt }) refl (λ _. free_all ! refl $ unchanged ! (given ∷ made ∷ answer ∷ []) _ null (ends alloc given (record { at = text-at; length = text-length }) made answer (vint w32 1) 1)) (λ here-2.
+      absurd (in_rest answer [] (in_rest made (answer ∷ []) (in_rest given (made ∷ answer ∷ []) null here-0) here-1) here-2)))))
 
-  abbrev good : (p : Ptr) → Typed (RawPtr).mir (ptr_val p ∷ [])
-  good p = (rawptr_Lawful 𝓛).typed p _ refl
-
-  -- a call with a null pointer ends with all that was borrowed
-  none : (alloc : Global) (given : Ptr) (text : Bytes) (made : Ptr) (answer : Ptr) → ent 𝓤 (sem 𝓛 (fsep (feq ℕ 1 1) (borrowed_by_check l given text made answer))) (sem 𝓛 (left_by_check l given text made answer 1)) → Sq 𝓛 (Given alloc given text made answer) (prop (Post alloc given text made answer (vint w32 1)))
-  none alloc given text made answer e =
-      move ! (2 ∷ []) $ drop ! $ move ! (1 ∷ []) $ feq_i ! ℕ 1 1 refl $ fjoin ! $ use1 𝓛 (‵ (left_by_check l given text made answer 1)) e $ move ! (1 ∷ 0 ∷ []) $ join ! $
-      owned ! u32 _ (uint_Makes 𝓛 w32) 1 _ (refl, lit< tt) $ nothing ! $ nothing ! $ fjoin ! $ nothing ! $ fjoin ! $ nothing ! $ fjoin ! $ nothing ! $ fjoin ! $ nothing ! $ fjoin ! $ nothing ! $
-      by ! (leaves 𝓛 f.ended stayed (f.clauses 𝓛 at_mem run) (bound alloc given text made answer) (vint w32 1) 1 (tt, (tt, (tt, (tt, (tt, tt))))) (tt, (tt, (tt, (tt, (tt, tt))))))
-
-  runs : (alloc : Global) (given : Ptr) (text-at : Ptr) (text-length : ℕ) (made : Ptr) (answer : Ptr) → Typed GlobalRow.mir (global_val alloc ∷ []) → Typed BytesRow.mir (bytes_val (record { at = text-at; length = text-length }) ∷ []) → Testable given → Testable text-at → Testable made → Testable answer
-      → Sq 𝓛 (Given alloc given (record { at = text-at; length = text-length }) made answer) (prop (Runs alloc given (record { at = text-at; length = text-length }) made answer))
-  runs alloc null_ptr text-at text-length made answer fits-alloc fits-text may-given may-text may-made may-answer =
-      enter ! C Λ code.function (global_val alloc ∷ vnull ∷ bytes_val (record { at = text-at; length = text-length }) ∷ ptr_val made ∷ ptr_val answer ∷ []) _ $ alloc_all ! (λ c. pass_all ! refl (fits-alloc.0, ((good null_ptr).0, (fits-text.0, ((good made).0, ((good answer).0, tt))))) $
-      sets ! (bin ! (get ! refl) (lit ! tt) (tests_null null_ptr may-given)) refl (tt, tt) $ first ! $ branches ! (get ! refl)
-      (λ _. sets ! (of_opd ! (lit ! tt)) refl (tt, record { fits = lit< tt }) $ returns_within ! (Post alloc null_ptr (record { at = text-at; length = text-length }) made answer) refl (look_at ! 0 refl) $ free_all ! refl $ none alloc null_ptr (record { at = text-at; length = text-length }) made answer (id⊢ 𝓤 _))
-      (λ wrong. absurd wrong))
-  runs alloc (block_ptr b0 o0) text-at text-length null_ptr answer fits-alloc fits-text may-given may-text may-made may-answer =
-      enter ! C Λ code.function (global_val alloc ∷ vptr b0 o0 ∷ bytes_val (record { at = text-at; length = text-length }) ∷ vnull ∷ ptr_val answer ∷ []) _ $ alloc_all ! (λ c. pass_all ! refl (fits-alloc.0, ((good (block_ptr b0 o0)).0, (fits-text.0, ((good null_ptr).0, ((good answer).0, tt))))) $
-      sets ! (bin ! (get ! refl) (lit ! tt) (tests_null (block_ptr b0 o0) may-given)) refl (tt, tt) $ first ! $ branches ! (get ! refl)
-      (λ wrong. absurd wrong) (λ _. skips ! $ exec ! C Λ (env (code.function).locals c) code.Mir.t-3 (at_ret (env (code.function).locals c) (Post alloc (block_ptr b0 o0) (record { at = text-at; length = text-length }) null_ptr answer)) $
-      sets ! (bin ! (get ! refl) (lit ! tt) (tests_null null_ptr may-made)) refl (tt, tt) $ first ! $ branches ! (get ! refl)
-      (λ _. sets ! (of_opd ! (lit ! tt)) refl (tt, record { fits = lit< tt }) $ returns_within ! (Post alloc (block_ptr b0 o0) (record { at = text-at; length = text-length }) null_ptr answer) refl (look_at ! 0 refl) $ free_all ! refl $ none alloc (block_ptr b0 o0) (record { at = text-at; length = text-length }) null_ptr answer (id⊢ 𝓤 _))
-      (λ wrong. absurd wrong)))
-  runs alloc (block_ptr b0 o0) text-at text-length (block_ptr b2 o2) null_ptr fits-alloc fits-text may-given may-text may-made may-answer =
-      enter ! C Λ code.function (global_val alloc ∷ vptr b0 o0 ∷ bytes_val (record { at = text-at; length = text-length }) ∷ vptr b2 o2 ∷ vnull ∷ []) _ $ alloc_all ! (λ c. pass_all ! refl (fits-alloc.0, ((good (block_ptr b0 o0)).0, (fits-text.0, ((good (block_ptr b2 o2)).0, ((good null_ptr).0, tt))))) $
-      sets ! (bin ! (get ! refl) (lit ! tt) (tests_null (block_ptr b0 o0) may-given)) refl (tt, tt) $ first ! $ branches ! (get ! refl)
-      (λ wrong. absurd wrong) (λ _. skips ! $ exec ! C Λ (env (code.function).locals c) code.Mir.t-3 (at_ret (env (code.function).locals c) (Post alloc (block_ptr b0 o0) (record { at = text-at; length = text-length }) (block_ptr b2 o2) null_ptr)) $
-      sets ! (bin ! (get ! refl) (lit ! tt) (tests_null (block_ptr b2 o2) may-made)) refl (tt, tt) $ first ! $ branches ! (get ! refl)
-      (λ wrong. absurd wrong) (λ _. skips ! $ exec ! C Λ (env (code.function).locals c) code.Mir.t-5 (at_ret (env (code.function).locals c) (Post alloc (block_ptr b0 o0) (record { at = text-at; length = text-length }) (block_ptr b2 o2) null_ptr)) $
-      sets ! (bin ! (get ! refl) (lit ! tt) (tests_null null_ptr may-answer)) refl (tt, tt) $ first ! $ branches ! (get ! refl)
-      (λ _. sets ! (of_opd ! (lit ! tt)) refl (tt, record { fits = lit< tt }) $ returns_within ! (Post alloc (block_ptr b0 o0) (record { at = text-at; length = text-length }) (block_ptr b2 o2) null_ptr) refl (look_at ! 0 refl) $ free_all ! refl $ none alloc (block_ptr b0 o0) (record { at = text-at; length = text-length }) (block_ptr b2 o2) null_ptr (id⊢ 𝓤 _))
-      (λ wrong. absurd wrong))))
+  runs : (alloc : Global) (given : Ptr) (text-at : Ptr) (text-length : ℕ) (made : Ptr) (answer : Ptr) → Typed GlobalRow.mir (global_val alloc ∷ []) → Typed BytesRow.mir (bytes_val (record { at = text-at; length = text-length }) ∷ []) → Testable given → Testable text-at → Testable made → Testable answer → Walk alloc given (record { at = text-at; length = text-length }) made answer
+  runs alloc null_ptr text-at text-length made answer fits-alloc fits-text may-given may-text may-made may-answer = refused alloc null_ptr text-at text-length made answer fits-alloc fits-text may-given may-text may-made may-answer tt
+  runs alloc (block_ptr b0 o0) text-at text-length null_ptr answer fits-alloc fits-text may-given may-text may-made may-answer = refused alloc (block_ptr b0 o0) text-at text-length null_ptr answer fits-alloc fits-text may-given may-text may-made may-answer tt
+  runs alloc (block_ptr b0 o0) text-at text-length (block_ptr b2 o2) null_ptr fits-alloc fits-text may-given may-text may-made may-answer = refused alloc (block_ptr b0 o0) text-at text-length (block_ptr b2 o2) null_ptr fits-alloc fits-text may-given may-text may-made may-answer tt
   runs alloc (block_ptr b0 o0) null_ptr text-length (block_ptr b2 o2) (block_ptr b3 o3) fits-alloc fits-text may-given may-text may-made may-answer =
-      move ! (1 ∷ []) $ fsplit ! $ move ! (1 ∷ []) $ fsplit ! $ move ! (1 ∷ []) $ fsplit ! $ move ! (1 ∷ []) $ enter ! C Λ code.function (global_val alloc ∷ vptr b0 o0 ∷ bytes_val (record { at = null_ptr; length = text-length }) ∷ vptr b2 o2 ∷ vptr b3 o3 ∷ []) _ $ alloc_all ! (λ c. pass_all ! refl (fits-alloc.0, ((good (block_ptr b0 o0)).0, (fits-text.0, ((good (block_ptr b2 o2)).0, ((good (block_ptr b3 o3)).0, tt))))) $
-      sets ! (bin ! (get ! refl) (lit ! tt) (tests_null (block_ptr b0 o0) may-given)) refl (tt, tt) $ first ! $ branches ! (get ! refl)
-      (λ wrong. absurd wrong) (λ _. skips ! $ exec ! C Λ (env (code.function).locals c) code.Mir.t-3 (at_ret (env (code.function).locals c) (Post alloc (block_ptr b0 o0) (record { at = null_ptr; length = text-length }) (block_ptr b2 o2) (block_ptr b3 o3))) $
-      sets ! (bin ! (get ! refl) (lit ! tt) (tests_null (block_ptr b2 o2) may-made)) refl (tt, tt) $ first ! $ branches ! (get ! refl)
-      (λ wrong. absurd wrong) (λ _. skips ! $ exec ! C Λ (env (code.function).locals c) code.Mir.t-5 (at_ret (env (code.function).locals c) (Post alloc (block_ptr b0 o0) (record { at = null_ptr; length = text-length }) (block_ptr b2 o2) (block_ptr b3 o3))) $
-      sets ! (bin ! (get ! refl) (lit ! tt) (tests_null (block_ptr b3 o3) may-answer)) refl (tt, tt) $ first ! $ branches ! (get ! refl)
-      (λ wrong. absurd wrong) (λ _. skips ! $ exec ! C Λ (env (code.function).locals c) code.Mir.t-7 (at_ret (env (code.function).locals c) (Post alloc (block_ptr b0 o0) (record { at = null_ptr; length = text-length }) (block_ptr b2 o2) (block_ptr b3 o3))) $
-      sets ! (bin ! (get_in ! (fld ! refl (stop !)) (sub ! 0 refl (whole !))) (lit ! tt) (tests_null null_ptr may-text)) refl (tt, tt) $ first ! $ branches ! (get ! refl)
-      (λ _. first ! $ blocks ! $
+      move ! (1 ∷ []) $ fsplit ! $ move ! (1 ∷ []) $ fsplit ! $ move ! (1 ∷ []) $ fsplit ! $ move ! (1 ∷ []) $ enter ! C Λ code.function (global_val alloc ∷ vptr b0 o0 ∷ bytes_val (record { at = null_ptr; length = text-length }) ∷ vptr b2 o2 ∷ vptr b3 o3 ∷ []) _ $ alloc_all ! (λ c. pass_all ! refl (fits-alloc.0, ((good 𝓛 (block_ptr b0 o0)).0, (fits-text.0, ((good 𝓛 (block_ptr b2 o2)).0, ((good 𝓛 (block_ptr b3 o3)).0, tt))))) $
+      stands ! b0 o0 none (get ! refl) may-given refl (tt, tt) refl $
+      stands ! b2 o2 (there_is _) (get ! refl) may-made refl (tt, tt) refl $
+      stands ! b3 o3 (there_is _) (get ! refl) may-answer refl (tt, tt) refl $
+      compares ! null_ptr (there_is _) (get_in ! (fld ! refl (stop !)) (sub ! 0 refl (whole !))) may-text refl (tt, tt) $ closes ! $ branches ! (get ! refl) (λ _. hands ! _ _ $ inside ! _ _ _ $
       sets ! (of_opd ! (get ! refl)) refl (tt, tt) $ sets ! (addr ! (through ! refl (stop !))) refl (tt, tt) $
       sets ! (addr ! (through ! refl (stop !))) refl (tt, tt) $
       sets ! (addr ! (through ! refl (stop !))) refl (tt, tt) $
       move ! (2 ∷ []) $ drop ! $ nothing ! $ move ! (1 ∷ 0 ∷ []) $ fjoin ! $ move ! (1 ∷ 0 ∷ []) $ fjoin ! $ owned ! usize _ (uint_Makes 𝓛 w64) text-length _ (refl, fits-text.0.1.1.0.fits) $ fjoin ! $ move ! (1 ∷ 0 ∷ []) $ fjoin ! $ move ! (2 ∷ 0 ∷ []) $ fjoin ! $ nothing ! $ move ! (2 ∷ 0 ∷ []) $ join ! $ join ! $ nothing ! $ move ! (1 ∷ 0 ∷ []) $
-      let ref-given : Bor Handle = record { ref_ptr = (b0, o0); now = l.handle } in
-      let ref-made : MutBor Owned = record { ref_ptr = (b2, o2); ghost_name = l.made_name; now = l.made } in
-      let ref-answer : MutBor Answer = record { ref_ptr = (b3, o3); ghost_name = l.answer_name; now = l.answer } in
-      let κ : Lft = l.lifetime in let z : G-1.Ghost = (((κ, tt), (l.share, tt), tt, (alloc, (ref-given, (text-length, (ref-made, (ref-answer, tt))))), (global_val alloc ∷ [], (vptr b0 o0 ∷ [], (vint w64 text-length ∷ [], (vptr b2 o2 ∷ [], (vptr b3 o3 ∷ [], tt)))))), tt) in
-      use2 𝓛 (raw (G-1.pre z)) (id⊢ 𝓤 _) $
-      calls_at_last ! fm G-1 known-1 z (and_then ! (get ! refl) (and_then ! (get ! refl) (and_then ! (get_in ! (fld ! refl (stop !)) (sub ! 1 refl (whole !))) (and_then ! (get ! refl) (and_then ! (get ! refl) (no_more !)))))) (λ v.
-      use1 𝓛 (later (some (λ (x : ℕ). ((‵ (flft κ l.share) ⊛ ‵ ftrue) ⊛ ‵ (u32.own_val x (v ∷ []))) ⊛
-      some (λ (ws : Unit {0} × (Unit {0} × (Unit {0} × (Owned × (Answer × (Unit {0})))))). ‵ (lasts g-1.ended (κ, tt) z.0.3 ws) ⊛ raw (fact 𝓤 (of_bytes null_ptr text-length l.bytes ((ws.1.1.1.0 ≡ l.made) × ((ws.1.1.1.1.0 ≡ l.answer) × (x ≡ 1))) (λ bytes. ChecksText l.handle bytes ws.1.1.1.0 ws.1.1.1.1.0 x))))))) (id⊢ 𝓤 _) $
-      await ! tt $ pick ! (λ x. split ! $ move ! (1 ∷ []) $ pick ! (λ ws. split ! $ move ! (1 ∷ []) $ heard ! _ (λ reports.
-      fsplit ! $ drop ! $ fsplit ! $ drop ! $ fsplit ! $ drop ! $ fsplit ! $ move ! (1 ∷ []) $ fsplit ! $ move ! (1 ∷ []) $ drop ! $ move ! (2 ∷ []) $ split ! $ split ! $ move ! (2 ∷ []) $ peeks ! u32 (Is u32) (shows 𝓛 u32) x (v ∷ []) (λ is.
-      let fine = ((uint_Lawful 𝓛 w32).typed x _ is).0 in
-      lands_last ! refl fine $ exec ! C Λ (env (code.function).locals c) (assign (place 7 []) (rv_opd (copy (place 8 [])))) (any_q (after_seq 𝓤 H (Wp 𝓤 H C Λ (env (code.function).locals c) code.Mir.t-9 (post 𝓤 H (at_ret (env (code.function).locals c) (Post alloc (block_ptr b0 o0) (record { at = null_ptr; length = text-length }) (block_ptr b2 o2) (block_ptr b3 o3))))) (post 𝓤 H (at_ret (env (code.function).locals c) (Post alloc (block_ptr b0 o0) (record { at = null_ptr; length = text-length }) (block_ptr b2 o2) (block_ptr b3 o3)))))) $ sets_last ! (of_opd ! (get ! refl)) refl fine $
-      exec ! C Λ (env (code.function).locals c) code.Mir.t-9 (at_ret (env (code.function).locals c) (Post alloc (block_ptr b0 o0) (record { at = null_ptr; length = text-length }) (block_ptr b2 o2) (block_ptr b3 o3))) $
-      sets ! (of_opd ! (get ! refl)) refl fine $ returns ! (look_at ! 0 refl) $ free_all ! refl $ keep ! (3 ∷ 4 ∷ 0 ∷ 1 ∷ []) $
-      nothing ! $ fpack ! (of_bytes null_ptr text-length l.bytes ((ws.1.1.1.0 ≡ l.made) × ((ws.1.1.1.1.0 ≡ l.answer) × (x ≡ 1))) (λ bytes. ChecksText l.handle bytes ws.1.1.1.0 ws.1.1.1.1.0 x)) (λ _. ftrue) reports $ move ! (1 ∷ 0 ∷ []) $ fjoin ! $ move ! (1 ∷ 0 ∷ []) $ fjoin ! $
-      fpack ! Answer (λ answer'. fsep (left_made l (block_ptr b2 o2) ws.1.1.1.0) (fsep (left_answer l (block_ptr b3 o3) answer') (holds (of_bytes null_ptr text-length l.bytes ((ws.1.1.1.0 ≡ l.made) × ((answer' ≡ l.answer) × (x ≡ 1))) (λ bytes. ChecksText l.handle bytes ws.1.1.1.0 answer' x))))) ws.1.1.1.1.0 $
-      fpack ! Owned (λ made'. fex Answer (λ answer'. fsep (left_made l (block_ptr b2 o2) made') (fsep (left_answer l (block_ptr b3 o3) answer') (holds (of_bytes null_ptr text-length l.bytes ((made' ≡ l.made) × ((answer' ≡ l.answer) × (x ≡ 1))) (λ bytes. ChecksText l.handle bytes made' answer' x)))))) ws.1.1.1.0 $
-      move ! (2 ∷ 0 ∷ []) $ join ! $ move ! (1 ∷ 0 ∷ []) $ nothing ! $ nothing ! $ fjoin ! $ nothing ! $ fjoin ! $ nothing ! $ fjoin ! $ nothing ! $ fjoin ! $ nothing ! $ fjoin ! $ nothing ! $
-      by ! (leaves 𝓛 f.ended stayed (f.clauses 𝓛 at_mem run) (bound alloc (block_ptr b0 o0) (record { at = null_ptr; length = text-length }) (block_ptr b2 o2) (block_ptr b3 o3)) v x (tt, (tt, (tt, (tt, (tt, tt))))) (tt, (tt, (tt, (tt, (tt, tt)))))))))))) (λ wrong. absurd wrong)))))
+      let z : G-1.Ghost = (((l.lifetime, tt), (l.share, tt), tt, (alloc, (record { ref_ptr = (b0, o0); now = l.handle }, (text-length, (record { ref_ptr = (b2, o2); ghost_name = l.made_name; now = l.made }, (record { ref_ptr = (b3, o3); ghost_name = l.answer_name; now = l.answer }, tt))))), (global_val alloc ∷ [], (vptr b0 o0 ∷ [], (vint w64 text-length ∷ [], (vptr b2 o2 ∷ [], (vptr b3 o3 ∷ [], tt)))))), tt) in
+      use2 𝓛 (raw (G-1.pre z)) (id⊢ 𝓤 _) $ calls_at_last ! fm G-1 known-1 z (and_then ! (get ! refl) (and_then ! (get ! refl) (and_then ! (get_in ! (fld ! refl (stop !)) (sub ! 1 refl (whole !))) (and_then ! (get ! refl) (and_then ! (get ! refl) (no_more !)))))) (λ v.
+      use1 𝓛 (back 𝓛 g-1.ended (g-1.clauses 𝓛 at_mem run) z.0.0 z.0.3 z.1 l.lifetime l.share v) (id⊢ 𝓤 _) $
+      await ! tt $ pick ! (λ x. split ! $ move ! (1 ∷ []) $ pick ! (λ ws. split ! $ move ! (1 ∷ []) $ heard ! (of_bytes null_ptr text-length l.bytes ((ws.1.1.1.0 ≡ l.made) × ((ws.1.1.1.1.0 ≡ l.answer) × (x ≡ 1))) (λ bytes. ChecksText l.handle bytes ws.1.1.1.0 ws.1.1.1.1.0 x)) (λ reports.
+      fsplit ! $ drop ! $ fsplit ! $ drop ! $ fsplit ! $ drop ! $ fsplit ! $ move ! (1 ∷ []) $ fsplit ! $ move ! (1 ∷ []) $ drop ! $ move ! (2 ∷ []) $ split ! $ split ! $ move ! (2 ∷ []) $ peeks ! u32 (Is u32) (shows 𝓛 u32) x (v ∷ []) (λ is. let fine = ((uint_Lawful 𝓛 w32).typed x _ is).0 in
+      ends1 ! C Λ _ _ fine fine fine refl refl refl refl refl refl $ free_all ! refl $ keep ! (3 ∷ 4 ∷ 0 ∷ 1 ∷ []) $
+      hold ! reports $ move ! (1 ∷ 0 ∷ []) $ fjoin ! $ move ! (1 ∷ 0 ∷ []) $ fjoin ! $
+      fpack2 ! Owned Answer (λ made' answer'. fsep (left_made l (block_ptr b2 o2) made') (fsep (left_answer l (block_ptr b3 o3) answer') (holds (of_bytes null_ptr text-length l.bytes ((made' ≡ l.made) × ((answer' ≡ l.answer) × (x ≡ 1))) (λ bytes. ChecksText l.handle bytes made' answer' x))))) ws.1.1.1.0 ws.1.1.1.1.0 $ ends alloc (block_ptr b0 o0) (record { at = null_ptr; length = text-length }) (block_ptr b2 o2) (block_ptr b3 o3) v x)))))) (λ wrong. absurd wrong))
   runs alloc (block_ptr b0 o0) (block_ptr b1 o1) text-length (block_ptr b2 o2) (block_ptr b3 o3) fits-alloc fits-text may-given may-text may-made may-answer =
-      move ! (1 ∷ []) $ fsplit ! $ move ! (1 ∷ []) $ fsplit ! $ move ! (1 ∷ []) $ fsplit ! $ move ! (1 ∷ []) $ enter ! C Λ code.function (global_val alloc ∷ vptr b0 o0 ∷ bytes_val (record { at = (block_ptr b1 o1); length = text-length }) ∷ vptr b2 o2 ∷ vptr b3 o3 ∷ []) _ $ alloc_all ! (λ c. pass_all ! refl (fits-alloc.0, ((good (block_ptr b0 o0)).0, (fits-text.0, ((good (block_ptr b2 o2)).0, ((good (block_ptr b3 o3)).0, tt))))) $
-      sets ! (bin ! (get ! refl) (lit ! tt) (tests_null (block_ptr b0 o0) may-given)) refl (tt, tt) $ first ! $ branches ! (get ! refl)
-      (λ wrong. absurd wrong) (λ _. skips ! $ exec ! C Λ (env (code.function).locals c) code.Mir.t-3 (at_ret (env (code.function).locals c) (Post alloc (block_ptr b0 o0) (record { at = (block_ptr b1 o1); length = text-length }) (block_ptr b2 o2) (block_ptr b3 o3))) $
-      sets ! (bin ! (get ! refl) (lit ! tt) (tests_null (block_ptr b2 o2) may-made)) refl (tt, tt) $ first ! $ branches ! (get ! refl)
-      (λ wrong. absurd wrong) (λ _. skips ! $ exec ! C Λ (env (code.function).locals c) code.Mir.t-5 (at_ret (env (code.function).locals c) (Post alloc (block_ptr b0 o0) (record { at = (block_ptr b1 o1); length = text-length }) (block_ptr b2 o2) (block_ptr b3 o3))) $
-      sets ! (bin ! (get ! refl) (lit ! tt) (tests_null (block_ptr b3 o3) may-answer)) refl (tt, tt) $ first ! $ branches ! (get ! refl)
-      (λ wrong. absurd wrong) (λ _. skips ! $ exec ! C Λ (env (code.function).locals c) code.Mir.t-7 (at_ret (env (code.function).locals c) (Post alloc (block_ptr b0 o0) (record { at = (block_ptr b1 o1); length = text-length }) (block_ptr b2 o2) (block_ptr b3 o3))) $
-      sets ! (bin ! (get_in ! (fld ! refl (stop !)) (sub ! 0 refl (whole !))) (lit ! tt) (tests_null (block_ptr b1 o1) may-text)) refl (tt, tt) $ first ! $ branches ! (get ! refl)
-      (λ wrong. absurd wrong) (λ _. first ! $ blocks ! $
+      move ! (1 ∷ []) $ fsplit ! $ move ! (1 ∷ []) $ fsplit ! $ move ! (1 ∷ []) $ fsplit ! $ move ! (1 ∷ []) $ enter ! C Λ code.function (global_val alloc ∷ vptr b0 o0 ∷ bytes_val (record { at = (block_ptr b1 o1); length = text-length }) ∷ vptr b2 o2 ∷ vptr b3 o3 ∷ []) _ $ alloc_all ! (λ c. pass_all ! refl (fits-alloc.0, ((good 𝓛 (block_ptr b0 o0)).0, (fits-text.0, ((good 𝓛 (block_ptr b2 o2)).0, ((good 𝓛 (block_ptr b3 o3)).0, tt))))) $
+      stands ! b0 o0 none (get ! refl) may-given refl (tt, tt) refl $
+      stands ! b2 o2 (there_is _) (get ! refl) may-made refl (tt, tt) refl $
+      stands ! b3 o3 (there_is _) (get ! refl) may-answer refl (tt, tt) refl $
+      compares ! (block_ptr b1 o1) (there_is _) (get_in ! (fld ! refl (stop !)) (sub ! 0 refl (whole !))) may-text refl (tt, tt) $ closes ! $ branches ! (get ! refl) (λ wrong. absurd wrong) (λ _. hands ! _ _ $ inside ! _ _ _ $
       sets ! (of_opd ! (get ! refl)) refl (tt, tt) $ sets ! (addr ! (through ! refl (stop !))) refl (tt, tt) $
       sets ! (agg ! (and_then ! (get_in ! (fld ! refl (stop !)) (sub ! 0 refl (whole !))) (and_then ! (get_in ! (fld ! refl (stop !)) (sub ! 1 refl (whole !))) (no_more !)))) refl (tt, (tt, (fits-text.0.1.1.0, tt))) $
       sets ! (addr ! (through ! refl (stop !))) refl (tt, tt) $
       sets ! (addr ! (through ! refl (stop !))) refl (tt, tt) $
       nothing ! $ move ! (1 ∷ 0 ∷ []) $ fjoin ! $ move ! (1 ∷ 0 ∷ []) $ fjoin ! $ move ! (1 ∷ 0 ∷ []) $ fjoin ! $ move ! (1 ∷ 0 ∷ []) $ fjoin ! $ move ! (2 ∷ 0 ∷ []) $ fjoin ! $ nothing ! $ move ! (2 ∷ 0 ∷ []) $ join ! $ join ! $ nothing ! $ move ! (1 ∷ 0 ∷ []) $
-      let ref-given : Bor Handle = record { ref_ptr = (b0, o0); now = l.handle } in
-      let ref-text : Bor (List ℕ) = record { ref_ptr = (b1, o1); now = l.bytes } in
-      let ref-made : MutBor Owned = record { ref_ptr = (b2, o2); ghost_name = l.made_name; now = l.made } in
-      let ref-answer : MutBor Answer = record { ref_ptr = (b3, o3); ghost_name = l.answer_name; now = l.answer } in
-      let κ : Lft = l.lifetime in let z : G.Ghost = (((κ, tt), (l.share, tt), tt, (alloc, (ref-given, (ref-text, (ref-made, (ref-answer, tt))))), (global_val alloc ∷ [], (vptr b0 o0 ∷ [], (slice_val (b1, o1) text-length ∷ [], (vptr b2 o2 ∷ [], (vptr b3 o3 ∷ [], tt)))))), tt) in
-      use2 𝓛 (raw (G.pre z)) (id⊢ 𝓤 _) $
-      calls_at_last ! fm G known z (and_then ! (get ! refl) (and_then ! (get ! refl) (and_then ! (get ! refl) (and_then ! (get ! refl) (and_then ! (get ! refl) (no_more !)))))) (λ v.
-      use1 𝓛 (later (some (λ (x : ℕ). ((‵ (flft κ l.share) ⊛ ‵ ftrue) ⊛ ‵ (u32.own_val x (v ∷ []))) ⊛
-      some (λ (ws : Unit {0} × (Unit {0} × (Unit {0} × (Owned × (Answer × (Unit {0})))))). ‵ (lasts g.ended (κ, tt) z.0.3 ws) ⊛ raw (fact 𝓤 (of_bytes (block_ptr b1 o1) text-length l.bytes ((ws.1.1.1.0 ≡ l.made) × ((ws.1.1.1.1.0 ≡ l.answer) × (x ≡ 1))) (λ bytes. ChecksText l.handle bytes ws.1.1.1.0 ws.1.1.1.1.0 x))))))) (id⊢ 𝓤 _) $
-      await ! tt $ pick ! (λ x. split ! $ move ! (1 ∷ []) $ pick ! (λ ws. split ! $ move ! (1 ∷ []) $ heard ! _ (λ reports.
-      fsplit ! $ drop ! $ fsplit ! $ drop ! $ fsplit ! $ drop ! $ fsplit ! $ move ! (1 ∷ []) $ fsplit ! $ move ! (1 ∷ []) $ drop ! $ move ! (2 ∷ []) $ split ! $ split ! $ move ! (2 ∷ []) $ peeks ! u32 (Is u32) (shows 𝓛 u32) x (v ∷ []) (λ is.
-      let fine = ((uint_Lawful 𝓛 w32).typed x _ is).0 in
-      lands_last ! refl fine $ exec ! C Λ (env (code.function).locals c) (assign (place 7 []) (rv_opd (copy (place 13 [])))) (any_q (after_seq 𝓤 H (Wp 𝓤 H C Λ (env (code.function).locals c) code.Mir.t-9 (post 𝓤 H (at_ret (env (code.function).locals c) (Post alloc (block_ptr b0 o0) (record { at = (block_ptr b1 o1); length = text-length }) (block_ptr b2 o2) (block_ptr b3 o3))))) (post 𝓤 H (at_ret (env (code.function).locals c) (Post alloc (block_ptr b0 o0) (record { at = (block_ptr b1 o1); length = text-length }) (block_ptr b2 o2) (block_ptr b3 o3)))))) $ sets_last ! (of_opd ! (get ! refl)) refl fine $
-      exec ! C Λ (env (code.function).locals c) code.Mir.t-9 (at_ret (env (code.function).locals c) (Post alloc (block_ptr b0 o0) (record { at = (block_ptr b1 o1); length = text-length }) (block_ptr b2 o2) (block_ptr b3 o3))) $
-      sets ! (of_opd ! (get ! refl)) refl fine $ returns ! (look_at ! 0 refl) $ free_all ! refl $ keep ! (3 ∷ 4 ∷ 0 ∷ 1 ∷ []) $
-      nothing ! $ fpack ! (of_bytes (block_ptr b1 o1) text-length l.bytes ((ws.1.1.1.0 ≡ l.made) × ((ws.1.1.1.1.0 ≡ l.answer) × (x ≡ 1))) (λ bytes. ChecksText l.handle bytes ws.1.1.1.0 ws.1.1.1.1.0 x)) (λ _. ftrue) reports $ move ! (1 ∷ 0 ∷ []) $ fjoin ! $ move ! (1 ∷ 0 ∷ []) $ fjoin ! $
-      fpack ! Answer (λ answer'. fsep (left_made l (block_ptr b2 o2) ws.1.1.1.0) (fsep (left_answer l (block_ptr b3 o3) answer') (holds (of_bytes (block_ptr b1 o1) text-length l.bytes ((ws.1.1.1.0 ≡ l.made) × ((answer' ≡ l.answer) × (x ≡ 1))) (λ bytes. ChecksText l.handle bytes ws.1.1.1.0 answer' x))))) ws.1.1.1.1.0 $
-      fpack ! Owned (λ made'. fex Answer (λ answer'. fsep (left_made l (block_ptr b2 o2) made') (fsep (left_answer l (block_ptr b3 o3) answer') (holds (of_bytes (block_ptr b1 o1) text-length l.bytes ((made' ≡ l.made) × ((answer' ≡ l.answer) × (x ≡ 1))) (λ bytes. ChecksText l.handle bytes made' answer' x)))))) ws.1.1.1.0 $
-      move ! (2 ∷ 0 ∷ []) $ join ! $ move ! (1 ∷ 0 ∷ []) $ nothing ! $ nothing ! $ fjoin ! $ nothing ! $ fjoin ! $ nothing ! $ fjoin ! $ nothing ! $ fjoin ! $ nothing ! $ fjoin ! $ nothing ! $
-      by ! (leaves 𝓛 f.ended stayed (f.clauses 𝓛 at_mem run) (bound alloc (block_ptr b0 o0) (record { at = (block_ptr b1 o1); length = text-length }) (block_ptr b2 o2) (block_ptr b3 o3)) v x (tt, (tt, (tt, (tt, (tt, tt))))) (tt, (tt, (tt, (tt, (tt, tt))))))))))))))))
+      let z : G.Ghost = (((l.lifetime, tt), (l.share, tt), tt, (alloc, (record { ref_ptr = (b0, o0); now = l.handle }, (record { ref_ptr = (b1, o1); now = l.bytes }, (record { ref_ptr = (b2, o2); ghost_name = l.made_name; now = l.made }, (record { ref_ptr = (b3, o3); ghost_name = l.answer_name; now = l.answer }, tt))))), (global_val alloc ∷ [], (vptr b0 o0 ∷ [], (slice_val (b1, o1) text-length ∷ [], (vptr b2 o2 ∷ [], (vptr b3 o3 ∷ [], tt)))))), tt) in
+      use2 𝓛 (raw (G.pre z)) (id⊢ 𝓤 _) $ calls_at_last ! fm G known z (and_then ! (get ! refl) (and_then ! (get ! refl) (and_then ! (get ! refl) (and_then ! (get ! refl) (and_then ! (get ! refl) (no_more !)))))) (λ v.
+      use1 𝓛 (back 𝓛 g.ended (g.clauses 𝓛 at_mem run) z.0.0 z.0.3 z.1 l.lifetime l.share v) (id⊢ 𝓤 _) $
+      await ! tt $ pick ! (λ x. split ! $ move ! (1 ∷ []) $ pick ! (λ ws. split ! $ move ! (1 ∷ []) $ heard ! (of_bytes (block_ptr b1 o1) text-length l.bytes ((ws.1.1.1.0 ≡ l.made) × ((ws.1.1.1.1.0 ≡ l.answer) × (x ≡ 1))) (λ bytes. ChecksText l.handle bytes ws.1.1.1.0 ws.1.1.1.1.0 x)) (λ reports.
+      fsplit ! $ drop ! $ fsplit ! $ drop ! $ fsplit ! $ drop ! $ fsplit ! $ move ! (1 ∷ []) $ fsplit ! $ move ! (1 ∷ []) $ drop ! $ move ! (2 ∷ []) $ split ! $ split ! $ move ! (2 ∷ []) $ peeks ! u32 (Is u32) (shows 𝓛 u32) x (v ∷ []) (λ is. let fine = ((uint_Lawful 𝓛 w32).typed x _ is).0 in
+      ends1 ! C Λ _ _ fine fine fine refl refl refl refl refl refl $ free_all ! refl $ keep ! (3 ∷ 4 ∷ 0 ∷ 1 ∷ []) $
+      hold ! reports $ move ! (1 ∷ 0 ∷ []) $ fjoin ! $ move ! (1 ∷ 0 ∷ []) $ fjoin ! $
+      fpack2 ! Owned Answer (λ made' answer'. fsep (left_made l (block_ptr b2 o2) made') (fsep (left_answer l (block_ptr b3 o3) answer') (holds (of_bytes (block_ptr b1 o1) text-length l.bytes ((made' ≡ l.made) × ((answer' ≡ l.answer) × (x ≡ 1))) (λ bytes. ChecksText l.handle bytes made' answer' x))))) ws.1.1.1.0 ws.1.1.1.1.0 $ ends alloc (block_ptr b0 o0) (record { at = (block_ptr b1 o1); length = text-length }) (block_ptr b2 o2) (block_ptr b3 o3) v x)))))))
 
 pub odfilter_check_spec : {M : Type 1} → statement M
 odfilter_check_spec 𝓤 𝓛 𝓜 𝓡 wired =
@@ -151,6 +98,5 @@ odfilter_check_spec 𝓤 𝓛 𝓜 𝓡 wired =
     f.Key.name code.function (code.unfolded 𝓤 𝓛.H 𝓜 𝓡 wired)
     (λ κs. ((λ g. global_val g ∷ []), (rawptr_vals, ((λ s. bytes_val s ∷ []), (rawptr_vals, (rawptr_vals, tt)))))) (λ κs. (global_lowers.val_is, (rawptr_Tells, (bytes_lowers.val_is, (rawptr_Tells, (rawptr_Tells, tt)))))) (λ κs qs bounds a l are.
     qed 𝓛 ((‵ ftrue ⊛ ‵ (owns (types_at f.signature.params κs) a (global_val a.0 ∷ [], (rawptr_vals a.1.0, (bytes_val a.1.1.0 ∷ [], (rawptr_vals a.1.1.1.0, (rawptr_vals a.1.1.1.1.0, tt))))))) ∷ (raw (fact 𝓤 (Testable a.1.0 × Testable a.1.1.0.at × Testable a.1.1.1.0 × Testable a.1.1.1.1.0)) ⊛ (‵ (flft l.lifetime l.share) ⊛ ‵ (borrowed_by_check l a.1.0 a.1.1.0 a.1.1.1.0 a.1.1.1.1.0))) ∷ []) ∵
-    split ! $ drop ! $ fsplit ! $ move ! (1 ∷ []) $ drop ! $ move ! (1 ∷ []) $
-    split ! $ heard ! _ (λ may. split ! $
+    split ! $ drop ! $ fsplit ! $ move ! (1 ∷ []) $ drop ! $ move ! (1 ∷ []) $ split ! $ heard ! _ (λ may. split ! $
     runs 𝓛 𝓜.mem 𝓡.returns 𝓣.C 𝓣.Λ (framed 𝓤 𝓛.H 𝓜 𝓣) (met 𝓤 𝓛 𝓜 𝓡 (code.calls-handle_calls::calls::check 𝓡.env wired)) (met-1 𝓤 𝓛 𝓜 𝓡 (code.calls-odfilter_c::null_calls::check_at_null 𝓡.env wired)) l a.0 a.1.0 a.1.1.0.at a.1.1.0.length a.1.1.1.0 a.1.1.1.1.0 ((global_laws.lawful 𝓛).typed a.0 _ are.0) ((bytes_laws.lawful 𝓛).typed a.1.1.0 _ are.1.1.0) may.0 may.1 may.2 may.3))

@@ -1,7 +1,6 @@
 -- `path` meets its contract: the addresses are tested one by one, and the call borrows what they point to.
-use Rattle.odfilter_c.proofs.Steps.{◌≡◌, ℕ, ◌<◌, ◌^◌, List, [], ◌∷◌, ◌++◌, refl, lit<, w32, w64, Bor, MutBor, proved, leaves, SProp, ent, id⊢, sem, Fml, Lft, Share, ftrue, feq, fsep, fex, flft, Val, vint, vptr, vnull, fact, tables, WpFn, Ura, Logic, Memory, Routine, Calls, Loops, Fun, FmC, Triple, Contract, Item, ‵, raw, ◌⊛◌, some, later, prop, at_ret, Sq, ◌$◌, ◌∵◌, !, qed, move, keep, drop, use1, use2, split, join, fsplit, fjoin, fpack, feq_i, pick, await, by, enter, of_opd, lit, bin, addr, stop, fld, no_more, and_then, first, blocks, branches, skips, exec, returns, returns_within, agg, sub, whole, alloc_all, pass_all, free_all, look_at, get, get_in, through, sets, lands_last, sets_last, any_q, after_seq, Wp, post, assign, place, rv_opd, copy, env, u32, yes, uint_Makes, uint_Lawful, uint_vals, uint_Tells, Typed, Is, shows, Ptr, RawPtr, block_ptr, null_ptr, ptr_val, Testable, tests_null, rawptr_vals, rawptr_Tells, rawptr_Lawful, slice_val, owns, types_at, plain, nothing, owned, heard, peeks, calls_at_last, lasts, on_entry, triple_of, Stays, walk_of, stay_dropped, Goes-dropped, framed, usize}
-use Rattle.odfilter_c.proofs.Types.{Global, GlobalRow, global_val, global_lowers, global_laws, Bytes, BytesRow, bytes_val, bytes_lowers, bytes_laws, Buffer, BufferRow, buffer_val, buffer_lowers, buffer_laws, Handle, HandleRow, Owned, OwnedRow, Answer, AnswerRow}
-use Rattle.odfilter_c.specs.Loans.{Loan, borrowed_fault, borrowed_handle, borrowed_judge, borrowed_bytes, borrowed_buffer, borrowed_made, borrowed_answer, left_judge, left_buffer, left_made, left_answer, unless_null, holds, of_optional, of_bytes}
+use Rattle.odfilter_c.proofs.Steps.{ℕ, ◌<◌, List, [], ◌∷◌, refl, lit<, w32, proved, leaves, none, there_is, Ura, SProp, id⊢, fsep, flft, Val, vint, vptr, Memory, Routine, WpFn, Calls, Loops, Fun, fact, tables, FmC, Logic, ‵, raw, ◌⊛◌, prop, Sq, ◌$◌, ◌∵◌, !, qed, move, keep, drop, use0, use1, use2, split, join, fsplit, fjoin, pick, await, by, enter, of_opd, addr, stop, fld, no_more, and_then, agg, sub, whole, alloc_all, pass_all, free_all, get, get_in, through, sets, u32, yes, Typed, Is, shows, uint_Lawful, Ptr, RawPtr, block_ptr, null_ptr, ptr_val, Testable, rawptr_vals, rawptr_Tells, slice_val, plain, nothing, heard, peeks, Contract, Triple, calls_at_last, on_entry, triple_of, Stays, walk_of, stay_dropped, Goes-dropped, framed, Buffer, BufferRow, buffer_lowers, buffer_val, buffer_laws, Answer, HasNull, in_rest, trues, good, all_true, back, hold, unchanged, fpack2, stands, tested, closes, inside, ends0}
+use Rattle.odfilter_c.specs.Loans.{Loan, left_buffer, left_answer, holds}
 use Rattle.odfilter_c.specs.Exports.{borrowed_by_path, left_by_path}
 use Rattle.handle_calls.specs.RowReports.{ReportsPath}
 use Rattle.handle_calls.specs.contracts.calls.path as g
@@ -27,79 +26,44 @@ module _ {M : Type 1} {𝓤 : Ura M} (𝓛 : Logic 𝓤) (at_mem : Memory → SP
   abbrev bound : Ptr → Buffer → Ptr → W.Ghost
   bound judge path answer = ((tt, tt, tt, (judge, (path, (answer, tt))), (ptr_val judge ∷ [], (buffer_val path ∷ [], (ptr_val answer ∷ [], tt)))), l)
 
-  abbrev Post : Ptr → Buffer → Ptr → Val → SProp 𝓤
-  Post judge path answer = W.post (bound judge path answer)
+  abbrev Walk : Ptr → Buffer → Ptr → Type 1
+  Walk judge path answer = Sq 𝓛 (‵ (flft l.lifetime l.share) ∷ ‵ (borrowed_by_path l judge path answer) ∷ []) (prop (WpFn 𝓤 H C Λ code.function (ptr_val judge ∷ buffer_val path ∷ ptr_val answer ∷ []) (W.post (bound judge path answer))))
 
-  abbrev Given : Ptr → Buffer → Ptr → List (Item 𝓤)
-  Given judge path answer = ‵ (flft l.lifetime l.share) ∷ ‵ (borrowed_by_path l judge path answer) ∷ []
+  ends : (judge : Ptr) (path : Buffer) (answer : Ptr) (v : Val) (x : ℕ) → Sq 𝓛 (‵ (left_by_path l judge path answer x) ∷ ‵ (u32.own_val x (v ∷ [])) ∷ ‵ (flft l.lifetime l.share) ∷ []) (prop (W.post (bound judge path answer) v))
+  ends judge path answer v x = move ! (2 ∷ 0 ∷ []) $ join ! $ move ! (1 ∷ []) $ use0 𝓛 (‵ (trues 3)) (all_true 𝓛 3) $ nothing ! $
+      by ! (leaves 𝓛 f.ended stayed (f.clauses 𝓛 at_mem run) (bound judge path answer) v x (tt, (tt, (tt, tt))) (tt, (tt, (tt, tt))))
 
-  abbrev Runs : Ptr → Buffer → Ptr → SProp 𝓤
-  Runs judge path answer = WpFn 𝓤 H C Λ code.function (ptr_val judge ∷ buffer_val path ∷ ptr_val answer ∷ []) (Post judge path answer)
+  -- with a null address nothing is called
+  refused : (judge : Ptr) (path-at : Ptr) (path-length : ℕ) (answer : Ptr) → Typed BufferRow.mir (buffer_val (record { at = path-at; length = path-length }) ∷ []) → Testable judge → Testable path-at → Testable answer → HasNull (judge ∷ path-at ∷ answer ∷ []) → Walk judge (record { at = path-at; length = path-length }) answer
+  refused judge path-at path-length answer fits-path may-judge may-path may-answer null =
+      enter ! C Λ code.function (ptr_val judge ∷ buffer_val (record { at = path-at; length = path-length }) ∷ ptr_val answer ∷ []) _ $ alloc_all ! (λ c. pass_all ! refl ((good 𝓛 judge).0, (fits-path.0, ((good 𝓛 answer).0, tt))) $
+      tested ! judge none (get ! refl) may-judge refl (tt, tt) refl refl (tt, record { fits = lit< tt }) refl (λ _. free_all ! refl $ unchanged ! (judge ∷ path-at ∷ answer ∷ []) _ null (ends judge (record { at = path-at; length = path-length }) answer (vint w32 1) 1)) (λ here-0.
+      tested ! path-at (there_is _) (get_in ! (fld ! refl (stop !)) (sub ! 0 refl (whole !))) may-path refl (tt, tt) refl refl (tt, record { fits = lit< tt }) refl (λ _. free_all ! refl $ unchanged ! (judge ∷ path-at ∷ answer ∷ []) _ null (ends judge (record { at = path-at; length = path-length }) answer (vint w32 1) 1)) (λ here-1.
+      tested ! answer (there_is _) (get ! refl) may-answer refl (tt, tt) refl refl (tt, record { fits = lit< tt }) refl (λ _. free_all ! refl $ unchanged ! (judge ∷ path-at ∷ answer ∷ []) _ null (ends judge (record { at = path-at; length = path-length }) answer (vint w32 1) 1)) (λ here-2.
+      absurd (in_rest answer [] (in_rest path-at (answer ∷ []) (in_rest judge (path-at ∷ answer ∷ []) null here-0) here-1) here-2)))))
 
-  abbrev good : (p : Ptr) → Typed (RawPtr).mir (ptr_val p ∷ [])
-  good p = (rawptr_Lawful 𝓛).typed p _ refl
-
-  -- a call with a null pointer ends with all that was borrowed
-  none : (judge : Ptr) (path : Buffer) (answer : Ptr) → ent 𝓤 (sem 𝓛 (fsep (feq ℕ 1 1) (borrowed_by_path l judge path answer))) (sem 𝓛 (left_by_path l judge path answer 1)) → Sq 𝓛 (Given judge path answer) (prop (Post judge path answer (vint w32 1)))
-  none judge path answer e =
-      move ! (1 ∷ []) $ feq_i ! ℕ 1 1 refl $ fjoin ! $ use1 𝓛 (‵ (left_by_path l judge path answer 1)) e $ move ! (1 ∷ 0 ∷ []) $ join ! $
-      owned ! u32 _ (uint_Makes 𝓛 w32) 1 _ (refl, lit< tt) $ nothing ! $ nothing ! $ fjoin ! $ nothing ! $ fjoin ! $ nothing ! $ fjoin ! $ nothing ! $
-      by ! (leaves 𝓛 f.ended stayed (f.clauses 𝓛 at_mem run) (bound judge path answer) (vint w32 1) 1 (tt, (tt, (tt, tt))) (tt, (tt, (tt, tt))))
-
-  runs : (judge : Ptr) (path-at : Ptr) (path-length : ℕ) (answer : Ptr) → Typed BufferRow.mir (buffer_val (record { at = path-at; length = path-length }) ∷ []) → Testable judge → Testable path-at → Testable answer
-      → Sq 𝓛 (Given judge (record { at = path-at; length = path-length }) answer) (prop (Runs judge (record { at = path-at; length = path-length }) answer))
-  runs null_ptr path-at path-length answer fits-path may-judge may-path may-answer =
-      enter ! C Λ code.function (vnull ∷ buffer_val (record { at = path-at; length = path-length }) ∷ ptr_val answer ∷ []) _ $ alloc_all ! (λ c. pass_all ! refl ((good null_ptr).0, (fits-path.0, ((good answer).0, tt))) $
-      sets ! (bin ! (get ! refl) (lit ! tt) (tests_null null_ptr may-judge)) refl (tt, tt) $ first ! $ branches ! (get ! refl)
-      (λ _. sets ! (of_opd ! (lit ! tt)) refl (tt, record { fits = lit< tt }) $ returns_within ! (Post null_ptr (record { at = path-at; length = path-length }) answer) refl (look_at ! 0 refl) $ free_all ! refl $ none null_ptr (record { at = path-at; length = path-length }) answer (id⊢ 𝓤 _))
-      (λ wrong. absurd wrong))
-  runs (block_ptr b0 o0) null_ptr path-length answer fits-path may-judge may-path may-answer =
-      enter ! C Λ code.function (vptr b0 o0 ∷ buffer_val (record { at = null_ptr; length = path-length }) ∷ ptr_val answer ∷ []) _ $ alloc_all ! (λ c. pass_all ! refl ((good (block_ptr b0 o0)).0, (fits-path.0, ((good answer).0, tt))) $
-      sets ! (bin ! (get ! refl) (lit ! tt) (tests_null (block_ptr b0 o0) may-judge)) refl (tt, tt) $ first ! $ branches ! (get ! refl)
-      (λ wrong. absurd wrong) (λ _. skips ! $ exec ! C Λ (env (code.function).locals c) code.Mir.t-3 (at_ret (env (code.function).locals c) (Post (block_ptr b0 o0) (record { at = null_ptr; length = path-length }) answer)) $
-      sets ! (bin ! (get_in ! (fld ! refl (stop !)) (sub ! 0 refl (whole !))) (lit ! tt) (tests_null null_ptr may-path)) refl (tt, tt) $ first ! $ branches ! (get ! refl)
-      (λ _. sets ! (of_opd ! (lit ! tt)) refl (tt, record { fits = lit< tt }) $ returns_within ! (Post (block_ptr b0 o0) (record { at = null_ptr; length = path-length }) answer) refl (look_at ! 0 refl) $ free_all ! refl $ none (block_ptr b0 o0) (record { at = null_ptr; length = path-length }) answer (id⊢ 𝓤 _))
-      (λ wrong. absurd wrong)))
-  runs (block_ptr b0 o0) (block_ptr b1 o1) path-length null_ptr fits-path may-judge may-path may-answer =
-      enter ! C Λ code.function (vptr b0 o0 ∷ buffer_val (record { at = (block_ptr b1 o1); length = path-length }) ∷ vnull ∷ []) _ $ alloc_all ! (λ c. pass_all ! refl ((good (block_ptr b0 o0)).0, (fits-path.0, ((good null_ptr).0, tt))) $
-      sets ! (bin ! (get ! refl) (lit ! tt) (tests_null (block_ptr b0 o0) may-judge)) refl (tt, tt) $ first ! $ branches ! (get ! refl)
-      (λ wrong. absurd wrong) (λ _. skips ! $ exec ! C Λ (env (code.function).locals c) code.Mir.t-3 (at_ret (env (code.function).locals c) (Post (block_ptr b0 o0) (record { at = (block_ptr b1 o1); length = path-length }) null_ptr)) $
-      sets ! (bin ! (get_in ! (fld ! refl (stop !)) (sub ! 0 refl (whole !))) (lit ! tt) (tests_null (block_ptr b1 o1) may-path)) refl (tt, tt) $ first ! $ branches ! (get ! refl)
-      (λ wrong. absurd wrong) (λ _. skips ! $ exec ! C Λ (env (code.function).locals c) code.Mir.t-5 (at_ret (env (code.function).locals c) (Post (block_ptr b0 o0) (record { at = (block_ptr b1 o1); length = path-length }) null_ptr)) $
-      sets ! (bin ! (get ! refl) (lit ! tt) (tests_null null_ptr may-answer)) refl (tt, tt) $ first ! $ branches ! (get ! refl)
-      (λ _. sets ! (of_opd ! (lit ! tt)) refl (tt, record { fits = lit< tt }) $ returns_within ! (Post (block_ptr b0 o0) (record { at = (block_ptr b1 o1); length = path-length }) null_ptr) refl (look_at ! 0 refl) $ free_all ! refl $ none (block_ptr b0 o0) (record { at = (block_ptr b1 o1); length = path-length }) null_ptr (id⊢ 𝓤 _))
-      (λ wrong. absurd wrong))))
+  runs : (judge : Ptr) (path-at : Ptr) (path-length : ℕ) (answer : Ptr) → Typed BufferRow.mir (buffer_val (record { at = path-at; length = path-length }) ∷ []) → Testable judge → Testable path-at → Testable answer → Walk judge (record { at = path-at; length = path-length }) answer
+  runs null_ptr path-at path-length answer fits-path may-judge may-path may-answer = refused null_ptr path-at path-length answer fits-path may-judge may-path may-answer tt
+  runs (block_ptr b0 o0) null_ptr path-length answer fits-path may-judge may-path may-answer = refused (block_ptr b0 o0) null_ptr path-length answer fits-path may-judge may-path may-answer tt
+  runs (block_ptr b0 o0) (block_ptr b1 o1) path-length null_ptr fits-path may-judge may-path may-answer = refused (block_ptr b0 o0) (block_ptr b1 o1) path-length null_ptr fits-path may-judge may-path may-answer tt
   runs (block_ptr b0 o0) (block_ptr b1 o1) path-length (block_ptr b2 o2) fits-path may-judge may-path may-answer =
-      move ! (1 ∷ []) $ fsplit ! $ move ! (1 ∷ []) $ fsplit ! $ move ! (1 ∷ []) $ enter ! C Λ code.function (vptr b0 o0 ∷ buffer_val (record { at = (block_ptr b1 o1); length = path-length }) ∷ vptr b2 o2 ∷ []) _ $ alloc_all ! (λ c. pass_all ! refl ((good (block_ptr b0 o0)).0, (fits-path.0, ((good (block_ptr b2 o2)).0, tt))) $
-      sets ! (bin ! (get ! refl) (lit ! tt) (tests_null (block_ptr b0 o0) may-judge)) refl (tt, tt) $ first ! $ branches ! (get ! refl)
-      (λ wrong. absurd wrong) (λ _. skips ! $ exec ! C Λ (env (code.function).locals c) code.Mir.t-3 (at_ret (env (code.function).locals c) (Post (block_ptr b0 o0) (record { at = (block_ptr b1 o1); length = path-length }) (block_ptr b2 o2))) $
-      sets ! (bin ! (get_in ! (fld ! refl (stop !)) (sub ! 0 refl (whole !))) (lit ! tt) (tests_null (block_ptr b1 o1) may-path)) refl (tt, tt) $ first ! $ branches ! (get ! refl)
-      (λ wrong. absurd wrong) (λ _. skips ! $ exec ! C Λ (env (code.function).locals c) code.Mir.t-5 (at_ret (env (code.function).locals c) (Post (block_ptr b0 o0) (record { at = (block_ptr b1 o1); length = path-length }) (block_ptr b2 o2))) $
-      sets ! (bin ! (get ! refl) (lit ! tt) (tests_null (block_ptr b2 o2) may-answer)) refl (tt, tt) $ first ! $ branches ! (get ! refl)
-      (λ wrong. absurd wrong) (λ _. skips ! $ exec ! C Λ (env (code.function).locals c) code.Mir.t-7 (at_ret (env (code.function).locals c) (Post (block_ptr b0 o0) (record { at = (block_ptr b1 o1); length = path-length }) (block_ptr b2 o2))) $
-      first ! $ blocks ! $
+      move ! (1 ∷ []) $ fsplit ! $ move ! (1 ∷ []) $ fsplit ! $ move ! (1 ∷ []) $ enter ! C Λ code.function (vptr b0 o0 ∷ buffer_val (record { at = (block_ptr b1 o1); length = path-length }) ∷ vptr b2 o2 ∷ []) _ $ alloc_all ! (λ c. pass_all ! refl ((good 𝓛 (block_ptr b0 o0)).0, (fits-path.0, ((good 𝓛 (block_ptr b2 o2)).0, tt))) $
+      stands ! b0 o0 none (get ! refl) may-judge refl (tt, tt) refl $
+      stands ! b1 o1 (there_is _) (get_in ! (fld ! refl (stop !)) (sub ! 0 refl (whole !))) may-path refl (tt, tt) refl $
+      stands ! b2 o2 (there_is _) (get ! refl) may-answer refl (tt, tt) refl $
+      closes ! $ inside ! _ _ _ $
       sets ! (of_opd ! (get ! refl)) refl (tt, tt) $ sets ! (addr ! (through ! refl (stop !))) refl (tt, tt) $
       sets ! (agg ! (and_then ! (get_in ! (fld ! refl (stop !)) (sub ! 0 refl (whole !))) (and_then ! (get_in ! (fld ! refl (stop !)) (sub ! 1 refl (whole !))) (no_more !)))) refl (tt, (tt, (fits-path.0.1.1.0, tt))) $
       sets ! (addr ! (through ! refl (stop !))) refl (tt, tt) $
       nothing ! $ move ! (1 ∷ 0 ∷ []) $ fjoin ! $ move ! (1 ∷ 0 ∷ []) $ fjoin ! $ move ! (1 ∷ 0 ∷ []) $ fjoin ! $ nothing ! $ move ! (2 ∷ 0 ∷ []) $ join ! $ join ! $ nothing ! $ move ! (1 ∷ 0 ∷ []) $
-      let ref-judge : Bor Handle = record { ref_ptr = (b0, o0); now = l.handle } in
-      let ref-path : MutBor (List ℕ) = record { ref_ptr = (b1, o1); ghost_name = l.buffer_name; now = l.buffer } in
-      let ref-answer : MutBor Answer = record { ref_ptr = (b2, o2); ghost_name = l.answer_name; now = l.answer } in
-      let κ : Lft = l.lifetime in let z : G.Ghost = (((κ, tt), (l.share, tt), tt, (ref-judge, (ref-path, (ref-answer, tt))), (vptr b0 o0 ∷ [], (slice_val (b1, o1) path-length ∷ [], (vptr b2 o2 ∷ [], tt)))), tt) in
-      use2 𝓛 (raw (G.pre z)) (id⊢ 𝓤 _) $
-      calls_at_last ! fm G known z (and_then ! (get ! refl) (and_then ! (get ! refl) (and_then ! (get ! refl) (no_more !)))) (λ v.
-      use1 𝓛 (later (some (λ (x : ℕ). ((‵ (flft κ l.share) ⊛ ‵ ftrue) ⊛ ‵ (u32.own_val x (v ∷ []))) ⊛
-      some (λ (ws : Unit {0} × ((List ℕ) × (Answer × (Unit {0})))). ‵ (lasts g.ended (κ, tt) z.0.3 ws) ⊛ raw (fact 𝓤 (ReportsPath l.handle l.buffer ws.1.0 ws.1.1.0 x)))))) (id⊢ 𝓤 _) $
-      await ! tt $ pick ! (λ x. split ! $ move ! (1 ∷ []) $ pick ! (λ ws. split ! $ move ! (1 ∷ []) $ heard ! _ (λ reports.
-      fsplit ! $ drop ! $ fsplit ! $ move ! (1 ∷ []) $ fsplit ! $ move ! (1 ∷ []) $ drop ! $ move ! (2 ∷ []) $ split ! $ split ! $ move ! (2 ∷ []) $ peeks ! u32 (Is u32) (shows 𝓛 u32) x (v ∷ []) (λ is.
-      let fine = ((uint_Lawful 𝓛 w32).typed x _ is).0 in
-      lands_last ! refl fine $ exec ! C Λ (env (code.function).locals c) code.Mir.t-8 (at_ret (env (code.function).locals c) (Post (block_ptr b0 o0) (record { at = (block_ptr b1 o1); length = path-length }) (block_ptr b2 o2))) $
-      sets ! (of_opd ! (get ! refl)) refl fine $ returns ! (look_at ! 0 refl) $ free_all ! refl $ keep ! (3 ∷ 4 ∷ 0 ∷ 1 ∷ []) $
-      nothing ! $ fpack ! (ReportsPath l.handle l.buffer ws.1.0 ws.1.1.0 x) (λ _. ftrue) reports $ move ! (1 ∷ 0 ∷ []) $ fjoin ! $ move ! (1 ∷ 0 ∷ []) $ fjoin ! $
-      fpack ! Answer (λ answer'. fsep (left_buffer l (record { at = (block_ptr b1 o1); length = path-length }) ws.1.0) (fsep (left_answer l (block_ptr b2 o2) answer') (holds (ReportsPath l.handle l.buffer ws.1.0 answer' x)))) ws.1.1.0 $
-      fpack ! (List ℕ) (λ path'. fex Answer (λ answer'. fsep (left_buffer l (record { at = (block_ptr b1 o1); length = path-length }) path') (fsep (left_answer l (block_ptr b2 o2) answer') (holds (ReportsPath l.handle l.buffer path' answer' x))))) ws.1.0 $
-      move ! (2 ∷ 0 ∷ []) $ join ! $ move ! (1 ∷ 0 ∷ []) $ nothing ! $ nothing ! $ fjoin ! $ nothing ! $ fjoin ! $ nothing ! $ fjoin ! $ nothing ! $
-      by ! (leaves 𝓛 f.ended stayed (f.clauses 𝓛 at_mem run) (bound (block_ptr b0 o0) (record { at = (block_ptr b1 o1); length = path-length }) (block_ptr b2 o2)) v x (tt, (tt, (tt, tt))) (tt, (tt, (tt, tt)))))))))))))
+      let z : G.Ghost = (((l.lifetime, tt), (l.share, tt), tt, (record { ref_ptr = (b0, o0); now = l.handle }, (record { ref_ptr = (b1, o1); ghost_name = l.buffer_name; now = l.buffer }, (record { ref_ptr = (b2, o2); ghost_name = l.answer_name; now = l.answer }, tt))), (vptr b0 o0 ∷ [], (slice_val (b1, o1) path-length ∷ [], (vptr b2 o2 ∷ [], tt)))), tt) in
+      use2 𝓛 (raw (G.pre z)) (id⊢ 𝓤 _) $ calls_at_last ! fm G known z (and_then ! (get ! refl) (and_then ! (get ! refl) (and_then ! (get ! refl) (no_more !)))) (λ v.
+      use1 𝓛 (back 𝓛 g.ended (g.clauses 𝓛 at_mem run) z.0.0 z.0.3 z.1 l.lifetime l.share v) (id⊢ 𝓤 _) $
+      await ! tt $ pick ! (λ x. split ! $ move ! (1 ∷ []) $ pick ! (λ ws. split ! $ move ! (1 ∷ []) $ heard ! (ReportsPath l.handle l.buffer ws.1.0 ws.1.1.0 x) (λ reports.
+      fsplit ! $ drop ! $ fsplit ! $ move ! (1 ∷ []) $ fsplit ! $ move ! (1 ∷ []) $ drop ! $ move ! (2 ∷ []) $ split ! $ split ! $ move ! (2 ∷ []) $ peeks ! u32 (Is u32) (shows 𝓛 u32) x (v ∷ []) (λ is. let fine = ((uint_Lawful 𝓛 w32).typed x _ is).0 in
+      ends0 ! C Λ _ fine fine refl refl refl refl $ free_all ! refl $ keep ! (3 ∷ 4 ∷ 0 ∷ 1 ∷ []) $
+      hold ! reports $ move ! (1 ∷ 0 ∷ []) $ fjoin ! $ move ! (1 ∷ 0 ∷ []) $ fjoin ! $
+      fpack2 ! (List ℕ) Answer (λ path' answer'. fsep (left_buffer l (record { at = (block_ptr b1 o1); length = path-length }) path') (fsep (left_answer l (block_ptr b2 o2) answer') (holds (ReportsPath l.handle l.buffer path' answer' x)))) ws.1.0 ws.1.1.0 $ ends (block_ptr b0 o0) (record { at = (block_ptr b1 o1); length = path-length }) (block_ptr b2 o2) v x))))))
 
 pub odfilter_path_spec : {M : Type 1} → statement M
 odfilter_path_spec 𝓤 𝓛 𝓜 𝓡 wired =
@@ -108,6 +72,5 @@ odfilter_path_spec 𝓤 𝓛 𝓜 𝓡 wired =
     f.Key.name code.function (code.unfolded 𝓤 𝓛.H 𝓜 𝓡 wired)
     (λ κs. (rawptr_vals, ((λ s. buffer_val s ∷ []), (rawptr_vals, tt)))) (λ κs. (rawptr_Tells, (buffer_lowers.val_is, (rawptr_Tells, tt)))) (λ κs qs bounds a l are.
     qed 𝓛 (raw (on_entry 𝓛 f.signature κs qs a (rawptr_vals a.0, (buffer_val a.1.0 ∷ [], (rawptr_vals a.1.1.0, tt)))) ∷ (raw (fact 𝓤 (Testable a.0 × Testable a.1.0.at × Testable a.1.1.0)) ⊛ (‵ (flft l.lifetime l.share) ⊛ ‵ (borrowed_by_path l a.0 a.1.0 a.1.1.0))) ∷ []) ∵
-    drop ! $
-    split ! $ heard ! _ (λ may. split ! $
+    drop ! $ split ! $ heard ! _ (λ may. split ! $
     runs 𝓛 𝓜.mem 𝓡.returns 𝓣.C 𝓣.Λ (framed 𝓤 𝓛.H 𝓜 𝓣) (met 𝓤 𝓛 𝓜 𝓡 (code.calls-handle_calls::calls::path 𝓡.env wired)) l a.0 a.1.0.at a.1.0.length a.1.1.0 ((buffer_laws.lawful 𝓛).typed a.1.0 _ are.1.0) may.0 may.1 may.2))

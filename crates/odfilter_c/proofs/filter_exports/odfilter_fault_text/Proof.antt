@@ -1,7 +1,6 @@
 -- `fault_text` meets its contract: the addresses are tested one by one, and the call borrows what they point to.
-use Rattle.odfilter_c.proofs.Steps.{◌≡◌, ℕ, ◌<◌, ◌^◌, List, [], ◌∷◌, ◌++◌, refl, lit<, w32, w64, Bor, MutBor, proved, leaves, SProp, ent, id⊢, sem, Fml, Lft, Share, ftrue, feq, fsep, fex, flft, Val, vint, vptr, vnull, fact, tables, WpFn, Ura, Logic, Memory, Routine, Calls, Loops, Fun, FmC, Triple, Contract, Item, ‵, raw, ◌⊛◌, some, later, prop, at_ret, Sq, ◌$◌, ◌∵◌, !, qed, move, keep, drop, use1, use2, split, join, fsplit, fjoin, fpack, feq_i, pick, await, by, enter, of_opd, lit, bin, addr, stop, fld, no_more, and_then, first, blocks, branches, skips, exec, returns, returns_within, agg, sub, whole, alloc_all, pass_all, free_all, look_at, get, get_in, through, sets, lands_last, sets_last, any_q, after_seq, Wp, post, assign, place, rv_opd, copy, env, u32, yes, uint_Makes, uint_Lawful, uint_vals, uint_Tells, Typed, Is, shows, Ptr, RawPtr, block_ptr, null_ptr, ptr_val, Testable, tests_null, rawptr_vals, rawptr_Tells, rawptr_Lawful, slice_val, owns, types_at, plain, nothing, owned, heard, peeks, calls_at_last, lasts, on_entry, triple_of, Stays, walk_of, stay_dropped, Goes-dropped, framed, usize}
-use Rattle.odfilter_c.proofs.Types.{Global, GlobalRow, global_val, global_lowers, global_laws, Bytes, BytesRow, bytes_val, bytes_lowers, bytes_laws, Buffer, BufferRow, buffer_val, buffer_lowers, buffer_laws, Handle, HandleRow, Owned, OwnedRow, Answer, AnswerRow}
-use Rattle.odfilter_c.specs.Loans.{Loan, borrowed_fault, borrowed_handle, borrowed_judge, borrowed_bytes, borrowed_buffer, borrowed_made, borrowed_answer, left_judge, left_buffer, left_made, left_answer, unless_null, holds, of_optional, of_bytes}
+use Rattle.odfilter_c.proofs.Steps.{◌≡◌, ℕ, ◌<◌, ◌^◌, List, [], ◌∷◌, refl, lit<, w32, w64, proved, leaves, none, there_is, Ura, SProp, id⊢, ftrue, fsep, flft, Val, vint, vptr, vnull, Memory, Routine, WpFn, Calls, Loops, Fun, fact, tables, FmC, Logic, ‵, raw, ◌⊛◌, prop, Sq, ◌$◌, ◌∵◌, !, qed, move, keep, drop, use0, use1, use2, split, join, fsplit, fjoin, pick, await, by, enter, of_opd, addr, stop, fld, no_more, and_then, branches, agg, sub, whole, alloc_all, pass_all, free_all, get, get_in, through, sets, u32, usize, yes, Typed, Is, shows, uint_Makes, uint_Lawful, uint_vals, uint_Tells, Ptr, RawPtr, block_ptr, null_ptr, ptr_val, Testable, rawptr_vals, rawptr_Tells, slice_val, owns, types_at, plain, nothing, owned, heard, peeks, Contract, Triple, calls_at_last, triple_of, Stays, walk_of, stay_dropped, Goes-dropped, framed, Global, GlobalRow, global_lowers, global_val, global_laws, Bytes, BytesRow, bytes_lowers, bytes_val, bytes_laws, Buffer, BufferRow, buffer_lowers, buffer_val, buffer_laws, Answer, HasNull, in_rest, trues, good, all_true, back, hold, unchanged, fpack2, compares, stands, tested, closes, hands, inside, ends2}
+use Rattle.odfilter_c.specs.Loans.{Loan, left_buffer, left_answer, of_bytes, of_optional, holds}
 use Rattle.odfilter_c.specs.FilterExports.{borrowed_by_fault_text, left_by_fault_text}
 use Rattle.handle_calls.specs.Sentences.{ReportsSentenceFor, ReportsSentence}
 use Rattle.handle_calls.specs.contracts.calls.fault_text as g
@@ -24,7 +23,10 @@ abbrev stayed : Stays f.ended.signature.params f.ended.kept
 stayed = (stay_dropped _ yes, (stay_dropped _ yes, (stay_dropped _ yes, (stay_dropped _ yes, (stay_dropped _ yes, (stay_dropped _ yes, (stay_dropped _ yes, tt)))))))
 
 module _ {M : Type 1} {𝓤 : Ura M} (𝓛 : Logic 𝓤) (at_mem : Memory → SProp 𝓤) (run : Routine → Fun 𝓤) (C : Calls 𝓤 𝓛.H) (Λ : Loops 𝓤 𝓛.H) (fm : FmC 𝓤 𝓛.H 𝓛.laws C)
-    (known : Triple 𝓤 (C #call) (triple_of 𝓛 g.signature (g.spec 𝓛 at_mem run))) (known-1 : Triple 𝓤 (C #call-1) (triple_of 𝓛 g-1.signature (g-1.spec 𝓛 at_mem run))) (known-2 : Triple 𝓤 (C #call-2) (triple_of 𝓛 g-2.signature (g-2.spec 𝓛 at_mem run))) (known-3 : Triple 𝓤 (C #call-3) (triple_of 𝓛 g-3.signature (g-3.spec 𝓛 at_mem run))) (l : Loan) where
+    (known : Triple 𝓤 (C #call) (triple_of 𝓛 g.signature (g.spec 𝓛 at_mem run)))
+    (known-1 : Triple 𝓤 (C #call-1) (triple_of 𝓛 g-1.signature (g-1.spec 𝓛 at_mem run)))
+    (known-2 : Triple 𝓤 (C #call-2) (triple_of 𝓛 g-2.signature (g-2.spec 𝓛 at_mem run)))
+    (known-3 : Triple 𝓤 (C #call-3) (triple_of 𝓛 g-3.signature (g-3.spec 𝓛 at_mem run))) (l : Loan) where
   open 𝓛 use {H}
 
   abbrev G : Contract 𝓤
@@ -45,196 +47,106 @@ module _ {M : Type 1} {𝓤 : Ura M} (𝓛 : Logic 𝓤) (at_mem : Memory → SP
   abbrev bound : Global → Ptr → ℕ → Bytes → Buffer → Ptr → Ptr → W.Ghost
   bound alloc given status text sentence fault answer = ((tt, tt, tt, (alloc, (given, (status, (text, (sentence, (fault, (answer, tt))))))), (global_val alloc ∷ [], (ptr_val given ∷ [], (vint w32 status ∷ [], (bytes_val text ∷ [], (buffer_val sentence ∷ [], (ptr_val fault ∷ [], (ptr_val answer ∷ [], tt)))))))), l)
 
-  abbrev Post : Global → Ptr → ℕ → Bytes → Buffer → Ptr → Ptr → Val → SProp 𝓤
-  Post alloc given status text sentence fault answer = W.post (bound alloc given status text sentence fault answer)
+  abbrev Walk : Global → Ptr → ℕ → Bytes → Buffer → Ptr → Ptr → Type 1
+  Walk alloc given status text sentence fault answer = Sq 𝓛 (‵ (flft l.lifetime l.share) ∷ ‵ (borrowed_by_fault_text l given text sentence fault answer) ∷ ‵ (GlobalRow.own_val alloc (global_val alloc ∷ [])) ∷ []) (prop (WpFn 𝓤 H C Λ code.function (global_val alloc ∷ ptr_val given ∷ vint w32 status ∷ bytes_val text ∷ buffer_val sentence ∷ ptr_val fault ∷ ptr_val answer ∷ []) (W.post (bound alloc given status text sentence fault answer))))
 
-  abbrev Given : Global → Ptr → ℕ → Bytes → Buffer → Ptr → Ptr → List (Item 𝓤)
-  Given alloc given status text sentence fault answer = ‵ (flft l.lifetime l.share) ∷ ‵ (borrowed_by_fault_text l given text sentence fault answer) ∷ ‵ (GlobalRow.own_val alloc (global_val alloc ∷ [])) ∷ []
+  ends : (alloc : Global) (given : Ptr) (status : ℕ) (text : Bytes) (sentence : Buffer) (fault : Ptr) (answer : Ptr) (v : Val) (x : ℕ) → Sq 𝓛 (‵ (left_by_fault_text l given status text sentence fault answer x) ∷ ‵ (u32.own_val x (v ∷ [])) ∷ ‵ (flft l.lifetime l.share) ∷ []) (prop (W.post (bound alloc given status text sentence fault answer) v))
+  ends alloc given status text sentence fault answer v x = move ! (2 ∷ 0 ∷ []) $ join ! $ move ! (1 ∷ []) $ use0 𝓛 (‵ (trues 7)) (all_true 𝓛 7) $ nothing ! $
+      by ! (leaves 𝓛 f.ended stayed (f.clauses 𝓛 at_mem run) (bound alloc given status text sentence fault answer) v x (tt, (tt, (tt, (tt, (tt, (tt, (tt, tt))))))) (tt, (tt, (tt, (tt, (tt, (tt, (tt, tt))))))))
 
-  abbrev Runs : Global → Ptr → ℕ → Bytes → Buffer → Ptr → Ptr → SProp 𝓤
-  Runs alloc given status text sentence fault answer = WpFn 𝓤 H C Λ code.function (global_val alloc ∷ ptr_val given ∷ vint w32 status ∷ bytes_val text ∷ buffer_val sentence ∷ ptr_val fault ∷ ptr_val answer ∷ []) (Post alloc given status text sentence fault answer)
+  -- with a null address nothing is called
+  refused : (alloc : Global) (given : Ptr) (status : ℕ) (text-at : Ptr) (text-length : ℕ) (sentence-at : Ptr) (sentence-length : ℕ) (fault : Ptr) (answer : Ptr) → Typed GlobalRow.mir (global_val alloc ∷ []) → status < 2 ^ 32 → Typed BytesRow.mir (bytes_val (record { at = text-at; length = text-length }) ∷ []) → Typed BufferRow.mir (buffer_val (record { at = sentence-at; length = sentence-length }) ∷ []) → Testable given → Testable text-at → Testable sentence-at → Testable fault → Testable answer → HasNull (sentence-at ∷ fault ∷ answer ∷ []) → Walk alloc given status (record { at = text-at; length = text-length }) (record { at = sentence-at; length = sentence-length }) fault answer
+  refused alloc given status text-at text-length sentence-at sentence-length fault answer fits-alloc fits-status fits-text fits-sentence may-given may-text may-sentence may-fault may-answer null =
+      enter ! C Λ code.function (global_val alloc ∷ ptr_val given ∷ vint w32 status ∷ bytes_val (record { at = text-at; length = text-length }) ∷ buffer_val (record { at = sentence-at; length = sentence-length }) ∷ ptr_val fault ∷ ptr_val answer ∷ []) _ $ alloc_all ! (λ c. pass_all ! refl (fits-alloc.0, ((good 𝓛 given).0, ((tt, record { fits = fits-status }), (fits-text.0, (fits-sentence.0, ((good 𝓛 fault).0, ((good 𝓛 answer).0, tt))))))) $
+      tested ! sentence-at none (get_in ! (fld ! refl (stop !)) (sub ! 0 refl (whole !))) may-sentence refl (tt, tt) refl refl (tt, record { fits = lit< tt }) refl (λ _. free_all ! refl $ unchanged ! (sentence-at ∷ fault ∷ answer ∷ []) _ null (ends alloc given status (record { at = text-at; length = text-length }) (record { at = sentence-at; length = sentence-length }) fault answer (vint w32 1) 1)) (λ here-0.
+      tested ! fault (there_is _) (get ! refl) may-fault refl (tt, tt) refl refl (tt, record { fits = lit< tt }) refl (λ _. free_all ! refl $ unchanged ! (sentence-at ∷ fault ∷ answer ∷ []) _ null (ends alloc given status (record { at = text-at; length = text-length }) (record { at = sentence-at; length = sentence-length }) fault answer (vint w32 1) 1)) (λ here-1.
+      tested ! answer (there_is _) (get ! refl) may-answer refl (tt, tt) refl refl (tt, record { fits = lit< tt }) refl (λ _. free_all ! refl $ unchanged ! (sentence-at ∷ fault ∷ answer ∷ []) _ null (ends alloc given status (record { at = text-at; length = text-length }) (record { at = sentence-at; length = sentence-length }) fault answer (vint w32 1) 1)) (λ here-2.
+      absurd (in_rest answer [] (in_rest fault (answer ∷ []) (in_rest sentence-at (fault ∷ answer ∷ []) null here-0) here-1) here-2)))))
 
-  abbrev good : (p : Ptr) → Typed (RawPtr).mir (ptr_val p ∷ [])
-  good p = (rawptr_Lawful 𝓛).typed p _ refl
-
-  -- a call with a null pointer ends with all that was borrowed
-  none : (alloc : Global) (given : Ptr) (status : ℕ) (text : Bytes) (sentence : Buffer) (fault : Ptr) (answer : Ptr) → ent 𝓤 (sem 𝓛 (fsep (feq ℕ 1 1) (borrowed_by_fault_text l given text sentence fault answer))) (sem 𝓛 (left_by_fault_text l given status text sentence fault answer 1)) → Sq 𝓛 (Given alloc given status text sentence fault answer) (prop (Post alloc given status text sentence fault answer (vint w32 1)))
-  none alloc given status text sentence fault answer e =
-      move ! (2 ∷ []) $ drop ! $ move ! (1 ∷ []) $ feq_i ! ℕ 1 1 refl $ fjoin ! $ use1 𝓛 (‵ (left_by_fault_text l given status text sentence fault answer 1)) e $ move ! (1 ∷ 0 ∷ []) $ join ! $
-      owned ! u32 _ (uint_Makes 𝓛 w32) 1 _ (refl, lit< tt) $ nothing ! $ nothing ! $ fjoin ! $ nothing ! $ fjoin ! $ nothing ! $ fjoin ! $ nothing ! $ fjoin ! $ nothing ! $ fjoin ! $ nothing ! $ fjoin ! $ nothing ! $ fjoin ! $ nothing ! $
-      by ! (leaves 𝓛 f.ended stayed (f.clauses 𝓛 at_mem run) (bound alloc given status text sentence fault answer) (vint w32 1) 1 (tt, (tt, (tt, (tt, (tt, (tt, (tt, tt))))))) (tt, (tt, (tt, (tt, (tt, (tt, (tt, tt))))))))
-
-  runs : (alloc : Global) (given : Ptr) (status : ℕ) (text-at : Ptr) (text-length : ℕ) (sentence-at : Ptr) (sentence-length : ℕ) (fault : Ptr) (answer : Ptr) → Typed GlobalRow.mir (global_val alloc ∷ []) → status < 2 ^ 32 → Typed BytesRow.mir (bytes_val (record { at = text-at; length = text-length }) ∷ []) → Typed BufferRow.mir (buffer_val (record { at = sentence-at; length = sentence-length }) ∷ []) → Testable given → Testable text-at → Testable sentence-at → Testable fault → Testable answer
-      → Sq 𝓛 (Given alloc given status (record { at = text-at; length = text-length }) (record { at = sentence-at; length = sentence-length }) fault answer) (prop (Runs alloc given status (record { at = text-at; length = text-length }) (record { at = sentence-at; length = sentence-length }) fault answer))
-  runs alloc given status text-at text-length null_ptr sentence-length fault answer fits-alloc fits-status fits-text fits-sentence may-given may-text may-sentence may-fault may-answer =
-      enter ! C Λ code.function (global_val alloc ∷ ptr_val given ∷ vint w32 status ∷ bytes_val (record { at = text-at; length = text-length }) ∷ buffer_val (record { at = null_ptr; length = sentence-length }) ∷ ptr_val fault ∷ ptr_val answer ∷ []) _ $ alloc_all ! (λ c. pass_all ! refl (fits-alloc.0, ((good given).0, ((tt, record { fits = fits-status }), (fits-text.0, (fits-sentence.0, ((good fault).0, ((good answer).0, tt))))))) $
-      sets ! (bin ! (get_in ! (fld ! refl (stop !)) (sub ! 0 refl (whole !))) (lit ! tt) (tests_null null_ptr may-sentence)) refl (tt, tt) $ first ! $ branches ! (get ! refl)
-      (λ _. sets ! (of_opd ! (lit ! tt)) refl (tt, record { fits = lit< tt }) $ returns_within ! (Post alloc given status (record { at = text-at; length = text-length }) (record { at = null_ptr; length = sentence-length }) fault answer) refl (look_at ! 0 refl) $ free_all ! refl $ none alloc given status (record { at = text-at; length = text-length }) (record { at = null_ptr; length = sentence-length }) fault answer (id⊢ 𝓤 _))
-      (λ wrong. absurd wrong))
-  runs alloc given status text-at text-length (block_ptr b2 o2) sentence-length null_ptr answer fits-alloc fits-status fits-text fits-sentence may-given may-text may-sentence may-fault may-answer =
-      enter ! C Λ code.function (global_val alloc ∷ ptr_val given ∷ vint w32 status ∷ bytes_val (record { at = text-at; length = text-length }) ∷ buffer_val (record { at = (block_ptr b2 o2); length = sentence-length }) ∷ vnull ∷ ptr_val answer ∷ []) _ $ alloc_all ! (λ c. pass_all ! refl (fits-alloc.0, ((good given).0, ((tt, record { fits = fits-status }), (fits-text.0, (fits-sentence.0, ((good null_ptr).0, ((good answer).0, tt))))))) $
-      sets ! (bin ! (get_in ! (fld ! refl (stop !)) (sub ! 0 refl (whole !))) (lit ! tt) (tests_null (block_ptr b2 o2) may-sentence)) refl (tt, tt) $ first ! $ branches ! (get ! refl)
-      (λ wrong. absurd wrong) (λ _. skips ! $ exec ! C Λ (env (code.function).locals c) code.Mir.t-3 (at_ret (env (code.function).locals c) (Post alloc given status (record { at = text-at; length = text-length }) (record { at = (block_ptr b2 o2); length = sentence-length }) null_ptr answer)) $
-      sets ! (bin ! (get ! refl) (lit ! tt) (tests_null null_ptr may-fault)) refl (tt, tt) $ first ! $ branches ! (get ! refl)
-      (λ _. sets ! (of_opd ! (lit ! tt)) refl (tt, record { fits = lit< tt }) $ returns_within ! (Post alloc given status (record { at = text-at; length = text-length }) (record { at = (block_ptr b2 o2); length = sentence-length }) null_ptr answer) refl (look_at ! 0 refl) $ free_all ! refl $ none alloc given status (record { at = text-at; length = text-length }) (record { at = (block_ptr b2 o2); length = sentence-length }) null_ptr answer (id⊢ 𝓤 _))
-      (λ wrong. absurd wrong)))
-  runs alloc given status text-at text-length (block_ptr b2 o2) sentence-length (block_ptr b3 o3) null_ptr fits-alloc fits-status fits-text fits-sentence may-given may-text may-sentence may-fault may-answer =
-      enter ! C Λ code.function (global_val alloc ∷ ptr_val given ∷ vint w32 status ∷ bytes_val (record { at = text-at; length = text-length }) ∷ buffer_val (record { at = (block_ptr b2 o2); length = sentence-length }) ∷ vptr b3 o3 ∷ vnull ∷ []) _ $ alloc_all ! (λ c. pass_all ! refl (fits-alloc.0, ((good given).0, ((tt, record { fits = fits-status }), (fits-text.0, (fits-sentence.0, ((good (block_ptr b3 o3)).0, ((good null_ptr).0, tt))))))) $
-      sets ! (bin ! (get_in ! (fld ! refl (stop !)) (sub ! 0 refl (whole !))) (lit ! tt) (tests_null (block_ptr b2 o2) may-sentence)) refl (tt, tt) $ first ! $ branches ! (get ! refl)
-      (λ wrong. absurd wrong) (λ _. skips ! $ exec ! C Λ (env (code.function).locals c) code.Mir.t-3 (at_ret (env (code.function).locals c) (Post alloc given status (record { at = text-at; length = text-length }) (record { at = (block_ptr b2 o2); length = sentence-length }) (block_ptr b3 o3) null_ptr)) $
-      sets ! (bin ! (get ! refl) (lit ! tt) (tests_null (block_ptr b3 o3) may-fault)) refl (tt, tt) $ first ! $ branches ! (get ! refl)
-      (λ wrong. absurd wrong) (λ _. skips ! $ exec ! C Λ (env (code.function).locals c) code.Mir.t-5 (at_ret (env (code.function).locals c) (Post alloc given status (record { at = text-at; length = text-length }) (record { at = (block_ptr b2 o2); length = sentence-length }) (block_ptr b3 o3) null_ptr)) $
-      sets ! (bin ! (get ! refl) (lit ! tt) (tests_null null_ptr may-answer)) refl (tt, tt) $ first ! $ branches ! (get ! refl)
-      (λ _. sets ! (of_opd ! (lit ! tt)) refl (tt, record { fits = lit< tt }) $ returns_within ! (Post alloc given status (record { at = text-at; length = text-length }) (record { at = (block_ptr b2 o2); length = sentence-length }) (block_ptr b3 o3) null_ptr) refl (look_at ! 0 refl) $ free_all ! refl $ none alloc given status (record { at = text-at; length = text-length }) (record { at = (block_ptr b2 o2); length = sentence-length }) (block_ptr b3 o3) null_ptr (id⊢ 𝓤 _))
-      (λ wrong. absurd wrong))))
+  runs : (alloc : Global) (given : Ptr) (status : ℕ) (text-at : Ptr) (text-length : ℕ) (sentence-at : Ptr) (sentence-length : ℕ) (fault : Ptr) (answer : Ptr) → Typed GlobalRow.mir (global_val alloc ∷ []) → status < 2 ^ 32 → Typed BytesRow.mir (bytes_val (record { at = text-at; length = text-length }) ∷ []) → Typed BufferRow.mir (buffer_val (record { at = sentence-at; length = sentence-length }) ∷ []) → Testable given → Testable text-at → Testable sentence-at → Testable fault → Testable answer → Walk alloc given status (record { at = text-at; length = text-length }) (record { at = sentence-at; length = sentence-length }) fault answer
+  runs alloc given status text-at text-length null_ptr sentence-length fault answer fits-alloc fits-status fits-text fits-sentence may-given may-text may-sentence may-fault may-answer = refused alloc given status text-at text-length null_ptr sentence-length fault answer fits-alloc fits-status fits-text fits-sentence may-given may-text may-sentence may-fault may-answer tt
+  runs alloc given status text-at text-length (block_ptr b2 o2) sentence-length null_ptr answer fits-alloc fits-status fits-text fits-sentence may-given may-text may-sentence may-fault may-answer = refused alloc given status text-at text-length (block_ptr b2 o2) sentence-length null_ptr answer fits-alloc fits-status fits-text fits-sentence may-given may-text may-sentence may-fault may-answer tt
+  runs alloc given status text-at text-length (block_ptr b2 o2) sentence-length (block_ptr b3 o3) null_ptr fits-alloc fits-status fits-text fits-sentence may-given may-text may-sentence may-fault may-answer = refused alloc given status text-at text-length (block_ptr b2 o2) sentence-length (block_ptr b3 o3) null_ptr fits-alloc fits-status fits-text fits-sentence may-given may-text may-sentence may-fault may-answer tt
   runs alloc null_ptr status null_ptr text-length (block_ptr b2 o2) sentence-length (block_ptr b3 o3) (block_ptr b4 o4) fits-alloc fits-status fits-text fits-sentence may-given may-text may-sentence may-fault may-answer =
-      move ! (1 ∷ []) $ fsplit ! $ move ! (1 ∷ []) $ fsplit ! $ move ! (1 ∷ []) $ fsplit ! $ move ! (1 ∷ []) $ fsplit ! $ move ! (1 ∷ []) $ enter ! C Λ code.function (global_val alloc ∷ vnull ∷ vint w32 status ∷ bytes_val (record { at = null_ptr; length = text-length }) ∷ buffer_val (record { at = (block_ptr b2 o2); length = sentence-length }) ∷ vptr b3 o3 ∷ vptr b4 o4 ∷ []) _ $ alloc_all ! (λ c. pass_all ! refl (fits-alloc.0, ((good null_ptr).0, ((tt, record { fits = fits-status }), (fits-text.0, (fits-sentence.0, ((good (block_ptr b3 o3)).0, ((good (block_ptr b4 o4)).0, tt))))))) $
-      sets ! (bin ! (get_in ! (fld ! refl (stop !)) (sub ! 0 refl (whole !))) (lit ! tt) (tests_null (block_ptr b2 o2) may-sentence)) refl (tt, tt) $ first ! $ branches ! (get ! refl)
-      (λ wrong. absurd wrong) (λ _. skips ! $ exec ! C Λ (env (code.function).locals c) code.Mir.t-3 (at_ret (env (code.function).locals c) (Post alloc null_ptr status (record { at = null_ptr; length = text-length }) (record { at = (block_ptr b2 o2); length = sentence-length }) (block_ptr b3 o3) (block_ptr b4 o4))) $
-      sets ! (bin ! (get ! refl) (lit ! tt) (tests_null (block_ptr b3 o3) may-fault)) refl (tt, tt) $ first ! $ branches ! (get ! refl)
-      (λ wrong. absurd wrong) (λ _. skips ! $ exec ! C Λ (env (code.function).locals c) code.Mir.t-5 (at_ret (env (code.function).locals c) (Post alloc null_ptr status (record { at = null_ptr; length = text-length }) (record { at = (block_ptr b2 o2); length = sentence-length }) (block_ptr b3 o3) (block_ptr b4 o4))) $
-      sets ! (bin ! (get ! refl) (lit ! tt) (tests_null (block_ptr b4 o4) may-answer)) refl (tt, tt) $ first ! $ branches ! (get ! refl)
-      (λ wrong. absurd wrong) (λ _. skips ! $ exec ! C Λ (env (code.function).locals c) code.Mir.t-7 (at_ret (env (code.function).locals c) (Post alloc null_ptr status (record { at = null_ptr; length = text-length }) (record { at = (block_ptr b2 o2); length = sentence-length }) (block_ptr b3 o3) (block_ptr b4 o4))) $
-      sets ! (bin ! (get ! refl) (lit ! tt) (tests_null null_ptr may-given)) refl (tt, tt) $ first ! $ branches ! (get ! refl)
-      (λ _.
-      sets ! (bin ! (get_in ! (fld ! refl (stop !)) (sub ! 0 refl (whole !))) (lit ! tt) (tests_null null_ptr may-text)) refl (tt, tt) $ first ! $ branches ! (get ! refl)
-      (λ _. first ! $ blocks ! $
+      move ! (1 ∷ []) $ fsplit ! $ move ! (1 ∷ []) $ fsplit ! $ move ! (1 ∷ []) $ fsplit ! $ move ! (1 ∷ []) $ fsplit ! $ move ! (1 ∷ []) $ enter ! C Λ code.function (global_val alloc ∷ vnull ∷ vint w32 status ∷ bytes_val (record { at = null_ptr; length = text-length }) ∷ buffer_val (record { at = (block_ptr b2 o2); length = sentence-length }) ∷ vptr b3 o3 ∷ vptr b4 o4 ∷ []) _ $ alloc_all ! (λ c. pass_all ! refl (fits-alloc.0, ((good 𝓛 null_ptr).0, ((tt, record { fits = fits-status }), (fits-text.0, (fits-sentence.0, ((good 𝓛 (block_ptr b3 o3)).0, ((good 𝓛 (block_ptr b4 o4)).0, tt))))))) $
+      stands ! b2 o2 none (get_in ! (fld ! refl (stop !)) (sub ! 0 refl (whole !))) may-sentence refl (tt, tt) refl $
+      stands ! b3 o3 (there_is _) (get ! refl) may-fault refl (tt, tt) refl $
+      stands ! b4 o4 (there_is _) (get ! refl) may-answer refl (tt, tt) refl $
+      compares ! null_ptr (there_is _) (get ! refl) may-given refl (tt, tt) $ closes ! $ branches ! (get ! refl) (λ _.
+      compares ! null_ptr none (get_in ! (fld ! refl (stop !)) (sub ! 0 refl (whole !))) may-text refl (tt, tt) $ hands ! _ _ $ branches ! (get ! refl) (λ _. hands ! _ _ $ inside ! _ _ _ $
       sets ! (agg ! (and_then ! (get_in ! (fld ! refl (stop !)) (sub ! 0 refl (whole !))) (and_then ! (get_in ! (fld ! refl (stop !)) (sub ! 1 refl (whole !))) (no_more !)))) refl (tt, (tt, (fits-sentence.0.1.1.0, tt))) $
       sets ! (addr ! (through ! refl (stop !))) refl (tt, tt) $
       sets ! (addr ! (through ! refl (stop !))) refl (tt, tt) $
       move ! (4 ∷ []) $ drop ! $ move ! (3 ∷ []) $ drop ! $ nothing ! $ move ! (1 ∷ 0 ∷ []) $ fjoin ! $ move ! (1 ∷ 0 ∷ []) $ fjoin ! $ move ! (1 ∷ 0 ∷ []) $ fjoin ! $ owned ! usize _ (uint_Makes 𝓛 w64) text-length _ (refl, fits-text.0.1.1.0.fits) $ fjoin ! $ owned ! u32 _ (uint_Makes 𝓛 w32) status _ (refl, fits-status) $ fjoin ! $ move ! (2 ∷ 0 ∷ []) $ fjoin ! $ nothing ! $ move ! (2 ∷ 0 ∷ []) $ join ! $ join ! $ nothing ! $ move ! (1 ∷ 0 ∷ []) $
-      let ref-sentence : MutBor (List ℕ) = record { ref_ptr = (b2, o2); ghost_name = l.buffer_name; now = l.buffer } in
-      let ref-fault : Bor Answer = record { ref_ptr = (b3, o3); now = l.fault } in
-      let ref-answer : MutBor Answer = record { ref_ptr = (b4, o4); ghost_name = l.answer_name; now = l.answer } in
-      let κ : Lft = l.lifetime in let z : G-3.Ghost = (((κ, tt), (l.share, tt), tt, (alloc, (status, (text-length, (ref-sentence, (ref-fault, (ref-answer, tt)))))), (global_val alloc ∷ [], (vint w32 status ∷ [], (vint w64 text-length ∷ [], (slice_val (b2, o2) sentence-length ∷ [], (vptr b3 o3 ∷ [], (vptr b4 o4 ∷ [], tt))))))), tt) in
-      use2 𝓛 (raw (G-3.pre z)) (id⊢ 𝓤 _) $
-      calls_at_last ! fm G-3 known-3 z (and_then ! (get ! refl) (and_then ! (get ! refl) (and_then ! (get_in ! (fld ! refl (stop !)) (sub ! 1 refl (whole !))) (and_then ! (get ! refl) (and_then ! (get ! refl) (and_then ! (get ! refl) (no_more !))))))) (λ v.
-      use1 𝓛 (later (some (λ (x : ℕ). ((‵ (flft κ l.share) ⊛ ‵ ftrue) ⊛ ‵ (u32.own_val x (v ∷ []))) ⊛
-      some (λ (ws : Unit {0} × (Unit {0} × (Unit {0} × ((List ℕ) × (Unit {0} × (Answer × (Unit {0}))))))). ‵ (lasts g-3.ended (κ, tt) z.0.3 ws) ⊛ raw (fact 𝓤 (of_optional null_ptr (of_bytes null_ptr text-length l.bytes ((ws.1.1.1.0 ≡ l.buffer) × ((ws.1.1.1.1.1.0 ≡ l.answer) × (x ≡ 1))) (λ bytes. ReportsSentence status bytes l.buffer ws.1.1.1.0 l.fault ws.1.1.1.1.1.0 x)) (of_bytes null_ptr text-length l.bytes ((ws.1.1.1.0 ≡ l.buffer) × ((ws.1.1.1.1.1.0 ≡ l.answer) × (x ≡ 1))) (λ bytes. ReportsSentenceFor l.handle status bytes l.buffer ws.1.1.1.0 l.fault ws.1.1.1.1.1.0 x)))))))) (id⊢ 𝓤 _) $
-      await ! tt $ pick ! (λ x. split ! $ move ! (1 ∷ []) $ pick ! (λ ws. split ! $ move ! (1 ∷ []) $ heard ! _ (λ reports.
-      fsplit ! $ drop ! $ fsplit ! $ drop ! $ fsplit ! $ drop ! $ fsplit ! $ move ! (1 ∷ []) $ fsplit ! $ drop ! $ fsplit ! $ move ! (1 ∷ []) $ drop ! $ move ! (2 ∷ []) $ split ! $ split ! $ move ! (2 ∷ []) $ peeks ! u32 (Is u32) (shows 𝓛 u32) x (v ∷ []) (λ is.
-      let fine = ((uint_Lawful 𝓛 w32).typed x _ is).0 in
-      lands_last ! refl fine $ exec ! C Λ (env (code.function).locals c) (assign (place 11 []) (rv_opd (copy (place 12 [])))) (any_q (after_seq 𝓤 H (Wp 𝓤 H C Λ (env (code.function).locals c) (assign (place 9 []) (rv_opd (copy (place 11 [])))) (post 𝓤 H (any_q (after_seq 𝓤 H (Wp 𝓤 H C Λ (env (code.function).locals c) code.Mir.t-9 (post 𝓤 H (at_ret (env (code.function).locals c) (Post alloc null_ptr status (record { at = null_ptr; length = text-length }) (record { at = (block_ptr b2 o2); length = sentence-length }) (block_ptr b3 o3) (block_ptr b4 o4))))) (post 𝓤 H (at_ret (env (code.function).locals c) (Post alloc null_ptr status (record { at = null_ptr; length = text-length }) (record { at = (block_ptr b2 o2); length = sentence-length }) (block_ptr b3 o3) (block_ptr b4 o4)))))))) (post 𝓤 H (any_q (after_seq 𝓤 H (Wp 𝓤 H C Λ (env (code.function).locals c) code.Mir.t-9 (post 𝓤 H (at_ret (env (code.function).locals c) (Post alloc null_ptr status (record { at = null_ptr; length = text-length }) (record { at = (block_ptr b2 o2); length = sentence-length }) (block_ptr b3 o3) (block_ptr b4 o4))))) (post 𝓤 H (at_ret (env (code.function).locals c) (Post alloc null_ptr status (record { at = null_ptr; length = text-length }) (record { at = (block_ptr b2 o2); length = sentence-length }) (block_ptr b3 o3) (block_ptr b4 o4))))))))) $ sets_last ! (of_opd ! (get ! refl)) refl fine $ exec ! C Λ (env (code.function).locals c) (assign (place 9 []) (rv_opd (copy (place 11 [])))) (any_q (after_seq 𝓤 H (Wp 𝓤 H C Λ (env (code.function).locals c) code.Mir.t-9 (post 𝓤 H (at_ret (env (code.function).locals c) (Post alloc null_ptr status (record { at = null_ptr; length = text-length }) (record { at = (block_ptr b2 o2); length = sentence-length }) (block_ptr b3 o3) (block_ptr b4 o4))))) (post 𝓤 H (at_ret (env (code.function).locals c) (Post alloc null_ptr status (record { at = null_ptr; length = text-length }) (record { at = (block_ptr b2 o2); length = sentence-length }) (block_ptr b3 o3) (block_ptr b4 o4)))))) $ sets_last ! (of_opd ! (get ! refl)) refl fine $
-      exec ! C Λ (env (code.function).locals c) code.Mir.t-9 (at_ret (env (code.function).locals c) (Post alloc null_ptr status (record { at = null_ptr; length = text-length }) (record { at = (block_ptr b2 o2); length = sentence-length }) (block_ptr b3 o3) (block_ptr b4 o4))) $
-      sets ! (of_opd ! (get ! refl)) refl fine $ returns ! (look_at ! 0 refl) $ free_all ! refl $ keep ! (3 ∷ 4 ∷ 0 ∷ 1 ∷ []) $
-      nothing ! $ fpack ! (of_optional null_ptr (of_bytes null_ptr text-length l.bytes ((ws.1.1.1.0 ≡ l.buffer) × ((ws.1.1.1.1.1.0 ≡ l.answer) × (x ≡ 1))) (λ bytes. ReportsSentence status bytes l.buffer ws.1.1.1.0 l.fault ws.1.1.1.1.1.0 x)) (of_bytes null_ptr text-length l.bytes ((ws.1.1.1.0 ≡ l.buffer) × ((ws.1.1.1.1.1.0 ≡ l.answer) × (x ≡ 1))) (λ bytes. ReportsSentenceFor l.handle status bytes l.buffer ws.1.1.1.0 l.fault ws.1.1.1.1.1.0 x))) (λ _. ftrue) reports $ move ! (1 ∷ 0 ∷ []) $ fjoin ! $ move ! (1 ∷ 0 ∷ []) $ fjoin ! $
-      fpack ! Answer (λ answer'. fsep (left_buffer l (record { at = (block_ptr b2 o2); length = sentence-length }) ws.1.1.1.0) (fsep (left_answer l (block_ptr b4 o4) answer') (holds (of_optional null_ptr (of_bytes null_ptr text-length l.bytes ((ws.1.1.1.0 ≡ l.buffer) × ((answer' ≡ l.answer) × (x ≡ 1))) (λ bytes. ReportsSentence status bytes l.buffer ws.1.1.1.0 l.fault answer' x)) (of_bytes null_ptr text-length l.bytes ((ws.1.1.1.0 ≡ l.buffer) × ((answer' ≡ l.answer) × (x ≡ 1))) (λ bytes. ReportsSentenceFor l.handle status bytes l.buffer ws.1.1.1.0 l.fault answer' x)))))) ws.1.1.1.1.1.0 $
-      fpack ! (List ℕ) (λ sentence'. fex Answer (λ answer'. fsep (left_buffer l (record { at = (block_ptr b2 o2); length = sentence-length }) sentence') (fsep (left_answer l (block_ptr b4 o4) answer') (holds (of_optional null_ptr (of_bytes null_ptr text-length l.bytes ((sentence' ≡ l.buffer) × ((answer' ≡ l.answer) × (x ≡ 1))) (λ bytes. ReportsSentence status bytes l.buffer sentence' l.fault answer' x)) (of_bytes null_ptr text-length l.bytes ((sentence' ≡ l.buffer) × ((answer' ≡ l.answer) × (x ≡ 1))) (λ bytes. ReportsSentenceFor l.handle status bytes l.buffer sentence' l.fault answer' x))))))) ws.1.1.1.0 $
-      move ! (2 ∷ 0 ∷ []) $ join ! $ move ! (1 ∷ 0 ∷ []) $ nothing ! $ nothing ! $ fjoin ! $ nothing ! $ fjoin ! $ nothing ! $ fjoin ! $ nothing ! $ fjoin ! $ nothing ! $ fjoin ! $ nothing ! $ fjoin ! $ nothing ! $ fjoin ! $ nothing ! $
-      by ! (leaves 𝓛 f.ended stayed (f.clauses 𝓛 at_mem run) (bound alloc null_ptr status (record { at = null_ptr; length = text-length }) (record { at = (block_ptr b2 o2); length = sentence-length }) (block_ptr b3 o3) (block_ptr b4 o4)) v x (tt, (tt, (tt, (tt, (tt, (tt, (tt, tt))))))) (tt, (tt, (tt, (tt, (tt, (tt, (tt, tt)))))))))))))) (λ wrong. absurd wrong)) (λ wrong. absurd wrong)))))
+      let z : G-3.Ghost = (((l.lifetime, tt), (l.share, tt), tt, (alloc, (status, (text-length, (record { ref_ptr = (b2, o2); ghost_name = l.buffer_name; now = l.buffer }, (record { ref_ptr = (b3, o3); now = l.fault }, (record { ref_ptr = (b4, o4); ghost_name = l.answer_name; now = l.answer }, tt)))))), (global_val alloc ∷ [], (vint w32 status ∷ [], (vint w64 text-length ∷ [], (slice_val (b2, o2) sentence-length ∷ [], (vptr b3 o3 ∷ [], (vptr b4 o4 ∷ [], tt))))))), tt) in
+      use2 𝓛 (raw (G-3.pre z)) (id⊢ 𝓤 _) $ calls_at_last ! fm G-3 known-3 z (and_then ! (get ! refl) (and_then ! (get ! refl) (and_then ! (get_in ! (fld ! refl (stop !)) (sub ! 1 refl (whole !))) (and_then ! (get ! refl) (and_then ! (get ! refl) (and_then ! (get ! refl) (no_more !))))))) (λ v.
+      use1 𝓛 (back 𝓛 g-3.ended (g-3.clauses 𝓛 at_mem run) z.0.0 z.0.3 z.1 l.lifetime l.share v) (id⊢ 𝓤 _) $
+      await ! tt $ pick ! (λ x. split ! $ move ! (1 ∷ []) $ pick ! (λ ws. split ! $ move ! (1 ∷ []) $ heard ! (of_optional null_ptr (of_bytes null_ptr text-length l.bytes ((ws.1.1.1.0 ≡ l.buffer) × ((ws.1.1.1.1.1.0 ≡ l.answer) × (x ≡ 1))) (λ bytes. ReportsSentence status bytes l.buffer ws.1.1.1.0 l.fault ws.1.1.1.1.1.0 x)) (of_bytes null_ptr text-length l.bytes ((ws.1.1.1.0 ≡ l.buffer) × ((ws.1.1.1.1.1.0 ≡ l.answer) × (x ≡ 1))) (λ bytes. ReportsSentenceFor l.handle status bytes l.buffer ws.1.1.1.0 l.fault ws.1.1.1.1.1.0 x))) (λ reports.
+      fsplit ! $ drop ! $ fsplit ! $ drop ! $ fsplit ! $ drop ! $ fsplit ! $ move ! (1 ∷ []) $ fsplit ! $ drop ! $ fsplit ! $ move ! (1 ∷ []) $ drop ! $ move ! (2 ∷ []) $ split ! $ split ! $ move ! (2 ∷ []) $ peeks ! u32 (Is u32) (shows 𝓛 u32) x (v ∷ []) (λ is. let fine = ((uint_Lawful 𝓛 w32).typed x _ is).0 in
+      ends2 ! C Λ _ _ _ fine fine fine fine refl refl refl refl refl refl refl refl $ free_all ! refl $ keep ! (3 ∷ 4 ∷ 0 ∷ 1 ∷ []) $
+      hold ! reports $ move ! (1 ∷ 0 ∷ []) $ fjoin ! $ move ! (1 ∷ 0 ∷ []) $ fjoin ! $
+      fpack2 ! (List ℕ) Answer (λ sentence' answer'. fsep (left_buffer l (record { at = (block_ptr b2 o2); length = sentence-length }) sentence') (fsep (left_answer l (block_ptr b4 o4) answer') (holds (of_optional null_ptr (of_bytes null_ptr text-length l.bytes ((sentence' ≡ l.buffer) × ((answer' ≡ l.answer) × (x ≡ 1))) (λ bytes. ReportsSentence status bytes l.buffer sentence' l.fault answer' x)) (of_bytes null_ptr text-length l.bytes ((sentence' ≡ l.buffer) × ((answer' ≡ l.answer) × (x ≡ 1))) (λ bytes. ReportsSentenceFor l.handle status bytes l.buffer sentence' l.fault answer' x)))))) ws.1.1.1.0 ws.1.1.1.1.1.0 $ ends alloc null_ptr status (record { at = null_ptr; length = text-length }) (record { at = (block_ptr b2 o2); length = sentence-length }) (block_ptr b3 o3) (block_ptr b4 o4) v x)))))) (λ wrong. absurd wrong)) (λ wrong. absurd wrong))
   runs alloc null_ptr status (block_ptr b1 o1) text-length (block_ptr b2 o2) sentence-length (block_ptr b3 o3) (block_ptr b4 o4) fits-alloc fits-status fits-text fits-sentence may-given may-text may-sentence may-fault may-answer =
-      move ! (1 ∷ []) $ fsplit ! $ move ! (1 ∷ []) $ fsplit ! $ move ! (1 ∷ []) $ fsplit ! $ move ! (1 ∷ []) $ fsplit ! $ move ! (1 ∷ []) $ enter ! C Λ code.function (global_val alloc ∷ vnull ∷ vint w32 status ∷ bytes_val (record { at = (block_ptr b1 o1); length = text-length }) ∷ buffer_val (record { at = (block_ptr b2 o2); length = sentence-length }) ∷ vptr b3 o3 ∷ vptr b4 o4 ∷ []) _ $ alloc_all ! (λ c. pass_all ! refl (fits-alloc.0, ((good null_ptr).0, ((tt, record { fits = fits-status }), (fits-text.0, (fits-sentence.0, ((good (block_ptr b3 o3)).0, ((good (block_ptr b4 o4)).0, tt))))))) $
-      sets ! (bin ! (get_in ! (fld ! refl (stop !)) (sub ! 0 refl (whole !))) (lit ! tt) (tests_null (block_ptr b2 o2) may-sentence)) refl (tt, tt) $ first ! $ branches ! (get ! refl)
-      (λ wrong. absurd wrong) (λ _. skips ! $ exec ! C Λ (env (code.function).locals c) code.Mir.t-3 (at_ret (env (code.function).locals c) (Post alloc null_ptr status (record { at = (block_ptr b1 o1); length = text-length }) (record { at = (block_ptr b2 o2); length = sentence-length }) (block_ptr b3 o3) (block_ptr b4 o4))) $
-      sets ! (bin ! (get ! refl) (lit ! tt) (tests_null (block_ptr b3 o3) may-fault)) refl (tt, tt) $ first ! $ branches ! (get ! refl)
-      (λ wrong. absurd wrong) (λ _. skips ! $ exec ! C Λ (env (code.function).locals c) code.Mir.t-5 (at_ret (env (code.function).locals c) (Post alloc null_ptr status (record { at = (block_ptr b1 o1); length = text-length }) (record { at = (block_ptr b2 o2); length = sentence-length }) (block_ptr b3 o3) (block_ptr b4 o4))) $
-      sets ! (bin ! (get ! refl) (lit ! tt) (tests_null (block_ptr b4 o4) may-answer)) refl (tt, tt) $ first ! $ branches ! (get ! refl)
-      (λ wrong. absurd wrong) (λ _. skips ! $ exec ! C Λ (env (code.function).locals c) code.Mir.t-7 (at_ret (env (code.function).locals c) (Post alloc null_ptr status (record { at = (block_ptr b1 o1); length = text-length }) (record { at = (block_ptr b2 o2); length = sentence-length }) (block_ptr b3 o3) (block_ptr b4 o4))) $
-      sets ! (bin ! (get ! refl) (lit ! tt) (tests_null null_ptr may-given)) refl (tt, tt) $ first ! $ branches ! (get ! refl)
-      (λ _.
-      sets ! (bin ! (get_in ! (fld ! refl (stop !)) (sub ! 0 refl (whole !))) (lit ! tt) (tests_null (block_ptr b1 o1) may-text)) refl (tt, tt) $ first ! $ branches ! (get ! refl)
-      (λ wrong. absurd wrong) (λ _. first ! $ blocks ! $
+      move ! (1 ∷ []) $ fsplit ! $ move ! (1 ∷ []) $ fsplit ! $ move ! (1 ∷ []) $ fsplit ! $ move ! (1 ∷ []) $ fsplit ! $ move ! (1 ∷ []) $ enter ! C Λ code.function (global_val alloc ∷ vnull ∷ vint w32 status ∷ bytes_val (record { at = (block_ptr b1 o1); length = text-length }) ∷ buffer_val (record { at = (block_ptr b2 o2); length = sentence-length }) ∷ vptr b3 o3 ∷ vptr b4 o4 ∷ []) _ $ alloc_all ! (λ c. pass_all ! refl (fits-alloc.0, ((good 𝓛 null_ptr).0, ((tt, record { fits = fits-status }), (fits-text.0, (fits-sentence.0, ((good 𝓛 (block_ptr b3 o3)).0, ((good 𝓛 (block_ptr b4 o4)).0, tt))))))) $
+      stands ! b2 o2 none (get_in ! (fld ! refl (stop !)) (sub ! 0 refl (whole !))) may-sentence refl (tt, tt) refl $
+      stands ! b3 o3 (there_is _) (get ! refl) may-fault refl (tt, tt) refl $
+      stands ! b4 o4 (there_is _) (get ! refl) may-answer refl (tt, tt) refl $
+      compares ! null_ptr (there_is _) (get ! refl) may-given refl (tt, tt) $ closes ! $ branches ! (get ! refl) (λ _.
+      compares ! (block_ptr b1 o1) none (get_in ! (fld ! refl (stop !)) (sub ! 0 refl (whole !))) may-text refl (tt, tt) $ hands ! _ _ $ branches ! (get ! refl) (λ wrong. absurd wrong) (λ _. hands ! _ _ $ inside ! _ _ _ $
       sets ! (agg ! (and_then ! (get_in ! (fld ! refl (stop !)) (sub ! 0 refl (whole !))) (and_then ! (get_in ! (fld ! refl (stop !)) (sub ! 1 refl (whole !))) (no_more !)))) refl (tt, (tt, (fits-text.0.1.1.0, tt))) $
       sets ! (agg ! (and_then ! (get_in ! (fld ! refl (stop !)) (sub ! 0 refl (whole !))) (and_then ! (get_in ! (fld ! refl (stop !)) (sub ! 1 refl (whole !))) (no_more !)))) refl (tt, (tt, (fits-sentence.0.1.1.0, tt))) $
       sets ! (addr ! (through ! refl (stop !))) refl (tt, tt) $
       sets ! (addr ! (through ! refl (stop !))) refl (tt, tt) $
       move ! (4 ∷ []) $ drop ! $ nothing ! $ move ! (1 ∷ 0 ∷ []) $ fjoin ! $ move ! (1 ∷ 0 ∷ []) $ fjoin ! $ move ! (1 ∷ 0 ∷ []) $ fjoin ! $ move ! (1 ∷ 0 ∷ []) $ fjoin ! $ owned ! u32 _ (uint_Makes 𝓛 w32) status _ (refl, fits-status) $ fjoin ! $ move ! (2 ∷ 0 ∷ []) $ fjoin ! $ nothing ! $ move ! (2 ∷ 0 ∷ []) $ join ! $ join ! $ nothing ! $ move ! (1 ∷ 0 ∷ []) $
-      let ref-text : Bor (List ℕ) = record { ref_ptr = (b1, o1); now = l.bytes } in
-      let ref-sentence : MutBor (List ℕ) = record { ref_ptr = (b2, o2); ghost_name = l.buffer_name; now = l.buffer } in
-      let ref-fault : Bor Answer = record { ref_ptr = (b3, o3); now = l.fault } in
-      let ref-answer : MutBor Answer = record { ref_ptr = (b4, o4); ghost_name = l.answer_name; now = l.answer } in
-      let κ : Lft = l.lifetime in let z : G-2.Ghost = (((κ, tt), (l.share, tt), tt, (alloc, (status, (ref-text, (ref-sentence, (ref-fault, (ref-answer, tt)))))), (global_val alloc ∷ [], (vint w32 status ∷ [], (slice_val (b1, o1) text-length ∷ [], (slice_val (b2, o2) sentence-length ∷ [], (vptr b3 o3 ∷ [], (vptr b4 o4 ∷ [], tt))))))), tt) in
-      use2 𝓛 (raw (G-2.pre z)) (id⊢ 𝓤 _) $
-      calls_at_last ! fm G-2 known-2 z (and_then ! (get ! refl) (and_then ! (get ! refl) (and_then ! (get ! refl) (and_then ! (get ! refl) (and_then ! (get ! refl) (and_then ! (get ! refl) (no_more !))))))) (λ v.
-      use1 𝓛 (later (some (λ (x : ℕ). ((‵ (flft κ l.share) ⊛ ‵ ftrue) ⊛ ‵ (u32.own_val x (v ∷ []))) ⊛
-      some (λ (ws : Unit {0} × (Unit {0} × (Unit {0} × ((List ℕ) × (Unit {0} × (Answer × (Unit {0}))))))). ‵ (lasts g-2.ended (κ, tt) z.0.3 ws) ⊛ raw (fact 𝓤 (of_optional null_ptr (of_bytes (block_ptr b1 o1) text-length l.bytes ((ws.1.1.1.0 ≡ l.buffer) × ((ws.1.1.1.1.1.0 ≡ l.answer) × (x ≡ 1))) (λ bytes. ReportsSentence status bytes l.buffer ws.1.1.1.0 l.fault ws.1.1.1.1.1.0 x)) (of_bytes (block_ptr b1 o1) text-length l.bytes ((ws.1.1.1.0 ≡ l.buffer) × ((ws.1.1.1.1.1.0 ≡ l.answer) × (x ≡ 1))) (λ bytes. ReportsSentenceFor l.handle status bytes l.buffer ws.1.1.1.0 l.fault ws.1.1.1.1.1.0 x)))))))) (id⊢ 𝓤 _) $
-      await ! tt $ pick ! (λ x. split ! $ move ! (1 ∷ []) $ pick ! (λ ws. split ! $ move ! (1 ∷ []) $ heard ! _ (λ reports.
-      fsplit ! $ drop ! $ fsplit ! $ drop ! $ fsplit ! $ drop ! $ fsplit ! $ move ! (1 ∷ []) $ fsplit ! $ drop ! $ fsplit ! $ move ! (1 ∷ []) $ drop ! $ move ! (2 ∷ []) $ split ! $ split ! $ move ! (2 ∷ []) $ peeks ! u32 (Is u32) (shows 𝓛 u32) x (v ∷ []) (λ is.
-      let fine = ((uint_Lawful 𝓛 w32).typed x _ is).0 in
-      lands_last ! refl fine $ exec ! C Λ (env (code.function).locals c) (assign (place 11 []) (rv_opd (copy (place 16 [])))) (any_q (after_seq 𝓤 H (Wp 𝓤 H C Λ (env (code.function).locals c) (assign (place 9 []) (rv_opd (copy (place 11 [])))) (post 𝓤 H (any_q (after_seq 𝓤 H (Wp 𝓤 H C Λ (env (code.function).locals c) code.Mir.t-9 (post 𝓤 H (at_ret (env (code.function).locals c) (Post alloc null_ptr status (record { at = (block_ptr b1 o1); length = text-length }) (record { at = (block_ptr b2 o2); length = sentence-length }) (block_ptr b3 o3) (block_ptr b4 o4))))) (post 𝓤 H (at_ret (env (code.function).locals c) (Post alloc null_ptr status (record { at = (block_ptr b1 o1); length = text-length }) (record { at = (block_ptr b2 o2); length = sentence-length }) (block_ptr b3 o3) (block_ptr b4 o4)))))))) (post 𝓤 H (any_q (after_seq 𝓤 H (Wp 𝓤 H C Λ (env (code.function).locals c) code.Mir.t-9 (post 𝓤 H (at_ret (env (code.function).locals c) (Post alloc null_ptr status (record { at = (block_ptr b1 o1); length = text-length }) (record { at = (block_ptr b2 o2); length = sentence-length }) (block_ptr b3 o3) (block_ptr b4 o4))))) (post 𝓤 H (at_ret (env (code.function).locals c) (Post alloc null_ptr status (record { at = (block_ptr b1 o1); length = text-length }) (record { at = (block_ptr b2 o2); length = sentence-length }) (block_ptr b3 o3) (block_ptr b4 o4))))))))) $ sets_last ! (of_opd ! (get ! refl)) refl fine $ exec ! C Λ (env (code.function).locals c) (assign (place 9 []) (rv_opd (copy (place 11 [])))) (any_q (after_seq 𝓤 H (Wp 𝓤 H C Λ (env (code.function).locals c) code.Mir.t-9 (post 𝓤 H (at_ret (env (code.function).locals c) (Post alloc null_ptr status (record { at = (block_ptr b1 o1); length = text-length }) (record { at = (block_ptr b2 o2); length = sentence-length }) (block_ptr b3 o3) (block_ptr b4 o4))))) (post 𝓤 H (at_ret (env (code.function).locals c) (Post alloc null_ptr status (record { at = (block_ptr b1 o1); length = text-length }) (record { at = (block_ptr b2 o2); length = sentence-length }) (block_ptr b3 o3) (block_ptr b4 o4)))))) $ sets_last ! (of_opd ! (get ! refl)) refl fine $
-      exec ! C Λ (env (code.function).locals c) code.Mir.t-9 (at_ret (env (code.function).locals c) (Post alloc null_ptr status (record { at = (block_ptr b1 o1); length = text-length }) (record { at = (block_ptr b2 o2); length = sentence-length }) (block_ptr b3 o3) (block_ptr b4 o4))) $
-      sets ! (of_opd ! (get ! refl)) refl fine $ returns ! (look_at ! 0 refl) $ free_all ! refl $ keep ! (3 ∷ 4 ∷ 0 ∷ 1 ∷ []) $
-      nothing ! $ fpack ! (of_optional null_ptr (of_bytes (block_ptr b1 o1) text-length l.bytes ((ws.1.1.1.0 ≡ l.buffer) × ((ws.1.1.1.1.1.0 ≡ l.answer) × (x ≡ 1))) (λ bytes. ReportsSentence status bytes l.buffer ws.1.1.1.0 l.fault ws.1.1.1.1.1.0 x)) (of_bytes (block_ptr b1 o1) text-length l.bytes ((ws.1.1.1.0 ≡ l.buffer) × ((ws.1.1.1.1.1.0 ≡ l.answer) × (x ≡ 1))) (λ bytes. ReportsSentenceFor l.handle status bytes l.buffer ws.1.1.1.0 l.fault ws.1.1.1.1.1.0 x))) (λ _. ftrue) reports $ move ! (1 ∷ 0 ∷ []) $ fjoin ! $ move ! (1 ∷ 0 ∷ []) $ fjoin ! $
-      fpack ! Answer (λ answer'. fsep (left_buffer l (record { at = (block_ptr b2 o2); length = sentence-length }) ws.1.1.1.0) (fsep (left_answer l (block_ptr b4 o4) answer') (holds (of_optional null_ptr (of_bytes (block_ptr b1 o1) text-length l.bytes ((ws.1.1.1.0 ≡ l.buffer) × ((answer' ≡ l.answer) × (x ≡ 1))) (λ bytes. ReportsSentence status bytes l.buffer ws.1.1.1.0 l.fault answer' x)) (of_bytes (block_ptr b1 o1) text-length l.bytes ((ws.1.1.1.0 ≡ l.buffer) × ((answer' ≡ l.answer) × (x ≡ 1))) (λ bytes. ReportsSentenceFor l.handle status bytes l.buffer ws.1.1.1.0 l.fault answer' x)))))) ws.1.1.1.1.1.0 $
-      fpack ! (List ℕ) (λ sentence'. fex Answer (λ answer'. fsep (left_buffer l (record { at = (block_ptr b2 o2); length = sentence-length }) sentence') (fsep (left_answer l (block_ptr b4 o4) answer') (holds (of_optional null_ptr (of_bytes (block_ptr b1 o1) text-length l.bytes ((sentence' ≡ l.buffer) × ((answer' ≡ l.answer) × (x ≡ 1))) (λ bytes. ReportsSentence status bytes l.buffer sentence' l.fault answer' x)) (of_bytes (block_ptr b1 o1) text-length l.bytes ((sentence' ≡ l.buffer) × ((answer' ≡ l.answer) × (x ≡ 1))) (λ bytes. ReportsSentenceFor l.handle status bytes l.buffer sentence' l.fault answer' x))))))) ws.1.1.1.0 $
-      move ! (2 ∷ 0 ∷ []) $ join ! $ move ! (1 ∷ 0 ∷ []) $ nothing ! $ nothing ! $ fjoin ! $ nothing ! $ fjoin ! $ nothing ! $ fjoin ! $ nothing ! $ fjoin ! $ nothing ! $ fjoin ! $ nothing ! $ fjoin ! $ nothing ! $ fjoin ! $ nothing ! $
-      by ! (leaves 𝓛 f.ended stayed (f.clauses 𝓛 at_mem run) (bound alloc null_ptr status (record { at = (block_ptr b1 o1); length = text-length }) (record { at = (block_ptr b2 o2); length = sentence-length }) (block_ptr b3 o3) (block_ptr b4 o4)) v x (tt, (tt, (tt, (tt, (tt, (tt, (tt, tt))))))) (tt, (tt, (tt, (tt, (tt, (tt, (tt, tt))))))))))))))) (λ wrong. absurd wrong)))))
+      let z : G-2.Ghost = (((l.lifetime, tt), (l.share, tt), tt, (alloc, (status, (record { ref_ptr = (b1, o1); now = l.bytes }, (record { ref_ptr = (b2, o2); ghost_name = l.buffer_name; now = l.buffer }, (record { ref_ptr = (b3, o3); now = l.fault }, (record { ref_ptr = (b4, o4); ghost_name = l.answer_name; now = l.answer }, tt)))))), (global_val alloc ∷ [], (vint w32 status ∷ [], (slice_val (b1, o1) text-length ∷ [], (slice_val (b2, o2) sentence-length ∷ [], (vptr b3 o3 ∷ [], (vptr b4 o4 ∷ [], tt))))))), tt) in
+      use2 𝓛 (raw (G-2.pre z)) (id⊢ 𝓤 _) $ calls_at_last ! fm G-2 known-2 z (and_then ! (get ! refl) (and_then ! (get ! refl) (and_then ! (get ! refl) (and_then ! (get ! refl) (and_then ! (get ! refl) (and_then ! (get ! refl) (no_more !))))))) (λ v.
+      use1 𝓛 (back 𝓛 g-2.ended (g-2.clauses 𝓛 at_mem run) z.0.0 z.0.3 z.1 l.lifetime l.share v) (id⊢ 𝓤 _) $
+      await ! tt $ pick ! (λ x. split ! $ move ! (1 ∷ []) $ pick ! (λ ws. split ! $ move ! (1 ∷ []) $ heard ! (of_optional null_ptr (of_bytes (block_ptr b1 o1) text-length l.bytes ((ws.1.1.1.0 ≡ l.buffer) × ((ws.1.1.1.1.1.0 ≡ l.answer) × (x ≡ 1))) (λ bytes. ReportsSentence status bytes l.buffer ws.1.1.1.0 l.fault ws.1.1.1.1.1.0 x)) (of_bytes (block_ptr b1 o1) text-length l.bytes ((ws.1.1.1.0 ≡ l.buffer) × ((ws.1.1.1.1.1.0 ≡ l.answer) × (x ≡ 1))) (λ bytes. ReportsSentenceFor l.handle status bytes l.buffer ws.1.1.1.0 l.fault ws.1.1.1.1.1.0 x))) (λ reports.
+      fsplit ! $ drop ! $ fsplit ! $ drop ! $ fsplit ! $ drop ! $ fsplit ! $ move ! (1 ∷ []) $ fsplit ! $ drop ! $ fsplit ! $ move ! (1 ∷ []) $ drop ! $ move ! (2 ∷ []) $ split ! $ split ! $ move ! (2 ∷ []) $ peeks ! u32 (Is u32) (shows 𝓛 u32) x (v ∷ []) (λ is. let fine = ((uint_Lawful 𝓛 w32).typed x _ is).0 in
+      ends2 ! C Λ _ _ _ fine fine fine fine refl refl refl refl refl refl refl refl $ free_all ! refl $ keep ! (3 ∷ 4 ∷ 0 ∷ 1 ∷ []) $
+      hold ! reports $ move ! (1 ∷ 0 ∷ []) $ fjoin ! $ move ! (1 ∷ 0 ∷ []) $ fjoin ! $
+      fpack2 ! (List ℕ) Answer (λ sentence' answer'. fsep (left_buffer l (record { at = (block_ptr b2 o2); length = sentence-length }) sentence') (fsep (left_answer l (block_ptr b4 o4) answer') (holds (of_optional null_ptr (of_bytes (block_ptr b1 o1) text-length l.bytes ((sentence' ≡ l.buffer) × ((answer' ≡ l.answer) × (x ≡ 1))) (λ bytes. ReportsSentence status bytes l.buffer sentence' l.fault answer' x)) (of_bytes (block_ptr b1 o1) text-length l.bytes ((sentence' ≡ l.buffer) × ((answer' ≡ l.answer) × (x ≡ 1))) (λ bytes. ReportsSentenceFor l.handle status bytes l.buffer sentence' l.fault answer' x)))))) ws.1.1.1.0 ws.1.1.1.1.1.0 $ ends alloc null_ptr status (record { at = (block_ptr b1 o1); length = text-length }) (record { at = (block_ptr b2 o2); length = sentence-length }) (block_ptr b3 o3) (block_ptr b4 o4) v x))))))) (λ wrong. absurd wrong))
   runs alloc (block_ptr b0 o0) status null_ptr text-length (block_ptr b2 o2) sentence-length (block_ptr b3 o3) (block_ptr b4 o4) fits-alloc fits-status fits-text fits-sentence may-given may-text may-sentence may-fault may-answer =
-      move ! (1 ∷ []) $ fsplit ! $ move ! (1 ∷ []) $ fsplit ! $ move ! (1 ∷ []) $ fsplit ! $ move ! (1 ∷ []) $ fsplit ! $ move ! (1 ∷ []) $ enter ! C Λ code.function (global_val alloc ∷ vptr b0 o0 ∷ vint w32 status ∷ bytes_val (record { at = null_ptr; length = text-length }) ∷ buffer_val (record { at = (block_ptr b2 o2); length = sentence-length }) ∷ vptr b3 o3 ∷ vptr b4 o4 ∷ []) _ $ alloc_all ! (λ c. pass_all ! refl (fits-alloc.0, ((good (block_ptr b0 o0)).0, ((tt, record { fits = fits-status }), (fits-text.0, (fits-sentence.0, ((good (block_ptr b3 o3)).0, ((good (block_ptr b4 o4)).0, tt))))))) $
-      sets ! (bin ! (get_in ! (fld ! refl (stop !)) (sub ! 0 refl (whole !))) (lit ! tt) (tests_null (block_ptr b2 o2) may-sentence)) refl (tt, tt) $ first ! $ branches ! (get ! refl)
-      (λ wrong. absurd wrong) (λ _. skips ! $ exec ! C Λ (env (code.function).locals c) code.Mir.t-3 (at_ret (env (code.function).locals c) (Post alloc (block_ptr b0 o0) status (record { at = null_ptr; length = text-length }) (record { at = (block_ptr b2 o2); length = sentence-length }) (block_ptr b3 o3) (block_ptr b4 o4))) $
-      sets ! (bin ! (get ! refl) (lit ! tt) (tests_null (block_ptr b3 o3) may-fault)) refl (tt, tt) $ first ! $ branches ! (get ! refl)
-      (λ wrong. absurd wrong) (λ _. skips ! $ exec ! C Λ (env (code.function).locals c) code.Mir.t-5 (at_ret (env (code.function).locals c) (Post alloc (block_ptr b0 o0) status (record { at = null_ptr; length = text-length }) (record { at = (block_ptr b2 o2); length = sentence-length }) (block_ptr b3 o3) (block_ptr b4 o4))) $
-      sets ! (bin ! (get ! refl) (lit ! tt) (tests_null (block_ptr b4 o4) may-answer)) refl (tt, tt) $ first ! $ branches ! (get ! refl)
-      (λ wrong. absurd wrong) (λ _. skips ! $ exec ! C Λ (env (code.function).locals c) code.Mir.t-7 (at_ret (env (code.function).locals c) (Post alloc (block_ptr b0 o0) status (record { at = null_ptr; length = text-length }) (record { at = (block_ptr b2 o2); length = sentence-length }) (block_ptr b3 o3) (block_ptr b4 o4))) $
-      sets ! (bin ! (get ! refl) (lit ! tt) (tests_null (block_ptr b0 o0) may-given)) refl (tt, tt) $ first ! $ branches ! (get ! refl)
-      (λ wrong. absurd wrong) (λ _.
-      sets ! (bin ! (get_in ! (fld ! refl (stop !)) (sub ! 0 refl (whole !))) (lit ! tt) (tests_null null_ptr may-text)) refl (tt, tt) $ first ! $ branches ! (get ! refl)
-      (λ _. first ! $ blocks ! $
+      move ! (1 ∷ []) $ fsplit ! $ move ! (1 ∷ []) $ fsplit ! $ move ! (1 ∷ []) $ fsplit ! $ move ! (1 ∷ []) $ fsplit ! $ move ! (1 ∷ []) $ enter ! C Λ code.function (global_val alloc ∷ vptr b0 o0 ∷ vint w32 status ∷ bytes_val (record { at = null_ptr; length = text-length }) ∷ buffer_val (record { at = (block_ptr b2 o2); length = sentence-length }) ∷ vptr b3 o3 ∷ vptr b4 o4 ∷ []) _ $ alloc_all ! (λ c. pass_all ! refl (fits-alloc.0, ((good 𝓛 (block_ptr b0 o0)).0, ((tt, record { fits = fits-status }), (fits-text.0, (fits-sentence.0, ((good 𝓛 (block_ptr b3 o3)).0, ((good 𝓛 (block_ptr b4 o4)).0, tt))))))) $
+      stands ! b2 o2 none (get_in ! (fld ! refl (stop !)) (sub ! 0 refl (whole !))) may-sentence refl (tt, tt) refl $
+      stands ! b3 o3 (there_is _) (get ! refl) may-fault refl (tt, tt) refl $
+      stands ! b4 o4 (there_is _) (get ! refl) may-answer refl (tt, tt) refl $
+      compares ! (block_ptr b0 o0) (there_is _) (get ! refl) may-given refl (tt, tt) $ closes ! $ branches ! (get ! refl) (λ wrong. absurd wrong) (λ _.
+      compares ! null_ptr none (get_in ! (fld ! refl (stop !)) (sub ! 0 refl (whole !))) may-text refl (tt, tt) $ hands ! _ _ $ branches ! (get ! refl) (λ _. hands ! _ _ $ inside ! _ _ _ $
       sets ! (of_opd ! (get ! refl)) refl (tt, tt) $ sets ! (addr ! (through ! refl (stop !))) refl (tt, tt) $
       sets ! (agg ! (and_then ! (get_in ! (fld ! refl (stop !)) (sub ! 0 refl (whole !))) (and_then ! (get_in ! (fld ! refl (stop !)) (sub ! 1 refl (whole !))) (no_more !)))) refl (tt, (tt, (fits-sentence.0.1.1.0, tt))) $
       sets ! (addr ! (through ! refl (stop !))) refl (tt, tt) $
       sets ! (addr ! (through ! refl (stop !))) refl (tt, tt) $
       move ! (3 ∷ []) $ drop ! $ nothing ! $ move ! (1 ∷ 0 ∷ []) $ fjoin ! $ move ! (1 ∷ 0 ∷ []) $ fjoin ! $ move ! (1 ∷ 0 ∷ []) $ fjoin ! $ owned ! usize _ (uint_Makes 𝓛 w64) text-length _ (refl, fits-text.0.1.1.0.fits) $ fjoin ! $ owned ! u32 _ (uint_Makes 𝓛 w32) status _ (refl, fits-status) $ fjoin ! $ move ! (1 ∷ 0 ∷ []) $ fjoin ! $ move ! (2 ∷ 0 ∷ []) $ fjoin ! $ nothing ! $ move ! (2 ∷ 0 ∷ []) $ join ! $ join ! $ nothing ! $ move ! (1 ∷ 0 ∷ []) $
-      let ref-given : Bor Handle = record { ref_ptr = (b0, o0); now = l.handle } in
-      let ref-sentence : MutBor (List ℕ) = record { ref_ptr = (b2, o2); ghost_name = l.buffer_name; now = l.buffer } in
-      let ref-fault : Bor Answer = record { ref_ptr = (b3, o3); now = l.fault } in
-      let ref-answer : MutBor Answer = record { ref_ptr = (b4, o4); ghost_name = l.answer_name; now = l.answer } in
-      let κ : Lft = l.lifetime in let z : G-1.Ghost = (((κ, tt), (l.share, tt), tt, (alloc, (ref-given, (status, (text-length, (ref-sentence, (ref-fault, (ref-answer, tt))))))), (global_val alloc ∷ [], (vptr b0 o0 ∷ [], (vint w32 status ∷ [], (vint w64 text-length ∷ [], (slice_val (b2, o2) sentence-length ∷ [], (vptr b3 o3 ∷ [], (vptr b4 o4 ∷ [], tt)))))))), tt) in
-      use2 𝓛 (raw (G-1.pre z)) (id⊢ 𝓤 _) $
-      calls_at_last ! fm G-1 known-1 z (and_then ! (get ! refl) (and_then ! (get ! refl) (and_then ! (get ! refl) (and_then ! (get_in ! (fld ! refl (stop !)) (sub ! 1 refl (whole !))) (and_then ! (get ! refl) (and_then ! (get ! refl) (and_then ! (get ! refl) (no_more !)))))))) (λ v.
-      use1 𝓛 (later (some (λ (x : ℕ). ((‵ (flft κ l.share) ⊛ ‵ ftrue) ⊛ ‵ (u32.own_val x (v ∷ []))) ⊛
-      some (λ (ws : Unit {0} × (Unit {0} × (Unit {0} × (Unit {0} × ((List ℕ) × (Unit {0} × (Answer × (Unit {0})))))))). ‵ (lasts g-1.ended (κ, tt) z.0.3 ws) ⊛ raw (fact 𝓤 (of_optional (block_ptr b0 o0) (of_bytes null_ptr text-length l.bytes ((ws.1.1.1.1.0 ≡ l.buffer) × ((ws.1.1.1.1.1.1.0 ≡ l.answer) × (x ≡ 1))) (λ bytes. ReportsSentence status bytes l.buffer ws.1.1.1.1.0 l.fault ws.1.1.1.1.1.1.0 x)) (of_bytes null_ptr text-length l.bytes ((ws.1.1.1.1.0 ≡ l.buffer) × ((ws.1.1.1.1.1.1.0 ≡ l.answer) × (x ≡ 1))) (λ bytes. ReportsSentenceFor l.handle status bytes l.buffer ws.1.1.1.1.0 l.fault ws.1.1.1.1.1.1.0 x)))))))) (id⊢ 𝓤 _) $
-      await ! tt $ pick ! (λ x. split ! $ move ! (1 ∷ []) $ pick ! (λ ws. split ! $ move ! (1 ∷ []) $ heard ! _ (λ reports.
-      fsplit ! $ drop ! $ fsplit ! $ drop ! $ fsplit ! $ drop ! $ fsplit ! $ drop ! $ fsplit ! $ move ! (1 ∷ []) $ fsplit ! $ drop ! $ fsplit ! $ move ! (1 ∷ []) $ drop ! $ move ! (2 ∷ []) $ split ! $ split ! $ move ! (2 ∷ []) $ peeks ! u32 (Is u32) (shows 𝓛 u32) x (v ∷ []) (λ is.
-      let fine = ((uint_Lawful 𝓛 w32).typed x _ is).0 in
-      lands_last ! refl fine $ exec ! C Λ (env (code.function).locals c) (assign (place 22 []) (rv_opd (copy (place 23 [])))) (any_q (after_seq 𝓤 H (Wp 𝓤 H C Λ (env (code.function).locals c) (assign (place 9 []) (rv_opd (copy (place 22 [])))) (post 𝓤 H (any_q (after_seq 𝓤 H (Wp 𝓤 H C Λ (env (code.function).locals c) code.Mir.t-9 (post 𝓤 H (at_ret (env (code.function).locals c) (Post alloc (block_ptr b0 o0) status (record { at = null_ptr; length = text-length }) (record { at = (block_ptr b2 o2); length = sentence-length }) (block_ptr b3 o3) (block_ptr b4 o4))))) (post 𝓤 H (at_ret (env (code.function).locals c) (Post alloc (block_ptr b0 o0) status (record { at = null_ptr; length = text-length }) (record { at = (block_ptr b2 o2); length = sentence-length }) (block_ptr b3 o3) (block_ptr b4 o4)))))))) (post 𝓤 H (any_q (after_seq 𝓤 H (Wp 𝓤 H C Λ (env (code.function).locals c) code.Mir.t-9 (post 𝓤 H (at_ret (env (code.function).locals c) (Post alloc (block_ptr b0 o0) status (record { at = null_ptr; length = text-length }) (record { at = (block_ptr b2 o2); length = sentence-length }) (block_ptr b3 o3) (block_ptr b4 o4))))) (post 𝓤 H (at_ret (env (code.function).locals c) (Post alloc (block_ptr b0 o0) status (record { at = null_ptr; length = text-length }) (record { at = (block_ptr b2 o2); length = sentence-length }) (block_ptr b3 o3) (block_ptr b4 o4))))))))) $ sets_last ! (of_opd ! (get ! refl)) refl fine $ exec ! C Λ (env (code.function).locals c) (assign (place 9 []) (rv_opd (copy (place 22 [])))) (any_q (after_seq 𝓤 H (Wp 𝓤 H C Λ (env (code.function).locals c) code.Mir.t-9 (post 𝓤 H (at_ret (env (code.function).locals c) (Post alloc (block_ptr b0 o0) status (record { at = null_ptr; length = text-length }) (record { at = (block_ptr b2 o2); length = sentence-length }) (block_ptr b3 o3) (block_ptr b4 o4))))) (post 𝓤 H (at_ret (env (code.function).locals c) (Post alloc (block_ptr b0 o0) status (record { at = null_ptr; length = text-length }) (record { at = (block_ptr b2 o2); length = sentence-length }) (block_ptr b3 o3) (block_ptr b4 o4)))))) $ sets_last ! (of_opd ! (get ! refl)) refl fine $
-      exec ! C Λ (env (code.function).locals c) code.Mir.t-9 (at_ret (env (code.function).locals c) (Post alloc (block_ptr b0 o0) status (record { at = null_ptr; length = text-length }) (record { at = (block_ptr b2 o2); length = sentence-length }) (block_ptr b3 o3) (block_ptr b4 o4))) $
-      sets ! (of_opd ! (get ! refl)) refl fine $ returns ! (look_at ! 0 refl) $ free_all ! refl $ keep ! (3 ∷ 4 ∷ 0 ∷ 1 ∷ []) $
-      nothing ! $ fpack ! (of_optional (block_ptr b0 o0) (of_bytes null_ptr text-length l.bytes ((ws.1.1.1.1.0 ≡ l.buffer) × ((ws.1.1.1.1.1.1.0 ≡ l.answer) × (x ≡ 1))) (λ bytes. ReportsSentence status bytes l.buffer ws.1.1.1.1.0 l.fault ws.1.1.1.1.1.1.0 x)) (of_bytes null_ptr text-length l.bytes ((ws.1.1.1.1.0 ≡ l.buffer) × ((ws.1.1.1.1.1.1.0 ≡ l.answer) × (x ≡ 1))) (λ bytes. ReportsSentenceFor l.handle status bytes l.buffer ws.1.1.1.1.0 l.fault ws.1.1.1.1.1.1.0 x))) (λ _. ftrue) reports $ move ! (1 ∷ 0 ∷ []) $ fjoin ! $ move ! (1 ∷ 0 ∷ []) $ fjoin ! $
-      fpack ! Answer (λ answer'. fsep (left_buffer l (record { at = (block_ptr b2 o2); length = sentence-length }) ws.1.1.1.1.0) (fsep (left_answer l (block_ptr b4 o4) answer') (holds (of_optional (block_ptr b0 o0) (of_bytes null_ptr text-length l.bytes ((ws.1.1.1.1.0 ≡ l.buffer) × ((answer' ≡ l.answer) × (x ≡ 1))) (λ bytes. ReportsSentence status bytes l.buffer ws.1.1.1.1.0 l.fault answer' x)) (of_bytes null_ptr text-length l.bytes ((ws.1.1.1.1.0 ≡ l.buffer) × ((answer' ≡ l.answer) × (x ≡ 1))) (λ bytes. ReportsSentenceFor l.handle status bytes l.buffer ws.1.1.1.1.0 l.fault answer' x)))))) ws.1.1.1.1.1.1.0 $
-      fpack ! (List ℕ) (λ sentence'. fex Answer (λ answer'. fsep (left_buffer l (record { at = (block_ptr b2 o2); length = sentence-length }) sentence') (fsep (left_answer l (block_ptr b4 o4) answer') (holds (of_optional (block_ptr b0 o0) (of_bytes null_ptr text-length l.bytes ((sentence' ≡ l.buffer) × ((answer' ≡ l.answer) × (x ≡ 1))) (λ bytes. ReportsSentence status bytes l.buffer sentence' l.fault answer' x)) (of_bytes null_ptr text-length l.bytes ((sentence' ≡ l.buffer) × ((answer' ≡ l.answer) × (x ≡ 1))) (λ bytes. ReportsSentenceFor l.handle status bytes l.buffer sentence' l.fault answer' x))))))) ws.1.1.1.1.0 $
-      move ! (2 ∷ 0 ∷ []) $ join ! $ move ! (1 ∷ 0 ∷ []) $ nothing ! $ nothing ! $ fjoin ! $ nothing ! $ fjoin ! $ nothing ! $ fjoin ! $ nothing ! $ fjoin ! $ nothing ! $ fjoin ! $ nothing ! $ fjoin ! $ nothing ! $ fjoin ! $ nothing ! $
-      by ! (leaves 𝓛 f.ended stayed (f.clauses 𝓛 at_mem run) (bound alloc (block_ptr b0 o0) status (record { at = null_ptr; length = text-length }) (record { at = (block_ptr b2 o2); length = sentence-length }) (block_ptr b3 o3) (block_ptr b4 o4)) v x (tt, (tt, (tt, (tt, (tt, (tt, (tt, tt))))))) (tt, (tt, (tt, (tt, (tt, (tt, (tt, tt)))))))))))))) (λ wrong. absurd wrong))))))
+      let z : G-1.Ghost = (((l.lifetime, tt), (l.share, tt), tt, (alloc, (record { ref_ptr = (b0, o0); now = l.handle }, (status, (text-length, (record { ref_ptr = (b2, o2); ghost_name = l.buffer_name; now = l.buffer }, (record { ref_ptr = (b3, o3); now = l.fault }, (record { ref_ptr = (b4, o4); ghost_name = l.answer_name; now = l.answer }, tt))))))), (global_val alloc ∷ [], (vptr b0 o0 ∷ [], (vint w32 status ∷ [], (vint w64 text-length ∷ [], (slice_val (b2, o2) sentence-length ∷ [], (vptr b3 o3 ∷ [], (vptr b4 o4 ∷ [], tt)))))))), tt) in
+      use2 𝓛 (raw (G-1.pre z)) (id⊢ 𝓤 _) $ calls_at_last ! fm G-1 known-1 z (and_then ! (get ! refl) (and_then ! (get ! refl) (and_then ! (get ! refl) (and_then ! (get_in ! (fld ! refl (stop !)) (sub ! 1 refl (whole !))) (and_then ! (get ! refl) (and_then ! (get ! refl) (and_then ! (get ! refl) (no_more !)))))))) (λ v.
+      use1 𝓛 (back 𝓛 g-1.ended (g-1.clauses 𝓛 at_mem run) z.0.0 z.0.3 z.1 l.lifetime l.share v) (id⊢ 𝓤 _) $
+      await ! tt $ pick ! (λ x. split ! $ move ! (1 ∷ []) $ pick ! (λ ws. split ! $ move ! (1 ∷ []) $ heard ! (of_optional (block_ptr b0 o0) (of_bytes null_ptr text-length l.bytes ((ws.1.1.1.1.0 ≡ l.buffer) × ((ws.1.1.1.1.1.1.0 ≡ l.answer) × (x ≡ 1))) (λ bytes. ReportsSentence status bytes l.buffer ws.1.1.1.1.0 l.fault ws.1.1.1.1.1.1.0 x)) (of_bytes null_ptr text-length l.bytes ((ws.1.1.1.1.0 ≡ l.buffer) × ((ws.1.1.1.1.1.1.0 ≡ l.answer) × (x ≡ 1))) (λ bytes. ReportsSentenceFor l.handle status bytes l.buffer ws.1.1.1.1.0 l.fault ws.1.1.1.1.1.1.0 x))) (λ reports.
+      fsplit ! $ drop ! $ fsplit ! $ drop ! $ fsplit ! $ drop ! $ fsplit ! $ drop ! $ fsplit ! $ move ! (1 ∷ []) $ fsplit ! $ drop ! $ fsplit ! $ move ! (1 ∷ []) $ drop ! $ move ! (2 ∷ []) $ split ! $ split ! $ move ! (2 ∷ []) $ peeks ! u32 (Is u32) (shows 𝓛 u32) x (v ∷ []) (λ is. let fine = ((uint_Lawful 𝓛 w32).typed x _ is).0 in
+      ends2 ! C Λ _ _ _ fine fine fine fine refl refl refl refl refl refl refl refl $ free_all ! refl $ keep ! (3 ∷ 4 ∷ 0 ∷ 1 ∷ []) $
+      hold ! reports $ move ! (1 ∷ 0 ∷ []) $ fjoin ! $ move ! (1 ∷ 0 ∷ []) $ fjoin ! $
+      fpack2 ! (List ℕ) Answer (λ sentence' answer'. fsep (left_buffer l (record { at = (block_ptr b2 o2); length = sentence-length }) sentence') (fsep (left_answer l (block_ptr b4 o4) answer') (holds (of_optional (block_ptr b0 o0) (of_bytes null_ptr text-length l.bytes ((sentence' ≡ l.buffer) × ((answer' ≡ l.answer) × (x ≡ 1))) (λ bytes. ReportsSentence status bytes l.buffer sentence' l.fault answer' x)) (of_bytes null_ptr text-length l.bytes ((sentence' ≡ l.buffer) × ((answer' ≡ l.answer) × (x ≡ 1))) (λ bytes. ReportsSentenceFor l.handle status bytes l.buffer sentence' l.fault answer' x)))))) ws.1.1.1.1.0 ws.1.1.1.1.1.1.0 $ ends alloc (block_ptr b0 o0) status (record { at = null_ptr; length = text-length }) (record { at = (block_ptr b2 o2); length = sentence-length }) (block_ptr b3 o3) (block_ptr b4 o4) v x)))))) (λ wrong. absurd wrong)))
   runs alloc (block_ptr b0 o0) status (block_ptr b1 o1) text-length (block_ptr b2 o2) sentence-length (block_ptr b3 o3) (block_ptr b4 o4) fits-alloc fits-status fits-text fits-sentence may-given may-text may-sentence may-fault may-answer =
-      move ! (1 ∷ []) $ fsplit ! $ move ! (1 ∷ []) $ fsplit ! $ move ! (1 ∷ []) $ fsplit ! $ move ! (1 ∷ []) $ fsplit ! $ move ! (1 ∷ []) $ enter ! C Λ code.function (global_val alloc ∷ vptr b0 o0 ∷ vint w32 status ∷ bytes_val (record { at = (block_ptr b1 o1); length = text-length }) ∷ buffer_val (record { at = (block_ptr b2 o2); length = sentence-length }) ∷ vptr b3 o3 ∷ vptr b4 o4 ∷ []) _ $ alloc_all ! (λ c. pass_all ! refl (fits-alloc.0, ((good (block_ptr b0 o0)).0, ((tt, record { fits = fits-status }), (fits-text.0, (fits-sentence.0, ((good (block_ptr b3 o3)).0, ((good (block_ptr b4 o4)).0, tt))))))) $
-      sets ! (bin ! (get_in ! (fld ! refl (stop !)) (sub ! 0 refl (whole !))) (lit ! tt) (tests_null (block_ptr b2 o2) may-sentence)) refl (tt, tt) $ first ! $ branches ! (get ! refl)
-      (λ wrong. absurd wrong) (λ _. skips ! $ exec ! C Λ (env (code.function).locals c) code.Mir.t-3 (at_ret (env (code.function).locals c) (Post alloc (block_ptr b0 o0) status (record { at = (block_ptr b1 o1); length = text-length }) (record { at = (block_ptr b2 o2); length = sentence-length }) (block_ptr b3 o3) (block_ptr b4 o4))) $
-      sets ! (bin ! (get ! refl) (lit ! tt) (tests_null (block_ptr b3 o3) may-fault)) refl (tt, tt) $ first ! $ branches ! (get ! refl)
-      (λ wrong. absurd wrong) (λ _. skips ! $ exec ! C Λ (env (code.function).locals c) code.Mir.t-5 (at_ret (env (code.function).locals c) (Post alloc (block_ptr b0 o0) status (record { at = (block_ptr b1 o1); length = text-length }) (record { at = (block_ptr b2 o2); length = sentence-length }) (block_ptr b3 o3) (block_ptr b4 o4))) $
-      sets ! (bin ! (get ! refl) (lit ! tt) (tests_null (block_ptr b4 o4) may-answer)) refl (tt, tt) $ first ! $ branches ! (get ! refl)
-      (λ wrong. absurd wrong) (λ _. skips ! $ exec ! C Λ (env (code.function).locals c) code.Mir.t-7 (at_ret (env (code.function).locals c) (Post alloc (block_ptr b0 o0) status (record { at = (block_ptr b1 o1); length = text-length }) (record { at = (block_ptr b2 o2); length = sentence-length }) (block_ptr b3 o3) (block_ptr b4 o4))) $
-      sets ! (bin ! (get ! refl) (lit ! tt) (tests_null (block_ptr b0 o0) may-given)) refl (tt, tt) $ first ! $ branches ! (get ! refl)
-      (λ wrong. absurd wrong) (λ _.
-      sets ! (bin ! (get_in ! (fld ! refl (stop !)) (sub ! 0 refl (whole !))) (lit ! tt) (tests_null (block_ptr b1 o1) may-text)) refl (tt, tt) $ first ! $ branches ! (get ! refl)
-      (λ wrong. absurd wrong) (λ _. first ! $ blocks ! $
+      move ! (1 ∷ []) $ fsplit ! $ move ! (1 ∷ []) $ fsplit ! $ move ! (1 ∷ []) $ fsplit ! $ move ! (1 ∷ []) $ fsplit ! $ move ! (1 ∷ []) $ enter ! C Λ code.function (global_val alloc ∷ vptr b0 o0 ∷ vint w32 status ∷ bytes_val (record { at = (block_ptr b1 o1); length = text-length }) ∷ buffer_val (record { at = (block_ptr b2 o2); length = sentence-length }) ∷ vptr b3 o3 ∷ vptr b4 o4 ∷ []) _ $ alloc_all ! (λ c. pass_all ! refl (fits-alloc.0, ((good 𝓛 (block_ptr b0 o0)).0, ((tt, record { fits = fits-status }), (fits-text.0, (fits-sentence.0, ((good 𝓛 (block_ptr b3 o3)).0, ((good 𝓛 (block_ptr b4 o4)).0, tt))))))) $
+      stands ! b2 o2 none (get_in ! (fld ! refl (stop !)) (sub ! 0 refl (whole !))) may-sentence refl (tt, tt) refl $
+      stands ! b3 o3 (there_is _) (get ! refl) may-fault refl (tt, tt) refl $
+      stands ! b4 o4 (there_is _) (get ! refl) may-answer refl (tt, tt) refl $
+      compares ! (block_ptr b0 o0) (there_is _) (get ! refl) may-given refl (tt, tt) $ closes ! $ branches ! (get ! refl) (λ wrong. absurd wrong) (λ _.
+      compares ! (block_ptr b1 o1) none (get_in ! (fld ! refl (stop !)) (sub ! 0 refl (whole !))) may-text refl (tt, tt) $ hands ! _ _ $ branches ! (get ! refl) (λ wrong. absurd wrong) (λ _. hands ! _ _ $ inside ! _ _ _ $
       sets ! (of_opd ! (get ! refl)) refl (tt, tt) $ sets ! (addr ! (through ! refl (stop !))) refl (tt, tt) $
       sets ! (agg ! (and_then ! (get_in ! (fld ! refl (stop !)) (sub ! 0 refl (whole !))) (and_then ! (get_in ! (fld ! refl (stop !)) (sub ! 1 refl (whole !))) (no_more !)))) refl (tt, (tt, (fits-text.0.1.1.0, tt))) $
       sets ! (agg ! (and_then ! (get_in ! (fld ! refl (stop !)) (sub ! 0 refl (whole !))) (and_then ! (get_in ! (fld ! refl (stop !)) (sub ! 1 refl (whole !))) (no_more !)))) refl (tt, (tt, (fits-sentence.0.1.1.0, tt))) $
       sets ! (addr ! (through ! refl (stop !))) refl (tt, tt) $
       sets ! (addr ! (through ! refl (stop !))) refl (tt, tt) $
       nothing ! $ move ! (1 ∷ 0 ∷ []) $ fjoin ! $ move ! (1 ∷ 0 ∷ []) $ fjoin ! $ move ! (1 ∷ 0 ∷ []) $ fjoin ! $ move ! (1 ∷ 0 ∷ []) $ fjoin ! $ owned ! u32 _ (uint_Makes 𝓛 w32) status _ (refl, fits-status) $ fjoin ! $ move ! (1 ∷ 0 ∷ []) $ fjoin ! $ move ! (2 ∷ 0 ∷ []) $ fjoin ! $ nothing ! $ move ! (2 ∷ 0 ∷ []) $ join ! $ join ! $ nothing ! $ move ! (1 ∷ 0 ∷ []) $
-      let ref-given : Bor Handle = record { ref_ptr = (b0, o0); now = l.handle } in
-      let ref-text : Bor (List ℕ) = record { ref_ptr = (b1, o1); now = l.bytes } in
-      let ref-sentence : MutBor (List ℕ) = record { ref_ptr = (b2, o2); ghost_name = l.buffer_name; now = l.buffer } in
-      let ref-fault : Bor Answer = record { ref_ptr = (b3, o3); now = l.fault } in
-      let ref-answer : MutBor Answer = record { ref_ptr = (b4, o4); ghost_name = l.answer_name; now = l.answer } in
-      let κ : Lft = l.lifetime in let z : G.Ghost = (((κ, tt), (l.share, tt), tt, (alloc, (ref-given, (status, (ref-text, (ref-sentence, (ref-fault, (ref-answer, tt))))))), (global_val alloc ∷ [], (vptr b0 o0 ∷ [], (vint w32 status ∷ [], (slice_val (b1, o1) text-length ∷ [], (slice_val (b2, o2) sentence-length ∷ [], (vptr b3 o3 ∷ [], (vptr b4 o4 ∷ [], tt)))))))), tt) in
-      use2 𝓛 (raw (G.pre z)) (id⊢ 𝓤 _) $
-      calls_at_last ! fm G known z (and_then ! (get ! refl) (and_then ! (get ! refl) (and_then ! (get ! refl) (and_then ! (get ! refl) (and_then ! (get ! refl) (and_then ! (get ! refl) (and_then ! (get ! refl) (no_more !)))))))) (λ v.
-      use1 𝓛 (later (some (λ (x : ℕ). ((‵ (flft κ l.share) ⊛ ‵ ftrue) ⊛ ‵ (u32.own_val x (v ∷ []))) ⊛
-      some (λ (ws : Unit {0} × (Unit {0} × (Unit {0} × (Unit {0} × ((List ℕ) × (Unit {0} × (Answer × (Unit {0})))))))). ‵ (lasts g.ended (κ, tt) z.0.3 ws) ⊛ raw (fact 𝓤 (of_optional (block_ptr b0 o0) (of_bytes (block_ptr b1 o1) text-length l.bytes ((ws.1.1.1.1.0 ≡ l.buffer) × ((ws.1.1.1.1.1.1.0 ≡ l.answer) × (x ≡ 1))) (λ bytes. ReportsSentence status bytes l.buffer ws.1.1.1.1.0 l.fault ws.1.1.1.1.1.1.0 x)) (of_bytes (block_ptr b1 o1) text-length l.bytes ((ws.1.1.1.1.0 ≡ l.buffer) × ((ws.1.1.1.1.1.1.0 ≡ l.answer) × (x ≡ 1))) (λ bytes. ReportsSentenceFor l.handle status bytes l.buffer ws.1.1.1.1.0 l.fault ws.1.1.1.1.1.1.0 x)))))))) (id⊢ 𝓤 _) $
-      await ! tt $ pick ! (λ x. split ! $ move ! (1 ∷ []) $ pick ! (λ ws. split ! $ move ! (1 ∷ []) $ heard ! _ (λ reports.
-      fsplit ! $ drop ! $ fsplit ! $ drop ! $ fsplit ! $ drop ! $ fsplit ! $ drop ! $ fsplit ! $ move ! (1 ∷ []) $ fsplit ! $ drop ! $ fsplit ! $ move ! (1 ∷ []) $ drop ! $ move ! (2 ∷ []) $ split ! $ split ! $ move ! (2 ∷ []) $ peeks ! u32 (Is u32) (shows 𝓛 u32) x (v ∷ []) (λ is.
-      let fine = ((uint_Lawful 𝓛 w32).typed x _ is).0 in
-      lands_last ! refl fine $ exec ! C Λ (env (code.function).locals c) (assign (place 22 []) (rv_opd (copy (place 29 [])))) (any_q (after_seq 𝓤 H (Wp 𝓤 H C Λ (env (code.function).locals c) (assign (place 9 []) (rv_opd (copy (place 22 [])))) (post 𝓤 H (any_q (after_seq 𝓤 H (Wp 𝓤 H C Λ (env (code.function).locals c) code.Mir.t-9 (post 𝓤 H (at_ret (env (code.function).locals c) (Post alloc (block_ptr b0 o0) status (record { at = (block_ptr b1 o1); length = text-length }) (record { at = (block_ptr b2 o2); length = sentence-length }) (block_ptr b3 o3) (block_ptr b4 o4))))) (post 𝓤 H (at_ret (env (code.function).locals c) (Post alloc (block_ptr b0 o0) status (record { at = (block_ptr b1 o1); length = text-length }) (record { at = (block_ptr b2 o2); length = sentence-length }) (block_ptr b3 o3) (block_ptr b4 o4)))))))) (post 𝓤 H (any_q (after_seq 𝓤 H (Wp 𝓤 H C Λ (env (code.function).locals c) code.Mir.t-9 (post 𝓤 H (at_ret (env (code.function).locals c) (Post alloc (block_ptr b0 o0) status (record { at = (block_ptr b1 o1); length = text-length }) (record { at = (block_ptr b2 o2); length = sentence-length }) (block_ptr b3 o3) (block_ptr b4 o4))))) (post 𝓤 H (at_ret (env (code.function).locals c) (Post alloc (block_ptr b0 o0) status (record { at = (block_ptr b1 o1); length = text-length }) (record { at = (block_ptr b2 o2); length = sentence-length }) (block_ptr b3 o3) (block_ptr b4 o4))))))))) $ sets_last ! (of_opd ! (get ! refl)) refl fine $ exec ! C Λ (env (code.function).locals c) (assign (place 9 []) (rv_opd (copy (place 22 [])))) (any_q (after_seq 𝓤 H (Wp 𝓤 H C Λ (env (code.function).locals c) code.Mir.t-9 (post 𝓤 H (at_ret (env (code.function).locals c) (Post alloc (block_ptr b0 o0) status (record { at = (block_ptr b1 o1); length = text-length }) (record { at = (block_ptr b2 o2); length = sentence-length }) (block_ptr b3 o3) (block_ptr b4 o4))))) (post 𝓤 H (at_ret (env (code.function).locals c) (Post alloc (block_ptr b0 o0) status (record { at = (block_ptr b1 o1); length = text-length }) (record { at = (block_ptr b2 o2); length = sentence-length }) (block_ptr b3 o3) (block_ptr b4 o4)))))) $ sets_last ! (of_opd ! (get ! refl)) refl fine $
-      exec ! C Λ (env (code.function).locals c) code.Mir.t-9 (at_ret (env (code.function).locals c) (Post alloc (block_ptr b0 o0) status (record { at = (block_ptr b1 o1); length = text-length }) (record { at = (block_ptr b2 o2); length = sentence-length }) (block_ptr b3 o3) (block_ptr b4 o4))) $
-      sets ! (of_opd ! (get ! refl)) refl fine $ returns ! (look_at ! 0 refl) $ free_all ! refl $ keep ! (3 ∷ 4 ∷ 0 ∷ 1 ∷ []) $
-      nothing ! $ fpack ! (of_optional (block_ptr b0 o0) (of_bytes (block_ptr b1 o1) text-length l.bytes ((ws.1.1.1.1.0 ≡ l.buffer) × ((ws.1.1.1.1.1.1.0 ≡ l.answer) × (x ≡ 1))) (λ bytes. ReportsSentence status bytes l.buffer ws.1.1.1.1.0 l.fault ws.1.1.1.1.1.1.0 x)) (of_bytes (block_ptr b1 o1) text-length l.bytes ((ws.1.1.1.1.0 ≡ l.buffer) × ((ws.1.1.1.1.1.1.0 ≡ l.answer) × (x ≡ 1))) (λ bytes. ReportsSentenceFor l.handle status bytes l.buffer ws.1.1.1.1.0 l.fault ws.1.1.1.1.1.1.0 x))) (λ _. ftrue) reports $ move ! (1 ∷ 0 ∷ []) $ fjoin ! $ move ! (1 ∷ 0 ∷ []) $ fjoin ! $
-      fpack ! Answer (λ answer'. fsep (left_buffer l (record { at = (block_ptr b2 o2); length = sentence-length }) ws.1.1.1.1.0) (fsep (left_answer l (block_ptr b4 o4) answer') (holds (of_optional (block_ptr b0 o0) (of_bytes (block_ptr b1 o1) text-length l.bytes ((ws.1.1.1.1.0 ≡ l.buffer) × ((answer' ≡ l.answer) × (x ≡ 1))) (λ bytes. ReportsSentence status bytes l.buffer ws.1.1.1.1.0 l.fault answer' x)) (of_bytes (block_ptr b1 o1) text-length l.bytes ((ws.1.1.1.1.0 ≡ l.buffer) × ((answer' ≡ l.answer) × (x ≡ 1))) (λ bytes. ReportsSentenceFor l.handle status bytes l.buffer ws.1.1.1.1.0 l.fault answer' x)))))) ws.1.1.1.1.1.1.0 $
-      fpack ! (List ℕ) (λ sentence'. fex Answer (λ answer'. fsep (left_buffer l (record { at = (block_ptr b2 o2); length = sentence-length }) sentence') (fsep (left_answer l (block_ptr b4 o4) answer') (holds (of_optional (block_ptr b0 o0) (of_bytes (block_ptr b1 o1) text-length l.bytes ((sentence' ≡ l.buffer) × ((answer' ≡ l.answer) × (x ≡ 1))) (λ bytes. ReportsSentence status bytes l.buffer sentence' l.fault answer' x)) (of_bytes (block_ptr b1 o1) text-length l.bytes ((sentence' ≡ l.buffer) × ((answer' ≡ l.answer) × (x ≡ 1))) (λ bytes. ReportsSentenceFor l.handle status bytes l.buffer sentence' l.fault answer' x))))))) ws.1.1.1.1.0 $
-      move ! (2 ∷ 0 ∷ []) $ join ! $ move ! (1 ∷ 0 ∷ []) $ nothing ! $ nothing ! $ fjoin ! $ nothing ! $ fjoin ! $ nothing ! $ fjoin ! $ nothing ! $ fjoin ! $ nothing ! $ fjoin ! $ nothing ! $ fjoin ! $ nothing ! $ fjoin ! $ nothing ! $
-      by ! (leaves 𝓛 f.ended stayed (f.clauses 𝓛 at_mem run) (bound alloc (block_ptr b0 o0) status (record { at = (block_ptr b1 o1); length = text-length }) (record { at = (block_ptr b2 o2); length = sentence-length }) (block_ptr b3 o3) (block_ptr b4 o4)) v x (tt, (tt, (tt, (tt, (tt, (tt, (tt, tt))))))) (tt, (tt, (tt, (tt, (tt, (tt, (tt, tt)))))))))))))))))))
+      let z : G.Ghost = (((l.lifetime, tt), (l.share, tt), tt, (alloc, (record { ref_ptr = (b0, o0); now = l.handle }, (status, (record { ref_ptr = (b1, o1); now = l.bytes }, (record { ref_ptr = (b2, o2); ghost_name = l.buffer_name; now = l.buffer }, (record { ref_ptr = (b3, o3); now = l.fault }, (record { ref_ptr = (b4, o4); ghost_name = l.answer_name; now = l.answer }, tt))))))), (global_val alloc ∷ [], (vptr b0 o0 ∷ [], (vint w32 status ∷ [], (slice_val (b1, o1) text-length ∷ [], (slice_val (b2, o2) sentence-length ∷ [], (vptr b3 o3 ∷ [], (vptr b4 o4 ∷ [], tt)))))))), tt) in
+      use2 𝓛 (raw (G.pre z)) (id⊢ 𝓤 _) $ calls_at_last ! fm G known z (and_then ! (get ! refl) (and_then ! (get ! refl) (and_then ! (get ! refl) (and_then ! (get ! refl) (and_then ! (get ! refl) (and_then ! (get ! refl) (and_then ! (get ! refl) (no_more !)))))))) (λ v.
+      use1 𝓛 (back 𝓛 g.ended (g.clauses 𝓛 at_mem run) z.0.0 z.0.3 z.1 l.lifetime l.share v) (id⊢ 𝓤 _) $
+      await ! tt $ pick ! (λ x. split ! $ move ! (1 ∷ []) $ pick ! (λ ws. split ! $ move ! (1 ∷ []) $ heard ! (of_optional (block_ptr b0 o0) (of_bytes (block_ptr b1 o1) text-length l.bytes ((ws.1.1.1.1.0 ≡ l.buffer) × ((ws.1.1.1.1.1.1.0 ≡ l.answer) × (x ≡ 1))) (λ bytes. ReportsSentence status bytes l.buffer ws.1.1.1.1.0 l.fault ws.1.1.1.1.1.1.0 x)) (of_bytes (block_ptr b1 o1) text-length l.bytes ((ws.1.1.1.1.0 ≡ l.buffer) × ((ws.1.1.1.1.1.1.0 ≡ l.answer) × (x ≡ 1))) (λ bytes. ReportsSentenceFor l.handle status bytes l.buffer ws.1.1.1.1.0 l.fault ws.1.1.1.1.1.1.0 x))) (λ reports.
+      fsplit ! $ drop ! $ fsplit ! $ drop ! $ fsplit ! $ drop ! $ fsplit ! $ drop ! $ fsplit ! $ move ! (1 ∷ []) $ fsplit ! $ drop ! $ fsplit ! $ move ! (1 ∷ []) $ drop ! $ move ! (2 ∷ []) $ split ! $ split ! $ move ! (2 ∷ []) $ peeks ! u32 (Is u32) (shows 𝓛 u32) x (v ∷ []) (λ is. let fine = ((uint_Lawful 𝓛 w32).typed x _ is).0 in
+      ends2 ! C Λ _ _ _ fine fine fine fine refl refl refl refl refl refl refl refl $ free_all ! refl $ keep ! (3 ∷ 4 ∷ 0 ∷ 1 ∷ []) $
+      hold ! reports $ move ! (1 ∷ 0 ∷ []) $ fjoin ! $ move ! (1 ∷ 0 ∷ []) $ fjoin ! $
+      fpack2 ! (List ℕ) Answer (λ sentence' answer'. fsep (left_buffer l (record { at = (block_ptr b2 o2); length = sentence-length }) sentence') (fsep (left_answer l (block_ptr b4 o4) answer') (holds (of_optional (block_ptr b0 o0) (of_bytes (block_ptr b1 o1) text-length l.bytes ((sentence' ≡ l.buffer) × ((answer' ≡ l.answer) × (x ≡ 1))) (λ bytes. ReportsSentence status bytes l.buffer sentence' l.fault answer' x)) (of_bytes (block_ptr b1 o1) text-length l.bytes ((sentence' ≡ l.buffer) × ((answer' ≡ l.answer) × (x ≡ 1))) (λ bytes. ReportsSentenceFor l.handle status bytes l.buffer sentence' l.fault answer' x)))))) ws.1.1.1.1.0 ws.1.1.1.1.1.1.0 $ ends alloc (block_ptr b0 o0) status (record { at = (block_ptr b1 o1); length = text-length }) (record { at = (block_ptr b2 o2); length = sentence-length }) (block_ptr b3 o3) (block_ptr b4 o4) v x))))))))
 
 pub odfilter_fault_text_spec : {M : Type 1} → statement M
 odfilter_fault_text_spec 𝓤 𝓛 𝓜 𝓡 wired =
@@ -243,6 +155,5 @@ odfilter_fault_text_spec 𝓤 𝓛 𝓜 𝓡 wired =
     f.Key.name code.function (code.unfolded 𝓤 𝓛.H 𝓜 𝓡 wired)
     (λ κs. ((λ g. global_val g ∷ []), (rawptr_vals, (uint_vals w32, ((λ s. bytes_val s ∷ []), ((λ s. buffer_val s ∷ []), (rawptr_vals, (rawptr_vals, tt)))))))) (λ κs. (global_lowers.val_is, (rawptr_Tells, (uint_Tells w32, (bytes_lowers.val_is, (buffer_lowers.val_is, (rawptr_Tells, (rawptr_Tells, tt)))))))) (λ κs qs bounds a l are.
     qed 𝓛 ((‵ ftrue ⊛ ‵ (owns (types_at f.signature.params κs) a (global_val a.0 ∷ [], (rawptr_vals a.1.0, (vint w32 a.1.1.0 ∷ [], (bytes_val a.1.1.1.0 ∷ [], (buffer_val a.1.1.1.1.0 ∷ [], (rawptr_vals a.1.1.1.1.1.0, (rawptr_vals a.1.1.1.1.1.1.0, tt))))))))) ∷ (raw (fact 𝓤 (Testable a.1.0 × Testable a.1.1.1.0.at × Testable a.1.1.1.1.0.at × Testable a.1.1.1.1.1.0 × Testable a.1.1.1.1.1.1.0)) ⊛ (‵ (flft l.lifetime l.share) ⊛ ‵ (borrowed_by_fault_text l a.1.0 a.1.1.1.0 a.1.1.1.1.0 a.1.1.1.1.1.0 a.1.1.1.1.1.1.0))) ∷ []) ∵
-    split ! $ drop ! $ fsplit ! $ move ! (1 ∷ []) $ drop ! $ move ! (1 ∷ []) $
-    split ! $ heard ! _ (λ may. split ! $
+    split ! $ drop ! $ fsplit ! $ move ! (1 ∷ []) $ drop ! $ move ! (1 ∷ []) $ split ! $ heard ! _ (λ may. split ! $
     runs 𝓛 𝓜.mem 𝓡.returns 𝓣.C 𝓣.Λ (framed 𝓤 𝓛.H 𝓜 𝓣) (met 𝓤 𝓛 𝓜 𝓡 (code.calls-handle_calls::calls::fault_text 𝓡.env wired)) (met-1 𝓤 𝓛 𝓜 𝓡 (code.calls-odfilter_c::null_calls::fault_text_at_null 𝓡.env wired)) (met-2 𝓤 𝓛 𝓜 𝓡 (code.calls-handle_calls::calls::fault_text_alone 𝓡.env wired)) (met-3 𝓤 𝓛 𝓜 𝓡 (code.calls-odfilter_c::null_calls::fault_text_alone_at_null 𝓡.env wired)) l a.0 a.1.0 a.1.1.0 a.1.1.1.0.at a.1.1.1.0.length a.1.1.1.1.0.at a.1.1.1.1.0.length a.1.1.1.1.1.0 a.1.1.1.1.1.1.0 ((global_laws.lawful 𝓛).typed a.0 _ are.0) are.1.1.0.1 ((bytes_laws.lawful 𝓛).typed a.1.1.1.0 _ are.1.1.1.0) ((buffer_laws.lawful 𝓛).typed a.1.1.1.1.0 _ are.1.1.1.1.0) may.0 may.1 may.2 may.3 may.4))

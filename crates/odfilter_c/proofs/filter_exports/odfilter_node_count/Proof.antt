@@ -1,7 +1,6 @@
 -- `node_count` meets its contract: the addresses are tested one by one, and the call borrows what they point to.
-use Rattle.odfilter_c.proofs.Steps.{◌≡◌, ℕ, ◌<◌, ◌^◌, List, [], ◌∷◌, ◌++◌, refl, lit<, w32, w64, Bor, MutBor, proved, leaves, SProp, ent, id⊢, sem, Fml, Lft, Share, ftrue, feq, fsep, fex, flft, Val, vint, vptr, vnull, fact, tables, WpFn, Ura, Logic, Memory, Routine, Calls, Loops, Fun, FmC, Triple, Contract, Item, ‵, raw, ◌⊛◌, some, later, prop, at_ret, Sq, ◌$◌, ◌∵◌, !, qed, move, keep, drop, use1, use2, split, join, fsplit, fjoin, fpack, feq_i, pick, await, by, enter, of_opd, lit, bin, addr, stop, fld, no_more, and_then, first, blocks, branches, skips, exec, returns, returns_within, agg, sub, whole, alloc_all, pass_all, free_all, look_at, get, get_in, through, sets, lands_last, sets_last, any_q, after_seq, Wp, post, assign, place, rv_opd, copy, env, u32, yes, uint_Makes, uint_Lawful, uint_vals, uint_Tells, Typed, Is, shows, Ptr, RawPtr, block_ptr, null_ptr, ptr_val, Testable, tests_null, rawptr_vals, rawptr_Tells, rawptr_Lawful, slice_val, owns, types_at, plain, nothing, owned, heard, peeks, calls_at_last, lasts, on_entry, triple_of, Stays, walk_of, stay_dropped, Goes-dropped, framed, usize}
-use Rattle.odfilter_c.proofs.Types.{Global, GlobalRow, global_val, global_lowers, global_laws, Bytes, BytesRow, bytes_val, bytes_lowers, bytes_laws, Buffer, BufferRow, buffer_val, buffer_lowers, buffer_laws, Handle, HandleRow, Owned, OwnedRow, Answer, AnswerRow}
-use Rattle.odfilter_c.specs.Loans.{Loan, borrowed_fault, borrowed_handle, borrowed_judge, borrowed_bytes, borrowed_buffer, borrowed_made, borrowed_answer, left_judge, left_buffer, left_made, left_answer, unless_null, holds, of_optional, of_bytes}
+use Rattle.odfilter_c.proofs.Steps.{ℕ, ◌<◌, [], ◌∷◌, refl, lit<, w32, proved, leaves, none, there_is, Ura, SProp, id⊢, fsep, flft, Val, vint, vptr, Memory, Routine, WpFn, Calls, Loops, Fun, fact, tables, FmC, Logic, ‵, raw, ◌⊛◌, prop, Sq, ◌$◌, ◌∵◌, !, qed, move, keep, drop, use0, use1, use2, split, join, fsplit, fjoin, fpack, pick, await, by, enter, of_opd, addr, stop, no_more, and_then, alloc_all, pass_all, free_all, get, through, sets, u32, yes, Is, shows, uint_Lawful, Ptr, RawPtr, block_ptr, null_ptr, ptr_val, Testable, rawptr_vals, rawptr_Tells, plain, nothing, heard, peeks, Contract, Triple, calls_at_last, on_entry, triple_of, Stays, walk_of, stay_dropped, Goes-dropped, framed, Answer, HasNull, in_rest, trues, good, all_true, back, hold, unchanged, stands, tested, closes, inside, ends0}
+use Rattle.odfilter_c.specs.Loans.{Loan, left_answer, holds}
 use Rattle.odfilter_c.specs.FilterExports.{borrowed_by_node_count, left_by_node_count}
 use Rattle.handle_calls.specs.Costs.{ReportsNodeCount}
 use Rattle.handle_calls.specs.contracts.calls.node_count as g
@@ -27,65 +26,40 @@ module _ {M : Type 1} {𝓤 : Ura M} (𝓛 : Logic 𝓤) (at_mem : Memory → SP
   abbrev bound : Ptr → Ptr → W.Ghost
   bound filter answer = ((tt, tt, tt, (filter, (answer, tt)), (ptr_val filter ∷ [], (ptr_val answer ∷ [], tt))), l)
 
-  abbrev Post : Ptr → Ptr → Val → SProp 𝓤
-  Post filter answer = W.post (bound filter answer)
+  abbrev Walk : Ptr → Ptr → Type 1
+  Walk filter answer = Sq 𝓛 (‵ (flft l.lifetime l.share) ∷ ‵ (borrowed_by_node_count l filter answer) ∷ []) (prop (WpFn 𝓤 H C Λ code.function (ptr_val filter ∷ ptr_val answer ∷ []) (W.post (bound filter answer))))
 
-  abbrev Given : Ptr → Ptr → List (Item 𝓤)
-  Given filter answer = ‵ (flft l.lifetime l.share) ∷ ‵ (borrowed_by_node_count l filter answer) ∷ []
+  ends : (filter : Ptr) (answer : Ptr) (v : Val) (x : ℕ) → Sq 𝓛 (‵ (left_by_node_count l filter answer x) ∷ ‵ (u32.own_val x (v ∷ [])) ∷ ‵ (flft l.lifetime l.share) ∷ []) (prop (W.post (bound filter answer) v))
+  ends filter answer v x = move ! (2 ∷ 0 ∷ []) $ join ! $ move ! (1 ∷ []) $ use0 𝓛 (‵ (trues 2)) (all_true 𝓛 2) $ nothing ! $
+      by ! (leaves 𝓛 f.ended stayed (f.clauses 𝓛 at_mem run) (bound filter answer) v x (tt, (tt, tt)) (tt, (tt, tt)))
 
-  abbrev Runs : Ptr → Ptr → SProp 𝓤
-  Runs filter answer = WpFn 𝓤 H C Λ code.function (ptr_val filter ∷ ptr_val answer ∷ []) (Post filter answer)
+  -- with a null address nothing is called
+  refused : (filter : Ptr) (answer : Ptr) → Testable filter → Testable answer → HasNull (filter ∷ answer ∷ []) → Walk filter answer
+  refused filter answer may-filter may-answer null =
+      enter ! C Λ code.function (ptr_val filter ∷ ptr_val answer ∷ []) _ $ alloc_all ! (λ c. pass_all ! refl ((good 𝓛 filter).0, ((good 𝓛 answer).0, tt)) $
+      tested ! filter none (get ! refl) may-filter refl (tt, tt) refl refl (tt, record { fits = lit< tt }) refl (λ _. free_all ! refl $ unchanged ! (filter ∷ answer ∷ []) _ null (ends filter answer (vint w32 1) 1)) (λ here-0.
+      tested ! answer (there_is _) (get ! refl) may-answer refl (tt, tt) refl refl (tt, record { fits = lit< tt }) refl (λ _. free_all ! refl $ unchanged ! (filter ∷ answer ∷ []) _ null (ends filter answer (vint w32 1) 1)) (λ here-1.
+      absurd (in_rest answer [] (in_rest filter (answer ∷ []) null here-0) here-1))))
 
-  abbrev good : (p : Ptr) → Typed (RawPtr).mir (ptr_val p ∷ [])
-  good p = (rawptr_Lawful 𝓛).typed p _ refl
-
-  -- a call with a null pointer ends with all that was borrowed
-  none : (filter : Ptr) (answer : Ptr) → ent 𝓤 (sem 𝓛 (fsep (feq ℕ 1 1) (borrowed_by_node_count l filter answer))) (sem 𝓛 (left_by_node_count l filter answer 1)) → Sq 𝓛 (Given filter answer) (prop (Post filter answer (vint w32 1)))
-  none filter answer e =
-      move ! (1 ∷ []) $ feq_i ! ℕ 1 1 refl $ fjoin ! $ use1 𝓛 (‵ (left_by_node_count l filter answer 1)) e $ move ! (1 ∷ 0 ∷ []) $ join ! $
-      owned ! u32 _ (uint_Makes 𝓛 w32) 1 _ (refl, lit< tt) $ nothing ! $ nothing ! $ fjoin ! $ nothing ! $ fjoin ! $ nothing ! $
-      by ! (leaves 𝓛 f.ended stayed (f.clauses 𝓛 at_mem run) (bound filter answer) (vint w32 1) 1 (tt, (tt, tt)) (tt, (tt, tt)))
-
-  runs : (filter : Ptr) (answer : Ptr) → Testable filter → Testable answer
-      → Sq 𝓛 (Given filter answer) (prop (Runs filter answer))
-  runs null_ptr answer may-filter may-answer =
-      enter ! C Λ code.function (vnull ∷ ptr_val answer ∷ []) _ $ alloc_all ! (λ c. pass_all ! refl ((good null_ptr).0, ((good answer).0, tt)) $
-      sets ! (bin ! (get ! refl) (lit ! tt) (tests_null null_ptr may-filter)) refl (tt, tt) $ first ! $ branches ! (get ! refl)
-      (λ _. sets ! (of_opd ! (lit ! tt)) refl (tt, record { fits = lit< tt }) $ returns_within ! (Post null_ptr answer) refl (look_at ! 0 refl) $ free_all ! refl $ none null_ptr answer (id⊢ 𝓤 _))
-      (λ wrong. absurd wrong))
-  runs (block_ptr b0 o0) null_ptr may-filter may-answer =
-      enter ! C Λ code.function (vptr b0 o0 ∷ vnull ∷ []) _ $ alloc_all ! (λ c. pass_all ! refl ((good (block_ptr b0 o0)).0, ((good null_ptr).0, tt)) $
-      sets ! (bin ! (get ! refl) (lit ! tt) (tests_null (block_ptr b0 o0) may-filter)) refl (tt, tt) $ first ! $ branches ! (get ! refl)
-      (λ wrong. absurd wrong) (λ _. skips ! $ exec ! C Λ (env (code.function).locals c) code.Mir.t-3 (at_ret (env (code.function).locals c) (Post (block_ptr b0 o0) null_ptr)) $
-      sets ! (bin ! (get ! refl) (lit ! tt) (tests_null null_ptr may-answer)) refl (tt, tt) $ first ! $ branches ! (get ! refl)
-      (λ _. sets ! (of_opd ! (lit ! tt)) refl (tt, record { fits = lit< tt }) $ returns_within ! (Post (block_ptr b0 o0) null_ptr) refl (look_at ! 0 refl) $ free_all ! refl $ none (block_ptr b0 o0) null_ptr (id⊢ 𝓤 _))
-      (λ wrong. absurd wrong)))
+  runs : (filter : Ptr) (answer : Ptr) → Testable filter → Testable answer → Walk filter answer
+  runs null_ptr answer may-filter may-answer = refused null_ptr answer may-filter may-answer tt
+  runs (block_ptr b0 o0) null_ptr may-filter may-answer = refused (block_ptr b0 o0) null_ptr may-filter may-answer tt
   runs (block_ptr b0 o0) (block_ptr b1 o1) may-filter may-answer =
-      move ! (1 ∷ []) $ fsplit ! $ move ! (1 ∷ []) $ enter ! C Λ code.function (vptr b0 o0 ∷ vptr b1 o1 ∷ []) _ $ alloc_all ! (λ c. pass_all ! refl ((good (block_ptr b0 o0)).0, ((good (block_ptr b1 o1)).0, tt)) $
-      sets ! (bin ! (get ! refl) (lit ! tt) (tests_null (block_ptr b0 o0) may-filter)) refl (tt, tt) $ first ! $ branches ! (get ! refl)
-      (λ wrong. absurd wrong) (λ _. skips ! $ exec ! C Λ (env (code.function).locals c) code.Mir.t-3 (at_ret (env (code.function).locals c) (Post (block_ptr b0 o0) (block_ptr b1 o1))) $
-      sets ! (bin ! (get ! refl) (lit ! tt) (tests_null (block_ptr b1 o1) may-answer)) refl (tt, tt) $ first ! $ branches ! (get ! refl)
-      (λ wrong. absurd wrong) (λ _. skips ! $ exec ! C Λ (env (code.function).locals c) code.Mir.t-5 (at_ret (env (code.function).locals c) (Post (block_ptr b0 o0) (block_ptr b1 o1))) $
-      first ! $ blocks ! $
+      move ! (1 ∷ []) $ fsplit ! $ move ! (1 ∷ []) $ enter ! C Λ code.function (vptr b0 o0 ∷ vptr b1 o1 ∷ []) _ $ alloc_all ! (λ c. pass_all ! refl ((good 𝓛 (block_ptr b0 o0)).0, ((good 𝓛 (block_ptr b1 o1)).0, tt)) $
+      stands ! b0 o0 none (get ! refl) may-filter refl (tt, tt) refl $
+      stands ! b1 o1 (there_is _) (get ! refl) may-answer refl (tt, tt) refl $
+      closes ! $ inside ! _ _ _ $
       sets ! (of_opd ! (get ! refl)) refl (tt, tt) $ sets ! (addr ! (through ! refl (stop !))) refl (tt, tt) $
       sets ! (addr ! (through ! refl (stop !))) refl (tt, tt) $
       nothing ! $ move ! (1 ∷ 0 ∷ []) $ fjoin ! $ move ! (1 ∷ 0 ∷ []) $ fjoin ! $ nothing ! $ move ! (2 ∷ 0 ∷ []) $ join ! $ join ! $ nothing ! $ move ! (1 ∷ 0 ∷ []) $
-      let ref-filter : Bor Handle = record { ref_ptr = (b0, o0); now = l.handle } in
-      let ref-answer : MutBor Answer = record { ref_ptr = (b1, o1); ghost_name = l.answer_name; now = l.answer } in
-      let κ : Lft = l.lifetime in let z : G.Ghost = (((κ, tt), (l.share, tt), tt, (ref-filter, (ref-answer, tt)), (vptr b0 o0 ∷ [], (vptr b1 o1 ∷ [], tt))), tt) in
-      use2 𝓛 (raw (G.pre z)) (id⊢ 𝓤 _) $
-      calls_at_last ! fm G known z (and_then ! (get ! refl) (and_then ! (get ! refl) (no_more !))) (λ v.
-      use1 𝓛 (later (some (λ (x : ℕ). ((‵ (flft κ l.share) ⊛ ‵ ftrue) ⊛ ‵ (u32.own_val x (v ∷ []))) ⊛
-      some (λ (ws : Unit {0} × (Answer × (Unit {0}))). ‵ (lasts g.ended (κ, tt) z.0.3 ws) ⊛ raw (fact 𝓤 (ReportsNodeCount l.handle ws.1.0 x)))))) (id⊢ 𝓤 _) $
-      await ! tt $ pick ! (λ x. split ! $ move ! (1 ∷ []) $ pick ! (λ ws. split ! $ move ! (1 ∷ []) $ heard ! _ (λ reports.
-      fsplit ! $ drop ! $ fsplit ! $ move ! (1 ∷ []) $ drop ! $ move ! (1 ∷ []) $ split ! $ split ! $ move ! (2 ∷ []) $ peeks ! u32 (Is u32) (shows 𝓛 u32) x (v ∷ []) (λ is.
-      let fine = ((uint_Lawful 𝓛 w32).typed x _ is).0 in
-      lands_last ! refl fine $ exec ! C Λ (env (code.function).locals c) code.Mir.t-6 (at_ret (env (code.function).locals c) (Post (block_ptr b0 o0) (block_ptr b1 o1))) $
-      sets ! (of_opd ! (get ! refl)) refl fine $ returns ! (look_at ! 0 refl) $ free_all ! refl $ keep ! (3 ∷ 0 ∷ 1 ∷ []) $
-      nothing ! $ fpack ! (ReportsNodeCount l.handle ws.1.0 x) (λ _. ftrue) reports $ move ! (1 ∷ 0 ∷ []) $ fjoin ! $
-      fpack ! Answer (λ answer'. fsep (left_answer l (block_ptr b1 o1) answer') (holds (ReportsNodeCount l.handle answer' x))) ws.1.0 $
-      move ! (2 ∷ 0 ∷ []) $ join ! $ move ! (1 ∷ 0 ∷ []) $ nothing ! $ nothing ! $ fjoin ! $ nothing ! $ fjoin ! $ nothing ! $
-      by ! (leaves 𝓛 f.ended stayed (f.clauses 𝓛 at_mem run) (bound (block_ptr b0 o0) (block_ptr b1 o1)) v x (tt, (tt, tt)) (tt, (tt, tt)))))))))))
+      let z : G.Ghost = (((l.lifetime, tt), (l.share, tt), tt, (record { ref_ptr = (b0, o0); now = l.handle }, (record { ref_ptr = (b1, o1); ghost_name = l.answer_name; now = l.answer }, tt)), (vptr b0 o0 ∷ [], (vptr b1 o1 ∷ [], tt))), tt) in
+      use2 𝓛 (raw (G.pre z)) (id⊢ 𝓤 _) $ calls_at_last ! fm G known z (and_then ! (get ! refl) (and_then ! (get ! refl) (no_more !))) (λ v.
+      use1 𝓛 (back 𝓛 g.ended (g.clauses 𝓛 at_mem run) z.0.0 z.0.3 z.1 l.lifetime l.share v) (id⊢ 𝓤 _) $
+      await ! tt $ pick ! (λ x. split ! $ move ! (1 ∷ []) $ pick ! (λ ws. split ! $ move ! (1 ∷ []) $ heard ! (ReportsNodeCount l.handle ws.1.0 x) (λ reports.
+      fsplit ! $ drop ! $ fsplit ! $ move ! (1 ∷ []) $ drop ! $ move ! (1 ∷ []) $ split ! $ split ! $ move ! (2 ∷ []) $ peeks ! u32 (Is u32) (shows 𝓛 u32) x (v ∷ []) (λ is. let fine = ((uint_Lawful 𝓛 w32).typed x _ is).0 in
+      ends0 ! C Λ _ fine fine refl refl refl refl $ free_all ! refl $ keep ! (3 ∷ 0 ∷ 1 ∷ []) $
+      hold ! reports $ move ! (1 ∷ 0 ∷ []) $ fjoin ! $
+      fpack ! Answer (λ answer'. fsep (left_answer l (block_ptr b1 o1) answer') (holds (ReportsNodeCount l.handle answer' x))) ws.1.0 $ ends (block_ptr b0 o0) (block_ptr b1 o1) v x))))))
 
 pub odfilter_node_count_spec : {M : Type 1} → statement M
 odfilter_node_count_spec 𝓤 𝓛 𝓜 𝓡 wired =
@@ -94,6 +68,5 @@ odfilter_node_count_spec 𝓤 𝓛 𝓜 𝓡 wired =
     f.Key.name code.function (code.unfolded 𝓤 𝓛.H 𝓜 𝓡 wired)
     (λ κs. (rawptr_vals, (rawptr_vals, tt))) (λ κs. (rawptr_Tells, (rawptr_Tells, tt))) (λ κs qs bounds a l are.
     qed 𝓛 (raw (on_entry 𝓛 f.signature κs qs a (rawptr_vals a.0, (rawptr_vals a.1.0, tt))) ∷ (raw (fact 𝓤 (Testable a.0 × Testable a.1.0)) ⊛ (‵ (flft l.lifetime l.share) ⊛ ‵ (borrowed_by_node_count l a.0 a.1.0))) ∷ []) ∵
-    drop ! $
-    split ! $ heard ! _ (λ may. split ! $
+    drop ! $ split ! $ heard ! _ (λ may. split ! $
     runs 𝓛 𝓜.mem 𝓡.returns 𝓣.C 𝓣.Λ (framed 𝓤 𝓛.H 𝓜 𝓣) (met 𝓤 𝓛 𝓜 𝓡 (code.calls-handle_calls::calls::node_count 𝓡.env wired)) l a.0 a.1.0 may.0 may.1))

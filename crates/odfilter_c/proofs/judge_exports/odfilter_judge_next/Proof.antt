@@ -1,7 +1,6 @@
 -- `judge_next` meets its contract: the addresses are tested one by one, and the call borrows what they point to.
-use Rattle.odfilter_c.proofs.Steps.{◌≡◌, ℕ, ◌<◌, ◌^◌, List, [], ◌∷◌, ◌++◌, refl, lit<, w32, w64, Bor, MutBor, proved, leaves, SProp, ent, id⊢, sem, Fml, Lft, Share, ftrue, feq, fsep, fex, flft, Val, vint, vptr, vnull, fact, tables, WpFn, Ura, Logic, Memory, Routine, Calls, Loops, Fun, FmC, Triple, Contract, Item, ‵, raw, ◌⊛◌, some, later, prop, at_ret, Sq, ◌$◌, ◌∵◌, !, qed, move, keep, drop, use1, use2, split, join, fsplit, fjoin, fpack, feq_i, pick, await, by, enter, of_opd, lit, bin, addr, stop, fld, no_more, and_then, first, blocks, branches, skips, exec, returns, returns_within, agg, sub, whole, alloc_all, pass_all, free_all, look_at, get, get_in, through, sets, lands_last, sets_last, any_q, after_seq, Wp, post, assign, place, rv_opd, copy, env, u32, yes, uint_Makes, uint_Lawful, uint_vals, uint_Tells, Typed, Is, shows, Ptr, RawPtr, block_ptr, null_ptr, ptr_val, Testable, tests_null, rawptr_vals, rawptr_Tells, rawptr_Lawful, slice_val, owns, types_at, plain, nothing, owned, heard, peeks, calls_at_last, lasts, on_entry, triple_of, Stays, walk_of, stay_dropped, Goes-dropped, framed, usize}
-use Rattle.odfilter_c.proofs.Types.{Global, GlobalRow, global_val, global_lowers, global_laws, Bytes, BytesRow, bytes_val, bytes_lowers, bytes_laws, Buffer, BufferRow, buffer_val, buffer_lowers, buffer_laws, Handle, HandleRow, Owned, OwnedRow, Answer, AnswerRow}
-use Rattle.odfilter_c.specs.Loans.{Loan, borrowed_fault, borrowed_handle, borrowed_judge, borrowed_bytes, borrowed_buffer, borrowed_made, borrowed_answer, left_judge, left_buffer, left_made, left_answer, unless_null, holds, of_optional, of_bytes}
+use Rattle.odfilter_c.proofs.Steps.{◌≡◌, ℕ, ◌<◌, [], ◌∷◌, refl, lit<, w32, w64, proved, leaves, none, there_is, Ura, SProp, id⊢, fsep, flft, Val, vint, vptr, Memory, Routine, WpFn, Calls, Loops, Fun, fact, tables, FmC, Logic, ‵, raw, ◌⊛◌, prop, Sq, ◌$◌, ◌∵◌, !, qed, move, keep, drop, use0, use1, use2, split, join, fsplit, fjoin, pick, await, by, enter, of_opd, addr, stop, fld, no_more, and_then, branches, agg, sub, whole, alloc_all, pass_all, free_all, get, get_in, through, sets, u32, usize, yes, Typed, Is, shows, uint_Makes, uint_Lawful, Ptr, RawPtr, block_ptr, null_ptr, ptr_val, Testable, rawptr_vals, rawptr_Tells, slice_val, plain, nothing, owned, heard, peeks, Contract, Triple, calls_at_last, on_entry, triple_of, Stays, walk_of, stay_dropped, Goes-dropped, framed, Bytes, BytesRow, bytes_lowers, bytes_val, bytes_laws, Handle, Answer, HasNull, in_rest, trues, good, all_true, back, hold, unchanged, fpack2, compares, stands, tested, closes, hands, inside, ends1}
+use Rattle.odfilter_c.specs.Loans.{Loan, left_judge, left_answer, of_bytes, holds}
 use Rattle.odfilter_c.specs.JudgeExports.{borrowed_by_judge_next, left_by_judge_next}
 use Rattle.handle_calls.specs.RowReports.{JudgesNext}
 use Rattle.handle_calls.specs.contracts.calls.judge_next as g
@@ -18,7 +17,8 @@ abbrev stayed : Stays f.ended.signature.params f.ended.kept
 stayed = (stay_dropped _ yes, (stay_dropped _ yes, (stay_dropped _ yes, tt)))
 
 module _ {M : Type 1} {𝓤 : Ura M} (𝓛 : Logic 𝓤) (at_mem : Memory → SProp 𝓤) (run : Routine → Fun 𝓤) (C : Calls 𝓤 𝓛.H) (Λ : Loops 𝓤 𝓛.H) (fm : FmC 𝓤 𝓛.H 𝓛.laws C)
-    (known : Triple 𝓤 (C #call) (triple_of 𝓛 g.signature (g.spec 𝓛 at_mem run))) (known-1 : Triple 𝓤 (C #call-1) (triple_of 𝓛 g-1.signature (g-1.spec 𝓛 at_mem run))) (l : Loan) where
+    (known : Triple 𝓤 (C #call) (triple_of 𝓛 g.signature (g.spec 𝓛 at_mem run)))
+    (known-1 : Triple 𝓤 (C #call-1) (triple_of 𝓛 g-1.signature (g-1.spec 𝓛 at_mem run))) (l : Loan) where
   open 𝓛 use {H}
 
   abbrev G : Contract 𝓤
@@ -33,99 +33,57 @@ module _ {M : Type 1} {𝓤 : Ura M} (𝓛 : Logic 𝓤) (at_mem : Memory → SP
   abbrev bound : Ptr → Bytes → Ptr → W.Ghost
   bound judge row answer = ((tt, tt, tt, (judge, (row, (answer, tt))), (ptr_val judge ∷ [], (bytes_val row ∷ [], (ptr_val answer ∷ [], tt)))), l)
 
-  abbrev Post : Ptr → Bytes → Ptr → Val → SProp 𝓤
-  Post judge row answer = W.post (bound judge row answer)
+  abbrev Walk : Ptr → Bytes → Ptr → Type 1
+  Walk judge row answer = Sq 𝓛 (‵ (flft l.lifetime l.share) ∷ ‵ (borrowed_by_judge_next l judge row answer) ∷ []) (prop (WpFn 𝓤 H C Λ code.function (ptr_val judge ∷ bytes_val row ∷ ptr_val answer ∷ []) (W.post (bound judge row answer))))
 
-  abbrev Given : Ptr → Bytes → Ptr → List (Item 𝓤)
-  Given judge row answer = ‵ (flft l.lifetime l.share) ∷ ‵ (borrowed_by_judge_next l judge row answer) ∷ []
+  ends : (judge : Ptr) (row : Bytes) (answer : Ptr) (v : Val) (x : ℕ) → Sq 𝓛 (‵ (left_by_judge_next l judge row answer x) ∷ ‵ (u32.own_val x (v ∷ [])) ∷ ‵ (flft l.lifetime l.share) ∷ []) (prop (W.post (bound judge row answer) v))
+  ends judge row answer v x = move ! (2 ∷ 0 ∷ []) $ join ! $ move ! (1 ∷ []) $ use0 𝓛 (‵ (trues 3)) (all_true 𝓛 3) $ nothing ! $
+      by ! (leaves 𝓛 f.ended stayed (f.clauses 𝓛 at_mem run) (bound judge row answer) v x (tt, (tt, (tt, tt))) (tt, (tt, (tt, tt))))
 
-  abbrev Runs : Ptr → Bytes → Ptr → SProp 𝓤
-  Runs judge row answer = WpFn 𝓤 H C Λ code.function (ptr_val judge ∷ bytes_val row ∷ ptr_val answer ∷ []) (Post judge row answer)
+  -- with a null address nothing is called
+  refused : (judge : Ptr) (row-at : Ptr) (row-length : ℕ) (answer : Ptr) → Typed BytesRow.mir (bytes_val (record { at = row-at; length = row-length }) ∷ []) → Testable judge → Testable row-at → Testable answer → HasNull (judge ∷ answer ∷ []) → Walk judge (record { at = row-at; length = row-length }) answer
+  refused judge row-at row-length answer fits-row may-judge may-row may-answer null =
+      enter ! C Λ code.function (ptr_val judge ∷ bytes_val (record { at = row-at; length = row-length }) ∷ ptr_val answer ∷ []) _ $ alloc_all ! (λ c. pass_all ! refl ((good 𝓛 judge).0, (fits-row.0, ((good 𝓛 answer).0, tt))) $
+      tested ! judge none (get ! refl) may-judge refl (tt, tt) refl refl (tt, record { fits = lit< tt }) refl (λ _. free_all ! refl $ unchanged ! (judge ∷ answer ∷ []) _ null (ends judge (record { at = row-at; length = row-length }) answer (vint w32 1) 1)) (λ here-0.
+      tested ! answer (there_is _) (get ! refl) may-answer refl (tt, tt) refl refl (tt, record { fits = lit< tt }) refl (λ _. free_all ! refl $ unchanged ! (judge ∷ answer ∷ []) _ null (ends judge (record { at = row-at; length = row-length }) answer (vint w32 1) 1)) (λ here-1.
+      absurd (in_rest answer [] (in_rest judge (answer ∷ []) null here-0) here-1))))
 
-  abbrev good : (p : Ptr) → Typed (RawPtr).mir (ptr_val p ∷ [])
-  good p = (rawptr_Lawful 𝓛).typed p _ refl
-
-  -- a call with a null pointer ends with all that was borrowed
-  none : (judge : Ptr) (row : Bytes) (answer : Ptr) → ent 𝓤 (sem 𝓛 (fsep (feq ℕ 1 1) (borrowed_by_judge_next l judge row answer))) (sem 𝓛 (left_by_judge_next l judge row answer 1)) → Sq 𝓛 (Given judge row answer) (prop (Post judge row answer (vint w32 1)))
-  none judge row answer e =
-      move ! (1 ∷ []) $ feq_i ! ℕ 1 1 refl $ fjoin ! $ use1 𝓛 (‵ (left_by_judge_next l judge row answer 1)) e $ move ! (1 ∷ 0 ∷ []) $ join ! $
-      owned ! u32 _ (uint_Makes 𝓛 w32) 1 _ (refl, lit< tt) $ nothing ! $ nothing ! $ fjoin ! $ nothing ! $ fjoin ! $ nothing ! $ fjoin ! $ nothing ! $
-      by ! (leaves 𝓛 f.ended stayed (f.clauses 𝓛 at_mem run) (bound judge row answer) (vint w32 1) 1 (tt, (tt, (tt, tt))) (tt, (tt, (tt, tt))))
-
-  runs : (judge : Ptr) (row-at : Ptr) (row-length : ℕ) (answer : Ptr) → Typed BytesRow.mir (bytes_val (record { at = row-at; length = row-length }) ∷ []) → Testable judge → Testable row-at → Testable answer
-      → Sq 𝓛 (Given judge (record { at = row-at; length = row-length }) answer) (prop (Runs judge (record { at = row-at; length = row-length }) answer))
-  runs null_ptr row-at row-length answer fits-row may-judge may-row may-answer =
-      enter ! C Λ code.function (vnull ∷ bytes_val (record { at = row-at; length = row-length }) ∷ ptr_val answer ∷ []) _ $ alloc_all ! (λ c. pass_all ! refl ((good null_ptr).0, (fits-row.0, ((good answer).0, tt))) $
-      sets ! (bin ! (get ! refl) (lit ! tt) (tests_null null_ptr may-judge)) refl (tt, tt) $ first ! $ branches ! (get ! refl)
-      (λ _. sets ! (of_opd ! (lit ! tt)) refl (tt, record { fits = lit< tt }) $ returns_within ! (Post null_ptr (record { at = row-at; length = row-length }) answer) refl (look_at ! 0 refl) $ free_all ! refl $ none null_ptr (record { at = row-at; length = row-length }) answer (id⊢ 𝓤 _))
-      (λ wrong. absurd wrong))
-  runs (block_ptr b0 o0) row-at row-length null_ptr fits-row may-judge may-row may-answer =
-      enter ! C Λ code.function (vptr b0 o0 ∷ bytes_val (record { at = row-at; length = row-length }) ∷ vnull ∷ []) _ $ alloc_all ! (λ c. pass_all ! refl ((good (block_ptr b0 o0)).0, (fits-row.0, ((good null_ptr).0, tt))) $
-      sets ! (bin ! (get ! refl) (lit ! tt) (tests_null (block_ptr b0 o0) may-judge)) refl (tt, tt) $ first ! $ branches ! (get ! refl)
-      (λ wrong. absurd wrong) (λ _. skips ! $ exec ! C Λ (env (code.function).locals c) code.Mir.t-3 (at_ret (env (code.function).locals c) (Post (block_ptr b0 o0) (record { at = row-at; length = row-length }) null_ptr)) $
-      sets ! (bin ! (get ! refl) (lit ! tt) (tests_null null_ptr may-answer)) refl (tt, tt) $ first ! $ branches ! (get ! refl)
-      (λ _. sets ! (of_opd ! (lit ! tt)) refl (tt, record { fits = lit< tt }) $ returns_within ! (Post (block_ptr b0 o0) (record { at = row-at; length = row-length }) null_ptr) refl (look_at ! 0 refl) $ free_all ! refl $ none (block_ptr b0 o0) (record { at = row-at; length = row-length }) null_ptr (id⊢ 𝓤 _))
-      (λ wrong. absurd wrong)))
+  runs : (judge : Ptr) (row-at : Ptr) (row-length : ℕ) (answer : Ptr) → Typed BytesRow.mir (bytes_val (record { at = row-at; length = row-length }) ∷ []) → Testable judge → Testable row-at → Testable answer → Walk judge (record { at = row-at; length = row-length }) answer
+  runs null_ptr row-at row-length answer fits-row may-judge may-row may-answer = refused null_ptr row-at row-length answer fits-row may-judge may-row may-answer tt
+  runs (block_ptr b0 o0) row-at row-length null_ptr fits-row may-judge may-row may-answer = refused (block_ptr b0 o0) row-at row-length null_ptr fits-row may-judge may-row may-answer tt
   runs (block_ptr b0 o0) null_ptr row-length (block_ptr b2 o2) fits-row may-judge may-row may-answer =
-      move ! (1 ∷ []) $ fsplit ! $ move ! (1 ∷ []) $ fsplit ! $ move ! (1 ∷ []) $ enter ! C Λ code.function (vptr b0 o0 ∷ bytes_val (record { at = null_ptr; length = row-length }) ∷ vptr b2 o2 ∷ []) _ $ alloc_all ! (λ c. pass_all ! refl ((good (block_ptr b0 o0)).0, (fits-row.0, ((good (block_ptr b2 o2)).0, tt))) $
-      sets ! (bin ! (get ! refl) (lit ! tt) (tests_null (block_ptr b0 o0) may-judge)) refl (tt, tt) $ first ! $ branches ! (get ! refl)
-      (λ wrong. absurd wrong) (λ _. skips ! $ exec ! C Λ (env (code.function).locals c) code.Mir.t-3 (at_ret (env (code.function).locals c) (Post (block_ptr b0 o0) (record { at = null_ptr; length = row-length }) (block_ptr b2 o2))) $
-      sets ! (bin ! (get ! refl) (lit ! tt) (tests_null (block_ptr b2 o2) may-answer)) refl (tt, tt) $ first ! $ branches ! (get ! refl)
-      (λ wrong. absurd wrong) (λ _. skips ! $ exec ! C Λ (env (code.function).locals c) code.Mir.t-5 (at_ret (env (code.function).locals c) (Post (block_ptr b0 o0) (record { at = null_ptr; length = row-length }) (block_ptr b2 o2))) $
-      sets ! (bin ! (get_in ! (fld ! refl (stop !)) (sub ! 0 refl (whole !))) (lit ! tt) (tests_null null_ptr may-row)) refl (tt, tt) $ first ! $ branches ! (get ! refl)
-      (λ _. first ! $ blocks ! $
+      move ! (1 ∷ []) $ fsplit ! $ move ! (1 ∷ []) $ fsplit ! $ move ! (1 ∷ []) $ enter ! C Λ code.function (vptr b0 o0 ∷ bytes_val (record { at = null_ptr; length = row-length }) ∷ vptr b2 o2 ∷ []) _ $ alloc_all ! (λ c. pass_all ! refl ((good 𝓛 (block_ptr b0 o0)).0, (fits-row.0, ((good 𝓛 (block_ptr b2 o2)).0, tt))) $
+      stands ! b0 o0 none (get ! refl) may-judge refl (tt, tt) refl $
+      stands ! b2 o2 (there_is _) (get ! refl) may-answer refl (tt, tt) refl $
+      compares ! null_ptr (there_is _) (get_in ! (fld ! refl (stop !)) (sub ! 0 refl (whole !))) may-row refl (tt, tt) $ closes ! $ branches ! (get ! refl) (λ _. hands ! _ _ $ inside ! _ _ _ $
       sets ! (of_opd ! (get ! refl)) refl (tt, tt) $ sets ! (addr ! (through ! refl (stop !))) refl (tt, tt) $
       sets ! (addr ! (through ! refl (stop !))) refl (tt, tt) $
       move ! (1 ∷ []) $ drop ! $ nothing ! $ move ! (1 ∷ 0 ∷ []) $ fjoin ! $ owned ! usize _ (uint_Makes 𝓛 w64) row-length _ (refl, fits-row.0.1.1.0.fits) $ fjoin ! $ move ! (1 ∷ 0 ∷ []) $ fjoin ! $ nothing ! $ move ! (2 ∷ 0 ∷ []) $ join ! $ join ! $ nothing ! $ move ! (1 ∷ 0 ∷ []) $
-      let ref-judge : MutBor Handle = record { ref_ptr = (b0, o0); ghost_name = l.judge_name; now = l.judge } in
-      let ref-answer : MutBor Answer = record { ref_ptr = (b2, o2); ghost_name = l.answer_name; now = l.answer } in
-      let κ : Lft = l.lifetime in let z : G-1.Ghost = (((κ, tt), (l.share, tt), tt, (ref-judge, (row-length, (ref-answer, tt))), (vptr b0 o0 ∷ [], (vint w64 row-length ∷ [], (vptr b2 o2 ∷ [], tt)))), tt) in
-      use2 𝓛 (raw (G-1.pre z)) (id⊢ 𝓤 _) $
-      calls_at_last ! fm G-1 known-1 z (and_then ! (get ! refl) (and_then ! (get_in ! (fld ! refl (stop !)) (sub ! 1 refl (whole !))) (and_then ! (get ! refl) (no_more !)))) (λ v.
-      use1 𝓛 (later (some (λ (x : ℕ). ((‵ (flft κ l.share) ⊛ ‵ ftrue) ⊛ ‵ (u32.own_val x (v ∷ []))) ⊛
-      some (λ (ws : Handle × (Unit {0} × (Answer × (Unit {0})))). ‵ (lasts g-1.ended (κ, tt) z.0.3 ws) ⊛ raw (fact 𝓤 (of_bytes null_ptr row-length l.bytes ((ws.0 ≡ l.judge) × ((ws.1.1.0 ≡ l.answer) × (x ≡ 1))) (λ bytes. JudgesNext l.judge ws.0 bytes ws.1.1.0 x))))))) (id⊢ 𝓤 _) $
-      await ! tt $ pick ! (λ x. split ! $ move ! (1 ∷ []) $ pick ! (λ ws. split ! $ move ! (1 ∷ []) $ heard ! _ (λ reports.
-      fsplit ! $ move ! (1 ∷ []) $ fsplit ! $ drop ! $ fsplit ! $ move ! (1 ∷ []) $ drop ! $ move ! (2 ∷ []) $ split ! $ split ! $ move ! (2 ∷ []) $ peeks ! u32 (Is u32) (shows 𝓛 u32) x (v ∷ []) (λ is.
-      let fine = ((uint_Lawful 𝓛 w32).typed x _ is).0 in
-      lands_last ! refl fine $ exec ! C Λ (env (code.function).locals c) (assign (place 5 []) (rv_opd (copy (place 6 [])))) (any_q (after_seq 𝓤 H (Wp 𝓤 H C Λ (env (code.function).locals c) code.Mir.t-7 (post 𝓤 H (at_ret (env (code.function).locals c) (Post (block_ptr b0 o0) (record { at = null_ptr; length = row-length }) (block_ptr b2 o2))))) (post 𝓤 H (at_ret (env (code.function).locals c) (Post (block_ptr b0 o0) (record { at = null_ptr; length = row-length }) (block_ptr b2 o2)))))) $ sets_last ! (of_opd ! (get ! refl)) refl fine $
-      exec ! C Λ (env (code.function).locals c) code.Mir.t-7 (at_ret (env (code.function).locals c) (Post (block_ptr b0 o0) (record { at = null_ptr; length = row-length }) (block_ptr b2 o2))) $
-      sets ! (of_opd ! (get ! refl)) refl fine $ returns ! (look_at ! 0 refl) $ free_all ! refl $ keep ! (3 ∷ 4 ∷ 0 ∷ 1 ∷ []) $
-      nothing ! $ fpack ! (of_bytes null_ptr row-length l.bytes ((ws.0 ≡ l.judge) × ((ws.1.1.0 ≡ l.answer) × (x ≡ 1))) (λ bytes. JudgesNext l.judge ws.0 bytes ws.1.1.0 x)) (λ _. ftrue) reports $ move ! (1 ∷ 0 ∷ []) $ fjoin ! $ move ! (1 ∷ 0 ∷ []) $ fjoin ! $
-      fpack ! Answer (λ answer'. fsep (left_judge l (block_ptr b0 o0) ws.0) (fsep (left_answer l (block_ptr b2 o2) answer') (holds (of_bytes null_ptr row-length l.bytes ((ws.0 ≡ l.judge) × ((answer' ≡ l.answer) × (x ≡ 1))) (λ bytes. JudgesNext l.judge ws.0 bytes answer' x))))) ws.1.1.0 $
-      fpack ! Handle (λ judge'. fex Answer (λ answer'. fsep (left_judge l (block_ptr b0 o0) judge') (fsep (left_answer l (block_ptr b2 o2) answer') (holds (of_bytes null_ptr row-length l.bytes ((judge' ≡ l.judge) × ((answer' ≡ l.answer) × (x ≡ 1))) (λ bytes. JudgesNext l.judge judge' bytes answer' x)))))) ws.0 $
-      move ! (2 ∷ 0 ∷ []) $ join ! $ move ! (1 ∷ 0 ∷ []) $ nothing ! $ nothing ! $ fjoin ! $ nothing ! $ fjoin ! $ nothing ! $ fjoin ! $ nothing ! $
-      by ! (leaves 𝓛 f.ended stayed (f.clauses 𝓛 at_mem run) (bound (block_ptr b0 o0) (record { at = null_ptr; length = row-length }) (block_ptr b2 o2)) v x (tt, (tt, (tt, tt))) (tt, (tt, (tt, tt)))))))))) (λ wrong. absurd wrong))))
+      let z : G-1.Ghost = (((l.lifetime, tt), (l.share, tt), tt, (record { ref_ptr = (b0, o0); ghost_name = l.judge_name; now = l.judge }, (row-length, (record { ref_ptr = (b2, o2); ghost_name = l.answer_name; now = l.answer }, tt))), (vptr b0 o0 ∷ [], (vint w64 row-length ∷ [], (vptr b2 o2 ∷ [], tt)))), tt) in
+      use2 𝓛 (raw (G-1.pre z)) (id⊢ 𝓤 _) $ calls_at_last ! fm G-1 known-1 z (and_then ! (get ! refl) (and_then ! (get_in ! (fld ! refl (stop !)) (sub ! 1 refl (whole !))) (and_then ! (get ! refl) (no_more !)))) (λ v.
+      use1 𝓛 (back 𝓛 g-1.ended (g-1.clauses 𝓛 at_mem run) z.0.0 z.0.3 z.1 l.lifetime l.share v) (id⊢ 𝓤 _) $
+      await ! tt $ pick ! (λ x. split ! $ move ! (1 ∷ []) $ pick ! (λ ws. split ! $ move ! (1 ∷ []) $ heard ! (of_bytes null_ptr row-length l.bytes ((ws.0 ≡ l.judge) × ((ws.1.1.0 ≡ l.answer) × (x ≡ 1))) (λ bytes. JudgesNext l.judge ws.0 bytes ws.1.1.0 x)) (λ reports.
+      fsplit ! $ move ! (1 ∷ []) $ fsplit ! $ drop ! $ fsplit ! $ move ! (1 ∷ []) $ drop ! $ move ! (2 ∷ []) $ split ! $ split ! $ move ! (2 ∷ []) $ peeks ! u32 (Is u32) (shows 𝓛 u32) x (v ∷ []) (λ is. let fine = ((uint_Lawful 𝓛 w32).typed x _ is).0 in
+      ends1 ! C Λ _ _ fine fine fine refl refl refl refl refl refl $ free_all ! refl $ keep ! (3 ∷ 4 ∷ 0 ∷ 1 ∷ []) $
+      hold ! reports $ move ! (1 ∷ 0 ∷ []) $ fjoin ! $ move ! (1 ∷ 0 ∷ []) $ fjoin ! $
+      fpack2 ! Handle Answer (λ judge' answer'. fsep (left_judge l (block_ptr b0 o0) judge') (fsep (left_answer l (block_ptr b2 o2) answer') (holds (of_bytes null_ptr row-length l.bytes ((judge' ≡ l.judge) × ((answer' ≡ l.answer) × (x ≡ 1))) (λ bytes. JudgesNext l.judge judge' bytes answer' x))))) ws.0 ws.1.1.0 $ ends (block_ptr b0 o0) (record { at = null_ptr; length = row-length }) (block_ptr b2 o2) v x)))))) (λ wrong. absurd wrong))
   runs (block_ptr b0 o0) (block_ptr b1 o1) row-length (block_ptr b2 o2) fits-row may-judge may-row may-answer =
-      move ! (1 ∷ []) $ fsplit ! $ move ! (1 ∷ []) $ fsplit ! $ move ! (1 ∷ []) $ enter ! C Λ code.function (vptr b0 o0 ∷ bytes_val (record { at = (block_ptr b1 o1); length = row-length }) ∷ vptr b2 o2 ∷ []) _ $ alloc_all ! (λ c. pass_all ! refl ((good (block_ptr b0 o0)).0, (fits-row.0, ((good (block_ptr b2 o2)).0, tt))) $
-      sets ! (bin ! (get ! refl) (lit ! tt) (tests_null (block_ptr b0 o0) may-judge)) refl (tt, tt) $ first ! $ branches ! (get ! refl)
-      (λ wrong. absurd wrong) (λ _. skips ! $ exec ! C Λ (env (code.function).locals c) code.Mir.t-3 (at_ret (env (code.function).locals c) (Post (block_ptr b0 o0) (record { at = (block_ptr b1 o1); length = row-length }) (block_ptr b2 o2))) $
-      sets ! (bin ! (get ! refl) (lit ! tt) (tests_null (block_ptr b2 o2) may-answer)) refl (tt, tt) $ first ! $ branches ! (get ! refl)
-      (λ wrong. absurd wrong) (λ _. skips ! $ exec ! C Λ (env (code.function).locals c) code.Mir.t-5 (at_ret (env (code.function).locals c) (Post (block_ptr b0 o0) (record { at = (block_ptr b1 o1); length = row-length }) (block_ptr b2 o2))) $
-      sets ! (bin ! (get_in ! (fld ! refl (stop !)) (sub ! 0 refl (whole !))) (lit ! tt) (tests_null (block_ptr b1 o1) may-row)) refl (tt, tt) $ first ! $ branches ! (get ! refl)
-      (λ wrong. absurd wrong) (λ _. first ! $ blocks ! $
+      move ! (1 ∷ []) $ fsplit ! $ move ! (1 ∷ []) $ fsplit ! $ move ! (1 ∷ []) $ enter ! C Λ code.function (vptr b0 o0 ∷ bytes_val (record { at = (block_ptr b1 o1); length = row-length }) ∷ vptr b2 o2 ∷ []) _ $ alloc_all ! (λ c. pass_all ! refl ((good 𝓛 (block_ptr b0 o0)).0, (fits-row.0, ((good 𝓛 (block_ptr b2 o2)).0, tt))) $
+      stands ! b0 o0 none (get ! refl) may-judge refl (tt, tt) refl $
+      stands ! b2 o2 (there_is _) (get ! refl) may-answer refl (tt, tt) refl $
+      compares ! (block_ptr b1 o1) (there_is _) (get_in ! (fld ! refl (stop !)) (sub ! 0 refl (whole !))) may-row refl (tt, tt) $ closes ! $ branches ! (get ! refl) (λ wrong. absurd wrong) (λ _. hands ! _ _ $ inside ! _ _ _ $
       sets ! (of_opd ! (get ! refl)) refl (tt, tt) $ sets ! (addr ! (through ! refl (stop !))) refl (tt, tt) $
       sets ! (agg ! (and_then ! (get_in ! (fld ! refl (stop !)) (sub ! 0 refl (whole !))) (and_then ! (get_in ! (fld ! refl (stop !)) (sub ! 1 refl (whole !))) (no_more !)))) refl (tt, (tt, (fits-row.0.1.1.0, tt))) $
       sets ! (addr ! (through ! refl (stop !))) refl (tt, tt) $
       nothing ! $ move ! (1 ∷ 0 ∷ []) $ fjoin ! $ move ! (1 ∷ 0 ∷ []) $ fjoin ! $ move ! (1 ∷ 0 ∷ []) $ fjoin ! $ nothing ! $ move ! (2 ∷ 0 ∷ []) $ join ! $ join ! $ nothing ! $ move ! (1 ∷ 0 ∷ []) $
-      let ref-judge : MutBor Handle = record { ref_ptr = (b0, o0); ghost_name = l.judge_name; now = l.judge } in
-      let ref-row : Bor (List ℕ) = record { ref_ptr = (b1, o1); now = l.bytes } in
-      let ref-answer : MutBor Answer = record { ref_ptr = (b2, o2); ghost_name = l.answer_name; now = l.answer } in
-      let κ : Lft = l.lifetime in let z : G.Ghost = (((κ, tt), (l.share, tt), tt, (ref-judge, (ref-row, (ref-answer, tt))), (vptr b0 o0 ∷ [], (slice_val (b1, o1) row-length ∷ [], (vptr b2 o2 ∷ [], tt)))), tt) in
-      use2 𝓛 (raw (G.pre z)) (id⊢ 𝓤 _) $
-      calls_at_last ! fm G known z (and_then ! (get ! refl) (and_then ! (get ! refl) (and_then ! (get ! refl) (no_more !)))) (λ v.
-      use1 𝓛 (later (some (λ (x : ℕ). ((‵ (flft κ l.share) ⊛ ‵ ftrue) ⊛ ‵ (u32.own_val x (v ∷ []))) ⊛
-      some (λ (ws : Handle × (Unit {0} × (Answer × (Unit {0})))). ‵ (lasts g.ended (κ, tt) z.0.3 ws) ⊛ raw (fact 𝓤 (of_bytes (block_ptr b1 o1) row-length l.bytes ((ws.0 ≡ l.judge) × ((ws.1.1.0 ≡ l.answer) × (x ≡ 1))) (λ bytes. JudgesNext l.judge ws.0 bytes ws.1.1.0 x))))))) (id⊢ 𝓤 _) $
-      await ! tt $ pick ! (λ x. split ! $ move ! (1 ∷ []) $ pick ! (λ ws. split ! $ move ! (1 ∷ []) $ heard ! _ (λ reports.
-      fsplit ! $ move ! (1 ∷ []) $ fsplit ! $ drop ! $ fsplit ! $ move ! (1 ∷ []) $ drop ! $ move ! (2 ∷ []) $ split ! $ split ! $ move ! (2 ∷ []) $ peeks ! u32 (Is u32) (shows 𝓛 u32) x (v ∷ []) (λ is.
-      let fine = ((uint_Lawful 𝓛 w32).typed x _ is).0 in
-      lands_last ! refl fine $ exec ! C Λ (env (code.function).locals c) (assign (place 5 []) (rv_opd (copy (place 10 [])))) (any_q (after_seq 𝓤 H (Wp 𝓤 H C Λ (env (code.function).locals c) code.Mir.t-7 (post 𝓤 H (at_ret (env (code.function).locals c) (Post (block_ptr b0 o0) (record { at = (block_ptr b1 o1); length = row-length }) (block_ptr b2 o2))))) (post 𝓤 H (at_ret (env (code.function).locals c) (Post (block_ptr b0 o0) (record { at = (block_ptr b1 o1); length = row-length }) (block_ptr b2 o2)))))) $ sets_last ! (of_opd ! (get ! refl)) refl fine $
-      exec ! C Λ (env (code.function).locals c) code.Mir.t-7 (at_ret (env (code.function).locals c) (Post (block_ptr b0 o0) (record { at = (block_ptr b1 o1); length = row-length }) (block_ptr b2 o2))) $
-      sets ! (of_opd ! (get ! refl)) refl fine $ returns ! (look_at ! 0 refl) $ free_all ! refl $ keep ! (3 ∷ 4 ∷ 0 ∷ 1 ∷ []) $
-      nothing ! $ fpack ! (of_bytes (block_ptr b1 o1) row-length l.bytes ((ws.0 ≡ l.judge) × ((ws.1.1.0 ≡ l.answer) × (x ≡ 1))) (λ bytes. JudgesNext l.judge ws.0 bytes ws.1.1.0 x)) (λ _. ftrue) reports $ move ! (1 ∷ 0 ∷ []) $ fjoin ! $ move ! (1 ∷ 0 ∷ []) $ fjoin ! $
-      fpack ! Answer (λ answer'. fsep (left_judge l (block_ptr b0 o0) ws.0) (fsep (left_answer l (block_ptr b2 o2) answer') (holds (of_bytes (block_ptr b1 o1) row-length l.bytes ((ws.0 ≡ l.judge) × ((answer' ≡ l.answer) × (x ≡ 1))) (λ bytes. JudgesNext l.judge ws.0 bytes answer' x))))) ws.1.1.0 $
-      fpack ! Handle (λ judge'. fex Answer (λ answer'. fsep (left_judge l (block_ptr b0 o0) judge') (fsep (left_answer l (block_ptr b2 o2) answer') (holds (of_bytes (block_ptr b1 o1) row-length l.bytes ((judge' ≡ l.judge) × ((answer' ≡ l.answer) × (x ≡ 1))) (λ bytes. JudgesNext l.judge judge' bytes answer' x)))))) ws.0 $
-      move ! (2 ∷ 0 ∷ []) $ join ! $ move ! (1 ∷ 0 ∷ []) $ nothing ! $ nothing ! $ fjoin ! $ nothing ! $ fjoin ! $ nothing ! $ fjoin ! $ nothing ! $
-      by ! (leaves 𝓛 f.ended stayed (f.clauses 𝓛 at_mem run) (bound (block_ptr b0 o0) (record { at = (block_ptr b1 o1); length = row-length }) (block_ptr b2 o2)) v x (tt, (tt, (tt, tt))) (tt, (tt, (tt, tt)))))))))))))
+      let z : G.Ghost = (((l.lifetime, tt), (l.share, tt), tt, (record { ref_ptr = (b0, o0); ghost_name = l.judge_name; now = l.judge }, (record { ref_ptr = (b1, o1); now = l.bytes }, (record { ref_ptr = (b2, o2); ghost_name = l.answer_name; now = l.answer }, tt))), (vptr b0 o0 ∷ [], (slice_val (b1, o1) row-length ∷ [], (vptr b2 o2 ∷ [], tt)))), tt) in
+      use2 𝓛 (raw (G.pre z)) (id⊢ 𝓤 _) $ calls_at_last ! fm G known z (and_then ! (get ! refl) (and_then ! (get ! refl) (and_then ! (get ! refl) (no_more !)))) (λ v.
+      use1 𝓛 (back 𝓛 g.ended (g.clauses 𝓛 at_mem run) z.0.0 z.0.3 z.1 l.lifetime l.share v) (id⊢ 𝓤 _) $
+      await ! tt $ pick ! (λ x. split ! $ move ! (1 ∷ []) $ pick ! (λ ws. split ! $ move ! (1 ∷ []) $ heard ! (of_bytes (block_ptr b1 o1) row-length l.bytes ((ws.0 ≡ l.judge) × ((ws.1.1.0 ≡ l.answer) × (x ≡ 1))) (λ bytes. JudgesNext l.judge ws.0 bytes ws.1.1.0 x)) (λ reports.
+      fsplit ! $ move ! (1 ∷ []) $ fsplit ! $ drop ! $ fsplit ! $ move ! (1 ∷ []) $ drop ! $ move ! (2 ∷ []) $ split ! $ split ! $ move ! (2 ∷ []) $ peeks ! u32 (Is u32) (shows 𝓛 u32) x (v ∷ []) (λ is. let fine = ((uint_Lawful 𝓛 w32).typed x _ is).0 in
+      ends1 ! C Λ _ _ fine fine fine refl refl refl refl refl refl $ free_all ! refl $ keep ! (3 ∷ 4 ∷ 0 ∷ 1 ∷ []) $
+      hold ! reports $ move ! (1 ∷ 0 ∷ []) $ fjoin ! $ move ! (1 ∷ 0 ∷ []) $ fjoin ! $
+      fpack2 ! Handle Answer (λ judge' answer'. fsep (left_judge l (block_ptr b0 o0) judge') (fsep (left_answer l (block_ptr b2 o2) answer') (holds (of_bytes (block_ptr b1 o1) row-length l.bytes ((judge' ≡ l.judge) × ((answer' ≡ l.answer) × (x ≡ 1))) (λ bytes. JudgesNext l.judge judge' bytes answer' x))))) ws.0 ws.1.1.0 $ ends (block_ptr b0 o0) (record { at = (block_ptr b1 o1); length = row-length }) (block_ptr b2 o2) v x)))))))
 
 pub odfilter_judge_next_spec : {M : Type 1} → statement M
 odfilter_judge_next_spec 𝓤 𝓛 𝓜 𝓡 wired =
@@ -134,6 +92,5 @@ odfilter_judge_next_spec 𝓤 𝓛 𝓜 𝓡 wired =
     f.Key.name code.function (code.unfolded 𝓤 𝓛.H 𝓜 𝓡 wired)
     (λ κs. (rawptr_vals, ((λ s. bytes_val s ∷ []), (rawptr_vals, tt)))) (λ κs. (rawptr_Tells, (bytes_lowers.val_is, (rawptr_Tells, tt)))) (λ κs qs bounds a l are.
     qed 𝓛 (raw (on_entry 𝓛 f.signature κs qs a (rawptr_vals a.0, (bytes_val a.1.0 ∷ [], (rawptr_vals a.1.1.0, tt)))) ∷ (raw (fact 𝓤 (Testable a.0 × Testable a.1.0.at × Testable a.1.1.0)) ⊛ (‵ (flft l.lifetime l.share) ⊛ ‵ (borrowed_by_judge_next l a.0 a.1.0 a.1.1.0))) ∷ []) ∵
-    drop ! $
-    split ! $ heard ! _ (λ may. split ! $
+    drop ! $ split ! $ heard ! _ (λ may. split ! $
     runs 𝓛 𝓜.mem 𝓡.returns 𝓣.C 𝓣.Λ (framed 𝓤 𝓛.H 𝓜 𝓣) (met 𝓤 𝓛 𝓜 𝓡 (code.calls-handle_calls::calls::judge_next 𝓡.env wired)) (met-1 𝓤 𝓛 𝓜 𝓡 (code.calls-odfilter_c::null_calls::judge_next_at_null 𝓡.env wired)) l a.0 a.1.0.at a.1.0.length a.1.1.0 ((bytes_laws.lawful 𝓛).typed a.1.0 _ are.1.0) may.0 may.1 may.2))

@@ -1,7 +1,6 @@
 -- `new_judge_of` meets its contract: the addresses are tested one by one, and the call borrows what they point to.
-use Rattle.odfilter_c.proofs.Steps.{◌≡◌, ℕ, ◌<◌, ◌^◌, List, [], ◌∷◌, ◌++◌, refl, lit<, w32, w64, Bor, MutBor, proved, leaves, SProp, ent, id⊢, sem, Fml, Lft, Share, ftrue, feq, fsep, fex, flft, Val, vint, vptr, vnull, fact, tables, WpFn, Ura, Logic, Memory, Routine, Calls, Loops, Fun, FmC, Triple, Contract, Item, ‵, raw, ◌⊛◌, some, later, prop, at_ret, Sq, ◌$◌, ◌∵◌, !, qed, move, keep, drop, use1, use2, split, join, fsplit, fjoin, fpack, feq_i, pick, await, by, enter, of_opd, lit, bin, addr, stop, fld, no_more, and_then, first, blocks, branches, skips, exec, returns, returns_within, agg, sub, whole, alloc_all, pass_all, free_all, look_at, get, get_in, through, sets, lands_last, sets_last, any_q, after_seq, Wp, post, assign, place, rv_opd, copy, env, u32, yes, uint_Makes, uint_Lawful, uint_vals, uint_Tells, Typed, Is, shows, Ptr, RawPtr, block_ptr, null_ptr, ptr_val, Testable, tests_null, rawptr_vals, rawptr_Tells, rawptr_Lawful, slice_val, owns, types_at, plain, nothing, owned, heard, peeks, calls_at_last, lasts, on_entry, triple_of, Stays, walk_of, stay_dropped, Goes-dropped, framed, usize}
-use Rattle.odfilter_c.proofs.Types.{Global, GlobalRow, global_val, global_lowers, global_laws, Bytes, BytesRow, bytes_val, bytes_lowers, bytes_laws, Buffer, BufferRow, buffer_val, buffer_lowers, buffer_laws, Handle, HandleRow, Owned, OwnedRow, Answer, AnswerRow}
-use Rattle.odfilter_c.specs.Loans.{Loan, borrowed_fault, borrowed_handle, borrowed_judge, borrowed_bytes, borrowed_buffer, borrowed_made, borrowed_answer, left_judge, left_buffer, left_made, left_answer, unless_null, holds, of_optional, of_bytes}
+use Rattle.odfilter_c.proofs.Steps.{ℕ, ◌<◌, [], ◌∷◌, refl, lit<, w32, proved, leaves, none, there_is, Ura, SProp, id⊢, ftrue, fsep, flft, Val, vint, vptr, Memory, Routine, WpFn, Calls, Loops, Fun, fact, tables, FmC, Logic, ‵, raw, ◌⊛◌, prop, Sq, ◌$◌, ◌∵◌, !, qed, move, keep, drop, use0, use1, use2, split, join, fsplit, fjoin, fpack, pick, await, by, enter, of_opd, addr, stop, no_more, and_then, alloc_all, pass_all, free_all, get, through, sets, u32, yes, Typed, Is, shows, uint_Lawful, Ptr, RawPtr, block_ptr, null_ptr, ptr_val, Testable, rawptr_vals, rawptr_Tells, owns, types_at, plain, nothing, heard, peeks, Contract, Triple, calls_at_last, triple_of, Stays, walk_of, stay_dropped, Goes-dropped, framed, Global, GlobalRow, global_lowers, global_val, global_laws, Owned, HasNull, in_rest, trues, good, all_true, back, hold, unchanged, stands, tested, closes, inside, ends0}
+use Rattle.odfilter_c.specs.Loans.{Loan, left_made, holds}
 use Rattle.odfilter_c.specs.JudgeExports.{borrowed_by_new_judge_of, left_by_new_judge_of}
 use Rattle.handle_calls.specs.RowReports.{MakesJudgeOf}
 use Rattle.handle_calls.specs.contracts.calls.new_judge_of as g
@@ -27,65 +26,40 @@ module _ {M : Type 1} {𝓤 : Ura M} (𝓛 : Logic 𝓤) (at_mem : Memory → SP
   abbrev bound : Global → Ptr → Ptr → W.Ghost
   bound alloc filter judge = ((tt, tt, tt, (alloc, (filter, (judge, tt))), (global_val alloc ∷ [], (ptr_val filter ∷ [], (ptr_val judge ∷ [], tt)))), l)
 
-  abbrev Post : Global → Ptr → Ptr → Val → SProp 𝓤
-  Post alloc filter judge = W.post (bound alloc filter judge)
+  abbrev Walk : Global → Ptr → Ptr → Type 1
+  Walk alloc filter judge = Sq 𝓛 (‵ (flft l.lifetime l.share) ∷ ‵ (borrowed_by_new_judge_of l filter judge) ∷ ‵ (GlobalRow.own_val alloc (global_val alloc ∷ [])) ∷ []) (prop (WpFn 𝓤 H C Λ code.function (global_val alloc ∷ ptr_val filter ∷ ptr_val judge ∷ []) (W.post (bound alloc filter judge))))
 
-  abbrev Given : Global → Ptr → Ptr → List (Item 𝓤)
-  Given alloc filter judge = ‵ (flft l.lifetime l.share) ∷ ‵ (borrowed_by_new_judge_of l filter judge) ∷ ‵ (GlobalRow.own_val alloc (global_val alloc ∷ [])) ∷ []
+  ends : (alloc : Global) (filter : Ptr) (judge : Ptr) (v : Val) (x : ℕ) → Sq 𝓛 (‵ (left_by_new_judge_of l filter judge x) ∷ ‵ (u32.own_val x (v ∷ [])) ∷ ‵ (flft l.lifetime l.share) ∷ []) (prop (W.post (bound alloc filter judge) v))
+  ends alloc filter judge v x = move ! (2 ∷ 0 ∷ []) $ join ! $ move ! (1 ∷ []) $ use0 𝓛 (‵ (trues 3)) (all_true 𝓛 3) $ nothing ! $
+      by ! (leaves 𝓛 f.ended stayed (f.clauses 𝓛 at_mem run) (bound alloc filter judge) v x (tt, (tt, (tt, tt))) (tt, (tt, (tt, tt))))
 
-  abbrev Runs : Global → Ptr → Ptr → SProp 𝓤
-  Runs alloc filter judge = WpFn 𝓤 H C Λ code.function (global_val alloc ∷ ptr_val filter ∷ ptr_val judge ∷ []) (Post alloc filter judge)
+  -- with a null address nothing is called
+  refused : (alloc : Global) (filter : Ptr) (judge : Ptr) → Typed GlobalRow.mir (global_val alloc ∷ []) → Testable filter → Testable judge → HasNull (filter ∷ judge ∷ []) → Walk alloc filter judge
+  refused alloc filter judge fits-alloc may-filter may-judge null =
+      enter ! C Λ code.function (global_val alloc ∷ ptr_val filter ∷ ptr_val judge ∷ []) _ $ alloc_all ! (λ c. pass_all ! refl (fits-alloc.0, ((good 𝓛 filter).0, ((good 𝓛 judge).0, tt))) $
+      tested ! filter none (get ! refl) may-filter refl (tt, tt) refl refl (tt, record { fits = lit< tt }) refl (λ _. free_all ! refl $ unchanged ! (filter ∷ judge ∷ []) _ null (ends alloc filter judge (vint w32 1) 1)) (λ here-0.
+      tested ! judge (there_is _) (get ! refl) may-judge refl (tt, tt) refl refl (tt, record { fits = lit< tt }) refl (λ _. free_all ! refl $ unchanged ! (filter ∷ judge ∷ []) _ null (ends alloc filter judge (vint w32 1) 1)) (λ here-1.
+      absurd (in_rest judge [] (in_rest filter (judge ∷ []) null here-0) here-1))))
 
-  abbrev good : (p : Ptr) → Typed (RawPtr).mir (ptr_val p ∷ [])
-  good p = (rawptr_Lawful 𝓛).typed p _ refl
-
-  -- a call with a null pointer ends with all that was borrowed
-  none : (alloc : Global) (filter : Ptr) (judge : Ptr) → ent 𝓤 (sem 𝓛 (fsep (feq ℕ 1 1) (borrowed_by_new_judge_of l filter judge))) (sem 𝓛 (left_by_new_judge_of l filter judge 1)) → Sq 𝓛 (Given alloc filter judge) (prop (Post alloc filter judge (vint w32 1)))
-  none alloc filter judge e =
-      move ! (2 ∷ []) $ drop ! $ move ! (1 ∷ []) $ feq_i ! ℕ 1 1 refl $ fjoin ! $ use1 𝓛 (‵ (left_by_new_judge_of l filter judge 1)) e $ move ! (1 ∷ 0 ∷ []) $ join ! $
-      owned ! u32 _ (uint_Makes 𝓛 w32) 1 _ (refl, lit< tt) $ nothing ! $ nothing ! $ fjoin ! $ nothing ! $ fjoin ! $ nothing ! $ fjoin ! $ nothing ! $
-      by ! (leaves 𝓛 f.ended stayed (f.clauses 𝓛 at_mem run) (bound alloc filter judge) (vint w32 1) 1 (tt, (tt, (tt, tt))) (tt, (tt, (tt, tt))))
-
-  runs : (alloc : Global) (filter : Ptr) (judge : Ptr) → Typed GlobalRow.mir (global_val alloc ∷ []) → Testable filter → Testable judge
-      → Sq 𝓛 (Given alloc filter judge) (prop (Runs alloc filter judge))
-  runs alloc null_ptr judge fits-alloc may-filter may-judge =
-      enter ! C Λ code.function (global_val alloc ∷ vnull ∷ ptr_val judge ∷ []) _ $ alloc_all ! (λ c. pass_all ! refl (fits-alloc.0, ((good null_ptr).0, ((good judge).0, tt))) $
-      sets ! (bin ! (get ! refl) (lit ! tt) (tests_null null_ptr may-filter)) refl (tt, tt) $ first ! $ branches ! (get ! refl)
-      (λ _. sets ! (of_opd ! (lit ! tt)) refl (tt, record { fits = lit< tt }) $ returns_within ! (Post alloc null_ptr judge) refl (look_at ! 0 refl) $ free_all ! refl $ none alloc null_ptr judge (id⊢ 𝓤 _))
-      (λ wrong. absurd wrong))
-  runs alloc (block_ptr b0 o0) null_ptr fits-alloc may-filter may-judge =
-      enter ! C Λ code.function (global_val alloc ∷ vptr b0 o0 ∷ vnull ∷ []) _ $ alloc_all ! (λ c. pass_all ! refl (fits-alloc.0, ((good (block_ptr b0 o0)).0, ((good null_ptr).0, tt))) $
-      sets ! (bin ! (get ! refl) (lit ! tt) (tests_null (block_ptr b0 o0) may-filter)) refl (tt, tt) $ first ! $ branches ! (get ! refl)
-      (λ wrong. absurd wrong) (λ _. skips ! $ exec ! C Λ (env (code.function).locals c) code.Mir.t-3 (at_ret (env (code.function).locals c) (Post alloc (block_ptr b0 o0) null_ptr)) $
-      sets ! (bin ! (get ! refl) (lit ! tt) (tests_null null_ptr may-judge)) refl (tt, tt) $ first ! $ branches ! (get ! refl)
-      (λ _. sets ! (of_opd ! (lit ! tt)) refl (tt, record { fits = lit< tt }) $ returns_within ! (Post alloc (block_ptr b0 o0) null_ptr) refl (look_at ! 0 refl) $ free_all ! refl $ none alloc (block_ptr b0 o0) null_ptr (id⊢ 𝓤 _))
-      (λ wrong. absurd wrong)))
+  runs : (alloc : Global) (filter : Ptr) (judge : Ptr) → Typed GlobalRow.mir (global_val alloc ∷ []) → Testable filter → Testable judge → Walk alloc filter judge
+  runs alloc null_ptr judge fits-alloc may-filter may-judge = refused alloc null_ptr judge fits-alloc may-filter may-judge tt
+  runs alloc (block_ptr b0 o0) null_ptr fits-alloc may-filter may-judge = refused alloc (block_ptr b0 o0) null_ptr fits-alloc may-filter may-judge tt
   runs alloc (block_ptr b0 o0) (block_ptr b1 o1) fits-alloc may-filter may-judge =
-      move ! (1 ∷ []) $ fsplit ! $ move ! (1 ∷ []) $ enter ! C Λ code.function (global_val alloc ∷ vptr b0 o0 ∷ vptr b1 o1 ∷ []) _ $ alloc_all ! (λ c. pass_all ! refl (fits-alloc.0, ((good (block_ptr b0 o0)).0, ((good (block_ptr b1 o1)).0, tt))) $
-      sets ! (bin ! (get ! refl) (lit ! tt) (tests_null (block_ptr b0 o0) may-filter)) refl (tt, tt) $ first ! $ branches ! (get ! refl)
-      (λ wrong. absurd wrong) (λ _. skips ! $ exec ! C Λ (env (code.function).locals c) code.Mir.t-3 (at_ret (env (code.function).locals c) (Post alloc (block_ptr b0 o0) (block_ptr b1 o1))) $
-      sets ! (bin ! (get ! refl) (lit ! tt) (tests_null (block_ptr b1 o1) may-judge)) refl (tt, tt) $ first ! $ branches ! (get ! refl)
-      (λ wrong. absurd wrong) (λ _. skips ! $ exec ! C Λ (env (code.function).locals c) code.Mir.t-5 (at_ret (env (code.function).locals c) (Post alloc (block_ptr b0 o0) (block_ptr b1 o1))) $
-      first ! $ blocks ! $
+      move ! (1 ∷ []) $ fsplit ! $ move ! (1 ∷ []) $ enter ! C Λ code.function (global_val alloc ∷ vptr b0 o0 ∷ vptr b1 o1 ∷ []) _ $ alloc_all ! (λ c. pass_all ! refl (fits-alloc.0, ((good 𝓛 (block_ptr b0 o0)).0, ((good 𝓛 (block_ptr b1 o1)).0, tt))) $
+      stands ! b0 o0 none (get ! refl) may-filter refl (tt, tt) refl $
+      stands ! b1 o1 (there_is _) (get ! refl) may-judge refl (tt, tt) refl $
+      closes ! $ inside ! _ _ _ $
       sets ! (of_opd ! (get ! refl)) refl (tt, tt) $ sets ! (addr ! (through ! refl (stop !))) refl (tt, tt) $
       sets ! (addr ! (through ! refl (stop !))) refl (tt, tt) $
       nothing ! $ move ! (1 ∷ 0 ∷ []) $ fjoin ! $ move ! (1 ∷ 0 ∷ []) $ fjoin ! $ move ! (2 ∷ 0 ∷ []) $ fjoin ! $ nothing ! $ move ! (2 ∷ 0 ∷ []) $ join ! $ join ! $ nothing ! $ move ! (1 ∷ 0 ∷ []) $
-      let ref-filter : Bor Handle = record { ref_ptr = (b0, o0); now = l.handle } in
-      let ref-judge : MutBor Owned = record { ref_ptr = (b1, o1); ghost_name = l.made_name; now = l.made } in
-      let κ : Lft = l.lifetime in let z : G.Ghost = (((κ, tt), (l.share, tt), tt, (alloc, (ref-filter, (ref-judge, tt))), (global_val alloc ∷ [], (vptr b0 o0 ∷ [], (vptr b1 o1 ∷ [], tt)))), tt) in
-      use2 𝓛 (raw (G.pre z)) (id⊢ 𝓤 _) $
-      calls_at_last ! fm G known z (and_then ! (get ! refl) (and_then ! (get ! refl) (and_then ! (get ! refl) (no_more !)))) (λ v.
-      use1 𝓛 (later (some (λ (x : ℕ). ((‵ (flft κ l.share) ⊛ ‵ ftrue) ⊛ ‵ (u32.own_val x (v ∷ []))) ⊛
-      some (λ (ws : Unit {0} × (Unit {0} × (Owned × (Unit {0})))). ‵ (lasts g.ended (κ, tt) z.0.3 ws) ⊛ raw (fact 𝓤 (MakesJudgeOf l.handle ws.1.1.0 x)))))) (id⊢ 𝓤 _) $
-      await ! tt $ pick ! (λ x. split ! $ move ! (1 ∷ []) $ pick ! (λ ws. split ! $ move ! (1 ∷ []) $ heard ! _ (λ reports.
-      fsplit ! $ drop ! $ fsplit ! $ drop ! $ fsplit ! $ move ! (1 ∷ []) $ drop ! $ move ! (1 ∷ []) $ split ! $ split ! $ move ! (2 ∷ []) $ peeks ! u32 (Is u32) (shows 𝓛 u32) x (v ∷ []) (λ is.
-      let fine = ((uint_Lawful 𝓛 w32).typed x _ is).0 in
-      lands_last ! refl fine $ exec ! C Λ (env (code.function).locals c) code.Mir.t-6 (at_ret (env (code.function).locals c) (Post alloc (block_ptr b0 o0) (block_ptr b1 o1))) $
-      sets ! (of_opd ! (get ! refl)) refl fine $ returns ! (look_at ! 0 refl) $ free_all ! refl $ keep ! (3 ∷ 0 ∷ 1 ∷ []) $
-      nothing ! $ fpack ! (MakesJudgeOf l.handle ws.1.1.0 x) (λ _. ftrue) reports $ move ! (1 ∷ 0 ∷ []) $ fjoin ! $
-      fpack ! Owned (λ judge'. fsep (left_made l (block_ptr b1 o1) judge') (holds (MakesJudgeOf l.handle judge' x))) ws.1.1.0 $
-      move ! (2 ∷ 0 ∷ []) $ join ! $ move ! (1 ∷ 0 ∷ []) $ nothing ! $ nothing ! $ fjoin ! $ nothing ! $ fjoin ! $ nothing ! $ fjoin ! $ nothing ! $
-      by ! (leaves 𝓛 f.ended stayed (f.clauses 𝓛 at_mem run) (bound alloc (block_ptr b0 o0) (block_ptr b1 o1)) v x (tt, (tt, (tt, tt))) (tt, (tt, (tt, tt))))))))))))
+      let z : G.Ghost = (((l.lifetime, tt), (l.share, tt), tt, (alloc, (record { ref_ptr = (b0, o0); now = l.handle }, (record { ref_ptr = (b1, o1); ghost_name = l.made_name; now = l.made }, tt))), (global_val alloc ∷ [], (vptr b0 o0 ∷ [], (vptr b1 o1 ∷ [], tt)))), tt) in
+      use2 𝓛 (raw (G.pre z)) (id⊢ 𝓤 _) $ calls_at_last ! fm G known z (and_then ! (get ! refl) (and_then ! (get ! refl) (and_then ! (get ! refl) (no_more !)))) (λ v.
+      use1 𝓛 (back 𝓛 g.ended (g.clauses 𝓛 at_mem run) z.0.0 z.0.3 z.1 l.lifetime l.share v) (id⊢ 𝓤 _) $
+      await ! tt $ pick ! (λ x. split ! $ move ! (1 ∷ []) $ pick ! (λ ws. split ! $ move ! (1 ∷ []) $ heard ! (MakesJudgeOf l.handle ws.1.1.0 x) (λ reports.
+      fsplit ! $ drop ! $ fsplit ! $ drop ! $ fsplit ! $ move ! (1 ∷ []) $ drop ! $ move ! (1 ∷ []) $ split ! $ split ! $ move ! (2 ∷ []) $ peeks ! u32 (Is u32) (shows 𝓛 u32) x (v ∷ []) (λ is. let fine = ((uint_Lawful 𝓛 w32).typed x _ is).0 in
+      ends0 ! C Λ _ fine fine refl refl refl refl $ free_all ! refl $ keep ! (3 ∷ 0 ∷ 1 ∷ []) $
+      hold ! reports $ move ! (1 ∷ 0 ∷ []) $ fjoin ! $
+      fpack ! Owned (λ judge'. fsep (left_made l (block_ptr b1 o1) judge') (holds (MakesJudgeOf l.handle judge' x))) ws.1.1.0 $ ends alloc (block_ptr b0 o0) (block_ptr b1 o1) v x))))))
 
 pub odfilter_new_judge_of_spec : {M : Type 1} → statement M
 odfilter_new_judge_of_spec 𝓤 𝓛 𝓜 𝓡 wired =
@@ -94,6 +68,5 @@ odfilter_new_judge_of_spec 𝓤 𝓛 𝓜 𝓡 wired =
     f.Key.name code.function (code.unfolded 𝓤 𝓛.H 𝓜 𝓡 wired)
     (λ κs. ((λ g. global_val g ∷ []), (rawptr_vals, (rawptr_vals, tt)))) (λ κs. (global_lowers.val_is, (rawptr_Tells, (rawptr_Tells, tt)))) (λ κs qs bounds a l are.
     qed 𝓛 ((‵ ftrue ⊛ ‵ (owns (types_at f.signature.params κs) a (global_val a.0 ∷ [], (rawptr_vals a.1.0, (rawptr_vals a.1.1.0, tt))))) ∷ (raw (fact 𝓤 (Testable a.1.0 × Testable a.1.1.0)) ⊛ (‵ (flft l.lifetime l.share) ⊛ ‵ (borrowed_by_new_judge_of l a.1.0 a.1.1.0))) ∷ []) ∵
-    split ! $ drop ! $ fsplit ! $ move ! (1 ∷ []) $ drop ! $ move ! (1 ∷ []) $
-    split ! $ heard ! _ (λ may. split ! $
+    split ! $ drop ! $ fsplit ! $ move ! (1 ∷ []) $ drop ! $ move ! (1 ∷ []) $ split ! $ heard ! _ (λ may. split ! $
     runs 𝓛 𝓜.mem 𝓡.returns 𝓣.C 𝓣.Λ (framed 𝓤 𝓛.H 𝓜 𝓣) (met 𝓤 𝓛 𝓜 𝓡 (code.calls-handle_calls::calls::new_judge_of 𝓡.env wired)) l a.0 a.1.0 a.1.1.0 ((global_laws.lawful 𝓛).typed a.0 _ are.0) may.0 may.1))
