@@ -1,1 +1,1 @@
-pub mod LineLemmas
+mod LineLemmas

@@ -1,5 +1,5 @@
-pub mod Aliases
-pub mod EnumerationNumbers
-pub mod Reading
-pub mod NameOrder
-pub mod MemberOrder
+mod Aliases
+mod EnumerationNumbers
+mod Reading
+mod NameOrder
+mod MemberOrder

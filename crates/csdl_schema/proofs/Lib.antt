@@ -1,15 +1,15 @@
-pub mod Entries
-pub mod Placing
-pub mod Properties
-pub mod Chains
-pub mod Inheritance
-pub mod Kept
-pub mod Joined
-pub mod LookUps
-pub mod SlotSteps
-pub mod Pieces
-pub mod Walks
-pub mod DeclaredSlots
-pub mod BaseLaws
-pub mod SchemaLaws
-pub mod SchemaWorked
+mod Entries
+mod Placing
+mod Properties
+mod Chains
+mod Inheritance
+mod Kept
+mod Joined
+mod LookUps
+mod SlotSteps
+mod Pieces
+mod Walks
+mod DeclaredSlots
+mod BaseLaws
+mod SchemaLaws
+mod SchemaWorked

@@ -1,4 +1,4 @@
-pub mod Joining
-pub mod Members
-pub mod Ranges
-pub mod Trimming
+mod Joining
+mod Members
+mod Ranges
+mod Trimming

@@ -1,1 +1,1 @@
-pub mod PlanLemmas
+mod PlanLemmas

@@ -1,6 +1,6 @@
-pub mod Steps
-pub mod Types
-pub mod FilterSteps
-pub mod OwnedSteps
-pub mod RowSteps
-pub mod SqlSteps
+mod Steps
+mod Types
+mod FilterSteps
+mod OwnedSteps
+mod RowSteps
+mod SqlSteps

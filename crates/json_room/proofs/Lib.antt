@@ -1,7 +1,7 @@
-pub mod Lanes
-pub mod EscapesPassed
-pub mod KeysStand
+mod Lanes
+mod EscapesPassed
+mod KeysStand
 pub mod RoomLemmas
 pub mod Standing
-pub mod Utf8Pieces
-pub mod Whole
+mod Utf8Pieces
+mod Whole

@@ -1,7 +1,7 @@
 mod BufferLaws
 mod DeviceLaws
 mod FeedLemmas
-pub mod ItemLaws
+mod ItemLaws
 mod LineLaws
 mod IndexLaws
 mod ReaderLaws

@@ -1,8 +1,8 @@
 pub mod flat
-pub mod nesting
-pub mod canonical
-pub mod pre_orders
-pub mod explained
+mod nesting
+mod canonical
+mod pre_orders
+mod explained
 pub mod needed
-pub mod same_forms
-pub mod named
+mod same_forms
+mod named

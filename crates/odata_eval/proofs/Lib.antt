@@ -1,2 +1,2 @@
-pub mod spending
+mod spending
 pub mod walking

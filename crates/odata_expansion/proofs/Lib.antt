@@ -1,2 +1,2 @@
-pub mod Nodes
-pub mod Marks
+mod Nodes
+mod Marks

@@ -1,2 +1,2 @@
-pub mod RowLemmas
-pub mod RunLemmas
+mod RowLemmas
+mod RunLemmas

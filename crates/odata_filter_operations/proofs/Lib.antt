@@ -1,1 +1,1 @@
-pub mod values
+mod values

@@ -1,9 +1,9 @@
-pub mod Calendar
-pub mod Decided
+mod Calendar
+mod Decided
 pub mod Divisions
-pub mod Encodings
-pub mod Numbers
-pub mod SharedBits
-pub mod TextOrder
-pub mod Widening
-pub mod texts
+mod Encodings
+mod Numbers
+mod SharedBits
+mod TextOrder
+mod Widening
+mod texts

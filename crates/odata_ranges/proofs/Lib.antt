@@ -1,28 +1,28 @@
-pub mod ArithmeticTypes
-pub mod CallRanges
-pub mod Calculations
-pub mod Common
-pub mod Corners
-pub mod Counts
+mod ArithmeticTypes
+mod CallRanges
+mod Calculations
+mod Common
+mod Corners
+mod Counts
 pub mod Ends
-pub mod FitsKept
-pub mod Flags
+mod FitsKept
+mod Flags
 pub mod Forms
 pub mod Holding
-pub mod HoldingLines
-pub mod HoldingNodes
+mod HoldingLines
+mod HoldingNodes
 pub mod HoldingOne
-pub mod HoldingTwo
+mod HoldingTwo
 pub mod Inside
 pub mod KeptPaths
 pub mod Layouts
-pub mod LinesOn
+mod LinesOn
 pub mod Numeric
 pub mod PropertyOwners
-pub mod Put
-pub mod Quiet
-pub mod QuietTypes
-pub mod Remainders
+mod Put
+mod Quiet
+mod QuietTypes
+mod Remainders
 pub mod StandingLies
 pub mod TreesAt
-pub mod Values
+mod Values

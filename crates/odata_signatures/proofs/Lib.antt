@@ -1,7 +1,7 @@
-pub mod functions
-pub mod types
-pub mod tree_types
-pub mod untypable
-pub mod pre_orders
-pub mod printed
-pub mod spelled
+mod functions
+mod types
+mod tree_types
+mod untypable
+mod pre_orders
+mod printed
+mod spelled

@@ -1,8 +1,8 @@
-pub mod AllColumns
-pub mod JsonAnswers
-pub mod NulFree
-pub mod OwnSlots
-pub mod QuietFilters
-pub mod RangesFollow
-pub mod StatementAnswers
-pub mod Statements
+mod AllColumns
+mod JsonAnswers
+mod NulFree
+mod OwnSlots
+mod QuietFilters
+mod RangesFollow
+mod StatementAnswers
+mod Statements

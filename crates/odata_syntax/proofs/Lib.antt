@@ -1,7 +1,7 @@
-pub mod laws
-pub mod machine
-pub mod lists
-pub mod normal_forms
-pub mod printing
-pub mod numbering
-pub mod text_trees
+mod laws
+mod machine
+mod lists
+mod normal_forms
+mod printing
+mod numbering
+mod text_trees

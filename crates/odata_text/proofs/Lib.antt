@@ -1,7 +1,7 @@
-pub mod Common
-pub mod canonical
+mod Common
+mod canonical
 pub mod characters
-pub mod machine
-pub mod queries
-pub mod readings
-pub mod spellings
+mod machine
+mod queries
+mod readings
+mod spellings

@@ -1,11 +1,11 @@
-pub mod Common
-pub mod resolved_operands
-pub mod bodies
-pub mod calls
-pub mod flat
-pub mod forms
-pub mod placed
-pub mod scopes
-pub mod stacks
-pub mod types
-pub mod untypable
+mod Common
+mod resolved_operands
+mod bodies
+mod calls
+mod flat
+mod forms
+mod placed
+mod scopes
+mod stacks
+mod types
+mod untypable

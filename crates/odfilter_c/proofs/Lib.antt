@@ -1,2 +1,2 @@
-pub mod Steps
-pub mod Walks
+mod Steps
+mod Walks

@@ -1,1 +1,1 @@
-pub mod RowLemmas
+mod RowLemmas

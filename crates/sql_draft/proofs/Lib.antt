@@ -3,7 +3,7 @@ pub mod Composing
 pub mod Leaves
 pub mod PathKinds
 pub mod PathLeads
-pub mod PathNodes
-pub mod PathsPut
+mod PathNodes
+mod PathsPut
 pub mod Places
 pub mod RowPaths

@@ -1,7 +1,7 @@
-pub mod Common
-pub mod Measures
-pub mod MeasuresLess
-pub mod MeasuresSteps
-pub mod answers
-pub mod lets
+mod Common
+mod Measures
+mod MeasuresLess
+mod MeasuresSteps
+mod answers
+mod lets
 pub mod puts

@@ -1,8 +1,8 @@
-pub mod Chains
-pub mod ComparisonTables
-pub mod OneFunction
-pub mod OneMeaning
-pub mod OneParameter
-pub mod OnePlace
+mod Chains
+mod ComparisonTables
+mod OneFunction
+mod OneMeaning
+mod OneParameter
+mod OnePlace
 pub mod OneStep
-pub mod Tables
+mod Tables

@@ -1,3 +1,3 @@
-pub mod Common
+mod Common
 pub mod nodes
 pub mod outcomes

@@ -1,2 +1,2 @@
-pub mod TableLines
-pub mod SlotColumns
+mod TableLines
+mod SlotColumns

@@ -1,24 +1,24 @@
-pub mod Arities
-pub mod Bindings
-pub mod CodeTexts
-pub mod Deepest
+mod Arities
+mod Bindings
+mod CodeTexts
+mod Deepest
 pub mod Elements
-pub mod FixedReading
-pub mod MemberTexts
-pub mod NameQuotes
-pub mod PathPieces
-pub mod PathReading
-pub mod PlainModels
-pub mod PlainNames
-pub mod Printing
-pub mod QuoteFree
-pub mod Reading
-pub mod Shapes
-pub mod Spelled
-pub mod SpelledContent
-pub mod SpelledJson
-pub mod SpelledTexts
-pub mod SpelledTokens
-pub mod Steps
-pub mod TreeReading
-pub mod Written
+mod FixedReading
+mod MemberTexts
+mod NameQuotes
+mod PathPieces
+mod PathReading
+mod PlainModels
+mod PlainNames
+mod Printing
+mod QuoteFree
+mod Reading
+mod Shapes
+mod Spelled
+mod SpelledContent
+mod SpelledJson
+mod SpelledTexts
+mod SpelledTokens
+mod Steps
+mod TreeReading
+mod Written
